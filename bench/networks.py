@@ -24,8 +24,8 @@ fn main(rt: HostRuntime) -> anyhow::Result<()> {
         let bytes = fs::read(&rt, &name)?;
         match read_net(rt.alloc(), &bytes) {
             Ok(net) => println!(rt; "{} switches", net.switches.items().len())?,
-            Err(NetError::Refused { refusal, row }) => {
-                println!(rt; "code {} row {row}", refusal.code())?;
+            Err(NetError::Refused(why)) => {
+                println!(rt; "code {} row {}", why.refusal.code(), why.row)?;
             }
             Err(NetError::NoMemory) => println!(rt; "no memory")?,
         }

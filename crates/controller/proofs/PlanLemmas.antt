@@ -4,18 +4,18 @@ use Rattle.std.specs.List.{zip}
 use Rattle.std.proofs.lemmas.Grind.{take_at_read}
 use Rattle.std.proofs.lemmas.Slice.Zip.{get_or-zip, length-zip}
 use Rattle.std.proofs.lemmas.List.Elements.{All-weaker}
+use Rattle.failure.specs.Refusals.{IfRefused}
+use Rattle.failure.specs.declared.error.Failure.{Failure}
+use Rattle.failure.specs.declared.error.Failure.TheVariants.{Refused, NoMemory}
 use Rattle.net_file.specs.Net.{IsNet}
 use Rattle.net_file.specs.declared.net.Net.{Net}
-use Rattle.cut_tree.specs.DefinedTree.{Exceeds, tree_of}
+use Rattle.cut_tree.specs.DefinedTree.{tree_of}
 use Rattle.cut_tree.specs.Shape.{Shape, leaf_count}
-use Rattle.cut_tree.specs.declared.tree.BuildError.{BuildError}
-use Rattle.cut_tree.specs.declared.tree.BuildError.TheVariants as tree
 use Rattle.placement.specs.Placement.{RefusesPlacement, placement_of}
-use Rattle.placement.specs.declared.PlaceError.{PlaceError}
-use Rattle.placement.specs.declared.PlaceError.TheVariants as placement
+use Rattle.placement.specs.declared.NoRoom.{NoRoom}
 use Rattle.policy_rules.specs.RuleList.{RefusesRules, rules_of, word_total}
-use Rattle.policy_rules.specs.declared.rule_list.RulesError.{RulesError}
-use Rattle.policy_rules.specs.declared.rule_list.RulesError.TheVariants as rules
+use Rattle.policy_rules.specs.declared.rule_list.TooManyWords.{TooManyWords}
+use Rattle.cut_tree.specs.declared.tree.TooManyLeaves.{TooManyLeaves}
 use Rattle.partition.specs.Parts.{parts_of}
 use Rattle.partition.specs.Plan.{IsPlan, Placed, plan_of, rooms_of, sizes_of}
 use Rattle.policy_rules.specs.Placed as no_plan
@@ -62,24 +62,20 @@ zip_all ks vs same = let all : length (zip ks vs) ≤ length ks = grind (arith, 
 
 -- ---- the refusals of the way are those of the plan
 
-pub rules_refused : (rows : List Row) (net : Net) (error : RulesError) → RefusesRules rows error
-    → RefusesPlan rows net (of_rules error)
-rules_refused rows net (rules.TooManyWords words) is =
+pub rules_refused : (rows : List Row) (net : Net) (error : Failure TooManyWords)
+    → IfRefused (RefusesRules rows) error → RefusesPlan rows net (of_rules error)
+rules_refused rows net (Refused words) is =
     let many : 4096 < word_total rows = omega (arith, is.0, is.1) in
     no_words rows net many ∙ ap (λ n. Err (no_plan.TooManyWords n)) (sym is.0)
-rules_refused rows net rules.NoMemory is = tt
+rules_refused rows net NoMemory is = tt
 
-pub tree_refused : (rows : List Row) (net : Net) (list : List Rule) (error : BuildError)
-    → word_total rows ≤ 4096 → list ≡ rules_of rows → Exceeds (tree_of list net.leaf_rules) 512
-    error → RefusesPlan rows net (of_tree error)
-tree_refused rows net list error few is refused =
-    let P : List Rule → Type 0 = λ list. Exceeds (tree_of list net.leaf_rules) 512 error in
-    by error (subst P is refused)
-  where
-    by : (error : BuildError) → Exceeds (tree_of (rules_of rows) net.leaf_rules) 512 error
-        → RefusesPlan rows net (of_tree error)
-    by tree.TooManyLeaves many = no_leaves rows net few many
-    by tree.NoMemory many = tt
+pub tree_refused : (rows : List Row) (net : Net) (list : List Rule) (error : Failure TooManyLeaves)
+    → word_total rows ≤ 4096 → list ≡ rules_of rows
+    → IfRefused (λ _. 512 < leaf_count (tree_of list net.leaf_rules)) error
+    → RefusesPlan rows net (of_tree error)
+tree_refused rows net list (Refused many) few is refused =
+    no_leaves rows net few (subst (λ list. 512 < leaf_count (tree_of list net.leaf_rules)) is refused)
+tree_refused rows net list NoMemory few is refused = tt
 
 -- what the way has found before it places the partitions
 pub record IsReady (rows : List Row) (net : Net) (list : List Rule) (shape : Shape)
@@ -97,15 +93,16 @@ ready_tree rows net list shape sizes rooms is = is.tree ∙ ap (λ list. tree_of
     is.rules
 
 pub placement_refused : (rows : List Row) (net : Net) (list : List Rule) (shape : Shape)
-    (sizes rooms : List ℕ) (error : PlaceError) → IsReady rows net list shape sizes rooms
-    → RefusesPlacement sizes rooms net.backups error → RefusesPlan rows net (of_placement error)
-placement_refused rows net list shape sizes rooms (placement.NoRoom partition) is refused =
-    let none : placement_of (sizes_of (parts_of shape)) (rooms_of net) net.backups ≡ Err partition =
+    (sizes rooms : List ℕ) (error : Failure NoRoom) → IsReady rows net list shape sizes rooms
+    → IfRefused (RefusesPlacement sizes rooms net.backups) error
+    → RefusesPlan rows net (of_placement error)
+placement_refused rows net list shape sizes rooms (Refused lack) is refused =
+    let none : placement_of (sizes_of (parts_of shape)) (rooms_of net) net.backups ≡ Err lack.partition =
     sym (ap (λ s. placement_of s (rooms_of net) net.backups) is.sizes_are)
     ∙ sym (ap (λ r. placement_of sizes r net.backups) is.rooms_are) ∙ refused.0 in
-    no_room rows net shape partition is.few (ready_tree rows net list shape sizes rooms is)
+    no_room rows net shape lack.partition is.few (ready_tree rows net list shape sizes rooms is)
     is.leaves none
-placement_refused rows net list shape sizes rooms placement.NoMemory is refused = tt
+placement_refused rows net list shape sizes rooms NoMemory is refused = tt
 
 pub planned_at : (rows : List Row) (net : Net) (list : List Rule) (shape : Shape)
     (sizes rooms : List ℕ) (targets : List (List ℕ)) → IsReady rows net list shape sizes rooms

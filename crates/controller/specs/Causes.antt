@@ -1,21 +1,20 @@
 -- What the refusal of a part of the way to a plan is of the plan.
-use Rattle.cut_tree.specs.declared.tree.BuildError.{BuildError}
-use Rattle.cut_tree.specs.declared.tree.BuildError.TheVariants as tree
-use Rattle.placement.specs.declared.PlaceError.{PlaceError}
-use Rattle.placement.specs.declared.PlaceError.TheVariants as placement
-use Rattle.policy_rules.specs.declared.rule_list.RulesError.{RulesError}
-use Rattle.policy_rules.specs.declared.rule_list.RulesError.TheVariants as rules
+use Rattle.failure.specs.declared.error.Failure.{Failure}
+use Rattle.failure.specs.declared.error.Failure.TheVariants as failure
+use Rattle.cut_tree.specs.declared.tree.TooManyLeaves.{TooManyLeaves as NoTree}
+use Rattle.placement.specs.declared.NoRoom.{NoRoom as NoPlacement}
+use Rattle.policy_rules.specs.declared.rule_list.TooManyWords.{TooManyWords as NoRules}
 use Rattle.controller.specs.declared.plan_error.PlanError.{PlanError}
 use Rattle.controller.specs.declared.plan_error.PlanError.TheVariants.{TooManyWords, TooManyLeaves, NoRoom, NoMemory}
 
-abbrev pub of_rules : RulesError → PlanError
-of_rules (rules.TooManyWords words) = TooManyWords words
-of_rules rules.NoMemory = NoMemory
+abbrev pub of_rules : Failure NoRules → PlanError
+of_rules (failure.Refused many) = TooManyWords many.words
+of_rules failure.NoMemory = NoMemory
 
-abbrev pub of_tree : BuildError → PlanError
-of_tree tree.TooManyLeaves = TooManyLeaves
-of_tree tree.NoMemory = NoMemory
+abbrev pub of_tree : Failure NoTree → PlanError
+of_tree (failure.Refused many) = TooManyLeaves
+of_tree failure.NoMemory = NoMemory
 
-abbrev pub of_placement : PlaceError → PlanError
-of_placement (placement.NoRoom partition) = NoRoom partition
-of_placement placement.NoMemory = NoMemory
+abbrev pub of_placement : Failure NoPlacement → PlanError
+of_placement (failure.Refused lack) = NoRoom lack.partition
+of_placement failure.NoMemory = NoMemory

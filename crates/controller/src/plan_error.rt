@@ -2,9 +2,10 @@ ghost use Rattle.std.specs.Prelude.{◌≡◌};
 ghost use Rattle.controller.specs.declared.plan_error.PlanError.TheVariants.{NoMemory};
 ghost use Rattle.controller.specs.Causes.{of_rules, of_tree, of_placement};
 
-use cut_tree::BuildError;
-use placement::PlaceError;
-use policy_rules::RulesError;
+use cut_tree::TooManyLeaves;
+use failure::Failure;
+use placement::NoRoom;
+use policy_rules::TooManyWords;
 use std::alloc::{AllocError, AllocFailed};
 use thiserror::Error;
 
@@ -24,35 +25,35 @@ pub enum PlanError {
     NoMemory,
 }
 
-impl From<RulesError> for PlanError {
+impl From<Failure<TooManyWords>> for PlanError {
     ghost from_gives = { λ error e. e ≡ of_rules error };
 
-    fn from(error: RulesError) -> Self {
+    fn from(error: Failure<TooManyWords>) -> Self {
         match error {
-            RulesError::TooManyWords { words } => PlanError::TooManyWords { words },
-            RulesError::NoMemory => PlanError::NoMemory,
+            Failure::Refused(TooManyWords { words }) => PlanError::TooManyWords { words },
+            Failure::NoMemory => PlanError::NoMemory,
         }
     }
 }
 
-impl From<BuildError> for PlanError {
+impl From<Failure<TooManyLeaves>> for PlanError {
     ghost from_gives = { λ error e. e ≡ of_tree error };
 
-    fn from(error: BuildError) -> Self {
+    fn from(error: Failure<TooManyLeaves>) -> Self {
         match error {
-            BuildError::TooManyLeaves => PlanError::TooManyLeaves,
-            BuildError::NoMemory => PlanError::NoMemory,
+            Failure::Refused(TooManyLeaves) => PlanError::TooManyLeaves,
+            Failure::NoMemory => PlanError::NoMemory,
         }
     }
 }
 
-impl From<PlaceError> for PlanError {
+impl From<Failure<NoRoom>> for PlanError {
     ghost from_gives = { λ error e. e ≡ of_placement error };
 
-    fn from(error: PlaceError) -> Self {
+    fn from(error: Failure<NoRoom>) -> Self {
         match error {
-            PlaceError::NoRoom { partition } => PlanError::NoRoom { partition },
-            PlaceError::NoMemory => PlanError::NoMemory,
+            Failure::Refused(NoRoom { partition }) => PlanError::NoRoom { partition },
+            Failure::NoMemory => PlanError::NoMemory,
         }
     }
 }

@@ -4,13 +4,14 @@ use Rattle.std.proofs.lemmas.Bool.{both_ways, cases_lt, le-leb, lt-leb}
 use Rattle.ternary.specs.Word.{WordValue}
 use Rattle.ternary.specs.Meets.{any_word, fix_of}
 use Rattle.ternary.proofs.CallerLemmas.{any_covers, any_unfixed, fix_word, free_bits_shorter}
+use Rattle.failure.specs.Refusals.{IfRefused}
+use Rattle.failure.specs.declared.error.Failure.{Failure}
+use Rattle.failure.proofs.CallerLemmas.{IfRefused-weaker}
 use Rattle.policy_rules.specs.declared.rules.Rule.{Rule}
 use Rattle.cut_tree.specs.Cuts.{IsLeastCut, least_below, side_of}
-use Rattle.cut_tree.specs.DefinedTree.{Exceeds, IsTreeOf, IsDefinedTree, free_count, cut_by, tree_within, tree_at, tree_of}
+use Rattle.cut_tree.specs.DefinedTree.{IsTreeOf, IsDefinedTree, free_count, cut_by, tree_within, tree_at, tree_of}
 use Rattle.cut_tree.specs.Nodes.{AreNodeRules, AreWords, IsOneHeader}
 use Rattle.cut_tree.specs.Shape.{Shape, End, Node, leaf_count, leaves_of}
-use Rattle.cut_tree.specs.declared.tree.BuildError.{BuildError}
-use Rattle.cut_tree.specs.declared.tree.BuildError.TheVariants.{TooManyLeaves, NoMemory}
 use Rattle.cut_tree.specs.declared.choice.Cost.{Cost}
 use Rattle.cut_tree.proofs.CutLemmas.{least_cuts, least_only, least_missing}
 use Rattle.cut_tree.proofs.NarrowLemmas.{narrow_node}
@@ -193,15 +194,17 @@ half_smaller rules region cost half one is same =
 
 -- ---- refusals
 
-pub exceeds_low : (tree low high : Shape) (bit room : ℕ) (e : BuildError) → tree ≡ Node bit low high
-    → Exceeds low room e → Exceeds tree room e
-exceeds_low tree low high bit room TooManyLeaves is more =
-    rw is (omega (arith, more, length-append (leaves_of low) (leaves_of high)))
-exceeds_low tree low high bit room NoMemory is more = more
+pub exceeds_low : {R : Type 0} (tree low high : Shape) (bit room : ℕ) (e : Failure R)
+    → tree ≡ Node bit low high → IfRefused (λ _. room < leaf_count low) e
+    → IfRefused (λ _. room < leaf_count tree) e
+exceeds_low tree low high bit room e is =
+    IfRefused-weaker (λ _. room < leaf_count low) (λ _. room < leaf_count tree)
+    (λ _ more. rw is (omega (arith, more, length-append (leaves_of low) (leaves_of high)))) e
 
-pub exceeds_high : (tree low high : Shape) (bit room left : ℕ) (e : BuildError)
-    → tree ≡ Node bit low high → room ≡ left + leaf_count low → Exceeds high left e
-    → Exceeds tree room e
-exceeds_high tree low high bit room left TooManyLeaves is taken more =
-    rw is (omega (arith, taken, more, length-append (leaves_of low) (leaves_of high)))
-exceeds_high tree low high bit room left NoMemory is taken more = more
+pub exceeds_high : {R : Type 0} (tree low high : Shape) (bit room left : ℕ) (e : Failure R)
+    → tree ≡ Node bit low high → room ≡ left + leaf_count low
+    → IfRefused (λ _. left < leaf_count high) e → IfRefused (λ _. room < leaf_count tree) e
+exceeds_high tree low high bit room left e is taken =
+    IfRefused-weaker (λ _. left < leaf_count high) (λ _. room < leaf_count tree)
+    (λ _ more. rw is (omega (arith, taken, more, length-append (leaves_of low) (leaves_of high))))
+    e

@@ -1,13 +1,11 @@
 -- The tree that a list of rules has: a test of a given tree, and the tree as a function.
-use Rattle.std.specs.Prelude.{⊤, ℕ, zero, suc, ◌≡◌, ◌<◌, ◌≤◌, nat_le, true, false, Option, Some, None, List, length}
+use Rattle.std.specs.Prelude.{ℕ, zero, suc, ◌≡◌, ◌<◌, ◌≤◌, nat_le, true, false, Option, Some, None, List, length}
 use Rattle.ternary.specs.Word.{WordValue}
 use Rattle.ternary.specs.Meets.{any_word, fix_of, free_bits}
 use Rattle.policy_rules.specs.declared.rules.Rule.{Rule}
 use Rattle.cut_tree.specs.Cuts.{IsLeastCut, least_below, side_of}
-use Rattle.cut_tree.specs.Shape.{Shape, End, Node, leaf_count}
+use Rattle.cut_tree.specs.Shape.{Shape, End, Node}
 use Rattle.cut_tree.specs.declared.choice.Cost.{Cost}
-use Rattle.cut_tree.specs.declared.tree.BuildError.{BuildError}
-use Rattle.cut_tree.specs.declared.tree.BuildError.TheVariants.{TooManyLeaves, NoMemory}
 
 -- ---- the test
 
@@ -65,8 +63,3 @@ tree_at most rules region = tree_within (free_count region) most rules region
 -- the defined tree of a list with this cap
 unfoldable pub tree_of : List Rule → ℕ → Shape
 tree_of rules most = tree_at most rules any_word
-
--- why a tree is refused where there is room for so many leaves: it has more, or memory ran out
-abbrev pub Exceeds : Shape → ℕ → BuildError → Type 0
-Exceeds tree room TooManyLeaves = room < leaf_count tree
-Exceeds tree room NoMemory = ⊤

@@ -24,4 +24,4 @@ mod tree;
 pub use choice::{Cost, free_bits};
 pub use laws::{narrow_laws, tree_laws};
 pub use node::Node;
-pub use tree::{BuildError, Tree, build};
+pub use tree::{TooManyLeaves, Tree, build};

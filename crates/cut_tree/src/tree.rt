@@ -1,10 +1,11 @@
 ghost use Rattle.std.specs.Prelude.{◌≡◌, ◌+◌, ◌<◌, ◌≤◌, ◌^◌, IfOk, IfErr, length};
-ghost use Rattle.cut_tree.specs.DefinedTree.{Exceeds, IsDefinedTree, IsTreeOf, tree_at, tree_of};
+ghost use Rattle.cut_tree.specs.DefinedTree.{IsDefinedTree, IsTreeOf, tree_at, tree_of};
 ghost use Rattle.cut_tree.specs.Nodes.{AreWords};
 ghost use Rattle.cut_tree.specs.Shape.{End, leaf_count, shape_of};
-ghost use Rattle.cut_tree.specs.declared.tree.BuildError.TheVariants.{TooManyLeaves, NoMemory};
+ghost use Rattle.failure.specs.Refusals.{IfRefused};
 
 use crate::node::Node;
+use failure::Failure;
 use policy_rules::{Rule, Rules};
 use std::alloc::{AllocError, Global};
 use ternary::Word;
@@ -31,34 +32,22 @@ pub enum Tree {
 
 /// Why rules have no tree.
 #[derive(Clone, Copy, Debug, PartialEq, Eq, Error)]
-pub enum BuildError {
-    #[error("the tree has more than {MOST_LEAVES} leaves")]
-    TooManyLeaves,
-    #[error("no memory")]
-    NoMemory,
-}
-
-impl From<AllocError> for BuildError {
-    ghost from_gives = { λ _ e. e ≡ NoMemory };
-
-    fn from(_: AllocError) -> Self {
-        BuildError::NoMemory
-    }
-}
+#[error("the tree has more than {MOST_LEAVES} leaves")]
+pub struct TooManyLeaves;
 
 /// The tree of these rules: its root has them all, each side of a cut those of its half, and no
 /// leaf has more than the cap.
 ///
 /// # Errors
 /// `TooManyLeaves` exactly where that tree has more than 512 leaves; no more of it is built then.
-pub fn build(alloc: Global, rules: &[Rule], cap: u32) -> Result<Tree, BuildError>
+pub fn build(alloc: Global, rules: &[Rule], cap: u32) -> Result<Tree, Failure<TooManyLeaves>>
     requires cap { 0 < cap }
     requires few_rules { length rules.now < 2 ^ 32 }
     requires words { AreWords rules.now }
     ensures tree { IfOk result (λ tree. shape_of tree ≡ tree_of rules.now cap) }
     ensures defined { IfOk result (λ tree. IsDefinedTree rules.now cap (shape_of tree)) }
     ensures few { IfOk result (λ tree. leaf_count (shape_of tree) ≤ 512) }
-    ensures refused { IfErr result (Exceeds (tree_of rules.now cap) 512) }
+    ensures refused { IfErr result (IfRefused (λ _. 512 < leaf_count (tree_of rules.now cap))) }
 {
     let root = Node {
         rules: Vec::from_slice(alloc, rules)?,
@@ -69,13 +58,14 @@ pub fn build(alloc: Global, rules: &[Rule], cap: u32) -> Result<Tree, BuildError
 }
 
 // The tree of the rules of a node, which takes of the room one for each leaf.
-fn grow(alloc: Global, node: Node, cap: u32, room: &mut u32) -> Result<Tree, BuildError>
+fn grow(alloc: Global, node: Node, cap: u32, room: &mut u32) -> Result<Tree, Failure<TooManyLeaves>>
     requires cap { 0 < cap }
     ensures tree { IfOk result (λ tree. shape_of tree ≡ tree_at cap node.rules.items node.region) }
     ensures defined { IfOk result (λ tree.
         IsTreeOf node.rules.items node.region cap (shape_of tree)) }
     ensures room { IfOk result (λ tree. room.old ≡ room.new + leaf_count (shape_of tree)) }
-    ensures refused { IfErr result (Exceeds (tree_at cap node.rules.items node.region) room.old) }
+    ensures refused { IfErr result (IfRefused (λ _.
+        room.old < leaf_count (tree_at cap node.rules.items node.region))) }
 {
     if node.rules.len() <= cap as usize {
         return leaf(node, room);
@@ -94,13 +84,13 @@ fn grow(alloc: Global, node: Node, cap: u32, room: &mut u32) -> Result<Tree, Bui
     })
 }
 
-fn leaf(node: Node, room: &mut u32) -> Result<Tree, BuildError>
+fn leaf(node: Node, room: &mut u32) -> Result<Tree, Failure<TooManyLeaves>>
     ensures tree { IfOk result (λ tree. shape_of tree ≡ End node.region node.rules.items) }
     ensures room { IfOk result (λ _. room.old ≡ room.new + 1) }
-    ensures refused { IfErr result (Exceeds (End node.region node.rules.items) room.old) }
+    ensures refused { IfErr result (IfRefused (λ _. room.old < 1)) }
 {
     if *room == 0 {
-        return Err(BuildError::TooManyLeaves);
+        return Err(Failure::Refused(TooManyLeaves));
     }
     *room -= 1;
     let Node { rules, region } = node;

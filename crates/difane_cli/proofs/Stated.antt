@@ -11,7 +11,7 @@ use Rattle.policy_file.specs.Ports.{first_without_port}
 use Rattle.policy_file.specs.Reading.{policy_code, policy_of}
 use Rattle.policy_file.specs.declared.ports.NoPort.{NoPort}
 use Rattle.policy_rules.specs.declared.policy.Row.{Row}
-use Rattle.read_error.specs.Refusals.{RefusedRow}
+use Rattle.failure.specs.declared.row.InRow.{InRow}
 use Rattle.schedule.specs.Reading.{schedule_of}
 use Rattle.schedule.specs.Refusals.{schedule_code}
 use Rattle.shelf.specs.Shelf.{Files, file_named}
@@ -57,7 +57,7 @@ states files name read stated value own is =
 
 -- ---- networks, schedules and policies
 
-read_is : {X R : Type 0} (code : R → ℕ) (name : List ℕ) (read : Result X (RefusedRow R)) (value : X)
+read_is : {X R : Type 0} (code : R → ℕ) (name : List ℕ) (read : Result X (InRow R)) (value : X)
     → read_from code name read ≡ Ok value → read ≡ Ok value
 read_is code name (Ok value) own is = cc is
 read_is code name (Err refused) own is = absurd (cc is)

@@ -15,7 +15,7 @@ use Rattle.policy_rules.specs.Placed.{NoPlan}
 use Rattle.policy_file.specs.Ports.{first_without_port}
 use Rattle.policy_file.specs.Reading.{policy_code, policy_of}
 use Rattle.policy_file.specs.declared.ports.NoPort.{NoPort}
-use Rattle.read_error.specs.Refusals.{RefusedRow}
+use Rattle.failure.specs.declared.row.InRow.{InRow}
 use Rattle.schedule.specs.Reading.{schedule_of}
 use Rattle.schedule.specs.Refusals.{schedule_code}
 use Rattle.steps.specs.declared.step.Event.{Event}
@@ -53,7 +53,7 @@ abbrev pub content_of : Files → List ℕ → Result (List ℕ) Refusal
 content_of files name = content_from name (file_named files name)
 
 -- what the file was read to; a row that is refused is told by the refusal's code
-abbrev pub read_from : {X R : Type 0} → (R → ℕ) → List ℕ → Result X (RefusedRow R)
+abbrev pub read_from : {X R : Type 0} → (R → ℕ) → List ℕ → Result X (InRow R)
     → Result X Refusal
 read_from code name (Ok value) = Ok value
 read_from code name (Err refused) =

@@ -82,9 +82,7 @@ fn check_schedule(
 {
     match schedule::read_schedule(alloc, bytes, net, policies) {
         Ok(events) => Ok(events),
-        Err(ScheduleError::Refused { refusal, row }) => {
-            Err(refused(alloc, name, refusal.code(), row))
-        }
+        Err(ScheduleError::Refused(why)) => Err(refused(alloc, name, why.refusal.code(), why.row)),
         Err(ScheduleError::NoMemory) => Err(Stop::NoMemory),
     }
 }

@@ -25,7 +25,7 @@ fn check_net(alloc: Global, name: &str, bytes: &[u8]) -> Result<Net, Stop>
 {
     match read_net(alloc, bytes) {
         Ok(net) => Ok(net),
-        Err(NetError::Refused { refusal, row }) => Err(refused(alloc, name, refusal.code(), row)),
+        Err(NetError::Refused(why)) => Err(refused(alloc, name, why.refusal.code(), why.row)),
         Err(NetError::NoMemory) => Err(Stop::NoMemory),
     }
 }

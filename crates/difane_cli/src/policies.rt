@@ -47,9 +47,7 @@ fn state_policy(alloc: Global, name: &str, bytes: &[u8]) -> Result<Policy, Stop>
 {
     match read_policy(alloc, bytes) {
         Ok(policy) => Ok(policy),
-        Err(PolicyError::Refused { refusal, row }) => {
-            Err(refused(alloc, name, refusal.code(), row))
-        }
+        Err(PolicyError::Refused(why)) => Err(refused(alloc, name, why.refusal.code(), why.row)),
         Err(PolicyError::NoMemory) => Err(Stop::NoMemory),
     }
 }

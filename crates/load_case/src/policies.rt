@@ -3,8 +3,9 @@ ghost use Rattle.load_case.specs.Case.{action_at, action_ends, row_at, row_ends,
 ghost use Rattle.policy_rules.specs.Policy.{IsPolicy};
 
 use crate::draws::{Draws, address};
+use failure::Failure;
 use five_tuple::{PortRange, Prefix, Proto};
-use policy_rules::{Action, NewPolicyError, Policy, Row};
+use policy_rules::{Action, Policy, Row};
 use std::alloc::{AllocError, Global};
 
 /// A policy of so many rows, whose priorities are their places from 1.
@@ -20,8 +21,8 @@ pub fn policy(alloc: Global, draws: &mut Draws, rows: u32) -> Result<Policy, All
     let rows = draw_rows(alloc, draws, rows)?;
     match Policy::new(alloc, rows) {
         Ok(policy) => Ok(policy),
-        Err(NewPolicyError::NoMemory) => Err(AllocError),
-        Err(NewPolicyError::SamePriority { .. }) => unreachable!(),
+        Err(Failure::NoMemory) => Err(AllocError),
+        Err(Failure::Refused(_)) => unreachable!(),
     }
 }
 

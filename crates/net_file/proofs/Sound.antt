@@ -19,7 +19,7 @@ use Rattle.masks.specs.Masks.{mask_of}
 use Rattle.net_file.specs.Net.{AreApart, AreOther, IsLink, IsNet, IsSwitchRow, is_name}
 use Rattle.net_file.specs.Reading.{are_distinct, are_new, array_in, document_of, end_read, ends_in, link_array, link_of, link_with, name_in, net_read, net_of, number_stated, ports_in, rows_read, setting_read, switch_array, switch_read, switch_with}
 use Rattle.net_file.specs.Refusals.{require, with_value}
-use Rattle.read_error.specs.Refusals.{in_row}
+use Rattle.failure.specs.Refusals.{in_row}
 use Rattle.net_file.specs.Owners.{have_name, have_port, switch_number}
 use Rattle.net_file.specs.Joins.{are_linked, has_port, joins}
 use Rattle.net_file.proofs.Masks.{in_mask, in_mask_of, in_mask_past, mask_of_small}

@@ -3,9 +3,10 @@ use Rattle.std.proofs.Common.{ℕ, ◌≡◌, ◌+◌, Ok, Result, List, [], ◌
 use Rattle.toml.specs.Data.{Data}
 use Rattle.net_file.specs.declared.error.NetRefusal.{NetRefusal}
 use Rattle.net_file.specs.Refusals.{with_value}
-use Rattle.read_error.specs.Refusals.{IsRefusal, RefusedRow, in_row}
-use Rattle.read_error.specs.declared.error.ReadError.{ReadError}
-use Rattle.read_error.specs.declared.error.ReadError.TheVariants as error
+use Rattle.failure.specs.Refusals.{IsRefusal, in_row}
+use Rattle.failure.specs.declared.error.Failure.{Failure}
+use Rattle.failure.specs.declared.error.Failure.TheVariants.{Refused, NoMemory}
+use Rattle.failure.specs.declared.row.InRow.{InRow}
 use Rattle.net_file.specs.Reading.{rows_read}
 
 -- the next value states a row
@@ -15,20 +16,20 @@ pub next_row : {X : Type 0} (base : ℕ) (read : List X → Data → Result X Ne
 next_row base read earlier d ds row e = rw e refl
 
 -- a refusal ends what follows it
-pub refused_with : {X Y : Type 0} (read : Result X (RefusedRow NetRefusal)) (next : X → Result Y (RefusedRow NetRefusal))
-    (e : ReadError NetRefusal) → IsRefusal read e → IsRefusal (with_value read next) e
-refused_with read next (error.Refused refusal row) h = rw h refl
-refused_with read next error.NoMemory h = tt
+pub refused_with : {X Y : Type 0} (read : Result X (InRow NetRefusal)) (next : X → Result Y (InRow NetRefusal))
+    (e : Failure (InRow NetRefusal)) → IsRefusal read e → IsRefusal (with_value read next) e
+refused_with read next (Refused refusal) h = rw h refl
+refused_with read next NoMemory h = tt
 
 -- the next value is refused
 pub refused_row : {X : Type 0} (base : ℕ) (read : List X → Data → Result X NetRefusal)
-    (earlier : List X) (d : Data) (ds : List Data) (row : ℕ) (e : ReadError NetRefusal)
+    (earlier : List X) (d : Data) (ds : List Data) (row : ℕ) (e : Failure (InRow NetRefusal))
     → base + (length earlier + 1) ≡ row
     → IsRefusal (in_row row (read earlier d)) e → IsRefusal (rows_read base read earlier (d ∷ ds)) e
 refused_row base read earlier d ds row e same h =
     refused_with (in_row (base + (length earlier + 1)) (read earlier d))
     (λ next. rows_read base read (earlier ++ next ∷ []) ds) e (rw same h)
 
-pub refused_same : {X : Type 0} (a b : Result X (RefusedRow NetRefusal)) (e : ReadError NetRefusal) → a ≡ b → IsRefusal b e
+pub refused_same : {X : Type 0} (a b : Result X (InRow NetRefusal)) (e : Failure (InRow NetRefusal)) → a ≡ b → IsRefusal b e
     → IsRefusal a e
 refused_same a b e same h = rw same h

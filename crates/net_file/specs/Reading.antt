@@ -8,7 +8,8 @@ use Rattle.net_file.specs.Keys.{at_key, items_list, number_within, of_type, with
 use Rattle.masks.specs.Masks.{mask_of}
 use Rattle.net_file.specs.Net.{is_name}
 use Rattle.net_file.specs.Refusals.{require, with_value}
-use Rattle.read_error.specs.Refusals.{RefusedRow, in_row}
+use Rattle.failure.specs.Refusals.{in_row}
+use Rattle.failure.specs.declared.row.InRow.{InRow}
 use Rattle.net_file.specs.declared.error.NetRefusal.{NetRefusal}
 use Rattle.net_file.specs.declared.error.NetRefusal.TheVariants as refusal
 use Rattle.net_file.specs.declared.net.SwitchRow.{SwitchRow}
@@ -130,20 +131,20 @@ link_of switches earlier d = with_value (of_type (as_table d)) (link_with switch
 -- the rows that values state, one after another behind the earlier ones; or the first refusal,
 -- whose row is base and the number of the value, counted from 1
 abbrev pub rows_read : {X : Type 0} → ℕ → (List X → Data → Result X NetRefusal) → List X → List Data
-    → Result (List X) (RefusedRow NetRefusal)
+    → Result (List X) (InRow NetRefusal)
 rows_read base read earlier [] = Ok earlier
 rows_read base read earlier (d ∷ ds) =
     with_value (in_row (base + (length earlier + 1)) (read earlier d))
     (λ row. rows_read base read (earlier ++ row ∷ []) ds)
 
-abbrev pub switches_read : List Data → Result (List SwitchRow) (RefusedRow NetRefusal)
+abbrev pub switches_read : List Data → Result (List SwitchRow) (InRow NetRefusal)
 switches_read ds = rows_read 0 switch_read [] ds
 
-abbrev pub links_in : List SwitchRow → List Data → Result (List LinkRow) (RefusedRow NetRefusal)
+abbrev pub links_in : List SwitchRow → List Data → Result (List LinkRow) (InRow NetRefusal)
 links_in switches ds = rows_read 100 (link_of switches) [] ds
 
 -- the network that a document states, or its first refusal
-abbrev pub net_read : Members → Result Net (RefusedRow NetRefusal)
+abbrev pub net_read : Members → Result Net (InRow NetRefusal)
 net_read table =
     with_value (in_row 0 (setting_read table (codes "leaf_rules") 1 8192 64)) (λ leaf_rules.
     with_value (in_row 0 (setting_read table (codes "backups") 0 3 0)) (λ backups.
@@ -165,5 +166,5 @@ abbrev pub document_of : List ℕ → Option Members
 document_of bytes = if is_utf8 bytes then parse_document bytes else None
 
 -- the network that a text states, or its first refusal
-unfoldable pub net_of : List ℕ → Result Net (RefusedRow NetRefusal)
+unfoldable pub net_of : List ℕ → Result Net (InRow NetRefusal)
 net_of bytes = with_value (in_row 0 (ok_or (document_of bytes) refusal.Toml)) net_read

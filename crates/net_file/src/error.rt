@@ -1,8 +1,8 @@
 ghost use Rattle.std.specs.Prelude.{◌≡◌};
+ghost use Rattle.failure.specs.declared.error.Failure.TheVariants.{Refused};
 ghost use Rattle.net_file.specs.Refusals.{net_code};
-ghost use Rattle.read_error.specs.declared.error.ReadError.TheVariants.{Refused};
 
-use read_error::ReadError;
+use failure::{Failure, InRow};
 
 /// What is wrong with a network's text.
 #[derive(Clone, Copy, Debug, PartialEq, Eq)]
@@ -42,13 +42,13 @@ impl NetRefusal {
 ///
 /// The row of a refusal is 0 for the keys of the document, k for the k-th switch and 100 + k for
 /// the k-th link, both counted from 1.
-pub type NetError = ReadError<NetRefusal>;
+pub type NetError = Failure<InRow<NetRefusal>>;
 
 /// A refusal of the document, or of one of its own keys, is in row 0.
 impl From<NetRefusal> for NetError {
-    ghost from_gives = { λ refusal e. e ≡ Refused refusal 0 };
+    ghost from_gives = { λ refusal e. e ≡ Refused (record { refusal = refusal; row = 0 }) };
 
     fn from(refusal: NetRefusal) -> Self {
-        NetError::Refused { refusal, row: 0 }
+        NetError::Refused(InRow { refusal, row: 0 })
     }
 }

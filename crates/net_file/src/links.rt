@@ -2,11 +2,12 @@ ghost use Rattle.std.specs.Prelude.{◌≡◌, ◌≤◌, ◌<◌, ◌^◌, Ok, 
 ghost use Rattle.toml.specs.View.{table_view, view};
 ghost use Rattle.net_file.specs.Joins.{are_linked, joins};
 ghost use Rattle.net_file.specs.Reading.{end_read, ends_in, link_array, link_of, link_with, links_in};
-ghost use Rattle.read_error.specs.Refusals.{IsRefusal};
+ghost use Rattle.failure.specs.Refusals.{IsRefusal};
 
 use crate::error::{NetError, NetRefusal};
 use crate::keys::{array_in, table_in, value_at};
 use crate::net::{LinkRow, SwitchRow, number_in};
+use failure::InRow;
 use std::alloc::Global;
 use toml::{Table, Value};
 
@@ -119,7 +120,7 @@ pub fn read_links(
         row += 1;
         let link = match read_link(switches, &rows, value) {
             Ok(link) => link,
-            Err(refusal) => return Err(NetError::Refused { refusal, row }),
+            Err(refusal) => return Err(NetError::Refused(InRow { refusal, row })),
         };
         rows.push(link)?;
     }

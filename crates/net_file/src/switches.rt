@@ -4,7 +4,7 @@ ghost use Rattle.toml.specs.Data.{as_integer};
 ghost use Rattle.toml.specs.View.{table_view, view};
 ghost use Rattle.net_file.specs.Net.{are_name_bytes, is_label, is_name, is_name_byte};
 ghost use Rattle.net_file.specs.Reading.{are_new, name_at, port_bits, port_read, ports_at, ports_of, switch_array, switch_read, switch_with, switches_read};
-ghost use Rattle.read_error.specs.Refusals.{IsRefusal, in_row};
+ghost use Rattle.failure.specs.Refusals.{IsRefusal, in_row};
 ghost use Rattle.net_file.specs.Stated.{row_stated};
 ghost use Rattle.net_file.specs.Owners.{have_name, have_port};
 ghost use Rattle.net_file.specs.Laws.{IsMask};
@@ -12,6 +12,7 @@ ghost use Rattle.net_file.specs.Laws.{IsMask};
 use crate::error::{NetError, NetRefusal};
 use crate::keys::{array_in, setting_of, table_in, text_in, value_at, within};
 use crate::net::{Name, SwitchRow};
+use failure::InRow;
 use masks::{has, with};
 use std::alloc::Global;
 use toml::{Table, Value};
@@ -206,11 +207,11 @@ fn read_switch(
 {
     let keys = match table_in(value) {
         Ok(keys) => keys,
-        Err(refusal) => return Err(NetError::Refused { refusal, row }),
+        Err(refusal) => return Err(NetError::Refused(InRow { refusal, row })),
     };
     let Stated { name, ports, room } = match read_keys(earlier, taken, keys) {
         Ok(stated) => stated,
-        Err(refusal) => return Err(NetError::Refused { refusal, row }),
+        Err(refusal) => return Err(NetError::Refused(InRow { refusal, row })),
     };
     let name = Name::new(alloc, name.as_bytes())?;
     Ok(SwitchRow { name, ports, room })

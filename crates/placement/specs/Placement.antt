@@ -2,11 +2,10 @@
 -- partition's rules: Yu, Rexford, Freedman and Wang, "Scalable Flow-Based Networking with DIFANE",
 -- SIGCOMM 2010; the rule of least load is this project's own). A placement gives each partition, by
 -- its number, the list of its targets.
-use Rattle.std.specs.Prelude.{⊤, ℕ, ◌≡◌, ◌+◌, ◌<◌, Bool, ◌&&◌, ◌||◌, ◌==◌, nat_lt, nat_le, nat_eq, if◌then◌else◌, Result, Ok, Err, MatchResult, List, [], ◌∷◌, length, take, filter, sum_by, slice_index, slice_index_or, slice_set, replicate, All, AllPairs, IsTrue, IsFalse}
+use Rattle.std.specs.Prelude.{ℕ, ◌≡◌, ◌+◌, ◌<◌, Bool, ◌&&◌, ◌||◌, ◌==◌, nat_lt, nat_le, nat_eq, if◌then◌else◌, Result, Ok, Err, MatchResult, List, [], ◌∷◌, length, take, filter, sum_by, slice_index, slice_index_or, slice_set, replicate, All, AllPairs, IsTrue, IsFalse}
 use Rattle.std.specs.List.{list_any, range_with_len}
 use Rattle.placement.specs.Order.{in_order}
-use Rattle.placement.specs.declared.PlaceError.{PlaceError}
-use Rattle.placement.specs.declared.PlaceError.TheVariants.{NoRoom, NoMemory}
+use Rattle.placement.specs.declared.NoRoom.{NoRoom}
 
 -- ---- which partition is placed first, and what the switches hold then
 
@@ -103,8 +102,8 @@ abbrev pub MeetsPlacement : List ℕ → List ℕ → ℕ → Result (List (List
 MeetsPlacement sizes rooms backups answer =
     MatchResult answer (IsPlacement sizes rooms backups) (LacksRoom sizes rooms backups)
 
--- why there is no placement, or memory ran out
-abbrev pub RefusesPlacement : List ℕ → List ℕ → ℕ → PlaceError → Type 0
-RefusesPlacement sizes rooms backups (NoRoom partition) =
-    (placement_of sizes rooms backups ≡ Err partition) × LacksRoom sizes rooms backups partition
-RefusesPlacement sizes rooms backups NoMemory = ⊤
+-- why there is no placement
+abbrev pub RefusesPlacement : List ℕ → List ℕ → ℕ → NoRoom → Type 0
+RefusesPlacement sizes rooms backups lack =
+    (placement_of sizes rooms backups ≡ Err lack.partition)
+    × LacksRoom sizes rooms backups lack.partition

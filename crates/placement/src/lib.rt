@@ -9,40 +9,22 @@
 
 ghost use Rattle.std.specs.Prelude.{ℕ, ◌≡◌, ◌+◌, ◌<◌, ◌≤◌, ◌^◌, Ok, Err, List, length, slice_index, All, AllPairs, MatchOption, IfOk, IfErr, IsTrue, if◌then◌else◌, nat_eq, replicate};
 ghost use Rattle.std.specs.List.{list_any, range_with_len};
+ghost use Rattle.failure.specs.Refusals.{IfRefused};
 ghost use Rattle.placement.specs.Order.{in_order};
 ghost use Rattle.placement.specs.Placement.{is_earlier, is_lighter, has_room, with_room, AreFirst, IsPlacement, LacksRoom, MeetsPlacement, RefusesPlacement, placement_of};
-ghost use Rattle.placement.specs.declared.PlaceError.TheVariants.{NoMemory};
 
+use failure::Failure;
 use policy_rules::Targets;
-use std::alloc::{AllocError, AllocFailed, Global};
+use std::alloc::{AllocError, Global};
 use std::cmp::Reverse;
 use thiserror::Error;
 
-/// Why partitions have no placement.
+/// Why partitions have no placement: too few switches have room for this one, counted from 0; it
+/// is the first, in the order of placing.
 #[derive(Clone, Copy, Debug, PartialEq, Eq, Error)]
-pub enum PlaceError {
-    /// Too few switches have room for this partition, counted from 0; it is the first, in the order
-    /// of placing.
-    #[error("too few switches have room for partition {partition}")]
-    NoRoom { partition: u32 },
-    #[error("no memory")]
-    NoMemory,
-}
-
-impl From<AllocError> for PlaceError {
-    ghost from_gives = { λ _ e. e ≡ NoMemory };
-
-    fn from(_: AllocError) -> Self {
-        PlaceError::NoMemory
-    }
-}
-
-impl<T: Drop> From<AllocFailed<T>> for PlaceError {
-    ghost from_gives = { λ _ e. e ≡ NoMemory };
-
-    fn from(_: AllocFailed<T>) -> Self {
-        PlaceError::NoMemory
-    }
+#[error("too few switches have room for partition {partition}")]
+pub struct NoRoom {
+    pub partition: u32,
 }
 
 /// The targets of partitions of these sizes, in rules, on switches of these rooms, in rules: for
@@ -59,7 +41,7 @@ pub fn place(
     sizes: &[u32],
     rooms: &[u32],
     backups: u32,
-) -> Result<Vec<Targets>, PlaceError>
+) -> Result<Vec<Targets>, Failure<NoRoom>>
     requires partitions { length sizes.now < 2 ^ 32 }
     requires switches { length rooms.now ≤ 64 }
     requires backups { backups ≤ 3 }
@@ -67,7 +49,8 @@ pub fn place(
         IsPlacement sizes.now rooms.now backups targets.items) }
     ensures value { IfOk result (λ targets.
         placement_of sizes.now rooms.now backups ≡ Ok targets.items) }
-    ensures refused { IfErr result (RefusesPlacement sizes.now rooms.now backups) }
+    ensures refused { IfErr result (IfRefused
+        (RefusesPlacement sizes.now rooms.now backups)) }
 {
     let unplaced = Targets::new(&[0]).unwrap();
     let mut placement = vec![in alloc; unplaced; sizes.len()]?;
@@ -76,9 +59,9 @@ pub fn place(
     for partition in &order {
         let size = number_at(sizes, *partition);
         let Some(targets) = least_loaded(alloc, &loads, rooms, size, backups)? else {
-            return Err(PlaceError::NoRoom {
+            return Err(Failure::Refused(NoRoom {
                 partition: *partition,
-            });
+            }));
         };
         add_load(&mut loads, targets.items(), size);
         placement[*partition as usize] = targets;

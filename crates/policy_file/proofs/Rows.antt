@@ -13,7 +13,7 @@ use Rattle.policy_rules.specs.declared.policy.Row.{Row}
 use Rattle.policy_rules.specs.Repeats.{IsFirstRepeat, has_priority}
 use Rattle.policy_file.specs.declared.error.PolicyRefusal.{PolicyRefusal}
 use Rattle.policy_file.specs.declared.error.PolicyRefusal.TheVariants as why
-use Rattle.read_error.specs.Refusals.{RefusedRow}
+use Rattle.failure.specs.declared.row.InRow.{InRow}
 use Rattle.policy_file.specs.Reading.{IsReadUpTo, State, first_some, policy_heading, refusal_after, refusal_at, row_read, rows_of, rows_under_heading, states_priority}
 
 -- ---- the first number that has something
@@ -150,7 +150,7 @@ clean records (row ∷ rows) p stated few most distinct k less =
     ∙ ap (λ b. cond b (Some why.SamePriority) None)
     (fresh (row ∷ rows) p k row distinct less (omega arith))
 
-abbrev at_row : ℕ → PolicyRefusal → RefusedRow PolicyRefusal
+abbrev at_row : ℕ → PolicyRefusal → InRow PolicyRefusal
 at_row place refusal = record { refusal = refusal; row = place + 1 }
 
 -- the first refused record decides

@@ -7,7 +7,7 @@ use Rattle.csv_records.specs.Texts.{is_heading, records_of}
 use Rattle.five_tuple.specs.Texts.{number_up_to, prefix_of, range_of, proto_of}
 use Rattle.policy_rules.specs.Read.{action_of}
 use Rattle.policy_rules.specs.declared.policy.Row.{Row}
-use Rattle.read_error.specs.Refusals.{RefusedRow}
+use Rattle.failure.specs.declared.row.InRow.{InRow}
 use Rattle.policy_file.specs.declared.error.PolicyRefusal.{PolicyRefusal}
 use Rattle.policy_file.specs.declared.error.PolicyRefusal.TheVariants as why
 
@@ -81,31 +81,31 @@ first_some at zero = None
 first_some at (suc n) = option_or (first_some at n) (at n)
 
 -- the same, with the row, counted from 1
-abbrev pub refused_at : List (List (List ℕ)) → ℕ → Option (RefusedRow PolicyRefusal)
+abbrev pub refused_at : List (List (List ℕ)) → ℕ → Option (InRow PolicyRefusal)
 refused_at records place =
     option_map (λ refusal. record { refusal = refusal; row = place + 1 }) (refusal_at records place)
 
 -- the first refusal among the records
-abbrev pub first_refusal : List (List (List ℕ)) → Option (RefusedRow PolicyRefusal)
+abbrev pub first_refusal : List (List (List ℕ)) → Option (InRow PolicyRefusal)
 first_refusal records = first_some (refused_at records) (length records)
 
 -- the rows that the records state, one each, or the first refusal among them
-abbrev pub rows_of : List (List (List ℕ)) → Result (List Row) (RefusedRow PolicyRefusal)
+abbrev pub rows_of : List (List (List ℕ)) → Result (List Row) (InRow PolicyRefusal)
 rows_of records =
     option_map_or Err (first_refusal records)
     (Ok (filter_map (λ fields. result_ok (row_read fields)) records))
 
-abbrev pub no_policy_heading : Result (List Row) (RefusedRow PolicyRefusal)
+abbrev pub no_policy_heading : Result (List Row) (InRow PolicyRefusal)
 no_policy_heading = Err (record { refusal = why.Heading; row = 0 })
 
 -- the rows under the heading
-abbrev pub rows_under_heading : List (List (List ℕ)) → Result (List Row) (RefusedRow PolicyRefusal)
+abbrev pub rows_under_heading : List (List (List ℕ)) → Result (List Row) (InRow PolicyRefusal)
 rows_under_heading [] = no_policy_heading
 rows_under_heading (first ∷ records) =
     if is_heading policy_heading first then rows_of records else no_policy_heading
 
 -- the policy that a text states
-unfoldable pub policy_of : List ℕ → Result (List Row) (RefusedRow PolicyRefusal)
+unfoldable pub policy_of : List ℕ → Result (List Row) (InRow PolicyRefusal)
 policy_of bytes = rows_under_heading (records_of bytes)
 
 -- ---- rows that were read of records

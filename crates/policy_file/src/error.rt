@@ -1,7 +1,7 @@
 ghost use Rattle.std.specs.Prelude.{◌≡◌};
 ghost use Rattle.policy_file.specs.Reading.{policy_code};
 
-use read_error::ReadError;
+use failure::{Failure, InRow};
 
 /// Why a policy's text is refused.
 #[derive(Clone, Copy, Debug, PartialEq, Eq)]
@@ -40,4 +40,4 @@ impl PolicyRefusal {
 }
 
 /// Why a text is read as no policy. Rows are counted from 1; the row of the heading is 0.
-pub type PolicyError = ReadError<PolicyRefusal>;
+pub type PolicyError = Failure<InRow<PolicyRefusal>>;

@@ -2,12 +2,13 @@ ghost use Rattle.std.specs.Prelude.{◌≡◌, ◌≤◌, Ok, IfOk, IfErr, All, 
 ghost use Rattle.policy_rules.specs.Policy.{IsPolicy};
 ghost use Rattle.policy_rules.specs.Read.{HasSmallPort};
 ghost use Rattle.policy_file.specs.Reading.{IsReadUpTo, policy_of};
-ghost use Rattle.read_error.specs.Refusals.{IsRefusal};
+ghost use Rattle.failure.specs.Refusals.{IsRefusal};
 
 use crate::error::{PolicyError, PolicyRefusal};
 use crate::row::{is_heading, read_row};
 use csv_records::{ByteRecord, Records};
-use policy_rules::{NewPolicyError, Policy, Row};
+use failure::{Failure, InRow};
+use policy_rules::{Policy, Row};
 use std::alloc::{AllocError, Global};
 
 /// The most rows of a policy's text.
@@ -33,29 +34,29 @@ pub fn read_policy(alloc: Global, bytes: &[u8]) -> Result<Policy, PolicyError>
     let mut records = Records::new(alloc, bytes);
     let mut fields = ByteRecord::new(alloc);
     if !records.read_next(&mut fields)? || !is_heading(&fields) {
-        return Err(PolicyError::Refused {
+        return Err(PolicyError::Refused(InRow {
             refusal: PolicyRefusal::Heading,
             row: 0,
-        });
+        }));
     }
     let Reading { rows, refusal } = read_rows(alloc, &mut records, &mut fields)?;
     let number = rows.len() as u32;
     let policy = match Policy::new(alloc, rows) {
         Ok(policy) => policy,
-        Err(NewPolicyError::SamePriority { row }) => {
-            return Err(PolicyError::Refused {
+        Err(Failure::Refused(same)) => {
+            return Err(PolicyError::Refused(InRow {
                 refusal: PolicyRefusal::SamePriority,
-                row,
-            });
+                row: same.row,
+            }));
         }
-        Err(NewPolicyError::NoMemory) => return Err(PolicyError::NoMemory),
+        Err(Failure::NoMemory) => return Err(Failure::NoMemory),
     };
     match refusal {
         None => Ok(policy),
-        Some(refusal) => Err(PolicyError::Refused {
+        Some(refusal) => Err(PolicyError::Refused(InRow {
             refusal,
             row: number + 1,
-        }),
+        })),
     }
 }
 

@@ -1,9 +1,8 @@
 -- Rows in the order of their priorities, and why rows are no policy.
-use Rattle.std.specs.Prelude.{⊤, ℕ, ◌≡◌, ◌+◌, ◌<◌, ◌≤◌, Bool, ◌==◌, IsTrue, List, length, take, AllPairs, slice_index_or}
+use Rattle.std.specs.Prelude.{ℕ, ◌≡◌, ◌+◌, ◌<◌, ◌≤◌, Bool, ◌==◌, IsTrue, List, length, take, AllPairs, slice_index_or}
 use Rattle.std.specs.List.{list_any}
 use Rattle.policy_rules.specs.declared.policy.Row.{Row}
-use Rattle.policy_rules.specs.declared.policy.NewPolicyError.{NewPolicyError}
-use Rattle.policy_rules.specs.declared.policy.NewPolicyError.TheVariants.{SamePriority, NoMemory}
+use Rattle.policy_rules.specs.declared.policy.SamePriority.{SamePriority}
 use Rattle.policy_rules.specs.Policy.{HaveDistinctPriorities}
 
 -- one of the rows has this priority
@@ -21,7 +20,6 @@ pub record IsFirstRepeat (rows : List Row) (place : ℕ) : Type 0 where
       → IsTrue (has_priority (take place rows) (slice_index_or rows place d).priority)
   pub first : HaveDistinctPriorities (take place rows)
 
--- why these rows are no policy: one, counted from 1, repeats a priority, or memory ran out
-abbrev pub Refuses : List Row → NewPolicyError → Type 0
-Refuses rows (SamePriority row) = (place : ℕ) × (row ≡ place + 1) × IsFirstRepeat rows place
-Refuses rows NoMemory = ⊤
+-- why these rows are no policy: one, counted from 1, repeats a priority
+abbrev pub RefusesRows : List Row → SamePriority → Type 0
+RefusesRows rows same = (place : ℕ) × (same.row ≡ place + 1) × IsFirstRepeat rows place

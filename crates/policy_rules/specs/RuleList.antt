@@ -1,5 +1,5 @@
 -- The list of a policy's rules: its rows by falling priority, each as words of a ternary memory.
-use Rattle.std.specs.Prelude.{⊤, ℕ, zero, suc, ◌≡◌, ◌*◌, ◌^◌, ◌<◌, ◌==◌, Some, None, List, [], ◌∷◌, ◌++◌, length, map, filter, All, sum_by, slice_index_or}
+use Rattle.std.specs.Prelude.{ℕ, zero, suc, ◌≡◌, ◌*◌, ◌^◌, ◌<◌, ◌==◌, Some, None, List, [], ◌∷◌, ◌++◌, length, map, filter, All, sum_by, slice_index_or}
 use Rattle.std.specs.List.{flat_map, enumerate_from}
 use Rattle.five_tuple.specs.Cover.{cover_of}
 use Rattle.ternary.specs.Word.{WordValue, IsWord}
@@ -10,8 +10,7 @@ use Rattle.policy_rules.specs.declared.policy.Row.{Row}
 use Rattle.policy_rules.specs.declared.policy.Hit.{Hit}
 use Rattle.policy_rules.specs.declared.policy.Action.TheVariants.{Drop}
 use Rattle.policy_rules.specs.declared.rules.Rule.{Rule}
-use Rattle.policy_rules.specs.declared.rule_list.RulesError.{RulesError}
-use Rattle.policy_rules.specs.declared.rule_list.RulesError.TheVariants.{TooManyWords, NoMemory}
+use Rattle.policy_rules.specs.declared.rule_list.TooManyWords.{TooManyWords}
 
 -- of the rows whose priority is below this one: for each priority, from the greatest down, the rows
 -- that have it
@@ -61,10 +60,9 @@ word_count row = length (cover_of row.sport) * length (cover_of row.dport)
 abbrev pub word_total : List Row → ℕ
 word_total rows = sum_by word_count rows
 
--- why rows have no list of rules: they have too many words, or memory ran out
-abbrev pub RefusesRules : List Row → RulesError → Type 0
-RefusesRules rows (TooManyWords words) = (words ≡ word_total rows) × (4096 < words)
-RefusesRules rows NoMemory = ⊤
+-- why rows have no list of rules: they have too many words
+abbrev pub RefusesRules : List Row → TooManyWords → Type 0
+RefusesRules rows many = (many.words ≡ word_total rows) × (4096 < many.words)
 
 -- the rule of what no row matches
 abbrev pub default_rule : ℕ → Rule

@@ -2,12 +2,13 @@ ghost use Rattle.std.specs.Prelude.{◌≡◌, ◌<◌, ◌^◌, nat_lt, true, I
 ghost use Rattle.std.specs.Option.{option_map_or};
 ghost use Rattle.five_tuple.specs.Header.{IsPortRange, IsProtocol};
 ghost use Rattle.policy_rules.specs.Policy.{row_matches, IsFirstMatch, IsPolicy, IsSoundRow};
-ghost use Rattle.policy_rules.specs.declared.policy.NewPolicyError.TheVariants.{NoMemory};
+ghost use Rattle.failure.specs.Refusals.{IfRefused};
 ghost use Rattle.policy_rules.specs.Scan.{hit_of, scan, IsHighestMatch};
-ghost use Rattle.policy_rules.specs.Repeats.{Refuses};
+ghost use Rattle.policy_rules.specs.Repeats.{RefusesRows};
 
+use failure::Failure;
 use five_tuple::{Fields, Header, PortRange, Prefix, Proto};
-use std::alloc::{AllocError, AllocFailed, Global};
+use std::alloc::{AllocError, Global};
 use std::collections::HashSet;
 use std::marker::Model;
 use thiserror::Error;
@@ -41,30 +42,12 @@ pub struct Hit {
     pub action: Action,
 }
 
-/// Why rows are no policy.
+/// Why rows are no policy: this one, counted from 1, is the first that has an earlier row's
+/// priority.
 #[derive(Clone, Copy, Debug, PartialEq, Eq, Error)]
-pub enum NewPolicyError {
-    /// The row, counted from 1, is the first that has an earlier row's priority.
-    #[error("row {row} has the priority of an earlier row")]
-    SamePriority { row: u32 },
-    #[error("no memory")]
-    NoMemory,
-}
-
-impl From<AllocError> for NewPolicyError {
-    ghost from_gives = { λ _ e. e ≡ NoMemory };
-
-    fn from(_: AllocError) -> Self {
-        NewPolicyError::NoMemory
-    }
-}
-
-impl<T: Drop> From<AllocFailed<T>> for NewPolicyError {
-    ghost from_gives = { λ _ e. e ≡ NoMemory };
-
-    fn from(_: AllocFailed<T>) -> Self {
-        NewPolicyError::NoMemory
-    }
+#[error("row {row} has the priority of an earlier row")]
+pub struct SamePriority {
+    pub row: u32,
 }
 
 /// Rows of distinct priorities, in the order in which they were given. Contracts see the list of
@@ -122,11 +105,11 @@ impl Policy {
     ///
     /// # Errors
     /// `SamePriority` exactly where two rows have one priority.
-    pub fn new(alloc: Global, rows: Vec<Row>) -> Result<Policy, NewPolicyError>
+    pub fn new(alloc: Global, rows: Vec<Row>) -> Result<Policy, Failure<SamePriority>>
         requires { vec_len rows < 2 ^ 32 }
         ensures rows { IfOk result (λ policy. policy ≡ rows.items) }
         ensures policy { OnOk result (IsPolicy rows.items) }
-        ensures refused { IfErr result (Refuses rows.items) }
+        ensures refused { IfErr result (IfRefused (RefusesRows rows.items)) }
     {
         check_rows(alloc, &rows)?;
         Ok(Policy { rows })
@@ -187,10 +170,10 @@ fn exceeds(row: &Row, other: Option<&Row>) -> bool
 }
 
 // Finds the first row that has an earlier row's priority.
-fn check_rows(alloc: Global, rows: &[Row]) -> Result<(), NewPolicyError>
+fn check_rows(alloc: Global, rows: &[Row]) -> Result<(), Failure<SamePriority>>
     requires { length rows.now < 2 ^ 32 }
     ensures policy { OnOk result (IsPolicy rows.now) }
-    ensures refused { IfErr result (Refuses rows.now) }
+    ensures refused { IfErr result (IfRefused (RefusesRows rows.now)) }
 {
     let mut seen: HashSet<u32> = HashSet::new(alloc);
     let mut number = 0u32;
@@ -198,7 +181,7 @@ fn check_rows(alloc: Global, rows: &[Row]) -> Result<(), NewPolicyError>
         number += 1;
         row_is_sound(row);
         if !seen.insert(row.priority)? {
-            return Err(NewPolicyError::SamePriority { row: number });
+            return Err(Failure::Refused(SamePriority { row: number }));
         }
     }
     Ok(())

@@ -1,4 +1,5 @@
 ghost use Rattle.std.specs.Prelude.{◌≡◌, ◌+◌, ◌<◌, ◌≤◌, ◌^◌, ◌∷◌, [], All, IfOk, IfErr, OnOk, Some, map, option_map, length};
+ghost use Rattle.failure.specs.Refusals.{IfRefused};
 ghost use Rattle.five_tuple.specs.Cover.{IsPortBlock, cover_of};
 ghost use Rattle.five_tuple.specs.Header.{IsHeader};
 ghost use Rattle.five_tuple.specs.declared.header.Header.{Header};
@@ -6,13 +7,13 @@ ghost use Rattle.policy_rules.specs.Policy.{IsPolicy, IsSoundRow};
 ghost use Rattle.policy_rules.specs.Rules.{first_rule};
 ghost use Rattle.policy_rules.specs.Words.{word_of_row};
 ghost use Rattle.policy_rules.specs.RuleList.{AppendsRanked, by_falling_priority, entries_of, ranked_from, with_default, with_hit, rules_of, word_total, RefusesRules, hit_of_rule, IsRuleList};
-ghost use Rattle.policy_rules.specs.declared.rule_list.RulesError.TheVariants.{NoMemory};
 ghost use Rattle.policy_rules.specs.Scan.{scan};
 
 use crate::laws::rule_list_laws;
 use crate::policy::{Hit, Policy, Row};
 use crate::rules::Rule;
 use crate::words::word_of_row;
+use failure::Failure;
 use five_tuple::{PortBlock, count_blocks};
 use std::alloc::{AllocError, Global};
 use std::cmp::Reverse;
@@ -22,22 +23,11 @@ use thiserror::Error;
 /// The most words that the rows of a policy may have.
 const MOST_WORDS: u64 = 4096;
 
-/// Why a policy has no list of rules.
+/// Why a policy has no list of rules: its rows have this many words, which are more than 4,096.
 #[derive(Clone, Copy, Debug, PartialEq, Eq, Error)]
-pub enum RulesError {
-    /// Its rows have this many words, which are more than 4,096.
-    #[error("the rows have {words} words")]
-    TooManyWords { words: u64 },
-    #[error("no memory")]
-    NoMemory,
-}
-
-impl From<AllocError> for RulesError {
-    ghost from_gives = { λ _ e. e ≡ NoMemory };
-
-    fn from(_: AllocError) -> Self {
-        RulesError::NoMemory
-    }
+#[error("the rows have {words} words")]
+pub struct TooManyWords {
+    pub words: u64,
 }
 
 /// The rules of a policy: for each row, by falling priority, a rule for each pair of a block of its
@@ -46,7 +36,7 @@ impl From<AllocError> for RulesError {
 ///
 /// # Errors
 /// `TooManyWords` exactly where the rows have more than 4,096 words together.
-pub fn to_rules(alloc: Global, policy: &Policy) -> Result<Vec<Rule>, RulesError>
+pub fn to_rules(alloc: Global, policy: &Policy) -> Result<Vec<Rule>, Failure<TooManyWords>>
     ensures rules { IfOk result (λ rules. rules.items ≡ rules_of policy.now) }
     ensures first_match { IfOk result (λ rules. (header : Header) → IsHeader header →
         option_map hit_of_rule (first_rule rules.items header) ≡ Some (scan policy.now header)) }
@@ -54,12 +44,12 @@ pub fn to_rules(alloc: Global, policy: &Policy) -> Result<Vec<Rule>, RulesError>
     ensures count { IfOk result (λ rules. length rules.items ≡ word_total policy.now + 1) }
     ensures few { OnOk result (word_total policy.now ≤ 4096) }
     ensures policy { OnOk result (IsPolicy policy.now) }
-    ensures refused { IfErr result (RefusesRules policy.now) }
+    ensures refused { IfErr result (IfRefused (RefusesRules policy.now)) }
 {
     rule_list_laws();
     let words = count_words(policy);
     if words > MOST_WORDS {
-        return Err(RulesError::TooManyWords { words });
+        return Err(Failure::Refused(TooManyWords { words }));
     }
     let sorted = by_falling_priority(alloc, policy.rows())?;
     let rules = list_rules(alloc, &sorted, words as usize + 1)?;

@@ -4,7 +4,7 @@ use Rattle.std.specs.Prelude.{slice_get}
 use Rattle.std.specs.Option.{option_map_or}
 use Rattle.net_file.specs.declared.net.Net.{Net}
 use Rattle.steps.specs.declared.step.Event.{Event}
-use Rattle.read_error.specs.Refusals.{RefusedRow}
+use Rattle.failure.specs.declared.row.InRow.{InRow}
 use Rattle.schedule.specs.Reading.{events_in, refusals_from}
 use Rattle.schedule.specs.declared.error.ScheduleRefusal.{ScheduleRefusal}
 
@@ -12,7 +12,7 @@ abbrev pub Records : Type 0
 Records = List (List (List ℕ))
 
 -- what is read in the end, once these events were read and these records are left
-abbrev pub goes_on : Net → ℕ → List Event → Records → Result (List Event) (RefusedRow ScheduleRefusal)
+abbrev pub goes_on : Net → ℕ → List Event → Records → Result (List Event) (InRow ScheduleRefusal)
 goes_on net files events left =
     option_map_or Err (slice_get (refusals_from net files (length events + 1) left) 0)
     (Ok (events ++ events_in net files left))

@@ -26,7 +26,7 @@ use Rattle.steps.specs.declared.step.Step.{Step}
 use Rattle.steps.specs.declared.step.Step.TheVariants as step
 use Rattle.schedule.specs.Kinds.{kind_of}
 use Rattle.schedule.specs.Reading.{AreSoundEvents, events_in, events_of, events_under_heading, no_schedule_heading, refused_row, refusals_from}
-use Rattle.read_error.specs.Refusals.{RefusedRow}
+use Rattle.failure.specs.declared.row.InRow.{InRow}
 use Rattle.schedule.specs.Rows.{event_of, event_with, file_in, header_read, link_in, number_read, schedule_heading, switch_in}
 use Rattle.schedule.specs.declared.error.ScheduleRefusal.{ScheduleRefusal}
 use Rattle.schedule.specs.declared.error.ScheduleRefusal.TheVariants as why
@@ -230,12 +230,12 @@ module _ (net : Net) (files : ℕ) where
       no_more None more none = (refl, none)
 
       passed : (b : Bool) (other : Option ScheduleRefusal)
-          → option_map {U = RefusedRow ScheduleRefusal} (λ refusal. record { refusal = refusal; row = first })
+          → option_map {U = InRow ScheduleRefusal} (λ refusal. record { refusal = refusal; row = first })
           (cond b (Some why.TooManyRows) other) ≡ None → b ≡ false
       passed true other none = cc none
       passed false other none = refl
 
-  first_of : (refusals : List (RefusedRow ScheduleRefusal)) (events read : List Event)
+  first_of : (refusals : List (InRow ScheduleRefusal)) (events read : List Event)
       → option_map_or Err (slice_get refusals 0) (Ok events) ≡ Ok read → (refusals ≡ [])
       × (events ≡ read)
   first_of [] events read is = (refl, cc is)

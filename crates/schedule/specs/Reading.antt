@@ -7,7 +7,7 @@ use Rattle.csv_records.specs.Texts.{is_heading, records_of}
 use Rattle.net_file.specs.declared.net.Net.{Net}
 use Rattle.steps.specs.Steps.{IsEvent, max_events}
 use Rattle.steps.specs.declared.step.Event.{Event}
-use Rattle.read_error.specs.Refusals.{RefusedRow}
+use Rattle.failure.specs.declared.row.InRow.{InRow}
 use Rattle.schedule.specs.Rows.{event_of, schedule_heading}
 use Rattle.schedule.specs.declared.error.ScheduleRefusal.{ScheduleRefusal}
 use Rattle.schedule.specs.declared.error.ScheduleRefusal.TheVariants as why
@@ -18,13 +18,13 @@ refusal_in net files row fields =
     if nat_lt max_events row then Some why.TooManyRows else result_err (event_of net files fields)
 
 -- the same with the row's number
-abbrev pub refused_row : Net → ℕ → ℕ × List (List ℕ) → Option (RefusedRow ScheduleRefusal)
+abbrev pub refused_row : Net → ℕ → ℕ × List (List ℕ) → Option (InRow ScheduleRefusal)
 refused_row net files row =
     option_map (λ refusal. record { refusal = refusal; row = row.0 })
     (refusal_in net files row.0 row.1)
 
 -- the refusals of all these rows, the first of which has this number
-abbrev pub refusals_from : Net → ℕ → ℕ → List (List (List ℕ)) → List (RefusedRow ScheduleRefusal)
+abbrev pub refusals_from : Net → ℕ → ℕ → List (List (List ℕ)) → List (InRow ScheduleRefusal)
 refusals_from net files first records =
     filter_map (refused_row net files) (enumerate_from first records)
 
@@ -33,23 +33,23 @@ abbrev pub events_in : Net → ℕ → List (List (List ℕ)) → List Event
 events_in net files records = filter_map (λ fields. result_ok (event_of net files fields)) records
 
 -- the events that the rows state, one each; or the first refusal
-abbrev pub events_of : Net → ℕ → List (List (List ℕ)) → Result (List Event) (RefusedRow ScheduleRefusal)
+abbrev pub events_of : Net → ℕ → List (List (List ℕ)) → Result (List Event) (InRow ScheduleRefusal)
 events_of net files records =
     option_map_or Err (slice_get (refusals_from net files 1 records) 0)
     (Ok (events_in net files records))
 
-abbrev pub no_schedule_heading : Result (List Event) (RefusedRow ScheduleRefusal)
+abbrev pub no_schedule_heading : Result (List Event) (InRow ScheduleRefusal)
 no_schedule_heading = Err (record { refusal = why.Heading; row = 0 })
 
 -- the events under the heading
 abbrev pub events_under_heading : Net → ℕ → List (List (List ℕ))
-    → Result (List Event) (RefusedRow ScheduleRefusal)
+    → Result (List Event) (InRow ScheduleRefusal)
 events_under_heading net files [] = no_schedule_heading
 events_under_heading net files (first ∷ records) =
     if is_heading schedule_heading first then events_of net files records else no_schedule_heading
 
 -- the events that a text states
-unfoldable pub schedule_of : Net → ℕ → List ℕ → Result (List Event) (RefusedRow ScheduleRefusal)
+unfoldable pub schedule_of : Net → ℕ → List ℕ → Result (List Event) (InRow ScheduleRefusal)
 schedule_of net files bytes = events_under_heading net files (records_of bytes)
 
 -- ---- laws

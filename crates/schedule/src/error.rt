@@ -1,7 +1,7 @@
 ghost use Rattle.std.specs.Prelude.{◌≡◌, ◌≤◌};
 ghost use Rattle.schedule.specs.Refusals.{schedule_code};
 
-use read_error::ReadError;
+use failure::{Failure, InRow};
 
 /// Why a schedule's text is refused.
 #[derive(Clone, Copy, Debug, PartialEq, Eq)]
@@ -38,4 +38,4 @@ impl ScheduleRefusal {
 }
 
 /// Why a text is read as no schedule. Rows are counted from 1; the row of the heading is 0.
-pub type ScheduleError = ReadError<ScheduleRefusal>;
+pub type ScheduleError = Failure<InRow<ScheduleRefusal>>;

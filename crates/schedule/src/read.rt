@@ -2,12 +2,13 @@ ghost use Rattle.std.specs.Prelude.{◌≡◌, ◌≤◌, Ok, IfOk, IfErr, All, 
 ghost use Rattle.net_file.specs.Net.{IsNet};
 ghost use Rattle.steps.specs.Steps.{IsEvent, max_events};
 ghost use Rattle.schedule.specs.Reading.{schedule_of};
-ghost use Rattle.read_error.specs.Refusals.{IsRefusal};
+ghost use Rattle.failure.specs.Refusals.{IsRefusal};
 
 use crate::error::{ScheduleError, ScheduleRefusal};
 use crate::laws::schedule_laws;
 use crate::row::{is_heading, read_event};
 use csv_records::{ByteRecord, Records};
+use failure::InRow;
 use net_file::Net;
 use std::alloc::Global;
 use steps::{Event, MAX_EVENTS};
@@ -39,23 +40,23 @@ pub fn read_schedule(
     let mut records = Records::new(alloc, bytes);
     let mut fields = ByteRecord::new(alloc);
     if !records.read_next(&mut fields)? || !is_heading(&fields) {
-        return Err(ScheduleError::Refused {
+        return Err(ScheduleError::Refused(InRow {
             refusal: ScheduleRefusal::Heading,
             row: 0,
-        });
+        }));
     }
     let mut events = Vec::new(alloc);
     while records.read_next(&mut fields)? {
         let row = events.len() as u32 + 1;
         if events.len() == MAX_EVENTS {
-            return Err(ScheduleError::Refused {
+            return Err(ScheduleError::Refused(InRow {
                 refusal: ScheduleRefusal::TooManyRows,
                 row,
-            });
+            }));
         }
         match read_event(&fields, net, files) {
             Ok(event) => events.push(event)?,
-            Err(refusal) => return Err(ScheduleError::Refused { refusal, row }),
+            Err(refusal) => return Err(ScheduleError::Refused(InRow { refusal, row })),
         }
     }
     Ok(events)

@@ -1,12 +1,17 @@
 //! Placements by room and load.
-use placement::{PlaceError, place};
+use failure::Failure;
+use placement::{NoRoom, place};
 use std::test::Fail;
 
 #[test]
 fn rooms_too_small_and_large_enough(rt: HostRuntime) -> Result<(), Fail> {
     let alloc = rt.alloc();
-    assert!(rt; place(alloc, &[3], &[2], 0).err() == Some(PlaceError::NoRoom { partition: 0 }));
-    assert!(rt; place(alloc, &[3], &[3], 1).err() == Some(PlaceError::NoRoom { partition: 0 }));
+    assert!(rt;
+        place(alloc, &[3], &[2], 0).err() == Some(Failure::Refused(NoRoom { partition: 0 }))
+    );
+    assert!(rt;
+        place(alloc, &[3], &[3], 1).err() == Some(Failure::Refused(NoRoom { partition: 0 }))
+    );
     let placement = place(alloc, &[3], &[3], 0)?;
     assert_eq!(rt; placement.len(), 1);
     assert_eq!(rt; placement[0].items(), [0].as_slice());

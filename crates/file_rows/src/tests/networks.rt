@@ -9,7 +9,7 @@ use std::test::Fail;
 // The code and the row of a refusal.
 fn refusal(outcome: Result<Net, NetError>) -> Option<(u32, u32)> {
     match outcome {
-        Err(NetError::Refused { refusal, row }) => Some((refusal.code(), row)),
+        Err(NetError::Refused(why)) => Some((why.refusal.code(), why.row)),
         _ => None,
     }
 }

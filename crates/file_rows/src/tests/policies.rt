@@ -13,7 +13,7 @@ fn under_heading(alloc: Global, rows: &str) -> Result<Vec<u8>, AllocError> {
 // The code and the row of a refusal.
 fn refusal(outcome: Result<Policy, PolicyError>) -> Option<(u32, u32)> {
     match outcome {
-        Err(PolicyError::Refused { refusal, row }) => Some((refusal.code(), row)),
+        Err(PolicyError::Refused(why)) => Some((why.refusal.code(), why.row)),
         _ => None,
     }
 }

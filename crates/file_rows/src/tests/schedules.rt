@@ -27,7 +27,7 @@ fn under_heading(alloc: Global, rows: &str) -> Result<Vec<u8>, AllocError> {
 // The code and the row of a refusal.
 fn refusal(outcome: Result<Vec<Event>, ScheduleError>) -> Option<(u32, u32)> {
     match outcome {
-        Err(ScheduleError::Refused { refusal, row }) => Some((refusal.code(), row)),
+        Err(ScheduleError::Refused(why)) => Some((why.refusal.code(), why.row)),
         _ => None,
     }
 }

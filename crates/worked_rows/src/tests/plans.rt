@@ -1,6 +1,7 @@
 //! Worked runs of `compile` and `show`.
 use crate::runs::{Ran, ended, run_over};
-use cut_tree::{BuildError, build};
+use cut_tree::{TooManyLeaves, build};
+use failure::Failure;
 use policy_file::read_policy;
 use policy_rules::to_rules;
 use std::alloc::{AllocError, Global};
@@ -132,7 +133,10 @@ fn plans_up_to_4096_words(rt: HostRuntime) -> Result<(), Fail> {
 /// Whether the rules of the policy have no tree of 512 leaves with a rule each.
 fn has_too_many_leaves(alloc: Global, policy: &str) -> Result<bool, Fail> {
     let rules = to_rules(alloc, &read_policy(alloc, policy.as_bytes())?)?;
-    Ok(matches!(build(alloc, &rules, 1), Err(BuildError::TooManyLeaves)))
+    Ok(matches!(
+        build(alloc, &rules, 1),
+        Err(Failure::Refused(TooManyLeaves))
+    ))
 }
 
 #[test]

@@ -13,6 +13,6 @@ new-requires c = omega (
 
 pub unreachable-requires : goal.unreachable-requires
 unreachable-requires c =
-    let repeat = rw c.in-Err-SamePriority.field-0-is at c.in-Err-SamePriority.ensures.refused in
+    let repeat = rw c.in-Err-Refused.field-0-is at c.in-Err-Refused.ensures.refused in
     no_repeat c.args.rows c.args.draws.now.state repeat.0
     (subst (λ items. IsFirstRepeat items repeat.0) c.in_ok-rows.ensures.0 repeat.2)

@@ -16,13 +16,13 @@ behind_heading c =
     c.in_ok-read_next.field-0 c.if-not-branch.false c.in_ok-read_next.ensures.takes
     (sym c.is_heading.ensures ∙ c.if-not-is_heading.false)
 
-pub returns-in-Err-SamePriority-clause-refused : goal.returns-in-Err-SamePriority-clause-refused
+pub returns-in-Err-Refused-clause-refused : goal.returns-in-Err-Refused-clause-refused
 unfolding policy_of
-returns-in-Err-SamePriority-clause-refused c =
+returns-in-Err-Refused-clause-refused c =
     let rest = behind_heading
-    (goal.at.returns-in-Err-SamePriority-clause-refused c).In_ok-rows in
-    let (place, is, first) = rw c.in-Err-SamePriority.field-0-is at
-    c.in-Err-SamePriority.ensures.refused in
+    (goal.at.returns-in-Err-Refused-clause-refused c).In_ok-rows in
+    let (place, is, first) = rw c.in-Err-Refused.field-0-is at
+    c.in-Err-Refused.ensures.refused in
     rest ∙ repeated c.read_next.new.self c.in_ok-rows.field-0.rows.items
     c.in_ok-rows.field-0.refusal place c.in_ok-rows.ensures.read first
     ∙ ap (λ row. Err (record { refusal = why.SamePriority; row = row })) (cc)
