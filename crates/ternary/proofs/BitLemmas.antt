@@ -43,10 +43,7 @@ unmasked x y m e k =
 -- m lies in n exactly where n has each bit of m
 pub part : (m n : ℕ) → ((k : ℕ) → bit_at m k ≡ 1 → bit_at n k ≡ 1) → bit_and m n ≡ m
 part m n h = same_from_bits _ _
-    (λ k. bit_at_and m n k ∙ lower _ _ (bit_at-lt m k) (bit_at-lt n k) (h k))
-  where
-    lower : (x y : ℕ) → x < 2 → y < 2 → (x ≡ 1 → y ≡ 1) → min x y ≡ x
-    lower x y x_fits y_fits h = grind arith
+    (λ k. bit_at_and m n k ∙ grind (arith, bit_at-lt m k, bit_at-lt n k, h k))
 
 pub of_part : (m n : ℕ) → bit_and m n ≡ m → (k : ℕ) → bit_at m k ≡ 1 → bit_at n k ≡ 1
 of_part m n e k = upper _ _ (bit_at-lt n k) (sym (bit_at_and m n k) ∙ ap (λ x. bit_at x k) e)
@@ -163,10 +160,7 @@ or_assoc a b c = same_from_bits _ _ (λ k.
 -- m adds nothing to n
 pub absorbed : (m n : ℕ) → ((k : ℕ) → bit_at m k ≡ 1 → bit_at n k ≡ 1) → bit_or m n ≡ n
 absorbed m n h = same_from_bits _ _
-    (λ k. bit_at_or m n k ∙ upper _ _ (bit_at-lt m k) (bit_at-lt n k) (h k))
-  where
-    upper : (x y : ℕ) → x < 2 → y < 2 → (x ≡ 1 → y ≡ 1) → max x y ≡ y
-    upper x y x_fits y_fits h = grind arith
+    (λ k. bit_at_or m n k ∙ grind (arith, bit_at-lt m k, bit_at-lt n k, h k))
 
 -- numbers that have the same bits set are equal
 pub same_set : (m n : ℕ) → ((k : ℕ) → bit_at m k ≡ 1 → bit_at n k ≡ 1)

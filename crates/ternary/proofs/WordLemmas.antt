@@ -5,7 +5,7 @@ use Rattle.std.specs.Option.{option_and_then, is_some}
 use Rattle.std.specs.Int.{bit_at, from_bool}
 use Rattle.std.specs.Int.Bits.{bit_and, bit_or, and_self, or_comm, or_lt}
 use Rattle.std.proofs.Math.Nat.{mod-eq_of_lt}
-use Rattle.std.proofs.lemmas.Bool.{eqb-true, eq-eqb, cases_Bool, and_parts, and_from, cond-true, cond-false, both_ways, false_from_ne_true, ne_eqb, and_left, or_left as either_left, or_right as either_right}
+use Rattle.std.proofs.lemmas.Bool.{eqb-true, eq-eqb, cases_Bool, and_parts, and_from, cond-true, cond-false, both_ways, false_from_ne_true, ne_eqb, or_left as either_left, or_right as either_right}
 use Rattle.std.proofs.lemmas.Bool.Decides.{same_from_decides, Decides-like, Decides-and, Decides-or, Decides-eqb}
 use Rattle.std.proofs.lemmas.Nat.{and_assoc, and_le_r, and_mask, pow_below}
 use Rattle.std.proofs.lemmas.Nat.Bits.{bit_at-zero, bit_at_ones, shr_and_one, same_from_bits_below}
@@ -162,16 +162,11 @@ same_headers a b a_word b_word same =
 -- ---- what is in both
 
 module _ (a b : WordValue) (agree : AgreesOnBoth a b) where
-  joined_left : (k : ℕ) → bit_at a.mask k ≡ 1 → (bit_at (joined a b).mask k ≡ 1)
-      × (bit_at (joined a b).value k ≡ bit_at a.value k)
-  joined_left k p = (
-    or_left a.mask b.mask k p,
-    masked_sum-left a.value a.mask b.value b.mask k p
-        (λ q. agree k p q),
-  )
+  joined_left : IsFixedIn a (joined a b)
+  joined_left k p =
+      (or_left a.mask b.mask k p, masked_sum-left a.value a.mask b.value b.mask k p (agree k p))
 
-  joined_right : (k : ℕ) → bit_at b.mask k ≡ 1 → (bit_at (joined a b).mask k ≡ 1)
-      × (bit_at (joined a b).value k ≡ bit_at b.value k)
+  joined_right : IsFixedIn b (joined a b)
   joined_right k q = (
     or_right a.mask b.mask k q,
     masked_sum-right a.value a.mask b.value b.mask k q
@@ -730,20 +725,6 @@ module _ (a b : WordValue) (a_word : IsWord a) (b_word : IsWord b) where
       → ⊥) → None ≡ meet_of a b
   unfolding meets
   no_meet n = sym (meet_none a b (ne_eqb _ _ n))
-
-  pub covers_masked : bit_and a.mask b.mask ≡ a.mask → (bit_and b.value a.mask == a.value)
-      ≡ covers_of a b
-  unfolding covers_of
-  covers_masked e =
-      ap (λ v. bit_and b.value a.mask == v) (sym a_word.within)
-      ∙ ap (λ t. t && (bit_and b.value a.mask == fixed_value a)) (sym (eq-eqb _ _ e))
-
-  pub covers_unmasked : (bit_and a.mask b.mask ≡ a.mask → ⊥) → (bit_and a.mask b.mask == a.mask)
-      ≡ covers_of a b
-  unfolding covers_of
-  covers_unmasked n =
-      let f : (bit_and a.mask b.mask == a.mask) ≡ false = ne_eqb _ _ n in
-      f ∙ sym (and_left _ _ f)
 
 module _ (w : WordValue) (w_word : IsWord w) where
   pub masked_holds : (h : ℕ) → (bit_and h w.mask == w.value) ≡ holds w h

@@ -116,6 +116,7 @@ impl Word {
     }
 
     /// Whether this word holds each header that `other` holds.
+    #[tactic(auto, unfolding(crate::specs::Meets::covers_of))]
     pub fn covers(&self, other: &Word) -> bool
         ensures test { result ≡ covers_of self.now other.now }
         ensures inclusion { IsTrue result ↔ Includes self.now other.now }
