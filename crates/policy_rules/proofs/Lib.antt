@@ -3,6 +3,7 @@ mod Distinct
 mod Finding
 mod RowWords
 mod Ranks
+mod BlockLoops
 mod Sorting
 mod RuleLaw
 mod RuleShape

@@ -1,12 +1,8 @@
+use Rattle.std.proofs.Common.{rules}
 use Rattle.policy_rules.proofs.Ranks.{length-words_of_row}
 use Rattle.policy_rules.proofs.RuleLaw.{holds-words_of_row}
 use Rattle.policy_rules.proofs.RuleShape.{IsWord-words_of_row}
 use Rattle.policy_rules.proofs.laws.row_words_laws.Goals as goal
 
 pub returns : goal.returns
-returns c = record {
-  words = IsWord-words_of_row;
-  count = length-words_of_row;
-  holds =
-      holds-words_of_row;
-}
+returns c = search (rules, IsWord-words_of_row, length-words_of_row, holds-words_of_row)

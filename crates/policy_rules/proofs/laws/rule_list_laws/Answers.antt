@@ -1,11 +1,7 @@
+use Rattle.std.proofs.Common.{rules}
 use Rattle.policy_rules.proofs.RuleLaw.{first_rule-rules_of}
 use Rattle.policy_rules.proofs.RuleShape.{IsRuleList-rules_of, length-rules_of}
 use Rattle.policy_rules.proofs.laws.rule_list_laws.Goals as goal
 
 pub returns : goal.returns
-returns c = record {
-  list = IsRuleList-rules_of;
-  count = length-rules_of;
-  first_match =
-      first_rule-rules_of;
-}
+returns c = search (rules, IsRuleList-rules_of, length-rules_of, first_rule-rules_of)

@@ -1,12 +1,11 @@
-use Rattle.std.proofs.Common.{◌≡◌, ◌∙◌, ◌++◌, ap, sym, subst, [], length, append-nil, arith, map}
+use Rattle.std.proofs.Common.{◌∙◌, ◌++◌, ap, sym, [], length, append-nil, arith, map}
 use Rattle.std.specs.List.{flat_map}
-use Rattle.std.proofs.lemmas.Iterator.Consumers.{YieldsList-from_first, YieldsList-end, YieldsList-turn}
-use Rattle.std.proofs.lemmas.List.{flat_map_more, map-append, map-id}
+use Rattle.std.proofs.lemmas.List.{flat_map_more, map-append}
 use Rattle.five_tuple.proofs.CallerLemmas.{is_cover_of}
-use Rattle.five_tuple.specs.Blocks.{blocks_left}
-use Rattle.five_tuple.specs.Cover.{Block, IsPortBlock, cover_of}
+use Rattle.five_tuple.specs.Cover.{Block, cover_of}
 use Rattle.policy_rules.specs.Words.{word_of_row}
 use Rattle.policy_rules.specs.RuleList.{ranked_from, with_hit}
+use Rattle.policy_rules.proofs.BlockLoops.{block_turn, block_end}
 use Rattle.policy_rules.proofs.Ranks.{ranked_more, length_ranked, few_pairs}
 use Rattle.policy_rules.proofs.rule_list.push_row.Goals as goal
 
@@ -18,27 +17,18 @@ pub push_words-requires-clause-few : goal.push_words-requires-clause-few
 push_words-requires-clause-few c =
     let row = c.args.row.now in
     let done = c.loop-source.yielded in
-    let turn = YieldsList-turn
-    (YieldsList-from_first (λ x. x) blocks_left (cover_of row.sport)
-    (ap blocks_left c.into_iter-source-iterator.ensures.into_iter_gives
-    ∙ c.blocks-source-items.ensures.blocks)) done _ c.loop-source.yielded_by c.next.result
-    c.next.new.self c.in-Some.source c.in-Some.is c.next.ensures.steps in
-    let sources = (is_cover_of row.sport c.blocks-source-items.ensures.sound).few in
+    let turn = block_turn row.sport c.into_iter-source-iterator.ensures.into_iter_gives
+    c.blocks-source-items.ensures.blocks done _ c.loop-source.yielded_by c.next.result c.next.new.self c.next.ensures.steps
+    c.requires.row.sport c.in-Some.is in
     let pairs = few_pairs row (cover_of row.dport) done
-    (is_cover_of row.dport c.requires.row.dport).few (omega (arith, turn.0, sources)) in
+    (is_cover_of row.dport c.requires.row.dport).few (omega (arith, turn.0)) in
     omega (arith, pairs, length_ranked _ _ _ c.loop-source.invariant)
 
 pub push_words-requires-clause-source : goal.push_words-requires-clause-source
 push_words-requires-clause-source c =
-    let range = c.args.row.now.sport in
-    let turn = YieldsList-turn
-    (YieldsList-from_first (λ x. x) blocks_left (cover_of range)
-    (ap blocks_left c.into_iter-source-iterator.ensures.into_iter_gives
-    ∙ c.blocks-source-items.ensures.blocks)) c.loop-source.yielded _ c.loop-source.yielded_by
-    c.next.result c.next.new.self c.in-Some.source c.in-Some.is c.next.ensures.steps in
-    subst IsPortBlock (sym turn.1)
-    ((is_cover_of range c.blocks-source-items.ensures.sound).masked
-    (length c.loop-source.yielded) c.in-Some.source turn.0)
+    (block_turn c.args.row.now.sport c.into_iter-source-iterator.ensures.into_iter_gives
+    c.blocks-source-items.ensures.blocks c.loop-source.yielded _ c.loop-source.yielded_by
+    c.next.result c.next.new.self c.next.ensures.steps c.requires.row.sport c.in-Some.is).1
 
 pub loop-source-preserved : goal.loop-source-preserved
 loop-source-preserved c =
@@ -54,12 +44,9 @@ returns c =
     let row = c.args.row.now in
     let done = c.loop-source.yielded in
     let f = λ (source : Block). map (word_of_row row source) (cover_of row.dport) in
-    let end = YieldsList-end
-    (YieldsList-from_first (λ x. x) blocks_left (cover_of row.sport)
-    (ap blocks_left c.into_iter-source-iterator.ensures.into_iter_gives
-    ∙ c.blocks-source-items.ensures.blocks)) done _ c.loop-source.yielded_by c.next.result
-    c.next.new.self c.in-None.is c.next.ensures.steps in
-    let all : done ≡ cover_of row.sport = sym (map-id done) ∙ end.0 in
+    let all = block_end row.sport c.into_iter-source-iterator.ensures.into_iter_gives
+    c.blocks-source-items.ensures.blocks done _ c.loop-source.yielded_by c.next.result c.next.new.self c.next.ensures.steps
+    c.in-None.is in
     c.loop-source.invariant ∙ ap
     (λ sources. c.args.rules.now.items ++ ranked_from (length c.args.rules.now.items)
     (with_hit row (flat_map f sources))) all

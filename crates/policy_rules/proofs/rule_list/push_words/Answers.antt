@@ -1,11 +1,8 @@
-use Rattle.std.proofs.Common.{◌≡◌, ◌∙◌, ◌++◌, ap, sym, subst, [], ◌∷◌, length, append-nil, arith, map}
-use Rattle.std.proofs.lemmas.Iterator.Consumers.{YieldsList-from_first, YieldsList-end, YieldsList-turn}
-use Rattle.std.proofs.lemmas.List.{length-map, map-append, map-id}
-use Rattle.five_tuple.proofs.CallerLemmas.{is_cover_of}
-use Rattle.five_tuple.specs.Blocks.{blocks_left}
-use Rattle.five_tuple.specs.Cover.{IsPortBlock, cover_of}
+use Rattle.std.proofs.Common.{◌≡◌, ◌∙◌, ◌++◌, ap, sym, [], ◌∷◌, length, append-nil, arith, map}
+use Rattle.std.proofs.lemmas.List.{length-map, map-append}
 use Rattle.policy_rules.specs.Words.{word_of_row}
 use Rattle.policy_rules.specs.RuleList.{ranked_from, with_hit}
+use Rattle.policy_rules.proofs.BlockLoops.{block_turn, block_end}
 use Rattle.policy_rules.proofs.Ranks.{ranked_more, length_ranked}
 use Rattle.policy_rules.proofs.rule_list.push_words.Goals as goal
 
@@ -15,26 +12,17 @@ loop-destination-init c = sym (append-nil _)
 
 pub word_of_row-requires-clause-destination : goal.word_of_row-requires-clause-destination
 word_of_row-requires-clause-destination c =
-    let range = c.args.row.now.dport in
-    let turn = YieldsList-turn
-    (YieldsList-from_first (λ x. x) blocks_left (cover_of range)
-    (ap blocks_left c.into_iter-destination-iterator.ensures.into_iter_gives
-    ∙ c.blocks-destination-items.ensures.blocks)) c.loop-destination.yielded _
-    c.loop-destination.yielded_by c.next.result c.next.new.self c.in-Some.destination
-    c.in-Some.is c.next.ensures.steps in
-    subst IsPortBlock (sym turn.1)
-    ((is_cover_of range c.blocks-destination-items.ensures.sound).masked
-    (length c.loop-destination.yielded) c.in-Some.destination turn.0)
+    (block_turn c.args.row.now.dport c.into_iter-destination-iterator.ensures.into_iter_gives
+    c.blocks-destination-items.ensures.blocks c.loop-destination.yielded _
+    c.loop-destination.yielded_by c.next.result c.next.new.self c.next.ensures.steps c.requires.row.dport c.in-Some.is).1
 
 pub push_rule-requires : goal.push_rule-requires
 push_rule-requires c =
     let row = c.args.row.now in
     let done = c.loop-destination.yielded in
-    let turn = YieldsList-turn
-    (YieldsList-from_first (λ x. x) blocks_left (cover_of row.dport)
-    (ap blocks_left c.into_iter-destination-iterator.ensures.into_iter_gives
-    ∙ c.blocks-destination-items.ensures.blocks)) done _ c.loop-destination.yielded_by
-    c.next.result c.next.new.self c.in-Some.destination c.in-Some.is c.next.ensures.steps in
+    let turn = block_turn row.dport c.into_iter-destination-iterator.ensures.into_iter_gives
+    c.blocks-destination-items.ensures.blocks done _ c.loop-destination.yielded_by
+    c.next.result c.next.new.self c.next.ensures.steps c.requires.row.dport c.in-Some.is in
     let words = map (word_of_row row c.args.source) done in
     let entries : length (with_hit row words) ≡ length words = length-map _ _ in
     let some : length words ≡ length done = length-map _ _ in
@@ -43,7 +31,6 @@ push_rule-requires c =
       entries,
       some,
       turn.0,
-      (is_cover_of row.dport c.blocks-destination-items.ensures.sound).few,
       length_ranked _ _ (with_hit row words) c.loop-destination.invariant,
     )
 
@@ -61,12 +48,9 @@ pub returns : goal.returns
 returns c =
     let row = c.args.row.now in
     let done = c.loop-destination.yielded in
-    let end = YieldsList-end
-    (YieldsList-from_first (λ x. x) blocks_left (cover_of row.dport)
-    (ap blocks_left c.into_iter-destination-iterator.ensures.into_iter_gives
-    ∙ c.blocks-destination-items.ensures.blocks)) done _ c.loop-destination.yielded_by
-    c.next.result c.next.new.self c.in-None.is c.next.ensures.steps in
-    let all : done ≡ cover_of row.dport = sym (map-id done) ∙ end.0 in
+    let all = block_end row.dport c.into_iter-destination-iterator.ensures.into_iter_gives
+    c.blocks-destination-items.ensures.blocks done _ c.loop-destination.yielded_by
+    c.next.result c.next.new.self c.next.ensures.steps c.in-None.is in
     c.loop-destination.invariant
     ∙ ap (λ ports. c.args.rules.now.items ++ ranked_from (length c.args.rules.now.items)
     (with_hit row (map (word_of_row row c.args.source) ports))) all
