@@ -1,7 +1,7 @@
 -- One to 64 distinct switches, held in 64 places.
-use Rattle.std.specs.Prelude.{ℕ, ◌≡◌, ◌-◌, ◌<◌, ◌≤◌, nat_eq, List, ◌++◌, length, take, drop, replicate, All}
+use Rattle.std.specs.Prelude.{ℕ, ◌≡◌, ◌-◌, ◌<◌, ◌≤◌, nat_eq, List, length, take, drop, replicate, All}
 use Rattle.std.specs.List.{IsDistinct}
-use Rattle.std.proofs.Common.{arith, length-take, take-append-drop, ap, sym, ◌∙◌}
+use Rattle.lists.specs.Filled.{filled, filled-take}
 use Rattle.failover.specs.declared.path.Route.TheInside.{Inside}
 
 -- one or more distinct switches
@@ -24,14 +24,9 @@ pub record IsFilledRoute (r : Inside) : Type 0 where
 
 -- the 64 places that hold this list
 abbrev pub filled_route : List ℕ → Inside
-filled_route xs = record { switches = xs ++ replicate (64 - length xs) 0; len = length xs }
+filled_route xs = record { switches = filled 64 xs; len = length xs }
 
 -- the 64 places are those of the list that they hold
 pub filled-first_switches : (r : Inside) → IsFilledRoute r → filled_route (first_switches r) ≡ r
 filled-first_switches r h =
-    let len : length (take r.len r.switches) ≡ r.len =
-    omega (arith, length-take r.len r.switches, h.places, h.few) in
-    let switches : take r.len r.switches ++ replicate (64 - r.len) 0 ≡ r.switches =
-    ap (λ rest. take r.len r.switches ++ rest) (sym h.rest)
-    ∙ take-append-drop r.len r.switches in
-    rw (len, switches)
+    let held = filled-take 64 r.len r.switches h.places h.few h.rest in rw (held.1, held.0)

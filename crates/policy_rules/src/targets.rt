@@ -17,18 +17,18 @@ pub struct Targets {
 }
 
 impl Model for Targets {
-    ghost use Rattle.std.specs.Prelude.{List, ℕ};
-    ghost use Rattle.policy_rules.specs.Targets.{first_places, AreFilledTargets, filled_targets, filled-first_places};
+    ghost use Rattle.std.specs.Prelude.{List, ℕ, take};
+    ghost use Rattle.policy_rules.specs.Targets.{AreFilledTargets, filled_targets, filled_targets-take};
 
     ghost Value = { List ℕ };
 
-    ghost view = { first_places };
+    ghost view = { λ t. take t.len t.places };
 
     ghost invariant = { AreFilledTargets };
 
     ghost inverse = { filled_targets };
 
-    ghost inverse_ok = { filled-first_places };
+    ghost inverse_ok = { filled_targets-take };
 }
 
 impl Targets {
