@@ -1,7 +1,7 @@
 ghost use Rattle.std.specs.Prelude.{◌≡◌, ◌≤◌, ◌<◌, ◌^◌, Ok, Err, [], IfOk, IfErr, length, map};
 ghost use Rattle.toml.specs.View.{table_view, view};
 ghost use Rattle.net_file.specs.Joins.{are_linked, joins};
-ghost use Rattle.net_file.specs.Reading.{end_read, ends_in, link_array, link_of, link_with, links_in};
+ghost use Rattle.net_file.specs.Reading.{end_read, ends_in, link_array, link_of, links_in};
 ghost use Rattle.failure.specs.Refusals.{IsRefusal};
 
 use crate::error::{NetError, NetRefusal};
@@ -63,16 +63,16 @@ fn are_linked(links: &[LinkRow], one: u32, two: u32) -> bool
     links.iter().any(|link| link.joins(one, two))
 }
 
-// The link that the keys state, behind the earlier links.
-fn read_keys(
+// The link that a value states, behind the earlier links.
+fn read_link(
     switches: &[SwitchRow],
     earlier: &[LinkRow],
-    keys: &Table,
+    value: &Value,
 ) -> Result<LinkRow, NetRefusal>
     requires { length switches.now ≤ 64 }
-    ensures { result ≡ link_with switches.now earlier.now (table_view keys.now) }
+    ensures { result ≡ link_of switches.now earlier.now (view value.now) }
 {
-    let Some(value) = value_at(keys, "ends") else {
+    let Some(value) = value_at(table_in(value)?, "ends") else {
         return Err(NetRefusal::MissingKey);
     };
     let (one, two) = ends_in(value)?;
@@ -85,18 +85,6 @@ fn read_keys(
         return Err(NetRefusal::DuplicateLink);
     }
     Ok(LinkRow { one, two })
-}
-
-// The link that a value states.
-fn read_link(
-    switches: &[SwitchRow],
-    earlier: &[LinkRow],
-    value: &Value,
-) -> Result<LinkRow, NetRefusal>
-    requires { length switches.now ≤ 64 }
-    ensures { result ≡ link_of switches.now earlier.now (view value.now) }
-{
-    read_keys(switches, earlier, table_in(value)?)
 }
 
 /// The links that the values of the array `link` state.
