@@ -202,10 +202,10 @@ pub fn read_proto(text: &[u8]) -> Option<Proto>
     ensures valid { IfSome result IsProtocol }
 {
     if text == b"any".as_slice() {
-        return Some(Proto::Any);
+        Some(Proto::Any)
+    } else {
+        read_proto_number(text).map(Proto::Is)
     }
-    let number = read_proto_number(text)?;
-    Some(Proto::Is(number))
 }
 
 /// The fields of a packet, each from its text; `None` where one of them has none.

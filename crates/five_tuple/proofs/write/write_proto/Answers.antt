@@ -11,9 +11,9 @@ unfolding proto_text
 returns-in-Any-clause-read_back c = IfOk-weaker c.from_slice.result (λ v. v.items ≡ codes "any") _
     (λ v is. rw (is, c.in-Any.is) (proto_back Any tt)) c.from_slice.ensures.items
 
-pub returns-in_ok-text-in-Is-clause-read_back : goal.returns-in_ok-text-in-Is-clause-read_back
+pub returns-in_ok-to_string-in-Is-clause-read_back : goal.returns-in_ok-to_string-in-Is-clause-read_back
 unfolding proto_text
-returns-in_ok-text-in-Is-clause-read_back c =
-    let printed = c.in_ok-text-in-Is.ensures.ok in
+returns-in_ok-to_string-in-Is-clause-read_back c =
+    let printed = c.in_ok-to_string-in-Is.ensures.ok in
     rw (c.into_bytes.ensures.value, printed, c.in-Is.is)
     (proto_back (Is c.in-Is.number) (omega arith))
