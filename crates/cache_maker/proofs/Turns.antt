@@ -435,12 +435,8 @@ xor_other a n j other =
 
 pub fewer : (n k : ℕ) → bit_at n k ≡ 1 → bit_xor n (2 ^ k) < n
 fewer n k set =
-    let common : bit_and n (2 ^ k) ≡ 2 ^ k =
-    and_pow n k ∙ ap (λ b. b * 2 ^ k) set ∙ one_times (2 ^ k) in
+    let common : bit_and n (2 ^ k) ≡ 1 * 2 ^ k = and_pow n k ∙ ap (λ b. b * 2 ^ k) set in
     omega (arith, xor_add_and n (2 ^ k), common, pow_pos k)
-  where
-    one_times : (n : ℕ) → 1 * n ≡ n
-    one_times n = omega arith
 
 pub left_next : {h : ℕ} {region : WordValue} {rules : List Rule}
     {index free_bits last fixed untested : ℕ}

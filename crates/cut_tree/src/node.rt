@@ -60,7 +60,6 @@ impl Node {
             half.rules.items ≡ side_of self.now.rules.items self.now.region bit one) }
         ensures region { IfOk result (λ half. half.region ≡ fix_of self.now.region bit one) }
     {
-        let region = self.region.fix(bit, one);
-        Node::new(alloc, &self.rules, &region)
+        Node::new(alloc, &self.rules, &self.region.fix(bit, one))
     }
 }
