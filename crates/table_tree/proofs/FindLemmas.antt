@@ -30,16 +30,17 @@ use Rattle.switch_table.proofs.TableLemmas.{count_by-map, find-there, row_at}
 use Rattle.table_tree.specs.Regions.{AreNodeSpots, has_number, spots_of_side, spots_from, spots_of}
 use Rattle.table_tree.specs.Ruling.{RegionTree, part_tree, rule_shape, rule_tree, seen_tree}
 use Rattle.table_tree.specs.declared.rule_tree.RuleTree.{RuleTree}
-use Rattle.table_tree.specs.Finding.{SpotShape, Place, Sides, AreTreesOf, CutsHeaderBits, IsEnd, IsFinderTree, IsGrownShape, IsSpotTreeOf, place_at, spot_shape_of}
+use Rattle.table_tree.specs.Finding.{AreTreesOf, IsEnd, IsFinderTree, IsGrownShape, IsSpotTreeOf, spot_shape_of}
+use Rattle.table_tree.specs.Shape.{Shape, CutsHeaderBits, Leaf, Sides, leaf_at}
 use Rattle.table_tree.specs.declared.node.Spot.{Spot}
 use Rattle.table_tree.specs.declared.trees.Trees.{Trees}
 use Rattle.table_tree.proofs.NodeLemmas.{count-cons, cut_is_free, found_from_count, half_node, never_stuck, root_node, several_spots, side_finds, spot_at, spots_count, weight}
 
 -- ---- the cut bit
 
-pub cuts_bits : (tree : SpotShape) (spots : List Spot) (region : WordValue) → IsSpotTreeOf spots region tree
+pub cuts_bits : (tree : Shape ℕ) (spots : List Spot) (region : WordValue) → IsSpotTreeOf spots region tree
     → CutsHeaderBits tree
-cuts_bits (Place place) spots region is = tt
+cuts_bits (Leaf place) spots region is = tt
 cuts_bits (Sides bit low high) spots region is = (
   (cut_is_free spots region bit is.1).bound,
   cuts_bits low _ _ is.2,
@@ -59,10 +60,10 @@ end_is (first ∷ []) spot place one is same = record {
 end_is (first ∷ second ∷ rest) spot place one is same = absurd (omega (arith, one))
 
 -- a tree that is grown of regions that meet a region of the header space is theirs
-pub grown_tree : HoldsLaws → MeetLaws → (tree : SpotShape) (spots : List Spot) (region : WordValue)
+pub grown_tree : HoldsLaws → MeetLaws → (tree : Shape ℕ) (spots : List Spot) (region : WordValue)
     → AreNodeSpots spots region → IsGrownShape spots region tree → IsSpotTreeOf spots region tree
-grown_tree holds_laws meet_laws (Place place) spots region node (inl end) = end
-grown_tree holds_laws meet_laws (Place place) spots region node (inr stuck) =
+grown_tree holds_laws meet_laws (Leaf place) spots region node (inl end) = end
+grown_tree holds_laws meet_laws (Leaf place) spots region node (inr stuck) =
     absurd (stuck.not_one (never_stuck holds_laws meet_laws spots region node stuck.none))
 grown_tree holds_laws meet_laws (Sides bit low high) spots region node is =
     let free = cut_is_free spots region bit is.1 in (
@@ -92,10 +93,10 @@ in_half region bit number one free held is =
     ∙ eq-eqb (bit_at number bit) (from_bool one) is
 
 -- the bits of a header lead to the place of the region that has it
-pub leads : (tree : SpotShape) (spots : List Spot) (region : WordValue) (number : ℕ) (spot : Spot)
+pub leads : (tree : Shape ℕ) (spots : List Spot) (region : WordValue) (number : ℕ) (spot : Spot)
     → IsSpotTreeOf spots region tree → IsTrue (holds region number)
-    → find (has_number number) spots ≡ Some spot → place_at number tree ≡ spot.place
-leads (Place place) spots region number spot is held found =
+    → find (has_number number) spots ≡ Some spot → leaf_at number tree ≡ spot.place
+leads (Leaf place) spots region number spot is held found =
     sym (All-contains (λ (s : Spot). s.place ≡ place) spots spot is.there
     (find-there (has_number number) spots spot found).0)
 leads (Sides bit low high) spots region number spot is held found =
@@ -106,9 +107,9 @@ leads (Sides bit low high) spots region number spot is held found =
     is.2 inside (side_finds spots region bit number false inside ∙ found))
   where
     by_case : (b : Bool) → (bit_at number bit == 1) ≡ b
-        → (IsTrue (holds (fix_of region bit true) number) → place_at number high ≡ spot.place)
-        → (IsTrue (holds (fix_of region bit false) number) → place_at number low ≡ spot.place)
-        → cond b (place_at number high) (place_at number low) ≡ spot.place
+        → (IsTrue (holds (fix_of region bit true) number) → leaf_at number high ≡ spot.place)
+        → (IsTrue (holds (fix_of region bit false) number) → leaf_at number low ≡ spot.place)
+        → cond b (leaf_at number high) (leaf_at number low) ≡ spot.place
     by_case true set upper lower =
         let free = cut_is_free spots region bit is.1 in
         upper (in_half region bit number true free.free held (eqb-true _ _ set))
@@ -147,9 +148,9 @@ spot_place place number (row ∷ rows) spot found =
         (omega (arith, later.0), omega (arith, later.1))
 
 -- the tree of the rows leads each header to the first row that holds it
-pub leads_to_row : (rows : List PartRow) (tree : SpotShape) (header : Header)
+pub leads_to_row : (rows : List PartRow) (tree : Shape ℕ) (header : Header)
     → IsSpotTreeOf (spots_of rows) any_word tree → count_by (row_has header) rows ≡ 1
-    → position (row_has header) rows ≡ Some (place_at (number_of header) tree)
+    → position (row_has header) rows ≡ Some (leaf_at (number_of header) tree)
 leads_to_row rows tree header is one =
     by_case (find (has_number (number_of header)) (spots_of rows)) refl
     (found_from_count (has_number (number_of header)) (spots_of rows)
@@ -157,14 +158,14 @@ leads_to_row rows tree header is one =
   where
     by_case : (found : Option Spot) → find (has_number (number_of header)) (spots_of rows) ≡ found
         → IsSome found
-        → position (row_has header) rows ≡ Some (place_at (number_of header) tree)
+        → position (row_has header) rows ≡ Some (leaf_at (number_of header) tree)
     by_case None none some = absurd (both_ways false refl some)
     by_case (Some spot) found some =
         let at = spot_place 0 (number_of header) rows spot found in
         let here : spot.place
         ≡ position_or_len (λ (row : PartRow). holds row.region (number_of header)) rows =
         omega (arith, at.0) in
-        let place : place_at (number_of header) tree ≡ position_or_len (row_has header) rows =
+        let place : leaf_at (number_of header) tree ≡ position_or_len (row_has header) rows =
         leads tree (spots_of rows) any_word (number_of header) spot is
         (any_holds (number_of header)) found ∙ here in
         ap (λ t. cond t (Some (position_or_len (row_has header) rows)) None)
@@ -421,12 +422,12 @@ row_decides tables header place d sound is at none =
 
 pub place_is : (tables : Tables) (trees read : Trees) (header : Header) (number place : ℕ)
     → AreSoundTables tables → IsFinderTree tables.parts (spot_shape_of trees.tree) → read ≡ trees
-    → IsHeader header → number ≡ number_of header → place ≡ place_at number (spot_shape_of read.tree)
+    → IsHeader header → number ≡ number_of header → place ≡ leaf_at number (spot_shape_of read.tree)
     → position (row_has header) tables.parts ≡ Some place
 place_is tables trees read header number place sound is there header_is same at =
     leads_to_row tables.parts (spot_shape_of trees.tree) header is (sound.one header header_is)
-    ∙ ap (λ n. Some (place_at n (spot_shape_of trees.tree))) (sym same)
-    ∙ ap (λ (t : Trees). Some (place_at number (spot_shape_of t.tree))) (sym there) ∙ ap Some (sym at)
+    ∙ ap (λ n. Some (leaf_at n (spot_shape_of trees.tree))) (sym same)
+    ∙ ap (λ (t : Trees). Some (leaf_at number (spot_shape_of t.tree))) (sym there) ∙ ap Some (sym at)
 
 pub place_within : (header : Header) (rows : List PartRow) (place : ℕ)
     → position (row_has header) rows ≡ Some place → place < length rows

@@ -20,7 +20,8 @@ use Rattle.cut_tree.specs.declared.choice.Cost.{Cost}
 use Rattle.cut_tree.proofs.CallerLemmas.{narrow_first}
 use Rattle.cut_tree.proofs.CutLemmas.{least_cuts}
 use Rattle.cut_tree.proofs.NarrowLemmas.{met_joined, narrow_apart, narrow_covered, narrow_more, narrow_none}
-use Rattle.table_tree.specs.Ruling.{CutsRuleBits, RuleShape, Places, Sides, is_held_at, if_pays, parted, paying_cut, pays, ranked_by_place, places_at, rule_tree, rule_tree_within}
+use Rattle.table_tree.specs.Ruling.{is_held_at, if_pays, parted, paying_cut, pays, ranked_by_place, rule_tree, rule_tree_within}
+use Rattle.table_tree.specs.Shape.{Shape, CutsHeaderBits, Leaf, Sides, leaf_at}
 use Rattle.table_tree.proofs.FindLemmas.{find_agree, in_half}
 
 abbrev pub rank_of : Rule → ℕ
@@ -30,13 +31,13 @@ rank_of rule = rule.rank
 
 pub within_end : (cuts : ℕ) (rules : List Rule) (region : WordValue)
     → None ≡ paying_cut cuts rules region
-    → Places (map rank_of rules) ≡ rule_tree_within cuts rules region
+    → Leaf (map rank_of rules) ≡ rule_tree_within cuts rules region
 unfolding rule_tree_within
 within_end zero rules region none = refl
 within_end (suc cuts) rules region none = ap (parted (rule_tree_within cuts) rules region) none
 
 pub within_cut : (cuts : ℕ) (rules : List Rule) (region : WordValue) (cost : Cost)
-    (low high : List Rule) (lower higher : WordValue) (a b : RuleShape) → 0 < cuts
+    (low high : List Rule) (lower higher : WordValue) (a b : Shape (List ℕ)) → 0 < cuts
     → Some cost ≡ paying_cut cuts rules region → low ≡ side_of rules region cost.bit false
     → lower ≡ fix_of region cost.bit false → high ≡ side_of rules region cost.bit true
     → higher ≡ fix_of region cost.bit true → a ≡ rule_tree_within (cuts - 1) low lower
@@ -107,16 +108,16 @@ paying_free rules region count cost is = by_least (least_below 104 rules region)
         by_test false none = absurd (cc)
 
 pub cuts_header : (cuts : ℕ) (rules : List Rule) (region : WordValue)
-    → CutsRuleBits (rule_tree_within cuts rules region)
+    → CutsHeaderBits (rule_tree_within cuts rules region)
 unfolding rule_tree_within
 cuts_header zero rules region = tt
 cuts_header (suc cuts) rules region = by_cut (paying_cut (suc cuts) rules region) refl
     (λ bit one. cuts_header cuts (side_of rules region bit one) (fix_of region bit one))
   where
     by_cut : (cut : Option Cost) → paying_cut (suc cuts) rules region ≡ cut
-        → ((bit : ℕ) (one : Bool) → CutsRuleBits
+        → ((bit : ℕ) (one : Bool) → CutsHeaderBits
         (rule_tree_within cuts (side_of rules region bit one) (fix_of region bit one)))
-        → CutsRuleBits (parted (rule_tree_within cuts) rules region cut)
+        → CutsHeaderBits (parted (rule_tree_within cuts) rules region cut)
     by_cut None none sides = tt
     by_cut (Some cost) is sides = (
       (paying_free rules region (length rules) cost is).bound,
@@ -195,7 +196,7 @@ end_finds list rules number all =
 -- the bits of a header lead to the place of the first rule that holds it
 leads : (cuts : ℕ) (list rules : List Rule) (region : WordValue) (number : ℕ)
     → IsTrue (holds region number) → All (Agrees list number) rules
-    → find (is_held_at list number) (places_at number (rule_tree_within cuts rules region))
+    → find (is_held_at list number) (leaf_at number (rule_tree_within cuts rules region))
     ≡ option_map rank_of (find (is_held number) rules)
 unfolding rule_tree_within
 leads zero list rules region number inside all = end_finds list rules number all
@@ -208,10 +209,10 @@ leads (suc cuts) list rules region number inside all =
   where
     by_cut : (cut : Option Cost) → paying_cut (suc cuts) rules region ≡ cut
         → ((bit : ℕ) (one : Bool) → IsTrue (holds (fix_of region bit one) number)
-        → find (is_held_at list number) (places_at number
+        → find (is_held_at list number) (leaf_at number
         (rule_tree_within cuts (side_of rules region bit one) (fix_of region bit one)))
         ≡ option_map rank_of (find (is_held number) rules))
-        → find (is_held_at list number) (places_at number (parted (rule_tree_within cuts) rules region cut))
+        → find (is_held_at list number) (leaf_at number (parted (rule_tree_within cuts) rules region cut))
         ≡ option_map rank_of (find (is_held number) rules)
     by_cut None none down = end_finds list rules number all
     by_cut (Some cost) is down = by_bit (paying_free rules region (length rules) cost is)
@@ -220,9 +221,9 @@ leads (suc cuts) list rules region number inside all =
         by_bit : IsFreeBit region cost.bit → (b : Bool) → (bit_at number cost.bit == 1) ≡ b
             → find (is_held_at list number)
             (cond b
-            (places_at number (rule_tree_within cuts (side_of rules region cost.bit true)
+            (leaf_at number (rule_tree_within cuts (side_of rules region cost.bit true)
             (fix_of region cost.bit true)))
-            (places_at number (rule_tree_within cuts (side_of rules region cost.bit false)
+            (leaf_at number (rule_tree_within cuts (side_of rules region cost.bit false)
             (fix_of region cost.bit false))))
             ≡ option_map rank_of (find (is_held number) rules)
         by_bit free true set = down cost.bit true
@@ -293,7 +294,7 @@ placed_position number place (rule ∷ rules) =
 -- the tree of a list leads each header of the region to the first of its rules that holds it
 pub tree_first : (list : List Rule) (region : WordValue) (number : ℕ)
     → IsTrue (holds region number)
-    → find (is_held_at list number) (places_at number (rule_tree list region))
+    → find (is_held_at list number) (leaf_at number (rule_tree list region))
     ≡ position (is_held number) list
 unfolding rule_tree
 tree_first list region number inside =
@@ -309,17 +310,17 @@ tree_first list region number inside =
     none_more : (n : ℕ) → 0 + n ≡ n
     none_more n = omega arith
 
-pub root_cuts : (list : List Rule) (region : WordValue) → CutsRuleBits (rule_tree list region)
+pub root_cuts : (list : List Rule) (region : WordValue) → CutsHeaderBits (rule_tree list region)
 unfolding rule_tree
 root_cuts list region = cuts_header 12 (narrow (ranked_by_place 0 list) region) region
 
 -- as `first` reads it
-pub first_is : (list : List Rule) (region : WordValue) (shape : RuleShape) (number h : ℕ)
+pub first_is : (list : List Rule) (region : WordValue) (shape : Shape (List ℕ)) (number h : ℕ)
     (places : List ℕ) (found : Option ℕ) → shape ≡ rule_tree list region
-    → IsTrue (holds region h) → number ≡ h → places ≡ places_at number shape
+    → IsTrue (holds region h) → number ≡ h → places ≡ leaf_at number shape
     → found ≡ find (is_held_at list number) places → found ≡ position (is_held h) list
 first_is list region shape number h places found built inside same at is =
     is
-    ∙ ap (find (is_held_at list number)) (at ∙ ap (places_at number) built)
+    ∙ ap (find (is_held_at list number)) (at ∙ ap (leaf_at number) built)
     ∙ tree_first list region number (subst (λ n. IsTrue (holds region n)) (sym same) inside)
     ∙ ap (λ n. position (is_held n) list) same

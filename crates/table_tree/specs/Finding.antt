@@ -1,8 +1,7 @@
 -- A decision tree that finds the partition rule of a header: the tree is that of Yu, Rexford,
 -- Freedman and Wang, "Scalable Flow-Based Networking with DIFANE", SIGCOMM 2010; the order of the
 -- bits is this project's own.
-use Rattle.std.specs.Prelude.{⊤, ℕ, ◌≡◌, ◌≢◌, ◌⊎◌, ◌<◌, ◌==◌, if◌then◌else◌, true, false, List, All, length, map}
-use Rattle.std.specs.Int.{bit_at}
+use Rattle.std.specs.Prelude.{ℕ, ◌≡◌, ◌≢◌, ◌⊎◌, ◌<◌, true, false, List, All, length, map}
 use Rattle.ternary.specs.Word.{WordValue}
 use Rattle.ternary.specs.Meets.{any_word, fix_of}
 use Rattle.switch_table.specs.Tables.{AreSoundTables}
@@ -12,31 +11,16 @@ use Rattle.policy_rules.specs.declared.rules.Partition.{Partition}
 use Rattle.table_tree.specs.Cutting.{NoneFree}
 use Rattle.table_tree.specs.Regions.{AreRegions, IsCutBit, spots_of_side, some_fix, spots_of}
 use Rattle.table_tree.specs.Ruling.{part_tree, seen_tree}
+use Rattle.table_tree.specs.Shape.{Shape, Leaf, Sides}
 use Rattle.table_tree.specs.declared.rule_tree.RuleTree.{RuleTree}
 use Rattle.table_tree.specs.declared.node.Spot.{Spot}
 use Rattle.table_tree.specs.declared.tree.Tree.{Tree, At, Cut'}
 use Rattle.table_tree.specs.declared.trees.Trees.{Trees}
 
--- a tree apart from the memory that holds it: a place of the partition rules, or a cut of a bit with
--- the side of its zeros and that of its ones
-pub data SpotShape : Type 0 where
-  Place : ℕ → SpotShape
-  Sides : ℕ → SpotShape → SpotShape → SpotShape
-
-abbrev pub spot_shape_of : Tree → SpotShape
-spot_shape_of (At place) = Place place
+-- the shape of a tree, which leads to places of the partition rules
+abbrev pub spot_shape_of : Tree → Shape ℕ
+spot_shape_of (At place) = Leaf place
 spot_shape_of (Cut' bit p low q high) = Sides bit (spot_shape_of low) (spot_shape_of high)
-
--- where the bits of a header number lead
-abbrev pub place_at : ℕ → SpotShape → ℕ
-place_at number (Place place) = place
-place_at number (Sides bit low high) =
-    if bit_at number bit == 1 then place_at number high else place_at number low
-
--- each cut is at a bit of a header number
-abbrev pub CutsHeaderBits : SpotShape → Type 0
-CutsHeaderBits (Place place) = ⊤
-CutsHeaderBits (Sides bit low high) = (bit < 104) × CutsHeaderBits low × CutsHeaderBits high
 
 -- one region is left, and this is its place
 pub record IsEnd (spots : List Spot) (place : ℕ) : Type 0 where
@@ -44,8 +28,8 @@ pub record IsEnd (spots : List Spot) (place : ℕ) : Type 0 where
   pub there : All (λ spot. spot.place ≡ place) spots
 
 -- the tree of these regions within a region: more than one are parted at their cut bit
-abbrev pub IsSpotTreeOf : List Spot → WordValue → SpotShape → Type 0
-IsSpotTreeOf spots region (Place place) = IsEnd spots place
+abbrev pub IsSpotTreeOf : List Spot → WordValue → Shape ℕ → Type 0
+IsSpotTreeOf spots region (Leaf place) = IsEnd spots place
 IsSpotTreeOf spots region (Sides bit low high) =
     (1 < length spots) × IsCutBit spots region bit
     × IsSpotTreeOf (spots_of_side spots region bit false) (fix_of region bit false) low
@@ -57,15 +41,15 @@ pub record IsStuck (spots : List Spot) (region : WordValue) : Type 0 where
   pub none : NoneFree region (some_fix spots)
 
 -- a tree that is grown in the same way of regions of any kind, some of which can't be parted
-abbrev pub IsGrownShape : List Spot → WordValue → SpotShape → Type 0
-IsGrownShape spots region (Place place) = IsEnd spots place ⊎ IsStuck spots region
+abbrev pub IsGrownShape : List Spot → WordValue → Shape ℕ → Type 0
+IsGrownShape spots region (Leaf place) = IsEnd spots place ⊎ IsStuck spots region
 IsGrownShape spots region (Sides bit low high) =
     (length spots ≢ 1) × IsCutBit spots region bit
     × IsGrownShape (spots_of_side spots region bit false) (fix_of region bit false) low
     × IsGrownShape (spots_of_side spots region bit true) (fix_of region bit true) high
 
 -- the tree of the partition rules
-abbrev pub IsFinderTree : List PartRow → SpotShape → Type 0
+abbrev pub IsFinderTree : List PartRow → Shape ℕ → Type 0
 IsFinderTree rows tree = IsSpotTreeOf (spots_of rows) any_word tree
 
 -- the trees that are grown of these partition rules and authority partitions

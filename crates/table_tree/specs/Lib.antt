@@ -1,4 +1,5 @@
 pub mod Cutting
 pub mod Regions
+pub mod Shape
 pub mod Finding
 pub mod Ruling

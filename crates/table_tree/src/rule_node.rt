@@ -1,7 +1,8 @@
 ghost use Rattle.std.specs.Prelude.{◌≡◌, ◌<◌, IfOk, IfSome, map};
 ghost use Rattle.policy_rules.specs.declared.rules.Rule.{Rule};
 ghost use Rattle.cut_tree.specs.Cuts.{IsFreeBit};
-ghost use Rattle.table_tree.specs.Ruling.{CutsRuleBits, paying_cut, places_at, rule_shape, rule_tree_within};
+ghost use Rattle.table_tree.specs.Ruling.{paying_cut, rule_shape, rule_tree_within};
+ghost use Rattle.table_tree.specs.Shape.{CutsHeaderBits, leaf_at};
 
 use cut_tree::{Cost, Node};
 use policy_rules::Rule;
@@ -28,8 +29,8 @@ pub enum RuleNode {
 impl RuleNode {
     /// The places to which the bits of the number lead.
     pub fn places(&self, number: u128) -> &[u32]
-        requires { CutsRuleBits (rule_shape self.now) }
-        ensures { result.now ≡ places_at number (rule_shape self.now) }
+        requires { CutsHeaderBits (rule_shape self.now) }
+        ensures { result.now ≡ leaf_at number (rule_shape self.now) }
     {
         match self {
             RuleNode::End { places } => places,

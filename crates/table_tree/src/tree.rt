@@ -1,5 +1,6 @@
 ghost use Rattle.std.specs.Prelude.{◌≡◌, IfOk};
-ghost use Rattle.table_tree.specs.Finding.{CutsHeaderBits, IsGrownShape, place_at, spot_shape_of};
+ghost use Rattle.table_tree.specs.Finding.{IsGrownShape, spot_shape_of};
+ghost use Rattle.table_tree.specs.Shape.{CutsHeaderBits, leaf_at};
 
 use crate::bits::cut_bit;
 use crate::node::Node;
@@ -24,7 +25,7 @@ impl Tree {
     /// The place to which the bits of the number lead.
     pub fn place(&self, number: u128) -> u32
         requires { CutsHeaderBits (spot_shape_of self.now) }
-        ensures { result ≡ place_at number (spot_shape_of self.now) }
+        ensures { result ≡ leaf_at number (spot_shape_of self.now) }
     {
         match self {
             Tree::At { place } => *place,

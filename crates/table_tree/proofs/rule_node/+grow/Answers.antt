@@ -1,12 +1,12 @@
 use Rattle.std.proofs.Common.{ap, map, sym, ◌∙◌}
-use Rattle.table_tree.specs.Ruling.{Places}
+use Rattle.table_tree.specs.Shape.{Leaf}
 use Rattle.table_tree.proofs.RuleLemmas.{rank_of, within_cut, within_end}
 use Rattle.table_tree.proofs.rule_node.+grow.Goals as goal
 
 pub returns-in_default : goal.returns-in_default
 returns-in_default t c =
     let node = c.args.node in
-    ap Places (c.in_ok-places.ensures ∙ ap (map rank_of) c.deref.ensures.value)
+    ap Leaf (c.in_ok-places.ensures ∙ ap (map rank_of) c.deref.ensures.value)
     ∙ within_end c.args.cuts node.rules.items node.region
     (sym c.in_default.is ∙ c.paying_cut.ensures.cut)
 
