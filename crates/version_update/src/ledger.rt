@@ -14,9 +14,9 @@ const MOST_SWITCHES: usize = 64;
 /// The marks, settled or not.
 #[derive(Drop)]
 pub struct Ledger {
-    count: u32,
-    current: u32,
-    retired: u32,
+    pub count: u32,
+    pub current: u32,
+    pub retired: u32,
     /// How many switches there are; past them the records say nothing.
     number: usize,
     switches: [SwitchRecord; MOST_SWITCHES],
@@ -57,24 +57,6 @@ impl Ledger {
             number: number as usize,
             switches: first_records(),
         }
-    }
-
-    pub fn count(&self) -> u32
-        ensures { result ≡ self.now.count }
-    {
-        self.count
-    }
-
-    pub fn current(&self) -> u32
-        ensures { result ≡ self.now.current }
-    {
-        self.current
-    }
-
-    pub fn retired(&self) -> u32
-        ensures { result ≡ self.now.retired }
-    {
-        self.retired
     }
 
     /// What is known of the switches, by their numbers.

@@ -179,7 +179,7 @@ impl Marks {
         ensures current { result ≡ self.now.current }
         ensures rule { AreMarksSettled self.now }
     {
-        self.ledger.current()
+        self.ledger.current
     }
 
     /// The last version that is retired, or 0.
@@ -187,7 +187,7 @@ impl Marks {
         ensures retired { result ≡ self.now.retired }
         ensures rule { AreMarksSettled self.now }
     {
-        self.ledger.retired()
+        self.ledger.retired
     }
 
     /// How many versions there are.
@@ -195,7 +195,7 @@ impl Marks {
         ensures count { result ≡ self.now.count }
         ensures rule { AreMarksSettled self.now }
     {
-        self.ledger.count()
+        self.ledger.count
     }
 
     /// How many switches there are.
