@@ -3,7 +3,7 @@ use Rattle.std.specs.Prelude.{ℕ, ◌≡◌, ◌+◌, ◌-◌, ◌<◌, ◌≤�
 use Rattle.ctrl_msg.specs.declared.message.Body.{Body}
 use Rattle.ctrl_msg.specs.declared.message.Body.TheVariants.{Install}
 use Rattle.ctrl_msg.specs.declared.message.Message.{Message}
-use Rattle.frame_laws.specs.Feeding.{HasFrames}
+use Rattle.frame_laws.specs.Feeding.{HasFrames, HasShortSpelling}
 use Rattle.frame_laws.specs.Installing.{AreBehind, frame_count}
 use Rattle.switch_table.specs.declared.tables.Tables.{Tables}
 use Rattle.wire.specs.Fields.{n4}
@@ -20,6 +20,10 @@ tables_version _ = None
 pub record IsPosted (bag : List (List (List ℕ))) (number : ℕ) (m : Message) : Type 0 where
   pub fits : message.fits m ≡ true
   pub posted : slice_get bag (number - 1) ≡ Some (frames m)
+
+-- the message is an installation of these tables, and has a short spelling
+abbrev pub IsInstallOf : Message → Tables → Type 0
+IsInstallOf m tables = HasShortSpelling m × ((boot : ℕ) × (m.body ≡ Install boot tables))
 
 -- ---- how they are kept
 

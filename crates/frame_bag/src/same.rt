@@ -15,68 +15,48 @@ pub fn are_same_tables(one: &Tables, other: &Tables) -> bool
 pub fn have_same_rows(one: &Tables, other: &Tables) -> bool
     ensures { IsTrue result → one.now ≡ record other.now { version = one.now.version } }
 {
-    are_same_partitions(one.auth.items(), other.auth.items())
-        && are_same_rows(one.parts.items(), other.parts.items())
+    are_same(one.auth.items(), other.auth.items())
+        && are_same(one.parts.items(), other.parts.items())
 }
 
-fn are_same_partitions(one: &[Partition], other: &[Partition]) -> bool
+// A part of tables.
+trait Same {
+    // Whether they are the same value.
+    fn is_same(&self, other: &Self) -> bool
+        ensures { IsTrue result → self.now ≡ other.now };
+}
+
+impl Same for Partition {
+    fn is_same(&self, other: &Partition) -> bool {
+        self.number == other.number
+            && self.region == other.region
+            && are_same(self.rules.items(), other.rules.items())
+    }
+}
+
+impl Same for Rule {
+    fn is_same(&self, other: &Rule) -> bool {
+        self == other
+    }
+}
+
+impl Same for PartRow {
+    fn is_same(&self, other: &PartRow) -> bool {
+        self.region == other.region && self.targets.items() == other.targets.items()
+    }
+}
+
+// Whether they are the same values, in the same order.
+fn are_same<T: Same>(one: &[T], other: &[T]) -> bool
     ensures { IsTrue result → one.now ≡ other.now }
 {
     if one.len() != other.len() {
         return false;
     }
     for place in 0..one.len() {
-        if !is_same_partition(&one[place], &other[place]) {
+        if !one[place].is_same(&other[place]) {
             return false;
         }
     }
     true
-}
-
-fn is_same_partition(one: &Partition, other: &Partition) -> bool
-    ensures { IsTrue result → one.now ≡ other.now }
-{
-    one.number == other.number
-        && one.region == other.region
-        && are_same_rules(one.rules.items(), other.rules.items())
-}
-
-fn are_same_rules(one: &[Rule], other: &[Rule]) -> bool
-    ensures { IsTrue result → one.now ≡ other.now }
-{
-    if one.len() != other.len() {
-        return false;
-    }
-    for place in 0..one.len() {
-        if one[place] != other[place] {
-            return false;
-        }
-    }
-    true
-}
-
-fn are_same_rows(one: &[PartRow], other: &[PartRow]) -> bool
-    ensures { IsTrue result → one.now ≡ other.now }
-{
-    if one.len() != other.len() {
-        return false;
-    }
-    for place in 0..one.len() {
-        if !is_same_row(&one[place], &other[place]) {
-            return false;
-        }
-    }
-    true
-}
-
-fn is_same_row(one: &PartRow, other: &PartRow) -> bool
-    ensures { IsTrue result → one.now ≡ other.now }
-{
-    one.region == other.region && are_same_switches(one.targets.items(), other.targets.items())
-}
-
-fn are_same_switches(one: &[u32], other: &[u32]) -> bool
-    ensures { IsTrue result → one.now ≡ other.now }
-{
-    one == other
 }

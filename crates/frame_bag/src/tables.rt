@@ -1,10 +1,10 @@
 //! The frames of tables, which installations of the same tables share.
-ghost use Rattle.std.specs.Prelude.{◌≡◌, ◌<◌, ◌^◌, ◌++◌, ◌∷◌, ℕ, [], Some, true, drop, get_or, length, IfOk, IfSome, IsTrue, OnOk};
+ghost use Rattle.std.specs.Prelude.{◌≡◌, ◌<◌, ◌^◌, ◌++◌, ◌∷◌, [], Some, true, drop, get_or, length, IfOk, IfSome, IsTrue, OnOk};
 ghost use Rattle.ctrl_msg.specs.declared.message.Body.TheVariants.{Install};
 ghost use Rattle.switch_table.specs.declared.tables.Tables.{Tables};
 ghost use Rattle.wire.specs.Frames.{AreFrames, frame, frames};
 ghost use Rattle.wire.specs.Messages.{HasSpelling, IsReceiver, front, message as form, spelled_front};
-ghost use Rattle.frame_bag.specs.Kept.{AreOfMessage, IsGrown, SayRows, SayTables, frames_in};
+ghost use Rattle.frame_bag.specs.Kept.{AreOfMessage, IsGrown, IsInstallOf, SayRows, SayTables, frames_in};
 
 use crate::reading::{shared, tables_in};
 use crate::same::{are_same_tables, have_same_rows};
@@ -43,9 +43,7 @@ impl Model for TableFrames {
 impl TableFrames {
     // Of an installation of these tables, which are spelled and read.
     fn new(alloc: Global, message: &Message, tables: &Tables) -> Result<TableFrames, AllocError>
-        requires spelling { HasSpelling message.now }
-        requires short { length (form.spell message.now) < 2 ^ 40 }
-        requires carries { (boot : ℕ) × (message.now.body ≡ Install boot tables.now) }
+        requires { IsInstallOf message.now tables.now }
         ensures { IfOk result (SayTables tables.now) }
     {
         let frames = split(alloc, message)?;
@@ -151,9 +149,7 @@ fn made(
     message: &Message,
     tables: &Tables,
 ) -> Result<TableFrames, AllocError>
-    requires spelling { HasSpelling message.now }
-    requires short { length (form.spell message.now) < 2 ^ 40 }
-    requires carries { (boot : ℕ) × (message.now.body ≡ Install boot tables.now) }
+    requires { IsInstallOf message.now tables.now }
     ensures { IfOk result (SayTables tables.now) }
 {
     match find_rows(kept, tables) {
@@ -170,9 +166,7 @@ fn keep(
     message: &Message,
     tables: &Tables,
 ) -> Result<usize, AllocError>
-    requires spelling { HasSpelling message.now }
-    requires short { length (form.spell message.now) < 2 ^ 40 }
-    requires carries { (boot : ℕ) × (message.now.body ≡ Install boot tables.now) }
+    requires { IsInstallOf message.now tables.now }
     ensures there { IfOk result (λ number. number < length kept.new.items) }
     ensures say { IfOk result (λ number.
         SayTables tables.now (get_or kept.new.items number [])) }

@@ -7,7 +7,7 @@ use Rattle.std.proofs.lemmas.Bool.Decides.{eqb_tells, nat_tests}
 use Rattle.wire.specs.Frames.{place_in_frame}
 use Rattle.wire.specs.Assembly.{held_at, with_frame, AreRising}
 use Rattle.wire.proofs.Decoding.{none_is_not}
-use Rattle.wire.proofs.Holding.{all_higher, first_is, none_below, none_lower, step_held}
+use Rattle.wire.proofs.Holding.{all_higher, first_is, held_above, none_lower, step_held}
 
 pub same_place : (n : ℕ) → eqb n n ≡ true
 same_place n = grind (arith, nat_tests)
@@ -92,16 +92,13 @@ with_part p q from count (g ∷ gs) f rising at same here =
           let rest = with_part p q (place_in_frame g + 1) count gs f rising.2 (sym (step_held g gs (place_in_frame f) lt) ∙ at) same here in
           rw (same (place_in_frame g) (λ e. absurd (omega arith))) (before (p (place_in_frame g)) lt rest)
       | inr ge ↦
-          elim (cases_lt (place_in_frame f) (place_in_frame g)) [
-            | inl lt ↦ absurd (none_is_not f (sym (none_below (place_in_frame g) count (g ∷ gs) (place_in_frame f) (omega arith, rising.1, rising.2) lt) ∙ at))
-            | inr le ↦
-                let one : place_in_frame g ≡ place_in_frame f = omega arith in
-                let is : g ≡ f = first_is g f gs (place_in_frame f) one at in
-                let rest : part q gs ≡ part p gs = part_same p q (place_in_frame g + 1) count gs rising.2 (λ n above. same n (λ e. absurd (omega arith))) in
-                let now : q (place_in_frame g) ≡ true = ap q one ∙ here in
-                let part_now : part q (g ∷ gs) ≡ f ∷ part p gs = rw (now, rest) (ap (λ h. h ∷ part p gs) is) in
-                among (p (place_in_frame g)) one ∙ sym part_now
-          ]
+          let le = held_above (place_in_frame g) count (g ∷ gs) (place_in_frame f) f (omega arith, rising.1, rising.2) at in
+          let one : place_in_frame g ≡ place_in_frame f = omega arith in
+          let is : g ≡ f = first_is g f gs (place_in_frame f) one at in
+          let rest : part q gs ≡ part p gs = part_same p q (place_in_frame g + 1) count gs rising.2 (λ n above. same n (λ e. absurd (omega arith))) in
+          let now : q (place_in_frame g) ≡ true = ap q one ∙ here in
+          let part_now : part q (g ∷ gs) ≡ f ∷ part p gs = rw (now, rest) (ap (λ h. h ∷ part p gs) is) in
+          among (p (place_in_frame g)) one ∙ sym part_now
     ]
   where
     before : (b : Bool) → place_in_frame g < place_in_frame f → with_frame (part p gs) f ≡ part q gs
@@ -125,21 +122,13 @@ with_part p q from count (g ∷ gs) f rising at same here =
 
 -- ---- frames that are in a list
 
-above : (from count : ℕ) (fs : List (List ℕ)) (place : ℕ) (f : List ℕ) → AreRising from count fs
-    → held_at fs place ≡ Some f → from ≤ place
-above from count fs place f rising at =
-    elim (cases_lt place from) [
-      | inl lt ↦ absurd (none_is_not f (sym (none_below from count fs place rising lt) ∙ at))
-      | inr le ↦ le
-    ]
-
 held_from : (from count : ℕ) (fs : List (List ℕ)) (f : List ℕ) (k : ℕ) → AreRising from count fs → k < length fs
     → slice_index_or fs k f ≡ f → held_at fs (place_in_frame f) ≡ Some f
 held_from from count [] f k rising lt is = absurd (omega arith)
 held_from from count (g ∷ gs) f zero rising lt is = let same : g ≡ f = is in rw (same, same_place (place_in_frame f)) refl
 held_from from count (g ∷ gs) f (suc k) rising lt is =
     let rest : held_at gs (place_in_frame f) ≡ Some f = held_from (place_in_frame g + 1) count gs f k rising.2 (omega arith) is in
-    let behind = above (place_in_frame g + 1) count gs (place_in_frame f) f rising.2 rest in
+    let behind = held_above (place_in_frame g + 1) count gs (place_in_frame f) f rising.2 rest in
     step_held g gs (place_in_frame f) (omega arith) ∙ rest
 
 -- each of rising frames is held at its place

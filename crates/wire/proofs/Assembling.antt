@@ -1,5 +1,5 @@
 -- Frames of one count at rising places: when they are all there, and which message they are of.
-use Rattle.std.proofs.Common.{◌≡◌, ◌≢◌, ℕ, zero, suc, ◌+◌, ◌-◌, ◌*◌, ◌≤◌, ◌<◌, ◌^◌, ◌⊎◌, inl, inr, List, [], ◌∷◌, ◌++◌, length, length-drop, take, drop, map, Result, Err, refl, sym, ap, subst, ◌∙◌, append_assoc, arith}
+use Rattle.std.proofs.Common.{◌≡◌, ℕ, zero, suc, ◌+◌, ◌-◌, ◌*◌, ◌≤◌, List, [], ◌∷◌, ◌++◌, length, length-drop, take, drop, map, Result, Err, refl, sym, ap, subst, ◌∙◌, arith}
 use Rattle.std.specs.List.{flat_map}
 use Rattle.std.specs.Int.{div_ceil}
 use Rattle.std.proofs.Math.Nat.{zero-mul}
@@ -11,8 +11,8 @@ use Rattle.wire.specs.Messages.{message, IsSpelling}
 use Rattle.wire.specs.Frames.{frame, frames_from, frames_of, pieces, piece_of, place_in_frame, slices, cut, head_len, most_of_piece, AreFrames}
 use Rattle.wire.specs.declared.error.WireError.{WireError}
 use Rattle.wire.specs.declared.error.WireError.TheVariants.{Malformed, NoMemory}
-use Rattle.wire.specs.Assembly.{AreRising, IsOfCount, AreNone}
-use Rattle.wire.proofs.Framing.{piece_of_frame, pieces_of_frames}
+use Rattle.wire.specs.Assembly.{AreRising, AreNone}
+use Rattle.wire.proofs.Framing.{pieces_of_frames}
 use Rattle.wire.proofs.Decoding.{one_message}
 
 -- ---- the pieces of a spelling are all of it
@@ -74,24 +74,22 @@ spelled_by m fs are = record {
   spelled = sym (joined-pieces fs) ∙ ap joined (their_pieces m fs are) ∙ cut_all (head_len m.body (message.spell m)) (message.spell m);
 }
 
--- frames whose pieces are those of the message that they spell are its frames
-pub frames_by : (m : Message) (count : ℕ) (fs : List (List ℕ)) → AreRising 0 count fs → length fs ≡ count
-    → IsSpelling m (flat_map piece_of fs) → map piece_of fs ≡ cut (head_len m.body (flat_map piece_of fs)) (flat_map piece_of fs)
-    → AreFrames m fs
-frames_by m count fs rising all spelled are_cut =
+-- frames whose pieces are those of a message's spelling are its frames
+pub frames_by : (m : Message) (bytes : List ℕ) (fs : List (List ℕ)) → AreRising 0 (length fs) fs → IsSpelling m bytes
+    → map piece_of fs ≡ cut (head_len m.body bytes) bytes → AreFrames m fs
+frames_by m bytes fs rising spelled are_cut =
     let parts : map piece_of fs ≡ pieces m = are_cut ∙ ap (λ bytes. cut (head_len m.body bytes) bytes) spelled.spelled in
-    let len : count ≡ length (map piece_of fs) = sym all ∙ sym (length-map fs piece_of) in
+    let len : length fs ≡ length (map piece_of fs) = sym (length-map fs piece_of) in
     record {
       fits = spelled.fits;
-      frames_are = framed_again 0 count fs rising (omega arith) ∙ ap (λ k. frames_from 0 k (map piece_of fs)) len ∙ ap frames_of parts;
+      frames_are = framed_again 0 (length fs) fs rising (omega arith) ∙ ap (λ k. frames_from 0 k (map piece_of fs)) len ∙ ap frames_of parts;
     }
 
 -- frames of another cut are those of no message
-pub none_by : (m : Message) (fs : List (List ℕ)) → IsSpelling m (flat_map piece_of fs)
-    → (map piece_of fs ≡ cut (head_len m.body (flat_map piece_of fs)) (flat_map piece_of fs) → ⊥)
-    → (other : Message) → AreFrames other fs → ⊥
-none_by m fs spelled not_cut other are =
-    let same : other ≡ m = one_message (flat_map piece_of fs) other m (spelled_by other fs are) spelled in
+pub none_by : (m : Message) (bytes : List ℕ) (fs : List (List ℕ)) → bytes ≡ flat_map piece_of fs → IsSpelling m bytes
+    → (map piece_of fs ≡ cut (head_len m.body bytes) bytes → ⊥) → (other : Message) → AreFrames other fs → ⊥
+none_by m bytes fs joined spelled not_cut other are =
+    let same : other ≡ m = one_message bytes other m (subst (IsSpelling other) (sym joined) (spelled_by other fs are)) spelled in
     let are_of : AreFrames m fs = subst (λ n. AreFrames n fs) same are in
     not_cut (their_pieces m fs are_of ∙ ap (λ bytes. cut (head_len m.body bytes) bytes) (sym spelled.spelled))
 

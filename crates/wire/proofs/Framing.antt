@@ -1,11 +1,11 @@
 -- A frame is its place, the count and its piece.
-use Rattle.std.proofs.Common.{◌≡◌, ℕ, zero, suc, ◌+◌, ◌-◌, ◌*◌, ◌≤◌, ◌<◌, ◌^◌, List, [], ◌∷◌, ◌++◌, length, length-drop, take, drop, map, refl, sym, ap, subst, ◌∙◌, append_assoc, arith}
-use Rattle.std.specs.Int.{w32, to_be_bytes, from_be_bytes, div_ceil}
+use Rattle.std.proofs.Common.{◌≡◌, ℕ, ◌+◌, ◌≤◌, ◌<◌, ◌^◌, List, [], ◌∷◌, ◌++◌, length, length-drop, take, drop, map, refl, sym, ap, ◌∙◌, append_assoc, arith}
+use Rattle.std.specs.Int.{w32, from_be_bytes}
 use Rattle.std.proofs.lemmas.List.{length-append, length-take, take_at, drop_at, take-append-drop, drop-drop}
 use Rattle.std.proofs.lemmas.Nat.{be_bytes_4, from_be_bytes-to_be_bytes_4}
 use Rattle.wire.specs.Format.{spelled_number}
 use Rattle.wire.specs.Fields.{n4}
-use Rattle.wire.specs.Frames.{frame, frames_from, place_in_frame, count_in_frame, piece_of, slices, cut, most_of_piece}
+use Rattle.wire.specs.Frames.{frame, frames_from, place_in_frame, count_in_frame, piece_of}
 use Rattle.wire.proofs.Laws.{AreBytes, AreBytes-drop, AreBytes-take}
 
 pub length_n4 : (n : ℕ) → length (n4.spell n) ≡ 4

@@ -1,6 +1,6 @@
 -- Which frames are held, in the order of their places.
-use Rattle.std.proofs.Common.{◌≡◌, ◌≢◌, ℕ, zero, suc, ◌+◌, ◌-◌, ◌≤◌, ◌<◌, Bool, true, false, cond, eqb, ltb, leb, not, ◌⊎◌, inl, inr, List, [], ◌∷◌, ◌++◌, length, take, drop, filter, Option, Some, None, Result, Ok, Err, slice_get, refl, sym, ap, subst, ◌∙◌, add-one, arith}
-use Rattle.std.specs.Prelude.{IsSome, IfOk, OnOk, OnErr}
+use Rattle.std.proofs.Common.{◌≡◌, ℕ, suc, ◌+◌, ◌-◌, ◌≤◌, ◌<◌, Bool, true, false, cond, eqb, ltb, leb, not, inl, inr, List, [], ◌∷◌, length, filter, Option, Some, None, Result, Ok, Err, slice_get, refl, sym, ap, subst, ◌∙◌, arith}
+use Rattle.std.specs.Prelude.{IsSome, OnOk, OnErr}
 use Rattle.std.specs.List.{insert, position, position_or_len}
 use Rattle.std.proofs.lemmas.Bool.{cases_lt, cases_eq, lt-ltb, le-ltb, ltb-false, eqb-true}
 use Rattle.std.proofs.lemmas.Bool.Decides.{nat_tests, eqb_tells}
@@ -150,6 +150,14 @@ held_all count fs rising held =
 
 -- ---- a frame that is held already
 
+pub held_above : (from count : ℕ) (fs : List (List ℕ)) (place : ℕ) (f : List ℕ) → AreRising from count fs
+    → held_at fs place ≡ Some f → from ≤ place
+held_above from count fs place f rising at =
+    elim (cases_lt place from) [
+      | inl lt ↦ absurd (none_is_not f (sym (none_below from count fs place rising lt) ∙ at))
+      | inr le ↦ le
+    ]
+
 pub held_stays : (from count : ℕ) (fs : List (List ℕ)) (f : List ℕ) → AreRising from count fs → held_at fs (place_in_frame f) ≡ Some f → with_frame fs f ≡ fs
 held_stays from count [] f rising e = absurd (none_is_not f e)
 held_stays from count (g ∷ gs) f rising e =
@@ -158,18 +166,14 @@ held_stays from count (g ∷ gs) f rising e =
           let rest = held_stays (place_in_frame g + 1) count gs f rising.2 (sym (step_held g gs (place_in_frame f) lt) ∙ e) in
           rw (lt-ltb _ _ lt, not_below (place_in_frame f) (place_in_frame g) (omega arith)) (ap (λ hs. g ∷ hs) rest)
       | inr ge ↦
-          elim (cases_lt (place_in_frame f) (place_in_frame g)) [
-            | inl lt ↦ absurd (none_is_not f (sym (none_below (place_in_frame g) count (g ∷ gs) (place_in_frame f) (omega arith, rising.1, rising.2) lt) ∙ e))
-            | inr le ↦
-                let same : place_in_frame g ≡ place_in_frame f = omega arith in
-                let is : g ≡ f = first_is g f gs (place_in_frame f) same e in
-                rw (
-                  not_below (place_in_frame g) (place_in_frame f) ge,
-                  not_below (place_in_frame f) (place_in_frame g) le,
-                  none_lower (place_in_frame g + 1) count gs (place_in_frame f) rising.2 (omega arith),
-                  all_higher (place_in_frame g + 1) count gs (place_in_frame f) rising.2 (omega arith),
-                ) (ap (λ h. h ∷ gs) (sym is))
-          ]
+          let le = held_above (place_in_frame g) count (g ∷ gs) (place_in_frame f) f (omega arith, rising.1, rising.2) e in
+          let is : g ≡ f = first_is g f gs (place_in_frame f) (omega arith) e in
+          rw (
+            not_below (place_in_frame g) (place_in_frame f) ge,
+            not_below (place_in_frame f) (place_in_frame g) le,
+            none_lower (place_in_frame g + 1) count gs (place_in_frame f) rising.2 (omega arith),
+            all_higher (place_in_frame g + 1) count gs (place_in_frame f) rising.2 (omega arith),
+          ) (ap (λ h. h ∷ gs) (sym is))
     ]
 
 -- ---- a frame of a new place
@@ -308,6 +312,19 @@ not_refused held f joins whole (another_count place g at other) = other (held_co
 not_refused held f joins whole (another_frame g at other) = other (joins.same g at)
 not_refused held f joins whole (no_message all none) = whole all none
 
+-- want of memory, or a frame that is refused, changes nothing
+fed_err : (held : List (List ℕ)) (f : List ℕ) (after : List (List ℕ)) (error : WireError) → AreTogether held
+    → (error ≡ Malformed → IsRefusedFrame held f) → after ≡ held → IsFed held f after (Err error)
+fed_err held f after error together refused unchanged = record {
+  together = subst AreTogether (sym unchanged) together;
+  refused = λ e. refused cc;
+  taken = tt;
+  is_held = tt;
+  some = tt;
+  message = tt;
+  unchanged = unchanged;
+}
+
 pub fed : (held : List (List ℕ)) (f : List ℕ) (after : List (List ℕ)) (result : Result (Option Message) WireError)
     → AreTogether held → Joins held f → AreRising 0 (count_in_frame f) (with_frame held f) → IsAssembled (with_frame held f) (count_in_frame f) result
     → OnOk result (after ≡ with_frame held f) → OnErr result (after ≡ held) → IsFed held f after result
@@ -331,24 +348,11 @@ fed held f after (Ok (Some m)) together joins rising answer is unchanged = recor
   message = subst (AreFrames m) (sym is) answer.1;
   unchanged = tt;
 }
-fed held f after (Err Malformed) together joins rising answer is unchanged = record {
-  together = subst AreTogether (sym unchanged) together;
-  refused = λ e. no_message (all_held (count_in_frame f) (with_frame held f) rising answer.0) answer.1;
-  taken = tt;
-  is_held = tt;
-  some = tt;
-  message = tt;
-  unchanged = unchanged;
-}
-fed held f after (Err NoMemory) together joins rising answer is unchanged = record {
-  together = subst AreTogether (sym unchanged) together;
-  refused = λ e. absurd (cc e);
-  taken = tt;
-  is_held = tt;
-  some = tt;
-  message = tt;
-  unchanged = unchanged;
-}
+fed held f after (Err Malformed) together joins rising answer is unchanged =
+    fed_err held f after Malformed together
+    (λ e. no_message (all_held (count_in_frame f) (with_frame held f) rising answer.0) answer.1) unchanged
+fed held f after (Err NoMemory) together joins rising answer is unchanged =
+    fed_err held f after NoMemory together (λ e. absurd (cc e)) unchanged
 
 pub fed_held : (held : List (List ℕ)) (f : List ℕ) (result : Result (Option Message) WireError)
     → AreTogether held → IsSpot held f Held → IsAssembled held (count_in_frame f) result → IsFed held f held result
@@ -367,14 +371,5 @@ fed_new held f index after result together spot answer is unchanged =
     (subst (λ fs. IsAssembled fs (count_in_frame f) result) (sym spot.2) answer)
     (subst (λ fs. OnOk result (after ≡ fs)) (sym spot.2) is) unchanged
 
--- a frame that is refused changes nothing
 pub fed_refused : (held : List (List ℕ)) (f : List ℕ) → AreTogether held → IsRefusedFrame held f → IsFed held f held (Err Malformed)
-fed_refused held f together refused = record {
-  together = together;
-  refused = λ e. refused;
-  taken = tt;
-  is_held = tt;
-  some = tt;
-  message = tt;
-  unchanged = refl;
-}
+fed_refused held f together refused = fed_err held f held Malformed together (λ e. refused) refl

@@ -9,10 +9,10 @@ use Rattle.ctrl_msg.specs.declared.message.Body.{Body}
 use Rattle.ctrl_msg.specs.declared.message.Body.TheVariants.{Install, OpenAt, Stamp, Collect, CacheRule, Advertise, Hello, Installed, Stamped}
 use Rattle.policy_rules.specs.declared.policy.Action.{Action}
 use Rattle.policy_rules.specs.declared.policy.Action.TheVariants.{Drop, Out}
-use Rattle.wire.specs.Format.{Format, then_read, ◌⊗◌, such_that, optional, list_of}
+use Rattle.wire.specs.Format.{Format, then_read, ◌⊗◌, optional}
 use Rattle.wire.specs.Fields.{n1, n4, n8, n16, switch, is_word, word, rule_name, action_by_port, port_in_action, action, rule, target_count, targets, region, partition, tables}
 use Rattle.wire.specs.Messages.{receiver_of, receiver, front, install_form, of_version, cache_rule_form, advert, hello, acknowledged, kind_number, spelled_fields, fields_fit, made, cache_rule_of, read_fields, body, suits, message}
-use Rattle.wire.proofs.Laws.{AreBytes, Takes, IsLawful, then_some, some_is, both_true, n8-bits, n32-bits, n64-bits, pair_lawful, as_type_lawful, such_that_lawful, optional_lawful, list_lawful}
+use Rattle.wire.proofs.Laws.{AreBytes, Takes, IsLawful, then_some, some_is, both_true, n8-bits, n32-bits, n64-bits, ◌⊠◌, as_type_lawful, such_that_lawful, optional_lawful, list_lawful}
 
 n1_lawful : IsLawful n1
 unfolding n1
@@ -37,23 +37,19 @@ halves_back p fits =
 
 n16_lawful : IsLawful n16
 unfolding n16
-n16_lawful =
-    as_type_lawful (λ (halves : ℕ × ℕ). halves.0 * 2 ^ 64 + halves.1) (λ n. (n / 2 ^ 64, n % 2 ^ 64)) (n8 ⊗ n8)
-    halves_back (λ n fits. div-add-mod' n (2 ^ 64)) (pair_lawful n8 n8 n8_lawful n8_lawful)
+n16_lawful = as_type_lawful _ _ halves_back (λ n fits. div-add-mod' n (2 ^ 64)) (n8_lawful ⊠ n8_lawful)
 
 switch_lawful : IsLawful switch
 unfolding switch
-switch_lawful = such_that_lawful (λ n. ltb n 64) n1 n1_lawful
+switch_lawful = such_that_lawful (λ n. ltb n 64) n1_lawful
 
 word_lawful : IsLawful word
 unfolding word
-word_lawful =
-    as_type_lawful _ _ (such_that is_word (n16 ⊗ n16)) (λ p fits. refl) (λ w fits. refl)
-    (such_that_lawful is_word (n16 ⊗ n16) (pair_lawful n16 n16 n16_lawful n16_lawful))
+word_lawful = as_type_lawful _ _ (λ p fits. refl) (λ w fits. refl) (such_that_lawful is_word (n16_lawful ⊠ n16_lawful))
 
 maybe_lawful : IsLawful (optional n1 n4)
 unfolding n1
-maybe_lawful = optional_lawful n1 n4 refl refl n1_lawful n4_lawful
+maybe_lawful = optional_lawful refl refl n1_lawful n4_lawful
 
 rule_name_lawful : IsLawful rule_name
 unfolding rule_name
@@ -69,44 +65,35 @@ action_back (Out port) = refl
 
 action_lawful : IsLawful action
 unfolding action
-action_lawful =
-    as_type_lawful action_by_port port_in_action (optional n1 n4) (λ o fits. port_back o) (λ a fits. action_back a) maybe_lawful
+action_lawful = as_type_lawful _ _ (λ o fits. port_back o) (λ a fits. action_back a) maybe_lawful
 
 rule_lawful : IsLawful rule
 unfolding rule
 rule_lawful =
-    as_type_lawful _ _ (word ⊗ n4 ⊗ rule_name ⊗ action) (λ p fits. refl) (λ r fits. refl)
-    (pair_lawful word (n4 ⊗ rule_name ⊗ action) word_lawful
-    (pair_lawful n4 (rule_name ⊗ action) n4_lawful (pair_lawful rule_name action rule_name_lawful action_lawful)))
+    as_type_lawful _ _ (λ p fits. refl) (λ r fits. refl) (word_lawful ⊠ n4_lawful ⊠ rule_name_lawful ⊠ action_lawful)
 
 target_count_lawful : IsLawful target_count
 unfolding target_count
-target_count_lawful = such_that_lawful _ n1 n1_lawful
+target_count_lawful = such_that_lawful _ n1_lawful
 
 targets_lawful : IsLawful targets
 unfolding targets
-targets_lawful = list_lawful target_count switch target_count_lawful switch_lawful
+targets_lawful = list_lawful target_count_lawful switch_lawful
 
 region_lawful : IsLawful region
 unfolding region
-region_lawful =
-    as_type_lawful _ _ (word ⊗ targets) (λ p fits. refl) (λ row fits. refl)
-    (pair_lawful word targets word_lawful targets_lawful)
+region_lawful = as_type_lawful _ _ (λ p fits. refl) (λ row fits. refl) (word_lawful ⊠ targets_lawful)
 
 partition_lawful : IsLawful partition
 unfolding partition
 partition_lawful =
-    as_type_lawful _ _ (n4 ⊗ word ⊗ list_of n4 rule) (λ p fits. refl) (λ part fits. refl)
-    (pair_lawful n4 (word ⊗ list_of n4 rule) n4_lawful
-    (pair_lawful word (list_of n4 rule) word_lawful (list_lawful n4 rule n4_lawful rule_lawful)))
+    as_type_lawful _ _ (λ p fits. refl) (λ part fits. refl) (n4_lawful ⊠ word_lawful ⊠ list_lawful n4_lawful rule_lawful)
 
 tables_lawful : IsLawful tables
 unfolding tables
 tables_lawful =
-    as_type_lawful _ _ (n4 ⊗ list_of n4 region ⊗ list_of n4 partition) (λ p fits. refl) (λ t fits. refl)
-    (pair_lawful n4 (list_of n4 region ⊗ list_of n4 partition) n4_lawful
-    (pair_lawful (list_of n4 region) (list_of n4 partition) (list_lawful n4 region n4_lawful region_lawful)
-    (list_lawful n4 partition n4_lawful partition_lawful)))
+    as_type_lawful _ _ (λ p fits. refl) (λ t fits. refl)
+    (n4_lawful ⊠ list_lawful n4_lawful region_lawful ⊠ list_lawful n4_lawful partition_lawful)
 
 -- ---- the receiver
 
@@ -145,39 +132,34 @@ receiver_lawful = record { takes = receiver_takes; again = receiver_again }
 
 pub front_lawful : IsLawful front
 unfolding front
-front_lawful = pair_lawful receiver (n1 ⊗ n4) receiver_lawful (pair_lawful n1 n4 n1_lawful n4_lawful)
+front_lawful = receiver_lawful ⊠ n1_lawful ⊠ n4_lawful
 
 -- ---- the fields
 
 install_lawful : IsLawful install_form
 unfolding install_form
-install_lawful = pair_lawful n4 tables n4_lawful tables_lawful
+install_lawful = n4_lawful ⊠ tables_lawful
 
 of_version_lawful : IsLawful of_version
 unfolding of_version
-of_version_lawful = pair_lawful n4 n4 n4_lawful n4_lawful
+of_version_lawful = n4_lawful ⊠ n4_lawful
 
 cache_rule_lawful : IsLawful cache_rule_form
 unfolding cache_rule_form
-cache_rule_lawful =
-    pair_lawful n4 (word ⊗ rule_name ⊗ action) n4_lawful
-    (pair_lawful word (rule_name ⊗ action) word_lawful (pair_lawful rule_name action rule_name_lawful action_lawful))
+cache_rule_lawful = n4_lawful ⊠ word_lawful ⊠ rule_name_lawful ⊠ action_lawful
 
 advert_lawful : IsLawful advert
 unfolding advert
 advert_lawful =
-    as_type_lawful _ _ (switch ⊗ n4 ⊗ n4 ⊗ n8) (λ p fits. refl) (λ a fits. refl)
-    (pair_lawful switch (n4 ⊗ n4 ⊗ n8) switch_lawful
-    (pair_lawful n4 (n4 ⊗ n8) n4_lawful (pair_lawful n4 n8 n4_lawful n8_lawful)))
+    as_type_lawful _ _ (λ p fits. refl) (λ a fits. refl) (switch_lawful ⊠ n4_lawful ⊠ n4_lawful ⊠ n8_lawful)
 
 hello_lawful : IsLawful hello
 unfolding hello
-hello_lawful = pair_lawful switch n4 switch_lawful n4_lawful
+hello_lawful = switch_lawful ⊠ n4_lawful
 
 acknowledged_lawful : IsLawful acknowledged
 unfolding acknowledged
-acknowledged_lawful =
-    pair_lawful switch (n4 ⊗ n4) switch_lawful (pair_lawful n4 n4 n4_lawful n4_lawful)
+acknowledged_lawful = switch_lawful ⊠ n4_lawful ⊠ n4_lawful
 
 -- a body of a kind was taken from bytes behind that kind
 record TakesFields (kind : ℕ) (b : Body) (bytes rest : List ℕ) : Type 0 where
@@ -282,5 +264,4 @@ body_lawful = record {
 pub message_lawful : IsLawful message
 unfolding message
 message_lawful =
-    as_type_lawful _ _ (such_that (λ p. suits p.0 p.1) (receiver ⊗ body)) (λ p fits. refl) (λ m fits. refl)
-    (such_that_lawful (λ p. suits p.0 p.1) (receiver ⊗ body) (pair_lawful receiver body receiver_lawful body_lawful))
+    as_type_lawful _ _ (λ p fits. refl) (λ m fits. refl) (such_that_lawful (λ p. suits p.0 p.1) (receiver_lawful ⊠ body_lawful))

@@ -1,5 +1,5 @@
 -- The two laws of formats: what is read is spelled so, and what is spelled is read again.
-use Rattle.std.proofs.Common.{◌≡◌, ℕ, zero, suc, ◌+◌, ◌*◌, ◌/◌, ◌%◌, ◌^◌, ◌<◌, ◌≤◌, Bool, true, false, cond, ◌&&◌, ltb, List, [], ◌∷◌, ◌++◌, length, get_or, take, drop, Option, Some, None, refl, sym, ap, subst, ◌∙◌, append_assoc, arith, inl, inr}
+use Rattle.std.proofs.Common.{◌≡◌, ℕ, zero, suc, ◌+◌, ◌%◌, ◌^◌, ◌<◌, ◌≤◌, Bool, true, false, cond, ◌&&◌, ltb, List, [], ◌∷◌, ◌++◌, length, get_or, take, drop, Option, Some, None, refl, sym, ap, subst, ◌∙◌, append_assoc, arith, inl, inr}
 use Rattle.std.specs.List.{flat_map, list_all}
 use Rattle.std.specs.Int.{Width, w8, w32, w64, byte_len, from_be_bytes, to_be_bytes}
 use Rattle.std.proofs.lemmas.Bool.{cases_lt, ltb-false, ltb-true, le-ltb, lt-ltb}
@@ -138,8 +138,10 @@ n64-bits = number_lawful w64 (2 ^ 64) wide64
 
 -- ---- formats of formats
 
-pub pair_lawful : {A B : Type 0} (f : Format A) (g : Format B) → IsLawful f → IsLawful g → IsLawful (f ⊗ g)
-pair_lawful {A = A} {B = B} f g lf lg = record {
+-- the law of a pair is written as the pair is
+infixr 20 ◌⊠◌
+pub ◌⊠◌ : {A B : Type 0} {f : Format A} {g : Format B} → IsLawful f → IsLawful g → IsLawful (f ⊗ g)
+◌⊠◌ {A = A} {B = B} {f = f} {g = g} lf lg = record {
   takes = λ bytes x rest are e.
       let b = then_some (f.read bytes) (λ p. then_read (g.read p.1) (λ q. Some ((p.0, q.0), q.1))) (x, rest) e in
       let first = lf.takes bytes b.0.0 b.0.1 are b.1 in
@@ -156,10 +158,10 @@ pair_lawful {A = A} {B = B} f g lf lg = record {
       rw (append_assoc (f.spell x.0) (g.spell x.1) rest, lf.again x.0 (g.spell x.1 ++ rest) both.0, lg.again x.1 rest both.1) refl;
 }
 
-pub as_type_lawful : {A B : Type 0} (to : A → B) (from : B → A) (f : Format A)
+pub as_type_lawful : {A B : Type 0} (to : A → B) (from : B → A) {f : Format A}
     → ((x : A) → f.fits x ≡ true → from (to x) ≡ x) → ((y : B) → f.fits (from y) ≡ true → to (from y) ≡ y)
     → IsLawful f → IsLawful (as_type to from f)
-as_type_lawful {B = B} to from f back forth lf = record {
+as_type_lawful {B = B} to from {f = f} back forth lf = record {
   takes = λ bytes y rest are e.
       let b = then_some (f.read bytes) (λ x. Some (to x.0, x.1)) (y, rest) e in
       let t = lf.takes bytes b.0.0 b.0.1 are b.1 in
@@ -173,8 +175,8 @@ as_type_lawful {B = B} to from f back forth lf = record {
   again = λ y rest fits. rw (lf.again (from y) rest fits, forth y fits) refl;
 }
 
-pub such_that_lawful : {A : Type 0} (test : A → Bool) (f : Format A) → IsLawful f → IsLawful (such_that test f)
-such_that_lawful {A = A} test f lf = record {
+pub such_that_lawful : {A : Type 0} {f : Format A} (test : A → Bool) → IsLawful f → IsLawful (such_that test f)
+such_that_lawful {A = A} {f = f} test lf = record {
   takes = λ bytes x rest are e.
       let b = then_some (f.read bytes) (λ p. cond (test p.0) (Some p) None) (x, rest) e in
       let t = lf.takes bytes b.0.0 b.0.1 are b.1 in
@@ -214,9 +216,9 @@ optional_again flag f zero_fits one_fits lflag lf None rest fits = rw (lflag.aga
 optional_again flag f zero_fits one_fits lflag lf (Some x) rest fits =
     rw (append_assoc (flag.spell 1) (f.spell x) rest, lflag.again 1 (f.spell x ++ rest) one_fits, lf.again x rest fits) refl
 
-pub optional_lawful : {A : Type 0} (flag : Format ℕ) (f : Format A) → flag.fits 0 ≡ true → flag.fits 1 ≡ true
+pub optional_lawful : {A : Type 0} {flag : Format ℕ} {f : Format A} → flag.fits 0 ≡ true → flag.fits 1 ≡ true
     → IsLawful flag → IsLawful f → IsLawful (optional flag f)
-optional_lawful flag f zero_fits one_fits lflag lf = record {
+optional_lawful {flag = flag} {f = f} zero_fits one_fits lflag lf = record {
   takes = λ bytes o rest are e.
       let b = then_some (flag.read bytes) (λ x. read_flagged f x.0 x.1) (o, rest) e in
       let t = lflag.takes bytes b.0.0 b.0.1 are b.1 in
@@ -260,8 +262,8 @@ items_again f lf (x ∷ xs) rest fit =
     let both = both_true (f.fits x) (list_all f.fits xs) fit in
     rw (append_assoc (f.spell x) (flat_map f.spell xs) rest, lf.again x (flat_map f.spell xs ++ rest) both.0, items_again f lf xs rest both.1) refl
 
-pub list_lawful : {A : Type 0} (count : Format ℕ) (f : Format A) → IsLawful count → IsLawful f → IsLawful (list_of count f)
-list_lawful count f lcount lf = record {
+pub list_lawful : {A : Type 0} {count : Format ℕ} {f : Format A} → IsLawful count → IsLawful f → IsLawful (list_of count f)
+list_lawful {count = count} {f = f} lcount lf = record {
   takes = λ bytes xs rest are e.
       let b = then_some (count.read bytes) (λ n. read_items f n.0 n.1) (xs, rest) e in
       let n = lcount.takes bytes b.0.0 b.0.1 are b.1 in

@@ -1,7 +1,7 @@
 -- Formats: how the values of a type are spelled as bytes. A format is a spelling, a test of which
 -- values it is for, and a reader of one value from the front of bytes; larger formats are made of
 -- smaller ones.
-use Rattle.std.specs.Prelude.{◌≡◌, ℕ, zero, suc, ◌<◌, nat_lt, Bool, true, false, ◌&&◌, if◌then◌else◌, List, [], ◌∷◌, ◌++◌, length, take, drop, Option, Some, None}
+use Rattle.std.specs.Prelude.{ℕ, zero, suc, nat_lt, Bool, true, ◌&&◌, if◌then◌else◌, List, [], ◌∷◌, ◌++◌, length, take, drop, Option, Some, None}
 use Rattle.std.specs.Int.{Width, byte_len, to_be_bytes, from_be_bytes}
 use Rattle.std.specs.List.{flat_map, list_all}
 

@@ -74,29 +74,27 @@ kind_number (Hello _ _) = 7
 kind_number (Installed _ _ _) = 8
 kind_number (Stamped _ _ _) = 9
 
+-- a value in its format: the spelling, and whether it has one
+abbrev pub written : {A : Type 0} → Format A → A → List ℕ × Bool
+written f x = (f.spell x, f.fits x)
+
+abbrev pub written_fields : Body → List ℕ × Bool
+written_fields (Install boot tables) = written install_form (boot, tables)
+written_fields (OpenAt boot version) = written of_version (boot, version)
+written_fields (Stamp boot version) = written of_version (boot, version)
+written_fields (Collect boot version) = written of_version (boot, version)
+written_fields (CacheRule version word rule action) =
+    written cache_rule_form (version, (word, (rule, action)))
+written_fields (Advertise news) = written advert news
+written_fields (Hello switch boot) = written hello (switch, boot)
+written_fields (Installed switch boot version) = written acknowledged (switch, (boot, version))
+written_fields (Stamped switch boot version) = written acknowledged (switch, (boot, version))
+
 abbrev pub spelled_fields : Body → List ℕ
-spelled_fields (Install boot tables) = install_form.spell (boot, tables)
-spelled_fields (OpenAt boot version) = of_version.spell (boot, version)
-spelled_fields (Stamp boot version) = of_version.spell (boot, version)
-spelled_fields (Collect boot version) = of_version.spell (boot, version)
-spelled_fields (CacheRule version word rule action) =
-    cache_rule_form.spell (version, (word, (rule, action)))
-spelled_fields (Advertise news) = advert.spell news
-spelled_fields (Hello switch boot) = hello.spell (switch, boot)
-spelled_fields (Installed switch boot version) = acknowledged.spell (switch, (boot, version))
-spelled_fields (Stamped switch boot version) = acknowledged.spell (switch, (boot, version))
+spelled_fields body = (written_fields body).0
 
 abbrev pub fields_fit : Body → Bool
-fields_fit (Install boot tables) = install_form.fits (boot, tables)
-fields_fit (OpenAt boot version) = of_version.fits (boot, version)
-fields_fit (Stamp boot version) = of_version.fits (boot, version)
-fields_fit (Collect boot version) = of_version.fits (boot, version)
-fields_fit (CacheRule version word rule action) =
-    cache_rule_form.fits (version, (word, (rule, action)))
-fields_fit (Advertise news) = advert.fits news
-fields_fit (Hello switch boot) = hello.fits (switch, boot)
-fields_fit (Installed switch boot version) = acknowledged.fits (switch, (boot, version))
-fields_fit (Stamped switch boot version) = acknowledged.fits (switch, (boot, version))
+fields_fit body = (written_fields body).1
 
 -- the body that the fields make
 abbrev pub made : {A : Type 0} → (A → Body) → Option (A × List ℕ) → Option (Body × List ℕ)

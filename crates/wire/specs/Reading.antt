@@ -1,5 +1,5 @@
 -- What reading from bytes gives, and what writing leaves.
-use Rattle.std.specs.Prelude.{◌≡◌, ℕ, Bool, true, List, ◌++◌, Option, Some, None, Result, Ok, Err}
+use Rattle.std.specs.Prelude.{◌≡◌, ℕ, true, List, ◌++◌, Option, Some, None, Result, Ok, Err}
 use Rattle.wire.specs.declared.error.WireError.{WireError}
 use Rattle.wire.specs.declared.error.WireError.TheVariants.{Malformed, NoMemory}
 use Rattle.ctrl_msg.specs.declared.message.Body.{Body}

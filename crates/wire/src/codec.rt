@@ -110,47 +110,23 @@ fn read_fields(kind: u8, reader: &mut Reader) -> Result<Body, WireError>
     ensures { Gives (λ body. body) (read_fields kind reader.old) result reader.new }
 {
     match kind {
-        1 => {
-            let (boot, tables) = read_install(reader)?;
-            Ok(Body::Install { boot, tables })
-        }
-        2 => {
-            let (boot, version) = read_of_version(reader)?;
-            Ok(Body::OpenAt { boot, version })
-        }
-        3 => {
-            let (boot, version) = read_of_version(reader)?;
-            Ok(Body::Stamp { boot, version })
-        }
-        4 => {
-            let (boot, version) = read_of_version(reader)?;
-            Ok(Body::Collect { boot, version })
-        }
+        1 => read_install(reader).map(|(boot, tables)| Body::Install { boot, tables }),
+        2 => read_of_version(reader).map(|(boot, version)| Body::OpenAt { boot, version }),
+        3 => read_of_version(reader).map(|(boot, version)| Body::Stamp { boot, version }),
+        4 => read_of_version(reader).map(|(boot, version)| Body::Collect { boot, version }),
         5 => read_cache_rule(reader),
-        6 => {
-            let advert = read_advert(reader)?;
-            Ok(Body::Advertise { advert })
-        }
-        7 => {
-            let (switch, boot) = read_hello(reader)?;
-            Ok(Body::Hello { switch, boot })
-        }
-        8 => {
-            let (switch, boot, version) = read_acknowledged(reader)?;
-            Ok(Body::Installed {
-                switch,
-                boot,
-                version,
-            })
-        }
-        9 => {
-            let (switch, boot, version) = read_acknowledged(reader)?;
-            Ok(Body::Stamped {
-                switch,
-                boot,
-                version,
-            })
-        }
+        6 => read_advert(reader).map(|advert| Body::Advertise { advert }),
+        7 => read_hello(reader).map(|(switch, boot)| Body::Hello { switch, boot }),
+        8 => read_acknowledged(reader).map(|(switch, boot, version)| Body::Installed {
+            switch,
+            boot,
+            version,
+        }),
+        9 => read_acknowledged(reader).map(|(switch, boot, version)| Body::Stamped {
+            switch,
+            boot,
+            version,
+        }),
         _ => Err(WireError::Malformed),
     }
 }
@@ -355,6 +331,7 @@ pub fn encode(alloc: Global, message: &Message) -> Result<Vec<u8>, AllocError>
 ///
 /// # Errors
 /// `Malformed` exactly where they are the spelling of no message.
+#[tactic(auto, using(crate::proofs::Decoding::found, crate::proofs::Decoding::only, crate::proofs::Decoding::malformed))]
 pub fn decode(alloc: Global, bytes: &[u8]) -> Result<Message, WireError>
     ensures found { IfOk result (λ message. IsSpelling message bytes.now) }
     ensures only { IfOk result (λ message.

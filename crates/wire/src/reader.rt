@@ -1,4 +1,4 @@
-ghost use Rattle.std.specs.Prelude.{◌≡◌, ◌==◌, length};
+ghost use Rattle.std.specs.Prelude.{◌≡◌, ◌==◌, ◌<◌, ◌≤◌, drop, length, take, IfNone, IfSome};
 ghost use Rattle.wire.specs.Reading.{Reads};
 ghost use Rattle.wire.specs.Fields.{n1, n4, n8, n16};
 
@@ -38,15 +38,22 @@ impl<'a> Reader<'a> {
         self.bytes.is_empty()
     }
 
+    // The next bytes, where there are so many.
+    fn take(&mut self, count: usize) -> Option<&'a [u8]>
+        ensures some { IfSome result (λ front. (count ≤ length self.old)
+            × (front.now ≡ take count self.old) × (self.new ≡ drop count self.old)) }
+        ensures none { IfNone result (length self.old < count) }
+    {
+        let (front, rest) = self.bytes.split_at_checked(count)?;
+        self.bytes = rest;
+        Some(front)
+    }
+
     #[tactic(auto, unfolding(crate::specs::Fields::n1, crate::specs::Format::read_number))]
     pub fn n1(&mut self) -> Result<u8, WireError>
         ensures { Reads n1 self.old result self.new }
     {
-        if self.bytes.is_empty() {
-            return Err(WireError::Malformed);
-        }
-        let (front, rest) = self.bytes.split_at(1);
-        self.bytes = rest;
+        let front = self.take(1).ok_or(WireError::Malformed)?;
         Ok(front[0])
     }
 
@@ -54,11 +61,7 @@ impl<'a> Reader<'a> {
     pub fn n4(&mut self) -> Result<u32, WireError>
         ensures { Reads n4 self.old result self.new }
     {
-        if self.bytes.len() < 4 {
-            return Err(WireError::Malformed);
-        }
-        let (front, rest) = self.bytes.split_at(4);
-        self.bytes = rest;
+        let front = self.take(4).ok_or(WireError::Malformed)?;
         Ok(u32::from_be_bytes([front[0], front[1], front[2], front[3]]))
     }
 
@@ -66,11 +69,7 @@ impl<'a> Reader<'a> {
     pub fn n8(&mut self) -> Result<u64, WireError>
         ensures { Reads n8 self.old result self.new }
     {
-        if self.bytes.len() < 8 {
-            return Err(WireError::Malformed);
-        }
-        let (front, rest) = self.bytes.split_at(8);
-        self.bytes = rest;
+        let front = self.take(8).ok_or(WireError::Malformed)?;
         Ok(u64::from_be_bytes([
             front[0], front[1], front[2], front[3], front[4], front[5], front[6], front[7],
         ]))

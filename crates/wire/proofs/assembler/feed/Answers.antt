@@ -1,4 +1,4 @@
-use Rattle.std.proofs.Common.{sym, subst, ◌∙◌}
+use Rattle.std.proofs.Common.{subst}
 use Rattle.wire.specs.declared.assembler.Spot.TheVariants.{Held, New}
 use Rattle.wire.specs.Frames.{count_in_frame}
 use Rattle.wire.specs.Assembly.{IsAssembled, IsSpot}

@@ -1,4 +1,4 @@
-use Rattle.std.proofs.Common.{◌≡◌, ◌<◌, [], length, get_or, map, ap, sym, ◌∙◌, arith}
+use Rattle.std.proofs.Common.{◌<◌, [], length, get_or, ap, sym, ◌∙◌, arith}
 use Rattle.std.proofs.lemmas.List.{get_or-map}
 use Rattle.wire.specs.Frames.{piece_of}
 use Rattle.wire.proofs.Holding.{false_true}

@@ -10,5 +10,5 @@ invariant_of-result c =
 
 pub returns : goal.returns
 returns c =
-    says c.args.message.now c.in_ok-frames.frames c.requires.carries.0 c.args.tables.now
-    c.in_ok-frames.ensures c.requires.carries.1
+    says c.args.message.now c.in_ok-frames.frames c.requires.1.0 c.args.tables.now
+    c.in_ok-frames.ensures c.requires.1.1
