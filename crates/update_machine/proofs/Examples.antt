@@ -51,6 +51,10 @@ abbrev pub versions : ℕ → ℕ → List Item
 versions count retired =
     replicate (count - 1) (item.Submitted 1 2) ++ item.Retired retired ∷ []
 
+-- the row that delivers a message, and its delivery
+abbrev pub delivered : ℕ → ℕ → List Item
+delivered row number = item.Row row (step.Deliver number) ∷ item.Delivered number ∷ []
+
 -- ---- headers: from 1.2.3.4 to 10.2.0.1, 10.3.9.9 and 10.1.5.5, by TCP from port 5000 to port 80
 
 abbrev pub one : Header
@@ -205,7 +209,7 @@ rebooting =
 abbrev pub rebooted : List Item
 rebooted =
     item.Row 1 (step.Crash 0) ∷ item.Down 0 ∷ item.Row 2 (step.Restart 0) ∷ item.Booted 0 2
-    ∷ item.Sent 1 (to_controller (Hello 0 2)) ∷ item.Row 3 (step.Deliver 1) ∷ item.Delivered 1
-    ∷ item.Sent 2 (to 0 (Install 2 (tables_of plan_p 1 0))) ∷ item.Row 4 (step.Deliver 2)
-    ∷ item.Delivered 2 ∷ item.Sent 3 (to_controller (Installed 0 2 1))
-    ∷ item.Row 5 (step.Deliver 3) ∷ item.Delivered 3 ∷ item.Sent 4 (to 0 (OpenAt 2 1)) ∷ []
+    ∷ item.Sent 1 (to_controller (Hello 0 2)) ∷ delivered 3 1
+    ++ item.Sent 2 (to 0 (Install 2 (tables_of plan_p 1 0))) ∷ delivered 4 2
+    ++ item.Sent 3 (to_controller (Installed 0 2 1)) ∷ delivered 5 3
+    ++ item.Sent 4 (to 0 (OpenAt 2 1)) ∷ []

@@ -189,10 +189,4 @@ portless_stuck setting journal i s port small none =
     ]) stuck
 
 pub known_link_laws : KnownLinkLaws
-known_link_laws = record {
-  newest = newest_known;
-  own = own_known;
-  route = route_known;
-  cut_off = cut_off_known;
-  portless = portless_stuck;
-}
+known_link_laws = search (newest_known, own_known, route_known, cut_off_known, portless_stuck)

@@ -1,4 +1,5 @@
 pub mod Examples
+mod Computed
 mod CacheRows
 mod BootRows
 mod OverRows

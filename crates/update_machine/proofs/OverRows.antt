@@ -3,69 +3,24 @@ use Rattle.std.proofs.Common.{◌≡◌, [], ◌∷◌, ◌++◌, refl}
 use Rattle.ctrl_msg.specs.declared.message.Body.TheVariants as body
 use Rattle.steps.specs.declared.step.Step.TheVariants as step
 use Rattle.journal.specs.declared.item.Item.TheVariants as item
-use Rattle.update_machine.specs.Answers.{after_steps}
-use Rattle.update_machine.proofs.Examples.{at, one, open_net, plan_p, rebooted, rebooting, tables_of, to, to_controller}
--- ---- names that compute
-use Rattle.update_machine.specs.Adverts.{own_seq, own_advert, adverts_known, held_adverts, route_from, is_cut_off}
-use Rattle.update_machine.specs.Boots.{boot_of, is_up, heard}
-use Rattle.update_machine.specs.Caches.{cache_of, lookup_at}
-use Rattle.update_machine.specs.Deliveries.{link_changes, switch_items, controller_items, delivery_items}
-use Rattle.update_machine.specs.Handled.{handled_count}
-use Rattle.update_machine.specs.Links.{is_link_up, serves, message_of}
-use Rattle.update_machine.specs.Marks.{controller_heard, known_boot, is_over, opened_at, is_member, has_acked, acked_stamp, current_mark, retired_mark, next_current, next_retired}
-use Rattle.update_machine.specs.Messages.{next_message, is_forgotten, was_delivered, is_deliverable, next_waiting, sent_from}
-use Rattle.update_machine.specs.Moves.{leg_items, end_items, cache_items, authority_items, lookup_items, arrive_items, reroute_items, move_items}
-use Rattle.update_machine.specs.Packets.{next_packet, header_in, standing, decision_of}
-use Rattle.update_machine.specs.Pieces.{packet_items, hop_items, lose_items, deliver_items, forget_items, expire_items, update_items, link_items, crash_items, restart_items, confirm_items, resend_items, piece}
-use Rattle.update_machine.specs.Quiet.{sendings}
-use Rattle.update_machine.specs.Settling.{current_items, open_items, retired_items, settling, installs_to, installs_to_all, resent_by_controller}
-use Rattle.update_machine.specs.Steps.{steps_in}
-use Rattle.update_machine.specs.Versions.{version_count, stamp_of, holds_version, file_of, plan_at}
-use Rattle.update_machine.specs.Causes.{present_step}
-use Rattle.update_machine.specs.Travels.{ingress_of, travels, next_travelling, leg_of}
-use Rattle.update_machine.specs.Ways.{route_in, route_place, next_switch, found_down}
-use Rattle.update_machine.specs.LinkMasks.{near}
-use Rattle.masks.specs.Masks.{has, mask_where, mask_of, switches, least_in}
-use Rattle.failover.specs.Adverts.{is_news, after_hearing, first_adverts}
-use Rattle.failover.specs.Links.{named_links, is_link, known_links, has_link, with_link}
-use Rattle.failover.specs.Routes.{wider, ball, nearer, onward, links_away, route_to, first_route, route_of}
-use Rattle.failover.specs.Isolated.{names, is_isolated}
-use Rattle.ternary.specs.Word.{holds}
-use Rattle.ternary.specs.Meets.{meets, meet_of, covers_of, is_fixed_of, free_of}
-use Rattle.cache_maker.specs.Independent.{is_apart, is_independent, widen, widened}
-use Rattle.switch_table.specs.Cache.{same_key}
+use Rattle.update_machine.proofs.Computed.{left_by}
+use Rattle.update_machine.proofs.Examples.{at, delivered, one, open_net, plan_p, rebooted, rebooting, tables_of, to, to_controller}
 
 -- a crashes twice; once it is over, the update goes on without it, and its new boot does not open
 -- by an old message
 pub over_rows :
-    after_steps open_net []
+    left_by open_net
     (rebooting ++ at 6 (step.Crash 0) ∷ at 7 (step.Update 1)
     ∷ at 8 (step.Confirm 0) ∷ at 9 (step.Restart 0) ∷ at 10 (step.Deliver 4)
     ∷ at 11 (step.Packet 0 one) ∷ at 12 (step.Deliver 6) ∷ at 13 (step.Deliver 8) ∷ [])
     ≡
-    rebooted ++ item.Row 6 (step.Crash 0)
-    ∷ item.Down 0 ∷ item.Row 7 (step.Update 1) ∷ item.Submitted 1 2
-    ∷ item.Sent 5 (to 0 (body.Install 2 (tables_of plan_p 2 0)))
+    rebooted ++ item.Row 6 (step.Crash 0) ∷ item.Down 0 ∷ item.Row 7 (step.Update 1)
+    ∷ item.Submitted 1 2 ∷ item.Sent 5 (to 0 (body.Install 2 (tables_of plan_p 2 0)))
     ∷ item.Sent 6 (to 1 (body.Install 1 (tables_of plan_p 2 1))) ∷ item.Row 8 (step.Confirm 0)
     ∷ item.OverNow 0 ∷ item.Row 9 (step.Restart 0) ∷ item.Booted 0 3
-    ∷ item.Sent 7 (to_controller (body.Hello 0 3)) ∷ item.Row 10 (step.Deliver 4)
-    ∷ item.Delivered 4 ∷ item.Row 11 (step.Packet 0 one) ∷ item.Closed 1 0
-    ∷ item.Row 12 (step.Deliver 6) ∷ item.Delivered 6
-    ∷ item.Sent 8 (to_controller (body.Installed 1 1 2)) ∷ item.Row 13 (step.Deliver 8)
-    ∷ item.Delivered 8 ∷ item.Current 2 ∷ item.Sent 9 (to 1 (body.Stamp 1 2)) ∷ []
-unfolding own_seq own_advert adverts_known held_adverts route_from is_cut_off boot_of is_up
-    serves heard cache_of lookup_at link_changes switch_items controller_items delivery_items
-    handled_count is_link_up near controller_heard known_boot is_over opened_at is_member
-    has_acked acked_stamp current_mark retired_mark next_current next_retired next_message
-    message_of is_forgotten was_delivered is_deliverable next_waiting sent_from leg_items
-    end_items cache_items authority_items lookup_items arrive_items reroute_items move_items
-    next_packet header_in ingress_of standing travels next_travelling decision_of leg_of route_in
-    route_place next_switch found_down packet_items hop_items lose_items deliver_items
-    forget_items expire_items update_items link_items crash_items restart_items confirm_items
-    resend_items piece sendings current_items open_items retired_items settling installs_to
-    installs_to_all resent_by_controller steps_in present_step version_count file_of plan_at
-    stamp_of holds_version has mask_where mask_of switches least_in is_news after_hearing first_adverts
-    names named_links is_link known_links is_isolated wider ball nearer onward links_away route_to
-    first_route route_of has_link with_link holds meets meet_of covers_of is_fixed_of free_of
-    is_apart is_independent widen widened same_key lib.Count.count_trailing_zeros
+    ∷ item.Sent 7 (to_controller (body.Hello 0 3)) ∷ delivered 10 4
+    ++ item.Row 11 (step.Packet 0 one) ∷ item.Closed 1 0 ∷ delivered 12 6
+    ++ item.Sent 8 (to_controller (body.Installed 1 1 2)) ∷ delivered 13 8 ++ item.Current 2
+    ∷ item.Sent 9 (to 1 (body.Stamp 1 2)) ∷ []
+unfolding left_by
 over_rows = refl

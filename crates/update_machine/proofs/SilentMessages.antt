@@ -30,37 +30,20 @@ forgetting_silent : (n : ℕ) → Silent (concerns_message n) (is_forgetting n) 
 forgetting_silent n before (item.Forgotten number) apart = apart
 forgetting_silent n before _ apart = refl
 
-message_stays : (n : ℕ) → Stays (concerns_message n) (λ js. message_of js n)
-unfolding message_of
-message_stays n = last_stays (tells_message n) (concerns_message n) (message_silent n)
-
-delivered_stays : (n : ℕ) → Stays (concerns_message n) (λ js. was_delivered js n)
-unfolding was_delivered
-delivered_stays n before items none = ap (nat_lt 0)
-    (count_stays (is_delivery n) (concerns_message n) (delivery_silent n) before items none)
-
-forgotten_stays : (n : ℕ) → Stays (concerns_message n) (λ js. is_forgotten js n)
-unfolding is_forgotten
-forgotten_stays n before items none = ap (nat_lt 0)
-    (count_stays (is_forgetting n) (concerns_message n) (forgetting_silent n) before items none)
-
-deliverable_stays : (n : ℕ) → Stays (concerns_message n) (λ js. is_deliverable js n)
-unfolding is_deliverable
-deliverable_stays n before items none =
-    let message : message_of (before ++ items) n ≡ message_of before n =
-    message_stays n before items none in
-    let forgotten : is_forgotten (before ++ items) n ≡ is_forgotten before n =
-    forgotten_stays n before items none in
-    rw (message, forgotten) refl
-
 pub message_keeps : (n : ℕ) (before items : List Item)
     → NoneConcern (concerns_message n) before items → MessageKeeps n before (before ++ items)
-message_keeps n before items none = record {
-  message = message_stays n before items none;
-  delivered = delivered_stays n before items none;
-  forgotten = forgotten_stays n before items none;
-  deliverable = deliverable_stays n before items none;
-}
+unfolding message_of was_delivered is_forgotten is_deliverable
+message_keeps n before items none =
+    let message : message_of (before ++ items) n ≡ message_of before n =
+    last_stays _ _ (message_silent n) before items none in
+    let forgotten : is_forgotten (before ++ items) n ≡ is_forgotten before n =
+    ap (nat_lt 0) (count_stays _ _ (forgetting_silent n) before items none) in
+    record {
+      message = message;
+      delivered = ap (nat_lt 0) (count_stays _ _ (delivery_silent n) before items none);
+      forgotten = forgotten;
+      deliverable = rw (message, forgotten) refl;
+    }
 
 -- ---- all messages
 
@@ -106,18 +89,13 @@ waiting_same n before items none =
     (fewer (concerns_message n) concerns_messages (each_silent n) before items none) in
     rw (keeps.deliverable, keeps.delivered) refl
 
-waiting_stays : Stays concerns_messages next_waiting
-unfolding next_waiting
-waiting_stays =
-    first_stays_of (count_of is_sending) is_waiting concerns_messages sent_count_stays waiting_same
-
 pub messages_keep : (before items : List Item) → NoneConcern concerns_messages before items
     → MessagesKeep before (before ++ items)
-unfolding next_message sendings
+unfolding next_message next_waiting sendings
 messages_keep before items none = record {
   next = ap (λ k. k + 1) (sent_count_stays before items none);
-  waiting = waiting_stays before items none;
-  sent = folded_stays changes_sendings [] concerns_messages sendings_silent before items none;
+  waiting = first_stays_of _ is_waiting _ sent_count_stays waiting_same before items none;
+  sent = folded_stays _ [] _ sendings_silent before items none;
 }
 
 -- ---- all packets
@@ -142,17 +120,12 @@ travels_stay i = last_or_stays (tells_travelling i) false concerns_packets (trav
 packet_count_stays : Stays concerns_packets (count_of is_packet)
 packet_count_stays = count_stays is_packet concerns_packets packet_silent
 
-travelling_stays : Stays concerns_packets next_travelling
-unfolding next_travelling
-travelling_stays =
-    first_stays_of (count_of is_packet) travels concerns_packets packet_count_stays travels_stay
-
 pub packets_keep : (before items : List Item) → NoneConcern concerns_packets before items
     → PacketsKeep before (before ++ items)
-unfolding next_packet
+unfolding next_packet next_travelling
 packets_keep before items none = record {
   next = ap (λ k. k + 1) (packet_count_stays before items none);
-  travelling = travelling_stays before items none;
+  travelling = first_stays_of _ travels _ packet_count_stays travels_stay before items none;
 }
 
 -- ---- steps

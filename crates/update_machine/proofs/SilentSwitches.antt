@@ -1,6 +1,6 @@
 -- Items that don't concern a switch, or the links, leave its facts as they are.
 use Rattle.std.proofs.Common.{ℕ, ◌≡◌, true, None, List, [], ◌++◌, refl, ap, arith}
-use Rattle.std.specs.Prelude.{IsFalse, unwrap_or}
+use Rattle.std.specs.Prelude.{IsFalse}
 use Rattle.std.proofs.lemmas.List.Elements.{filter_agree}
 use Rattle.net_file.specs.Owners.{links_of}
 use Rattle.net_file.specs.declared.net.LinkRow.{LinkRow}
@@ -14,7 +14,7 @@ use Rattle.update_machine.specs.Links.{is_link_up, is_usable, tells_link, serves
 use Rattle.update_machine.specs.Setting.{Setting}
 use Rattle.update_machine.specs.Versions.{holds_version, stamp_of}
 use Rattle.update_machine.specs.LinkMasks.{near}
-use Rattle.update_machine.proofs.Silent.{Keeps, Silent, Stays, folded_stays, last_or_stays, last_stays}
+use Rattle.update_machine.proofs.Silent.{Keeps, Silent, Stays, folded_stays, last_or_stays}
 
 boot_silent : (s : ℕ) → Silent (concerns_switch s) (tells_boot s) None
 boot_silent s before (item.Booted switch boot) apart = rw apart refl
@@ -51,55 +51,25 @@ cache_silent s before cache (item.Delivered number) apart = rw (said_nothing bef
     refl
 cache_silent s before cache _ apart = refl
 
-boot_stays : (s : ℕ) → Stays (concerns_switch s) (λ js. boot_of js s)
-unfolding boot_of
-boot_stays s = last_or_stays (tells_boot s) 1 (concerns_switch s) (boot_silent s)
-
-up_stays : (s : ℕ) → Stays (concerns_switch s) (λ js. is_up js s)
-unfolding is_up
-up_stays s = last_or_stays (tells_up s) true (concerns_switch s) (up_silent s)
-
-serving_stays : (s : ℕ) → Stays (concerns_switch s) (λ js. serves js s)
-unfolding serves
-serving_stays s = last_or_stays (tells_serving s) true (concerns_switch s) (serving_silent s)
-
-heard_stays : (s : ℕ) → Stays (concerns_switch s) (λ js. heard js s)
-unfolding heard
-heard_stays s = folded_stays (changes_heard s) [] (concerns_switch s) (heard_silent s)
-
-stamp_stays : (s : ℕ) → Stays (concerns_switch s) (λ js. stamp_of js s)
-unfolding stamp_of
-stamp_stays s before items none =
-    let boot : boot_of (before ++ items) s ≡ boot_of before s = boot_stays s before items none in
-    let up : is_up (before ++ items) s ≡ is_up before s = up_stays s before items none in
-    let bodies : heard (before ++ items) s ≡ heard before s = heard_stays s before items none in
-    rw (boot, up, bodies) refl
-
-version_stays : (s v : ℕ) → Stays (concerns_switch s) (λ js. holds_version js s v)
-unfolding holds_version
-version_stays s v before items none =
-    let boot : boot_of (before ++ items) s ≡ boot_of before s = boot_stays s before items none in
-    let up : is_up (before ++ items) s ≡ is_up before s = up_stays s before items none in
-    let bodies : heard (before ++ items) s ≡ heard before s = heard_stays s before items none in
-    rw (boot, up, bodies) refl
-
-cache_stays : (setting : Setting) (s : ℕ) → Stays (concerns_switch s) (λ js. cache_of setting js s)
-unfolding cache_of
-cache_stays setting s =
-    folded_stays (changes_cache s) (record { entries = []; capacity = setting.net.cache })
-    (concerns_switch s) (cache_silent s)
-
 pub switch_keeps : (setting : Setting) (s : ℕ) (before items : List Item)
     → NoneConcern (concerns_switch s) before items → SwitchKeeps setting s before (before ++ items)
-switch_keeps setting s before items none = record {
-  boot = boot_stays s before items none;
-  up = up_stays s before items none;
-  serving = serving_stays s before items none;
-  heard = heard_stays s before items none;
-  stamp = stamp_stays s before items none;
-  versions = λ v. version_stays s v before items none;
-  cache = cache_stays setting s before items none;
-}
+unfolding boot_of is_up serves heard stamp_of holds_version cache_of
+switch_keeps setting s before items none =
+    let boot : boot_of (before ++ items) s ≡ boot_of before s =
+    last_or_stays _ 1 _ (boot_silent s) before items none in
+    let up : is_up (before ++ items) s ≡ is_up before s =
+    last_or_stays _ true _ (up_silent s) before items none in
+    let bodies : heard (before ++ items) s ≡ heard before s =
+    folded_stays _ [] _ (heard_silent s) before items none in
+    record {
+      boot = boot;
+      up = up;
+      serving = last_or_stays _ true _ (serving_silent s) before items none;
+      heard = bodies;
+      stamp = rw (boot, up, bodies) refl;
+      versions = λ v. rw (boot, up, bodies) refl;
+      cache = folded_stays _ _ _ (cache_silent s) before items none;
+    }
 
 -- ---- links
 
@@ -116,14 +86,13 @@ link_silent low high before _ apart = refl
 served_stays : (before items : List Item) → NoneConcern concerns_links before items → (s : ℕ)
     → serves (before ++ items) s ≡ serves before s
 unfolding serves
-served_stays before items none s = ap (λ o. unwrap_or o true)
-    (last_stays (tells_serving s) concerns_links (served_silent s) before items none)
+served_stays before items none s = last_or_stays _ true _ (served_silent s) before items none
 
 pub link_stays : (before items : List Item) → NoneConcern concerns_links before items
     → (one other : ℕ) → is_link_up (before ++ items) one other ≡ is_link_up before one other
 unfolding is_link_up
-link_stays before items none one other = ap (λ o. unwrap_or o true)
-    (last_stays _ concerns_links (link_silent _ _) before items none)
+link_stays before items none one other =
+    last_or_stays _ true _ (link_silent _ _) before items none
 
 usable_same : (before after : List Item) → ((s : ℕ) → serves after s ≡ serves before s)
     → ((one other : ℕ) → is_link_up after one other ≡ is_link_up before one other)

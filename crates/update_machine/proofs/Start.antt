@@ -1,5 +1,5 @@
 -- What a journal without items says.
-use Rattle.std.proofs.Common.{ℕ, ◌≡◌, ◌<◌, ◌≤◌, Bool, true, false, Some, None, List, [], ◌∷◌, refl, ap, sym, ◌∙◌, ◌==◌, arith}
+use Rattle.std.proofs.Common.{ℕ, ◌≡◌, ◌<◌, ◌≤◌, Bool, true, false, Some, None, List, [], ◌∷◌, refl, ap, sym, ◌∙◌, ◌==◌, arith, rules}
 use Rattle.std.specs.Prelude.{filter, length, map, nat_lt, slice_index, slice_index_or, slice_set, ◌||◌, ◌&&◌}
 use Rattle.std.proofs.lemmas.Bool.Decides.{nat_tests}
 use Rattle.std.proofs.lemmas.List.{set-get_or}
@@ -65,27 +65,11 @@ versions_start s v = by_test (v == 1)
 packet_starts : (i : ℕ) → PacketStarts i
 unfolding header_in ingress_of standing travels decision_of leg_of route_in route_place next_switch
     found_down
-packet_starts i = record {
-  header = refl;
-  ingress = refl;
-  stands = refl;
-  travels = refl;
-  decision = refl;
-  leg = refl;
-  route = refl;
-  route_place = refl;
-  next = refl;
-  found = refl;
-}
+packet_starts i = search rules
 
 message_starts : (n : ℕ) → MessageStarts n
 unfolding message_of was_delivered is_forgotten is_deliverable
-message_starts n = record {
-  message = refl;
-  delivered = refl;
-  forgotten = refl;
-  deliverable = refl;
-}
+message_starts n = search rules
 
 -- the own advert is the one that the switch began with
 own_first : (setting : Setting) (s : ℕ) → s < length setting.net.switches
@@ -125,37 +109,15 @@ unfolding boot_of is_up serves heard stamp_of version_count file_of known_boot i
     opened_at controller_heard acked_stamp current_mark retired_mark is_link_up cache_of
     handled_count steps_in next_packet next_travelling next_message next_waiting sendings
     present_step
-start_laws = record {
-  boot = λ s. refl;
-  up = λ s. refl;
-  serving = λ s. refl;
-  heard = λ s. refl;
-  stamp = λ s. refl;
-  versions = versions_start;
-  count = refl;
-  file = λ v. refl;
-  known = λ s. refl;
-  over = λ s. refl;
-  member = λ s. refl;
-  acked = acked_start;
-  acked_stamp = λ s. refl;
-  current = refl;
-  retired = refl;
-  links = λ one other. refl;
-  near = near_start;
-  seq = seq_start;
-  advert = advert_start;
-  cache = λ setting s. refl;
-  handled = λ s. refl;
-  packets = refl;
-  travelling = refl;
-  messages = refl;
-  waiting = refl;
-  sent = refl;
-  waited_for = λ s. refl;
-  step = refl;
-  packet = packet_starts;
-  message = message_starts;
-  adverts = adverts_start;
-  lookup = lookup_start;
-}
+start_laws = search (
+  rules,
+  versions_start,
+  acked_start,
+  near_start,
+  seq_start,
+  advert_start,
+  packet_starts,
+  message_starts,
+  adverts_start,
+  lookup_start,
+)
