@@ -4,7 +4,7 @@ use Rattle.ctrl_msg.specs.declared.message.Body.TheVariants as body
 use Rattle.steps.specs.declared.step.Step.TheVariants as step
 use Rattle.journal.specs.declared.item.Item.TheVariants as item
 use Rattle.update_machine.proofs.Computed.{left_by}
-use Rattle.update_machine.proofs.Examples.{advert, at, delivered, open_net, plan_p, rebooted, rebooting, tables_of, to, to_controller}
+use Rattle.update_machine.proofs.Examples.{advert, answered, at, delivered, open_net, plan_p, rebooted, rebooting, tables_of, to}
 
 -- a crashes and begins boot 2; it opens at version 2, which became current before its opening came
 pub boot_rows :
@@ -16,12 +16,11 @@ pub boot_rows :
     ≡
     rebooted ++ item.Row 6 (step.Update 1) ∷ item.Submitted 1 2
     ∷ item.Sent 5 (to 0 (body.Install 2 (tables_of plan_p 2 0)))
-    ∷ item.Sent 6 (to 1 (body.Install 1 (tables_of plan_p 2 1))) ∷ delivered 7 5
-    ++ item.Sent 7 (to_controller (body.Installed 0 2 2)) ∷ delivered 8 6
-    ++ item.Sent 8 (to_controller (body.Installed 1 1 2)) ∷ delivered 9 7 ++ delivered 10 8
-    ++ item.Current 2 ∷ item.Sent 9 (to 0 (body.Stamp 2 2)) ∷ item.Sent 10 (to 1 (body.Stamp 1 2))
-    ∷ delivered 11 9 ++ item.Sent 11 (to_controller (body.Stamped 0 2 2)) ∷ delivered 12 9
-    ++ item.Sent 12 (to_controller (body.Stamped 0 2 2)) ∷ delivered 13 4 ++ item.Opened 0 2
+    ∷ item.Sent 6 (to 1 (body.Install 1 (tables_of plan_p 2 1)))
+    ∷ answered 7 5 7 (body.Installed 0 2 2) ++ answered 8 6 8 (body.Installed 1 1 2)
+    ++ delivered 9 7 ++ delivered 10 8 ++ item.Current 2 ∷ item.Sent 9 (to 0 (body.Stamp 2 2))
+    ∷ item.Sent 10 (to 1 (body.Stamp 1 2)) ∷ answered 11 9 11 (body.Stamped 0 2 2)
+    ++ answered 12 9 12 (body.Stamped 0 2 2) ++ delivered 13 4 ++ item.Opened 0 2
     ∷ item.Sent 13 (to 1 (advert 0 2 1 2)) ∷ item.Sent 14 (to 0 (advert 0 1 1 2))
     ∷ item.Sent 15 (to 0 (advert 1 1 3 1)) ∷ delivered 14 4
 unfolding left_by

@@ -7,7 +7,7 @@ use Rattle.ctrl_msg.specs.declared.message.Body.TheVariants as body
 use Rattle.steps.specs.declared.step.Step.TheVariants as step
 use Rattle.journal.specs.declared.item.Item.TheVariants as item
 use Rattle.update_machine.proofs.Computed.{left_by}
-use Rattle.update_machine.proofs.Examples.{advert, any_word, at, by_action, delivered, leaving, link, on, out_or_drop, rule, switch, tables_of, to, to_controller}
+use Rattle.update_machine.proofs.Examples.{advert, answered, any_word, at, by_action, delivered, leaving, link, on, out_or_drop, rule, switch, tables_of, to}
 use Rattle.std.proofs.Common.{ℕ, List}
 use Rattle.std.specs.Prelude.{Ok, codes}
 use Rattle.five_tuple.specs.HeaderNumbers.{header_of}
@@ -137,21 +137,18 @@ pub campus_rows :
     ∷ item.Sent 16 (to 1 (body.Install 1 (tables_of plan_2 2 1)))
     ∷ item.Sent 17 (to 2 (body.Install 1 (tables_of plan_2 2 2)))
     ∷ item.Sent 18 (to 3 (body.Install 1 (tables_of plan_2 2 3))) ∷ delivered 11 14
-    ++ delivered 11 15 ++ item.Sent 19 (to_controller (body.Installed 0 1 2)) ∷ delivered 11 16
-    ++ item.Sent 20 (to_controller (body.Installed 1 1 2)) ∷ delivered 11 17
-    ++ item.Sent 21 (to_controller (body.Installed 2 1 2)) ∷ delivered 11 18
-    ++ item.Sent 22 (to_controller (body.Installed 3 1 2)) ∷ delivered 11 19 ++ delivered 11 20
-    ++ delivered 11 21 ++ delivered 11 22 ++ item.Current 2 ∷ item.Sent 23 (to 0 (body.Stamp 1 2))
-    ∷ item.Sent 24 (to 1 (body.Stamp 1 2)) ∷ item.Sent 25 (to 2 (body.Stamp 1 2))
-    ∷ item.Sent 26 (to 3 (body.Stamp 1 2)) ∷ delivered 11 23
-    ++ item.Sent 27 (to_controller (body.Stamped 0 1 2)) ∷ delivered 11 24
-    ++ item.Sent 28 (to_controller (body.Stamped 1 1 2)) ∷ delivered 11 25
-    ++ item.Sent 29 (to_controller (body.Stamped 2 1 2)) ∷ delivered 11 26
-    ++ item.Sent 30 (to_controller (body.Stamped 3 1 2)) ∷ delivered 11 27 ++ delivered 11 28
-    ++ delivered 11 29 ++ delivered 11 30 ++ item.Retired 1 ∷ item.Sent 31 (to 0 (body.Collect 1 1))
-    ∷ item.Sent 32 (to 1 (body.Collect 1 1)) ∷ item.Sent 33 (to 2 (body.Collect 1 1))
-    ∷ item.Sent 34 (to 3 (body.Collect 1 1)) ∷ delivered 11 31 ++ delivered 11 32 ++ delivered 11 33
-    ++ delivered 11 34 ++ item.Row 12 (step.Packet 0 header_2) ∷ item.Entered 4 0 header_2
+    ++ answered 11 15 19 (body.Installed 0 1 2) ++ answered 11 16 20 (body.Installed 1 1 2)
+    ++ answered 11 17 21 (body.Installed 2 1 2) ++ answered 11 18 22 (body.Installed 3 1 2)
+    ++ delivered 11 19 ++ delivered 11 20 ++ delivered 11 21 ++ delivered 11 22 ++ item.Current 2
+    ∷ item.Sent 23 (to 0 (body.Stamp 1 2)) ∷ item.Sent 24 (to 1 (body.Stamp 1 2))
+    ∷ item.Sent 25 (to 2 (body.Stamp 1 2)) ∷ item.Sent 26 (to 3 (body.Stamp 1 2))
+    ∷ answered 11 23 27 (body.Stamped 0 1 2) ++ answered 11 24 28 (body.Stamped 1 1 2)
+    ++ answered 11 25 29 (body.Stamped 2 1 2) ++ answered 11 26 30 (body.Stamped 3 1 2)
+    ++ delivered 11 27 ++ delivered 11 28 ++ delivered 11 29 ++ delivered 11 30 ++ item.Retired 1
+    ∷ item.Sent 31 (to 0 (body.Collect 1 1)) ∷ item.Sent 32 (to 1 (body.Collect 1 1))
+    ∷ item.Sent 33 (to 2 (body.Collect 1 1)) ∷ item.Sent 34 (to 3 (body.Collect 1 1))
+    ∷ delivered 11 31 ++ delivered 11 32 ++ delivered 11 33 ++ delivered 11 34
+    ++ item.Row 12 (step.Packet 0 header_2) ∷ item.Entered 4 0 header_2
     ∷ item.Seeking 4 2 0 (0 ∷ 1 ∷ []) ∷ item.Row 13 (step.Hop 4) ∷ item.Hopped 4 1
     ∷ item.Row 13 (step.Hop 4) ∷ item.Decided 4 2 (Some 600) Drop (how.Authority 1 0)
     ∷ item.Sent 35 (to 0 (body.CacheRule 2 word_1 (Some 600) Drop)) ∷ item.Dropped 4

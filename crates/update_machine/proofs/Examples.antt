@@ -55,6 +55,10 @@ versions count retired =
 abbrev pub delivered : ℕ → ℕ → List Item
 delivered row number = item.Row row (step.Deliver number) ∷ item.Delivered number ∷ []
 
+-- a message is delivered, and this is answered
+abbrev pub answered : ℕ → ℕ → ℕ → Body → List Item
+answered row number next body = delivered row number ++ item.Sent next (to_controller body) ∷ []
+
 -- ---- headers: from 1.2.3.4 to 10.2.0.1, 10.3.9.9 and 10.1.5.5, by TCP from port 5000 to port 80
 
 abbrev pub one : Header
@@ -210,6 +214,5 @@ abbrev pub rebooted : List Item
 rebooted =
     item.Row 1 (step.Crash 0) ∷ item.Down 0 ∷ item.Row 2 (step.Restart 0) ∷ item.Booted 0 2
     ∷ item.Sent 1 (to_controller (Hello 0 2)) ∷ delivered 3 1
-    ++ item.Sent 2 (to 0 (Install 2 (tables_of plan_p 1 0))) ∷ delivered 4 2
-    ++ item.Sent 3 (to_controller (Installed 0 2 1)) ∷ delivered 5 3
-    ++ item.Sent 4 (to 0 (OpenAt 2 1)) ∷ []
+    ++ item.Sent 2 (to 0 (Install 2 (tables_of plan_p 1 0))) ∷ answered 4 2 3 (Installed 0 2 1)
+    ++ delivered 5 3 ++ item.Sent 4 (to 0 (OpenAt 2 1)) ∷ []

@@ -4,7 +4,7 @@ use Rattle.ctrl_msg.specs.declared.message.Body.TheVariants as body
 use Rattle.steps.specs.declared.step.Step.TheVariants as step
 use Rattle.journal.specs.declared.item.Item.TheVariants as item
 use Rattle.update_machine.proofs.Computed.{left_by}
-use Rattle.update_machine.proofs.Examples.{at, delivered, one, open_net, plan_p, rebooted, rebooting, tables_of, to, to_controller}
+use Rattle.update_machine.proofs.Examples.{answered, at, delivered, one, open_net, plan_p, rebooted, rebooting, tables_of, to, to_controller}
 
 -- a crashes twice; once it is over, the update goes on without it, and its new boot does not open
 -- by an old message
@@ -19,8 +19,7 @@ pub over_rows :
     ∷ item.Sent 6 (to 1 (body.Install 1 (tables_of plan_p 2 1))) ∷ item.Row 8 (step.Confirm 0)
     ∷ item.OverNow 0 ∷ item.Row 9 (step.Restart 0) ∷ item.Booted 0 3
     ∷ item.Sent 7 (to_controller (body.Hello 0 3)) ∷ delivered 10 4
-    ++ item.Row 11 (step.Packet 0 one) ∷ item.Closed 1 0 ∷ delivered 12 6
-    ++ item.Sent 8 (to_controller (body.Installed 1 1 2)) ∷ delivered 13 8 ++ item.Current 2
-    ∷ item.Sent 9 (to 1 (body.Stamp 1 2)) ∷ []
+    ++ item.Row 11 (step.Packet 0 one) ∷ item.Closed 1 0 ∷ answered 12 6 8 (body.Installed 1 1 2)
+    ++ delivered 13 8 ++ item.Current 2 ∷ item.Sent 9 (to 1 (body.Stamp 1 2)) ∷ []
 unfolding left_by
 over_rows = refl

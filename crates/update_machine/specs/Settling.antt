@@ -39,16 +39,21 @@ collect_for journal version s = to_switch s (Collect (known_boot journal s) vers
 
 -- ---- settling
 
+-- a mark rises as far as it may, and the members are told so
+abbrev pub raised_items : (List Item → ℕ) → (Setting → List Item → ℕ) → (ℕ → Item)
+    → (List Item → ℕ → ℕ → Message) → Setting → List Item → List Item
+raised_items mark next says tells setting journal =
+    let version = next setting journal in
+    elim (nat_lt (mark journal) version) [
+      | false ↦ []
+      | true ↦ put (says version ∷ [])
+          (λ raised. sends raised (map (tells journal version) (members setting journal))) journal
+    ]
+
 -- current rises as far as the members' acknowledgements allow, and they are told to stamp with it
 unfoldable pub current_items : Setting → List Item → List Item
 current_items setting journal =
-    let version = next_current setting journal in
-    elim (nat_lt (current_mark journal) version) [
-      | false ↦ []
-      | true ↦ put (item.Current version ∷ [])
-          (λ raised. sends raised (map (stamp_for journal version) (members setting journal)))
-          journal
-    ]
+    raised_items current_mark next_current item.Current stamp_for setting journal
 
 -- the joining switches that acknowledged the current version
 abbrev pub opening : Setting → List Item → List ℕ
@@ -64,13 +69,7 @@ open_items setting journal =
 -- retired rises as far as the members' stamps allow, and they are told to drop those tables
 unfoldable pub retired_items : Setting → List Item → List Item
 retired_items setting journal =
-    let version = next_retired setting journal in
-    elim (nat_lt (retired_mark journal) version) [
-      | false ↦ []
-      | true ↦ put (item.Retired version ∷ [])
-          (λ raised. sends raised (map (collect_for journal version) (members setting journal)))
-          journal
-    ]
+    raised_items retired_mark next_retired item.Retired collect_for setting journal
 
 -- each part only where there is something
 unfoldable pub settling : Setting → List Item → List Item
