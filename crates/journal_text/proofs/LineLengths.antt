@@ -1,5 +1,5 @@
 -- How long lines are: each part has a bound, and the bounds of parts in a row are added.
-use Rattle.std.proofs.Common.{ℕ, ◌≡◌, ◌+◌, ◌≤◌, ◌==◌, Bool, true, false, List, [], ◌∷◌, ◌++◌, length, arith}
+use Rattle.std.proofs.Common.{ℕ, ◌+◌, ◌≤◌, ◌==◌, Bool, true, false, List, [], ◌∷◌, length, arith}
 use Rattle.std.specs.Prelude.{Option, codes, filter, if◌then◌else◌, min, max}
 use Rattle.std.specs.List.{range_with_len}
 use Rattle.std.proofs.lemmas.List.Sums.{count_by-le-length, length-filter}
@@ -17,10 +17,9 @@ use Rattle.policy_rules.specs.declared.packet.Cause.TheVariants.{NoAuthority, No
 use Rattle.policy_rules.specs.declared.packet.How.{How}
 use Rattle.policy_rules.specs.declared.packet.How.TheVariants.{Cached, Authority}
 use Rattle.policy_rules.specs.declared.policy.Action.{Action}
-use Rattle.ternary.specs.Word.{WordValue}
 use Rattle.journal.specs.declared.item.Item.{Item}
 use Rattle.journal.specs.declared.item.Item.TheVariants as item
-use Rattle.journal_text.specs.Lines.{advert_text, body_text, boot_text, cache_text, cause_text, decided_text, how_text, item_line, mask_text, named, with_number, packet_at, pair_text, receiver_text, state_text, step_text, submitted_text, tunnel_text, version_text}
+use Rattle.journal_text.specs.Lines.{advert_text, body_text, boot_text, cause_text, how_text, item_line, mask_text, named, with_number, packet_at, pair_text, receiver_text, ruled_text, state_text, step_text, two_text, version_text, via_text}
 use Rattle.journal_text.specs.Sizes.{IsBodyOfType, IsHow, IsItemOfType, IsShortRoute, IsStepOfType, LinesFit}
 use Rattle.line_fields.proofs.Lengths.{IsWithin, all_of, row_of, with_word, widened, number, rule_within, action_within, fields_within, word_within, name_within, names_within}
 use Rattle.line_fields.specs.Sizes.{IsAction, IsNumber, IsRule}
@@ -118,15 +117,12 @@ module _ (laws : NameLaws) (net : Net) (sound : IsNet net) where
   receiver_within (receiver.Switch s) = name_within laws net sound s
   receiver_within receiver.Controller = widened (all_of (codes "controller")) 16 (omega arith)
 
-  cache_within : (version : ℕ) (word : WordValue) (rule : Option ℕ) (action : Action)
-      → IsNumber version → IsRule rule → IsAction action
-      → IsWithin 200 (cache_text version word rule action)
-  unfolding cache_text
-  cache_within version word rule action v r a =
-      widened (row_of (all_of (codes "cache version ")) (row_of (number version v)
-      (row_of (all_of (codes " word ")) (row_of (word_within word) (row_of (all_of (codes " rule "))
-      (row_of (rule_within rule r) (row_of (all_of (codes " ")) (action_within action a))))))))
-      200 (omega arith)
+  ruled_within : (rule : Option ℕ) (action : Action) → IsRule rule → IsAction action
+      → IsWithin 31 (ruled_text rule action)
+  unfolding ruled_text
+  ruled_within rule action r a =
+      row_of (with_word (row_of (all_of (codes " rule ")) (rule_within rule r)) (codes " "))
+      (action_within action a)
 
   advert_within : (advert : Advert) → IsNumber advert.boot × IsNumber advert.seq
       → IsWithin 1200 (advert_text net advert)
@@ -145,7 +141,9 @@ module _ (laws : NameLaws) (net : Net) (sound : IsNet net) where
   body_within (Collect boot version) is =
       widened (version_within (all_of (codes "collect")) boot version is) 1200 (omega arith)
   body_within (CacheRule version word rule action) is =
-      widened (cache_within version word rule action is.0 is.1 is.2) 1200 (omega arith)
+      widened (row_of (row_of (with_word (numbered_within (all_of (codes "cache version")) version
+      is.0) (codes " word ")) (word_within word)) (ruled_within rule action is.1 is.2)) 1200
+      (omega arith)
   body_within (Advertise advert) is = advert_within advert is
   body_within (Hello switch boot) is =
       widened (boot_within (named_within (all_of (codes "hello")) switch) boot is) 1200
@@ -174,28 +172,16 @@ module _ (laws : NameLaws) (net : Net) (sound : IsNet net) where
   state_within true = widened (all_of (codes "up")) 4 (omega arith)
   state_within false = all_of (codes "down")
 
-  decided_within : (packet version : ℕ) (rule : Option ℕ) (action : Action)
-      → IsNumber packet → IsNumber version → IsRule rule → IsAction action
-      → IsWithin 100 (decided_text packet version rule action)
-  decided_within packet version rule action p v r a =
-      widened (row_of (with_word (row_of (with_word (row_of (with_word (numbered_within (all_of
-      (codes "  decided")) packet p) (codes " v")) (number version v)) (codes " rule "))
-      (rule_within rule r)) (codes " ")) (action_within action a)) 100 (omega arith)
+  two_within : {m k : ℕ} {word : List ℕ} → IsWithin m word → {next : List ℕ} → IsWithin k next
+      → (n p : ℕ) → IsNumber n → IsNumber p
+      → IsWithin (m + 1 + 10 + k + 10) (two_text word n next p)
+  unfolding two_text
+  two_within w v n p is also =
+      row_of (row_of (numbered_within w n is) v) (number p also)
 
-  tunnel_within : (packet version partition : ℕ) → IsNumber packet → IsNumber version
-      → IsNumber partition → IsWithin 100 (tunnel_text packet version partition)
-  unfolding tunnel_text
-  tunnel_within packet version partition p v q =
-      widened (row_of (all_of (codes "  tunnelled ")) (row_of (number packet p)
-      (row_of (all_of (codes " v")) (row_of (number version v) (row_of (all_of (codes " part "))
-      (row_of (number partition q) (all_of (codes " via")))))))) 100 (omega arith)
-
-  submitted_within : (file version : ℕ) → IsNumber file → IsNumber version
-      → IsWithin 100 (submitted_text file version)
-  unfolding submitted_text
-  submitted_within file version f v =
-      widened (row_of (all_of (codes "  submitted file ")) (row_of (number file f)
-      (row_of (all_of (codes " version ")) (number version v)))) 100 (omega arith)
+  via_within : (route : List ℕ) → IsShortRoute route → IsWithin 1092 (via_text net route)
+  unfolding via_text
+  via_within route is = row_of (all_of (codes " via")) (route_within route is)
 
   item_within : (item : Item) → IsItemOfType item → IsWithin 2047 (item_line net item)
   item_within (item.Row row step) is =
@@ -206,25 +192,27 @@ module _ (laws : NameLaws) (net : Net) (sound : IsNet net) where
   item_within (item.Closed packet switch) is =
       widened (at_within (all_of (codes "  closed")) packet switch is) 2047 (omega arith)
   item_within (item.Seeking packet version partition route) is =
-      widened (row_of (tunnel_within packet version partition is.0 is.1 is.2) (route_within route
+      widened (row_of (row_of (two_within (all_of (codes "  tunnelled")) (all_of (codes " v")) packet
+      version is.0 is.1) (numbered_within (all_of (codes " part")) partition is.2)) (via_within route
       is.3)) 2047 (omega arith)
   item_within (item.Exiting packet route) is =
-      widened (row_of (with_word (numbered_within (all_of (codes "  exit")) packet is.0) (codes
-      " via")) (route_within route is.1)) 2047 (omega arith)
+      widened (row_of (numbered_within (all_of (codes "  exit")) packet is.0) (via_within route
+      is.1)) 2047 (omega arith)
   item_within (item.Hopped packet switch) is =
       widened (at_within (all_of (codes "  hopped")) packet switch is) 2047 (omega arith)
   item_within (item.FoundDown packet one two) is =
       widened (pair_within (numbered_within (all_of (codes "  found")) packet is) one two) 2047
       (omega arith)
   item_within (item.Rerouted packet route) is =
-      widened (row_of (with_word (numbered_within (all_of (codes "  rerouted")) packet is.0) (codes
-      " via")) (route_within route is.1)) 2047 (omega arith)
+      widened (row_of (numbered_within (all_of (codes "  rerouted")) packet is.0) (via_within route
+      is.1)) 2047 (omega arith)
   item_within (item.Decided packet version rule action how) is =
-      widened (row_of (with_word (decided_within packet version rule action is.0 is.1 is.2 is.3)
-      (codes " ")) (how_within how is.4)) 2047 (omega arith)
+      widened (row_of (with_word (row_of (two_within (all_of (codes "  decided")) (all_of (codes " v"))
+      packet version is.0 is.1) (ruled_within rule action is.2 is.3)) (codes " ")) (how_within how
+      is.4)) 2047 (omega arith)
   item_within (item.Left packet port leaving) is =
-      widened (row_of (with_word (numbered_within (all_of (codes "  out")) packet is.0) (codes
-      " port ")) (number port is.1)) 2047 (omega arith)
+      widened (two_within (all_of (codes "  out")) (all_of (codes " port ")) packet port is.0 is.1)
+      2047 (omega arith)
   item_within (item.Dropped packet) is =
       widened (numbered_within (all_of (codes "  dropped")) packet is) 2047 (omega arith)
   item_within (item.Lost packet) is =
@@ -245,10 +233,11 @@ module _ (laws : NameLaws) (net : Net) (sound : IsNet net) where
       switch) (codes " ")) (number place is.0)) (codes " message ")) (number message is.1)) 2047
       (omega arith)
   item_within (item.Submitted file version) is =
-      widened (submitted_within file version is.0 is.1) 2047 (omega arith)
+      widened (two_within (all_of (codes "  submitted file")) (all_of (codes " version ")) file
+      version is.0 is.1) 2047 (omega arith)
   item_within (item.Refused file code) is =
-      widened (row_of (with_word (numbered_within (all_of (codes "  refused file")) file is.0)
-      (codes " code ")) (number code is.1)) 2047 (omega arith)
+      widened (two_within (all_of (codes "  refused file")) (all_of (codes " code ")) file code is.0
+      is.1) 2047 (omega arith)
   item_within (item.Current version) is =
       widened (numbered_within (all_of (codes "  current")) version is) 2047 (omega arith)
   item_within (item.Retired version) is =

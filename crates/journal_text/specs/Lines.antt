@@ -31,6 +31,10 @@ with_number word n = word ++ codes " " ++ decimal n
 abbrev pub named : Net → List ℕ → ℕ → List ℕ
 named net word s = word ++ codes " " ++ name_of net s
 
+-- two numbers, each behind a word
+unfoldable pub two_text : List ℕ → ℕ → List ℕ → ℕ → List ℕ
+two_text word n next m = with_number word n ++ next ++ decimal m
+
 -- the names of a mask's switches, ascending, or a dash for none
 abbrev pub mask_text : Net → ℕ → List ℕ
 mask_text net mask =
@@ -81,10 +85,14 @@ advert_text net advert =
     boot_text (named net (codes "advert") advert.origin) advert.boot
     ++ codes " seq " ++ decimal advert.seq ++ codes " up" ++ mask_text net advert.up
 
-unfoldable pub cache_text : ℕ → WordValue → Option ℕ → Action → List ℕ
+-- a rule and its action
+unfoldable pub ruled_text : Option ℕ → Action → List ℕ
+ruled_text rule action = codes " rule " ++ rule_text rule ++ codes " " ++ action_text action
+
+abbrev pub cache_text : ℕ → WordValue → Option ℕ → Action → List ℕ
 cache_text version word rule action =
-    codes "cache version " ++ (decimal version ++ (codes " word " ++ (word_text word
-    ++ (codes " rule " ++ (rule_text rule ++ (codes " " ++ action_text action))))))
+    with_number (codes "cache version") version ++ codes " word " ++ word_text word
+    ++ ruled_text rule action
 
 abbrev pub body_text : Net → Body → List ℕ
 body_text net (Install boot tables) = version_text (codes "install") boot tables.version
@@ -114,22 +122,9 @@ abbrev pub state_text : Bool → List ℕ
 state_text true = codes "up"
 state_text false = codes "down"
 
--- the version, the rule and the action that a packet got
-abbrev pub decided_text : ℕ → ℕ → Option ℕ → Action → List ℕ
-decided_text packet version rule action =
-    with_number (codes "  decided") packet ++ codes " v" ++ decimal version ++ codes " rule "
-    ++ rule_text rule ++ codes " " ++ action_text action
-
--- a packet begins to seek a partition of a version
-unfoldable pub tunnel_text : ℕ → ℕ → ℕ → List ℕ
-tunnel_text packet version partition =
-    codes "  tunnelled " ++ (decimal packet ++ (codes " v" ++ (decimal version
-    ++ (codes " part " ++ (decimal partition ++ codes " via")))))
-
--- the policy of a file is a version
-unfoldable pub submitted_text : ℕ → ℕ → List ℕ
-submitted_text file version =
-    codes "  submitted file " ++ (decimal file ++ (codes " version " ++ decimal version))
+-- the switches of a route
+unfoldable pub via_text : Net → List ℕ → List ℕ
+via_text net route = codes " via" ++ names_text net route
 
 -- the item's line without its line feed: a row at the left edge, each other item behind two blanks
 abbrev pub item_line : Net → Item → List ℕ
@@ -138,18 +133,20 @@ item_line net (item.Row row step) =
 item_line net (item.Entered packet switch header) = packet_at net (codes "  entered") packet switch
 item_line net (item.Closed packet switch) = packet_at net (codes "  closed") packet switch
 item_line net (item.Seeking packet version partition route) =
-    tunnel_text packet version partition ++ names_text net route
+    two_text (codes "  tunnelled") packet (codes " v") version
+    ++ with_number (codes " part") partition ++ via_text net route
 item_line net (item.Exiting packet route) =
-    with_number (codes "  exit") packet ++ codes " via" ++ names_text net route
+    with_number (codes "  exit") packet ++ via_text net route
 item_line net (item.Hopped packet switch) = packet_at net (codes "  hopped") packet switch
 item_line net (item.FoundDown packet one two) =
     pair_text net (with_number (codes "  found") packet) one two
 item_line net (item.Rerouted packet route) =
-    with_number (codes "  rerouted") packet ++ codes " via" ++ names_text net route
+    with_number (codes "  rerouted") packet ++ via_text net route
 item_line net (item.Decided packet version rule action how) =
-    decided_text packet version rule action ++ codes " " ++ how_text net how
+    two_text (codes "  decided") packet (codes " v") version ++ ruled_text rule action
+    ++ codes " " ++ how_text net how
 item_line net (item.Left packet port leaving) =
-    with_number (codes "  out") packet ++ codes " port " ++ decimal port
+    two_text (codes "  out") packet (codes " port ") port
 item_line net (item.Dropped packet) = with_number (codes "  dropped") packet
 item_line net (item.Lost packet) = with_number (codes "  lost") packet
 item_line net (item.Stuck packet switch cause leg down) =
@@ -162,9 +159,10 @@ item_line net (item.Forgotten number) = with_number (codes "  forgotten") number
 item_line net (item.Expired switch place message) =
     named net (codes "  expired") switch ++ codes " " ++ decimal place ++ codes " message "
     ++ decimal message
-item_line net (item.Submitted file version) = submitted_text file version
+item_line net (item.Submitted file version) =
+    two_text (codes "  submitted file") file (codes " version ") version
 item_line net (item.Refused file code) =
-    with_number (codes "  refused file") file ++ codes " code " ++ decimal code
+    two_text (codes "  refused file") file (codes " code ") code
 item_line net (item.Current version) = with_number (codes "  current") version
 item_line net (item.Retired version) = with_number (codes "  retired") version
 item_line net (item.Booted switch boot) =

@@ -1,16 +1,15 @@
-ghost use Rattle.std.specs.Prelude.{◌≡◌, ◌++◌, ◌∷◌, [], IfOk, codes, decimal};
-ghost use Rattle.net_file.specs.Net.{IsNet, names_text};
+ghost use Rattle.std.specs.Prelude.{◌≡◌, ◌++◌, ◌∷◌, [], IfOk, codes};
+ghost use Rattle.net_file.specs.Net.{IsNet};
 ghost use Rattle.journal.specs.declared.item.Item.TheVariants as item;
-ghost use Rattle.journal_text.specs.Lines.{cause_text, decided_text, how_text, item_line, journal_text, with_number, packet_at, submitted_text, tunnel_text};
+ghost use Rattle.journal_text.specs.Lines.{cause_text, how_text, item_line, journal_text, with_number, packet_at, two_text, via_text};
 ghost use Rattle.journal_text.specs.Sizes.{IsBodyOfType, IsItemOfType, IsShortRoute};
-ghost use Rattle.line_fields.specs.Sizes.{IsAction, IsRule};
 ghost use Rattle.text_line.specs.Pushes.{pushed};
 
 use crate::laws::lines_fit;
-use crate::messages::{push_body, push_receiver};
-use crate::rows::{push_named, push_numbered, push_pair, push_step};
+use crate::messages::{push_body, push_receiver, push_ruled};
+use crate::rows::{push_named, push_named_number, push_numbered, push_pair, push_step};
 use journal::{Action, Cause, How, Item, Journal, SharedMessage, SharedRoute};
-use line_fields::{Line, push_action, push_name, push_names, push_rule};
+use line_fields::{Line, push_name, push_names};
 use net_file::Net;
 use std::alloc::{AllocError, Global};
 use steps::Step;
@@ -75,27 +74,16 @@ fn push_at(line: &mut Line, net: &Net, word: &str, packet: u32, s: u32)
     push_name(line, net, s);
 }
 
-fn push_tunnel(line: &mut Line, packet: u32, version: u32, partition: u32)
-    ensures { line.new ≡ pushed line.old (tunnel_text packet version partition) }
-{
-    line.push("  tunnelled ");
-    line.push_number(u64::from(packet));
-    line.push(" v");
-    line.push_number(u64::from(version));
-    line.push(" part ");
-    line.push_number(u64::from(partition));
-    line.push(" via");
-}
-
-// The names of a route's switches.
-fn push_switches(line: &mut Line, net: &Net, route: &SharedRoute)
-    ensures text { line.new ≡ pushed line.old (names_text net.now route.now) }
+// The switches of a route.
+#[tactic(auto, using(text_line::proofs::CallerLemmas::pushed_append), unfolding(crate::specs::Lines::via_text))]
+fn push_via(line: &mut Line, net: &Net, route: &SharedRoute)
+    ensures text { line.new ≡ pushed line.old (via_text net.now route.now) }
     ensures of_type { IsShortRoute route.now }
 {
+    line.push(" via");
     push_names(line, net, route.get().items());
 }
 
-#[tactic(auto, using(text_line::proofs::CallerLemmas::pushed_append))]
 fn push_seeking(
     line: &mut Line,
     net: &Net,
@@ -108,20 +96,20 @@ fn push_seeking(
         (item_line net.now (item.Seeking packet version partition route.now)) }
     ensures of_type { IsItemOfType (item.Seeking packet version partition route.now) }
 {
-    push_tunnel(line, packet, version, partition);
-    push_switches(line, net, route);
+    push_two(line, "  tunnelled", packet, " v", version);
+    push_numbered(line, " part", partition);
+    push_via(line, net, route);
 }
 
 // A packet's route behind a word.
 #[tactic(auto, using(text_line::proofs::CallerLemmas::pushed_append))]
 fn push_route(line: &mut Line, net: &Net, word: &str, packet: u32, route: &SharedRoute)
     ensures text { line.new ≡ pushed line.old
-        (with_number word.now packet ++ codes " via" ++ names_text net.now route.now) }
+        (with_number word.now packet ++ via_text net.now route.now) }
     ensures of_type { IsShortRoute route.now }
 {
     push_numbered(line, word, packet);
-    line.push(" via");
-    push_switches(line, net, route);
+    push_via(line, net, route);
 }
 
 #[tactic(auto, using(text_line::proofs::CallerLemmas::pushed_append))]
@@ -140,24 +128,9 @@ fn push_how(line: &mut Line, net: &Net, how: How)
     match how {
         How::Cached { message } => push_numbered(line, "cache", message),
         How::Authority { switch, partition } => {
-            push_named(line, net, "authority", switch);
-            line.push(" part ");
-            line.push_number(u64::from(partition));
+            push_named_number(line, net, "authority", switch, " part ", partition)
         }
     }
-}
-
-fn push_hit(line: &mut Line, packet: u32, version: u32, rule: Option<u32>, action: Action)
-    ensures text { line.new ≡ pushed line.old (decided_text packet version rule action) }
-    ensures of_type { IsRule rule × IsAction action }
-{
-    push_numbered(line, "  decided", packet);
-    line.push(" v");
-    line.push_number(u64::from(version));
-    line.push(" rule ");
-    push_rule(line, rule);
-    line.push(" ");
-    push_action(line, action);
 }
 
 #[tactic(auto, using(text_line::proofs::CallerLemmas::pushed_append))]
@@ -171,18 +144,19 @@ fn push_decided(
     how: How,
 )
     ensures text { line.new ≡ pushed line.old
-        (decided_text packet version rule action ++ codes " " ++ how_text net.now how) }
+        (item_line net.now (item.Decided packet version rule action how)) }
     ensures of_type { IsItemOfType (item.Decided packet version rule action how) }
 {
-    push_hit(line, packet, version, rule, action);
+    push_two(line, "  decided", packet, " v", version);
+    push_ruled(line, rule, action);
     line.push(" ");
     push_how(line, net, how);
 }
 
 // Two numbers, each behind a word.
-#[tactic(auto, using(text_line::proofs::CallerLemmas::pushed_append))]
+#[tactic(auto, using(text_line::proofs::CallerLemmas::pushed_append), unfolding(crate::specs::Lines::two_text))]
 fn push_two(line: &mut Line, word: &str, n: u32, next: &str, m: u32)
-    ensures { line.new ≡ pushed line.old (with_number word.now n ++ next.now ++ decimal m) }
+    ensures { line.new ≡ pushed line.old (two_text word.now n next.now m) }
 {
     push_numbered(line, word, n);
     line.push(next);
@@ -221,43 +195,14 @@ fn push_sent(line: &mut Line, net: &Net, number: u32, message: &SharedMessage)
     push_body(line, net, &message.body);
 }
 
+#[tactic(auto, using(text_line::proofs::CallerLemmas::pushed_append))]
 fn push_expired(line: &mut Line, net: &Net, switch: u32, place: u32, message: u32)
     ensures { line.new
         ≡ pushed line.old (item_line net.now (item.Expired switch place message)) }
 {
-    push_named(line, net, "  expired", switch);
-    line.push(" ");
-    line.push_number(u64::from(place));
+    push_named_number(line, net, "  expired", switch, " ", place);
     line.push(" message ");
     line.push_number(u64::from(message));
-}
-
-fn push_submitted(line: &mut Line, file: u32, version: u32)
-    ensures { line.new ≡ pushed line.old (submitted_text file version) }
-{
-    line.push("  submitted file ");
-    line.push_number(u64::from(file));
-    line.push(" version ");
-    line.push_number(u64::from(version));
-}
-
-// A switch's name and a number, each behind a word.
-#[tactic(auto, using(text_line::proofs::CallerLemmas::pushed_append))]
-fn push_booted(line: &mut Line, net: &Net, switch: u32, boot: u32)
-    ensures { line.new ≡ pushed line.old (item_line net.now (item.Booted switch boot)) }
-{
-    push_named(line, net, "  booted", switch);
-    line.push(" ");
-    line.push_number(u64::from(boot));
-}
-
-#[tactic(auto, using(text_line::proofs::CallerLemmas::pushed_append))]
-fn push_opened(line: &mut Line, net: &Net, switch: u32, version: u32)
-    ensures { line.new ≡ pushed line.old (item_line net.now (item.Opened switch version)) }
-{
-    push_named(line, net, "  opened", switch);
-    line.push(" version ");
-    line.push_number(u64::from(version));
 }
 
 #[tactic(auto, using(text_line::proofs::CallerLemmas::pushed_append))]
@@ -318,12 +263,18 @@ fn push_item(line: &mut Line, net: &Net, item: &Item)
             place,
             message,
         } => push_expired(line, net, *switch, *place, *message),
-        Item::Submitted { file, version } => push_submitted(line, *file, *version),
+        Item::Submitted { file, version } => {
+            push_two(line, "  submitted file", *file, " version ", *version)
+        }
         Item::Refused { file, code } => push_two(line, "  refused file", *file, " code ", *code),
         Item::Current { version } => push_numbered(line, "  current", *version),
         Item::Retired { version } => push_numbered(line, "  retired", *version),
-        Item::Booted { switch, boot } => push_booted(line, net, *switch, *boot),
-        Item::Opened { switch, version } => push_opened(line, net, *switch, *version),
+        Item::Booted { switch, boot } => {
+            push_named_number(line, net, "  booted", *switch, " ", *boot)
+        }
+        Item::Opened { switch, version } => {
+            push_named_number(line, net, "  opened", *switch, " version ", *version)
+        }
         Item::Down { switch } => push_named(line, net, "  down", *switch),
         Item::OverNow { switch } => push_named(line, net, "  over", *switch),
         Item::LinkIs { one, two, up } => push_link(line, net, *one, *two, *up),

@@ -1,12 +1,12 @@
 ghost use Rattle.std.specs.Prelude.{◌≡◌};
 ghost use Rattle.ctrl_msg.specs.declared.message.Body.TheVariants.{CacheRule};
-ghost use Rattle.journal_text.specs.Lines.{advert_text, body_text, boot_text, cache_text, named, receiver_text, version_text};
+ghost use Rattle.journal_text.specs.Lines.{advert_text, body_text, boot_text, cache_text, named, receiver_text, ruled_text, version_text};
 ghost use Rattle.journal_text.specs.Sizes.{IsBodyOfType};
-ghost use Rattle.line_fields.specs.Sizes.{IsNumber};
+ghost use Rattle.line_fields.specs.Sizes.{IsAction, IsNumber, IsRule};
 ghost use Rattle.text_line.specs.Pushes.{pushed};
 
 use crate::names::push_mask;
-use crate::rows::push_named;
+use crate::rows::{push_named_number, push_numbered};
 use ctrl_msg::{Body, Receiver};
 use failover::Advert;
 use line_fields::{Line, push_action, push_name, push_rule, push_word};
@@ -47,9 +47,7 @@ fn push_version(line: &mut Line, word: &str, boot: u32, version: u32)
 fn push_booted(line: &mut Line, net: &Net, word: &str, switch: u32, boot: u32)
     ensures { line.new ≡ pushed line.old (boot_text (named net.now word.now switch) boot) }
 {
-    push_named(line, net, word, switch);
-    line.push(" boot ");
-    line.push_number(u64::from(boot));
+    push_named_number(line, net, word, switch, " boot ", boot);
 }
 
 #[tactic(auto, using(text_line::proofs::CallerLemmas::pushed_append))]
@@ -62,20 +60,29 @@ fn push_answer(line: &mut Line, net: &Net, word: &str, switch: u32, boot: u32, v
     line.push_number(u64::from(version));
 }
 
-fn push_cache(line: &mut Line, version: u32, word: &Word, rule: Option<u32>, action: Action)
-    ensures text { line.new ≡ pushed line.old (cache_text version word.now rule action) }
-    ensures of_type { IsBodyOfType (CacheRule version word.now rule action) }
+/// Adds a rule and its action.
+#[tactic(auto, using(text_line::proofs::CallerLemmas::pushed_append), unfolding(crate::specs::Lines::ruled_text))]
+pub(crate) fn push_ruled(line: &mut Line, rule: Option<u32>, action: Action)
+    ensures text { line.new ≡ pushed line.old (ruled_text rule action) }
+    ensures of_type { IsRule rule × IsAction action }
 {
-    line.push("cache version ");
-    line.push_number(u64::from(version));
-    line.push(" word ");
-    push_word(line, word);
     line.push(" rule ");
     push_rule(line, rule);
     line.push(" ");
     push_action(line, action);
 }
 
+fn push_cache(line: &mut Line, version: u32, word: &Word, rule: Option<u32>, action: Action)
+    ensures text { line.new ≡ pushed line.old (cache_text version word.now rule action) }
+    ensures of_type { IsBodyOfType (CacheRule version word.now rule action) }
+{
+    push_numbered(line, "cache version", version);
+    line.push(" word ");
+    push_word(line, word);
+    push_ruled(line, rule, action);
+}
+
+#[tactic(auto, using(text_line::proofs::CallerLemmas::pushed_append))]
 fn push_advert(line: &mut Line, net: &Net, advert: &Advert)
     ensures text { line.new ≡ pushed line.old (advert_text net.now advert.now) }
     ensures of_type { IsNumber advert.now.boot × IsNumber advert.now.seq }

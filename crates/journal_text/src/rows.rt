@@ -1,7 +1,7 @@
-ghost use Rattle.std.specs.Prelude.{◌≡◌};
+ghost use Rattle.std.specs.Prelude.{◌≡◌, ◌++◌, decimal};
 ghost use Rattle.journal_text.specs.Lines.{named, with_number, pair_text, step_text};
 ghost use Rattle.journal_text.specs.Sizes.{IsStepOfType};
-ghost use Rattle.steps.specs.declared.step.Step.TheVariants.{Packet, Expire};
+ghost use Rattle.steps.specs.declared.step.Step.TheVariants.{Packet};
 ghost use Rattle.text_line.specs.Pushes.{pushed};
 
 use five_tuple::Header;
@@ -29,6 +29,16 @@ pub(crate) fn push_named(line: &mut Line, net: &Net, word: &str, s: u32)
     push_name(line, net, s);
 }
 
+/// Adds a switch's name and a number, each behind a word.
+#[tactic(auto, using(text_line::proofs::CallerLemmas::pushed_append))]
+pub(crate) fn push_named_number(line: &mut Line, net: &Net, word: &str, s: u32, next: &str, n: u32)
+    ensures { line.new ≡ pushed line.old (named net.now word.now s ++ next.now ++ decimal n) }
+{
+    push_named(line, net, word, s);
+    line.push(next);
+    line.push_number(u64::from(n));
+}
+
 /// Adds the names of two switches behind a word.
 #[tactic(auto, using(text_line::proofs::CallerLemmas::pushed_append))]
 pub(crate) fn push_pair(line: &mut Line, net: &Net, word: &str, one: u32, two: u32)
@@ -50,15 +60,6 @@ fn push_packet(line: &mut Line, net: &Net, switch: u32, header: &Header)
     push_fields(line, &header.fields());
 }
 
-#[tactic(auto, using(text_line::proofs::CallerLemmas::pushed_append))]
-fn push_expire(line: &mut Line, net: &Net, switch: u32, place: u32)
-    ensures { line.new ≡ pushed line.old (step_text net.now (Expire switch place)) }
-{
-    push_named(line, net, "expire", switch);
-    line.push(" ");
-    line.push_number(u64::from(place));
-}
-
 /// Adds the fields of a step's row, separated by blanks.
 pub(crate) fn push_step(line: &mut Line, net: &Net, step: &Step)
     ensures text { line.new ≡ pushed line.old (step_text net.now step.now) }
@@ -70,7 +71,9 @@ pub(crate) fn push_step(line: &mut Line, net: &Net, step: &Step)
         Step::Lose { packet } => push_numbered(line, "lose", *packet),
         Step::Deliver { message } => push_numbered(line, "deliver", *message),
         Step::Forget { message } => push_numbered(line, "forget", *message),
-        Step::Expire { switch, place } => push_expire(line, net, *switch, *place),
+        Step::Expire { switch, place } => {
+            push_named_number(line, net, "expire", *switch, " ", *place)
+        }
         Step::Update { file } => push_numbered(line, "update", *file),
         Step::LinkDown { one, two } => {
             push_pair(line, net, "linkdown", (*one).min(*two), (*one).max(*two))

@@ -1,17 +1,12 @@
 use Rattle.std.proofs.Common.{append_assoc, refl}
 use Rattle.text_line.proofs.CallerLemmas.{pushed_append}
-use Rattle.journal_text.proofs.items.push_hit.Goals as goal
+use Rattle.journal_text.proofs.items.push_seeking.Goals as goal
 
 pub returns-clause-text : goal.returns-clause-text
 returns-clause-text c = simp (
-  c.push_action.ensures.text,
-  c.push-3.ensures,
-  c.push_rule.ensures.text,
-  c.push-2.ensures,
-  c.push_number.ensures,
-  c.push.ensures,
+  c.push_via.ensures.text,
   c.push_numbered.ensures,
-  c.from.ensures,
+  c.push_two.ensures,
   pushed_append,
   append_assoc,
 ) refl
