@@ -1,6 +1,6 @@
 -- What the calls of a switch ask of it holds, by the laws of versions, tables, boots and adverts.
 use Rattle.std.proofs.Common.{ℕ, zero, suc, ◌≡◌, ◌-◌, ◌^◌, ◌<◌, ◌==◌, Bool, true, false, ◌&&◌, ◌||◌, if◌then◌else◌, Option, Some, None, List, [], ◌∷◌, length, map, get_or, refl, ap, sym, subst, ◌∙◌, arith, All}
-use Rattle.std.specs.Prelude.{IsFalse, IsTrue, filter, find, slice_get}
+use Rattle.std.specs.Prelude.{IsTrue, filter, find, slice_get}
 use Rattle.std.specs.List.{AllByRecursion, list_any}
 use Rattle.std.specs.Option.{IfSome, IsSomeAnd}
 use Rattle.std.proofs.lemmas.Bool.{and_parts, eq-eqb, eqb-true, or_right}
@@ -30,11 +30,9 @@ use Rattle.update_machine.specs.Setting.{Setting}
 use Rattle.update_machine.specs.Settling.{to_switch}
 use Rattle.update_machine.specs.Versions.{stamp_of, plan_at}
 use Rattle.update_machine.specs.Links.{serves as serves_in, message_of}
-use Rattle.version_laws.specs.BootLaws.{ServingIsKnown}
-use Rattle.advert_laws.specs.Sends.{NumbersFit}
-use Rattle.version_laws.specs.Authorities.{EndsAt, IsSoughtAt}
+use Rattle.version_laws.specs.Authorities.{EndsAt}
 use Rattle.version_laws.specs.Serving.{ServingHold}
-use Rattle.switch_ties.specs.Asked.{AskedTies, CanReceive, CanRestart, HasNextSeq}
+use Rattle.switch_ties.specs.Asked.{AskedTies}
 use Rattle.switch_ties.specs.Knowing.{TablesAreKnown}
 use Rattle.switch_ties.specs.SwitchOf.{switch_of}
 use Rattle.switch_ties.proofs.Knowing.{held_shown, planned, planned_tables, tables_sound}
@@ -50,22 +48,6 @@ sound_body setting journal n s (Install boot tables) known sent =
     subst AreSoundTables (sym are.planned)
     (tables_sound setting journal tables.version s known are.first are.last)
 sound_body setting journal n s _ known sent = tt
-
--- ---- numbers
-
-next_seq : (setting : Setting) (journal : List Item) (s : ℕ) → NumbersFit setting journal
-    → s < length setting.net.switches → HasNextSeq (switch_of setting journal s)
-unfolding switch_of
-next_seq setting journal s fit there = record {
-  now = fit.seqs s there;
-  then = λ n body. subst (λ k. k < 2 ^ 32 - 1)
-      (sym (heard_keeps (switch_of setting journal s) n body).seq) (fit.seqs s there);
-}
-
-restarts : (setting : Setting) (journal : List Item) (s : ℕ) → NumbersFit setting journal
-    → IsFalse (is_up journal s) → CanRestart (switch_of setting journal s)
-unfolding switch_of
-restarts setting journal s fit down = record { down = down; boot = fit.boots s }
 
 -- ---- lookups
 
@@ -155,11 +137,11 @@ own_has P plan s version partition placed numbers there number target holds =
     (any_at (λ each. (each.0.number == partition) && has_target s each) plan partition placed
     there (rw own target))
 
-at_authority : (setting : Setting) (journal : List Item) (s : ℕ) (header : Header)
-    (version partition : ℕ) → TablesAreKnown setting journal
-    → IsSoughtAt setting journal s header version partition
-    → IsAtAuthority (switch_of setting journal s) header (Seek version partition)
-at_authority setting journal s header version partition known sought =
+at_leg : (setting : Setting) (journal : List Item) (s : ℕ) (header : Header) (leg : Leg)
+    → TablesAreKnown setting journal → EndsAt setting journal s header leg
+    → IsAtAuthority (switch_of setting journal s) header leg
+at_leg setting journal s header (Exit port) known ends = tt
+at_leg setting journal s header (Seek version partition) known sought =
     by_held (held_tables (switch_of setting journal s) version) refl
   where
     plan : List Placed
@@ -183,27 +165,20 @@ at_authority setting journal s header version partition known sought =
         (λ part. IsTrue (is_in header part)))
         (sym are.0) (own of.rows of.plan)
 
-receives : (setting : Setting) (journal : List Item) (s : ℕ) (header : Header) (leg : Leg)
-    → TablesAreKnown setting journal → ServingIsKnown journal → ServingHold setting journal
-    → s < length setting.net.switches → IsTrue (serves_in journal s)
-    → EndsAt setting journal s header leg → CanReceive (switch_of setting journal s) header leg
-receives setting journal s header leg known serving hold there opened ends = record {
-  serving = open_shown setting journal s ∙ rw (serving.up s opened, opened) refl;
-  stamped = looks_up setting journal s hold there;
-  authority = by_leg leg ends;
-}
-  where
-    by_leg : (leg : Leg) → EndsAt setting journal s header leg
-        → IsAtAuthority (switch_of setting journal s) header leg
-    by_leg (Seek version partition) ends =
-        at_authority setting journal s header version partition known ends
-    by_leg (Exit port) ends = tt
-
 pub asked_ties : AskedTies
+unfolding switch_of
 asked_ties = record {
   hear = sound_body;
-  near_changed = next_seq;
-  restart = restarts;
+  near_changed = λ setting journal s fit there. record {
+    now = fit.seqs s there;
+    then = λ n body. subst (λ k. k < 2 ^ 32 - 1)
+        (sym (heard_keeps (switch_of setting journal s) n body).seq) (fit.seqs s there);
+  };
+  restart = λ setting journal s fit down. record { down = down; boot = fit.boots s };
   enter = looks_up;
-  arrive = receives;
+  arrive = λ setting journal s header leg known serving hold there opened ends. record {
+    serving = open_shown setting journal s ∙ rw (serving.up s opened, opened) refl;
+    stamped = looks_up setting journal s hold there;
+    authority = at_leg setting journal s header leg known ends;
+  };
 }

@@ -1,6 +1,6 @@
 -- What a switch has and knows is what the journal says.
 use Rattle.std.proofs.Common.{ℕ, ◌≡◌, ◌-◌, ◌^◌, ◌<◌, ◌≤◌, ◌==◌, Bool, true, false, ◌&&◌, ◌||◌, not, if◌then◌else◌, Option, Some, None, List, [], ◌∷◌, ◌++◌, length, refl, ap, sym, subst, ◌∙◌, arith, All}
-use Rattle.std.specs.Prelude.{Err, IsOk, IsTrue, Ok, Result, filter, filter_map, find, fold, is_some, slice_get, unwrap_or}
+use Rattle.std.specs.Prelude.{Err, IsOk, Ok, Result, filter, filter_map, find, fold, is_some, slice_get, unwrap_or}
 use Rattle.std.specs.List.{AllByRecursion, list_any}
 use Rattle.std.proofs.lemmas.Bool.{eqb-true}
 use Rattle.std.proofs.lemmas.Bool.Decides.{nat_tests}
@@ -10,23 +10,19 @@ use Rattle.std.proofs.lemmas.List.Folds.{list_any-append}
 use Rattle.std.proofs.lemmas.Option.{get_or_from_slice_get, slice_get_within}
 use Rattle.ctrl_msg.specs.declared.message.Body.{Body}
 use Rattle.ctrl_msg.specs.declared.message.Body.TheVariants.{Install}
-use Rattle.five_tuple.specs.declared.header.Header.{Header}
 use Rattle.partition.specs.Plan.{IsPlan, plan_of}
 use Rattle.partition.proofs.CallerLemmas.{plan_holds}
 use Rattle.policy_rules.specs.Policy.{IsPolicy}
 use Rattle.policy_rules.specs.declared.policy.Row.{Row}
 use Rattle.policy_rules.specs.Placed.{NoPlan}
 use Rattle.journal.specs.declared.item.Item.{Item}
-use Rattle.switch_core.specs.State.{SwitchValue, held_tables, holds_version, no_tables, stamp_tables}
+use Rattle.switch_core.specs.State.{SwitchValue, held_tables, holds_version, no_tables}
 use Rattle.switch_table.specs.Tables.{AreSoundTables, Placed}
 use Rattle.switch_table.specs.declared.tables.Tables.{Tables}
 use Rattle.switch_table.proofs.TableLemmas.{find-there, tables_are_sound}
-use Rattle.failover.specs.Isolated.{is_isolated}
-use Rattle.failover.specs.Routes.{route_of}
 use Rattle.switch_table.specs.Lookup.{lookup_of}
 use Rattle.update_machine.specs.Adverts.{is_cut_off, route_from}
 use Rattle.update_machine.specs.Caches.{lookup_at}
-use Rattle.update_machine.specs.LinkMasks.{near}
 use Rattle.update_machine.specs.Boots.{boot_of, heard, is_up}
 use Rattle.update_machine.specs.Setting.{Setting, plan_of_file, policy_of_file}
 use Rattle.update_machine.specs.Versions.{collects, holds_version as holds_in, installs, stamp_of, tables_at, version_count, placed_in, file_of, plan_at}
@@ -297,46 +293,19 @@ held_are setting journal s v known =
 
 -- ---- what it knows
 
-looked_up : (setting : Setting) (journal : List Item) (s : ℕ) (header : Header)
-    → lookup_at setting journal s header
-    ≡ lookup_of (switch_of setting journal s).cache.entries
-    (tables_at setting journal (stamp_of journal s) s) header
-unfolding lookup_at switch_of
-looked_up setting journal s header = refl
-
-lookup_is : (setting : Setting) (journal : List Item) (s : ℕ) (header : Header)
-    → TablesAreKnown setting journal → IsTrue (holds_in journal s (stamp_of journal s))
-    → lookup_of (switch_of setting journal s).cache.entries
-    (stamp_tables (switch_of setting journal s)) header
-    ≡ lookup_at setting journal s header
-lookup_is setting journal s header known holds =
-    let switch : SwitchValue = switch_of setting journal s in
-    let stamp : switch.stamp ≡ stamp_of journal s = stamp_shown setting journal s in
-    let tables : stamp_tables switch ≡ tables_at setting journal (stamp_of journal s) s =
-    ap (λ v. unwrap_or (held_tables switch v) no_tables) stamp
-    ∙ ap (λ o. unwrap_or o no_tables) (held_are setting journal s (stamp_of journal s) known)
-    ∙ ap (λ b. unwrap_or (if b then Some (tables_at setting journal (stamp_of journal s) s)
-    else None) no_tables) holds in
-    ap (λ tables. lookup_of switch.cache.entries tables header) tables
-    ∙ sym (looked_up setting journal s header)
-
-route_is : (setting : Setting) (journal : List Item) (s : ℕ) (targets down : List ℕ)
-    → route_of (switch_of setting journal s).database s targets (near setting journal s) down
-    ≡ route_from setting journal s targets down
-unfolding switch_of route_from
-route_is setting journal s targets down = refl
-
-cut_off_is : (setting : Setting) (journal : List Item) (s target : ℕ) (down : List ℕ)
-    → is_isolated (switch_of setting journal s).database s target (near setting journal s) down
-    ≡ is_cut_off setting journal s down target
-unfolding switch_of is_cut_off
-cut_off_is setting journal s target down = refl
-
 pub know_ties : KnowTies
+unfolding switch_of lookup_at route_from is_cut_off
 know_ties = record {
   held = held_shown;
   tables = held_are;
-  lookup = lookup_is;
-  route = route_is;
-  cut_off = cut_off_is;
+  lookup = λ setting journal s header known holds.
+      let switch : SwitchValue = switch_of setting journal s in
+      let stamp : switch.stamp ≡ stamp_of journal s = stamp_shown setting journal s in
+      ap (λ tables. lookup_of switch.cache.entries tables header)
+      (ap (λ v. unwrap_or (held_tables switch v) no_tables) stamp
+      ∙ ap (λ o. unwrap_or o no_tables) (held_are setting journal s (stamp_of journal s) known)
+      ∙ ap (λ b. unwrap_or (if b then Some (tables_at setting journal (stamp_of journal s) s)
+      else None) no_tables) holds);
+  route = λ setting journal s targets down. refl;
+  cut_off = λ setting journal s target down. refl;
 }

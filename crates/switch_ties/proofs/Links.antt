@@ -1,11 +1,9 @@
 -- What a change of its links makes of a switch.
 use Rattle.std.proofs.Common.{ℕ, zero, suc, ◌≡◌, ◌+◌, ◌==◌, ◌⊎◌, Bool, true, false, ◌&&◌, not, cond, if◌then◌else◌, Option, Some, None, List, [], ◌∷◌, ◌++◌, set, refl, ap, sym, ◌∙◌, arith, inl, inr}
-use Rattle.std.specs.Prelude.{IsTrue, count_by, map}
-use Rattle.std.specs.List.{flat_map}
+use Rattle.std.specs.Prelude.{IsTrue, count_by}
 use Rattle.std.proofs.lemmas.Bool.{eq-eqb, eqb-true, ne_eqb}
 use Rattle.std.proofs.lemmas.List.Sums.{sum_by-cons}
 use Rattle.ctrl_msg.specs.declared.message.Message.{Message}
-use Rattle.masks.specs.Masks.{has}
 use Rattle.failover.specs.declared.advert.Advert.{Advert}
 use Rattle.journal.specs.declared.item.Item.{Item}
 use Rattle.journal.specs.declared.item.Item.TheVariants as item
@@ -15,7 +13,7 @@ use Rattle.switch_table.specs.declared.tables.Tables.{Tables}
 use Rattle.update_machine.specs.Adverts.{has_change, held_adverts, own_advert, own_if_sent, own_seq}
 use Rattle.update_machine.specs.Boots.{boot_of, is_up}
 use Rattle.update_machine.specs.Concerns.{NoneConcern, concerns_calls, concerns_known}
-use Rattle.update_machine.specs.Deliveries.{advert_to, has_changed, messages_of, switches_in}
+use Rattle.update_machine.specs.Deliveries.{has_changed}
 use Rattle.update_machine.specs.Handled.{handled_count}
 use Rattle.update_machine.specs.LinkMasks.{near}
 use Rattle.update_machine.specs.Messages.{next_message, sends, sent_from}
@@ -25,7 +23,7 @@ use Rattle.update_machine.proofs.CallerLemmas.{calls_stay, switch_keeps}
 use Rattle.advert_laws.proofs.OwnAdverts.{seq_is}
 use Rattle.advert_laws.proofs.Numbers.{down_none}
 use Rattle.switch_ties.specs.Calls.{NoRows}
-use Rattle.switch_ties.specs.Links.{LeavesSwitch, LinkTies, all_held, relinked, tells}
+use Rattle.switch_ties.specs.Links.{LeavesSwitch, LinkTies, relinked}
 use Rattle.switch_ties.specs.SwitchOf.{switch_of}
 use Rattle.switch_ties.proofs.Items.{facts_kept}
 use Rattle.switch_ties.proofs.Steps.{steps_more}
@@ -195,21 +193,6 @@ advert_is setting s before row step items leaves changes =
     ∙ ap (λ b. own_seq setting before s + one_if b) changes in
     rw (seq, boot) refl
 
-held_is : (setting : Setting) (journal : List Item) (s : ℕ) → held_adverts setting journal s
-    ≡ all_held (switch_of setting journal s)
-unfolding held_adverts switch_of
-held_is setting journal s = refl
-
-told_is : (setting : Setting) (before now : List Item) (s : ℕ)
-    → messages_of setting before now s
-    ≡ tells setting (near setting before s) (near setting now s) (own_advert setting now s)
-    (switch_of setting now s)
-told_is setting before now s =
-    ap (λ adverts. flat_map (λ neighbour. elim (has (near setting before s) neighbour) [
-      | true ↦ advert_to neighbour (own_advert setting now s) ∷ []
-      | false ↦ map (advert_to neighbour) adverts
-    ]) (switches_in setting (near setting now s))) (held_is setting now s)
-
 -- ---- items that do nothing to it
 
 pub kept_is : (setting : Setting) (s : ℕ) (before items : List Item)
@@ -234,19 +217,16 @@ sent_apart concerns none (message ∷ messages) before n = (
   sent_apart concerns none messages (before ++ item.Sent n message ∷ []) (n + 1),
 )
 
-sent_is : (setting : Setting) (before : List Item) (messages : List Message) (s : ℕ)
-    → switch_of setting (before ++ sends before messages) s ≡ switch_of setting before s
-sent_is setting before messages s =
-    kept_is setting s before (sends before messages)
-    (sent_apart (concerns_known s) (λ js n message. refl) messages before (next_message before))
-    (sent_apart (concerns_calls s) (λ js n message. refl) messages before (next_message before))
-
 pub link_ties : LinkTies
+unfolding held_adverts switch_of
 link_ties = record {
   kept = kept_is;
   relinked = relink_is;
   advert = advert_is;
-  held = held_is;
-  told = told_is;
-  sent = sent_is;
+  held = λ setting journal s. refl;
+  told = λ setting before now s. refl;
+  sent = λ setting before messages s.
+      kept_is setting s before (sends before messages)
+      (sent_apart (concerns_known s) (λ js n message. refl) messages before (next_message before))
+      (sent_apart (concerns_calls s) (λ js n message. refl) messages before (next_message before));
 }

@@ -26,7 +26,7 @@ use Rattle.switch_ties.specs.Asked.{CanRestart}
 use Rattle.switch_ties.specs.Calls.{AreInStep}
 use Rattle.switch_ties.specs.Life.{message_at}
 use Rattle.switch_ties.specs.Links.{LeavesSwitch}
-use Rattle.switch_ties.specs.SwitchOf.{collected_of, tables_kept, switch_of}
+use Rattle.switch_ties.specs.SwitchOf.{tables_kept, switch_of}
 
 -- switch a is told this
 abbrev told : ℕ → Body → List Item
@@ -49,8 +49,8 @@ in_order = refl
 abbrev collected : List Item
 collected = installed ++ told 4 (Collect 1 2) ++ told 5 (Collect 1 1)
 
-mark_2 : collected_of collected 0 ≡ 2
-unfolding heard is_up boot_of message_of
+mark_2 : (switch_of open_net collected 0).collected ≡ 2
+unfolding switch_of heard is_up boot_of message_of
 mark_2 = refl
 
 third_is_left : map (λ tables. tables.version) (tables_kept open_net collected 0) ≡ 3 ∷ []

@@ -14,13 +14,10 @@ use Rattle.update_machine.specs.Setting.{Setting}
 use Rattle.update_machine.specs.Versions.{greatest, holds_version, stamp_of, tables_at}
 use Rattle.update_machine.specs.Links.{serves}
 
--- the greatest version up to which the switch was told to drop tables in its boot
+-- the version up to which a body tells the switch to drop tables: the greatest of its boot is kept
 abbrev pub collect_in : Body → Option ℕ
 collect_in (Collect boot version) = Some version
 collect_in _ = None
-
-abbrev pub collected_of : List Item → ℕ → ℕ
-collected_of journal s = greatest (filter_map collect_in (heard journal s))
 
 -- tables that a body brings
 abbrev pub tables_in : Body → Option Tables
@@ -51,7 +48,7 @@ switch_of setting journal s = record {
   is_up = is_up journal s;
   is_open = serves journal s;
   stamp = stamp_of journal s;
-  collected = collected_of journal s;
+  collected = greatest (filter_map collect_in (heard journal s));
   tables = tables_kept setting journal s;
   cache = cache_of setting journal s;
   database = adverts_known setting journal s;
