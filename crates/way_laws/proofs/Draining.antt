@@ -26,7 +26,7 @@ use Rattle.way_laws.proofs.Others.{IsNoRow}
 use Rattle.way_laws.proofs.Pieces.{piece_ways}
 use Rattle.way_laws.proofs.Rests.{no_rows}
 use Rattle.way_laws.proofs.Ready.{IsReady, hop_causes, piece_ready}
-use Rattle.way_laws.proofs.Tally.{count_more}
+use Rattle.way_laws.proofs.Counts.{count_more}
 use Rattle.way_laws.proofs.Waiting.{least}
 use Rattle.way_laws.proofs.Within.{hops_few, hops_more}
 

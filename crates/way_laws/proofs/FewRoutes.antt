@@ -1,10 +1,12 @@
 -- Each item leaves the routes of each packet few: one induction by items.
 use Rattle.std.proofs.Common.{ℕ, ◌≡◌, ◌+◌, ◌<◌, ◌≤◌, Bool, true, false, if◌then◌else◌, Option, Some, None, List, [], ◌∷◌, ◌++◌, length, refl, ap, sym, subst, ◌∙◌, arith, inl, inr}
+use Rattle.std.specs.Prelude.{⊤}
 use Rattle.std.specs.Option.{option_or}
 use Rattle.std.proofs.lemmas.Bool.{eqb-true}
 use Rattle.failover.specs.DownSet.{IsLinkSet}
 use Rattle.failover.specs.Links.{no_links}
 use Rattle.failover.proofs.LinkSets.{none_is_link_set}
+use Rattle.policy_rules.specs.declared.packet.Leg.{Leg}
 use Rattle.policy_rules.specs.declared.packet.Leg.TheVariants.{Seek}
 use Rattle.journal.specs.declared.item.Item.{Item}
 use Rattle.journal.specs.declared.item.Item.TheVariants as item
@@ -22,7 +24,7 @@ use Rattle.version_laws.proofs.Planned.{versions_planned}
 use Rattle.way_laws.specs.OnWay.{IsOnWay, IsSeeking}
 use Rattle.way_laws.specs.Facts.{PacketFacts, is_of_packet, facts_after, what_is_known}
 use Rattle.way_laws.proofs.PacketFacts.{facts_grow}
-use Rattle.way_laws.specs.Hops.{detours, exits, routes_taken, searches}
+use Rattle.way_laws.specs.Hops.{detours, exits, is_detour, is_exit, is_search, routes_taken, searches}
 use Rattle.way_laws.specs.Kept.{AllKept}
 use Rattle.way_laws.specs.Stages.{Blocked, Judged, Stage, stage_of, tells_stage}
 use Rattle.way_laws.specs.StrongCauses.{StrongCause}
@@ -33,33 +35,51 @@ use Rattle.way_laws.proofs.Kept.{Knows, seeking_after}
 use Rattle.way_laws.proofs.Rests.{IsWayItem, Past, switches_of_all}
 use Rattle.way_laws.proofs.Strong.{strongly_caused}
 use Rattle.way_laws.proofs.Served.{stage_next}
-use Rattle.way_laws.specs.Routes.{finding_count, most_routes}
+use Rattle.way_laws.specs.Routes.{finding_count, is_finding, most_routes}
 use Rattle.way_laws.proofs.Links.{FindsOne, few_unfound, finds_one, unfound}
-use Rattle.way_laws.proofs.Tally.{Tally, tallied, tally_more, tally_of}
+use Rattle.way_laws.proofs.Counts.{count_more, one_more}
 
--- what is kept of a packet's routes: it searched at most as often as the version that it seeks
--- says, and left by no port before it was decided; the links that it didn't find down leave room
--- for as many routes, and for one more where it just found one; each was found down once
-pub record IsFew (setting : Setting) (current : ℕ) (held : PacketFacts) (stage : Option Stage)
-    (tally : Tally) : Type 0 where
-  pub none : held.leg ≡ None → tally.searches ≡ 0
-  pub sought : (version partition : ℕ) → held.leg ≡ Some (Seek version partition)
-      → tally.searches ≤ version
-  pub searched : tally.searches ≤ current
-  pub undecided : held.decision ≡ None → tally.exits ≡ 0
-  pub judged : stage ≡ Some Judged → tally.exits ≡ 0
-  pub exited : tally.exits ≤ 1
-  pub set : IsLinkSet held.found
-  pub detoured : tally.detours + unfound setting.net.links held.found
-      ≤ length setting.net.links
-  pub blocked : stage ≡ Some Blocked
-      → tally.detours + unfound setting.net.links held.found < length setting.net.links
-  pub finds : tally.finds + unfound setting.net.links held.found ≤ length setting.net.links
+-- ---- what is kept of a packet's routes
+
+-- it searched at most as often as the version that it seeks says
+pub record SearchesAreFew (current : ℕ) (leg : Option Leg) (searches : ℕ) : Type 0 where
+  pub none : leg ≡ None → searches ≡ 0
+  pub sought : (version partition : ℕ) → leg ≡ Some (Seek version partition)
+      → searches ≤ version
+  pub searched : searches ≤ current
+
+-- it left by no port before it was decided
+pub record ExitsAreFew (decision : Option Decision) (exits : ℕ) : Type 0 where
+  pub undecided : decision ≡ None → exits ≡ 0
+  pub exited : exits ≤ 1
+
+-- the links that it didn't find down leave room for its detours; each was found down once
+pub record DetoursAreFew (setting : Setting) (found : List ℕ) (detours finds : ℕ)
+    : Type 0 where
+  pub set : IsLinkSet found
+  pub detoured : detours + unfound setting.net.links found ≤ length setting.net.links
+  pub once : finds + unfound setting.net.links found ≤ length setting.net.links
+
+-- where it was just decided it left by no port yet, and where it just found a link down there is
+-- room for one more detour
+abbrev pub HasRoom : Setting → List ℕ → ℕ → ℕ → Option Stage → Type 0
+HasRoom setting found exits detours (Some Judged) = exits ≡ 0
+HasRoom setting found exits detours (Some Blocked) =
+    detours + unfound setting.net.links found < length setting.net.links
+HasRoom setting found exits detours _ = ⊤
+
+abbrev pub IsFew : Setting → ℕ → PacketFacts → Option Stage → ℕ → ℕ → ℕ → ℕ → Type 0
+IsFew setting current held stage searches exits detours finds = record {
+  seeking : SearchesAreFew current held.leg searches;
+  leaving : ExitsAreFew held.decision exits;
+  turning : DetoursAreFew setting held.found detours finds;
+  room : HasRoom setting held.found exits detours stage;
+}
 
 abbrev pub IsFewOf : Setting → List Item → ℕ → Type 0
 IsFewOf setting journal i =
     IsFew setting (current_mark journal) (what_is_known journal i) (stage_of journal i)
-    (tally_of journal i)
+    (searches journal i) (exits journal i) (detours journal i) (finding_count journal i)
 
 -- ---- lookups
 
@@ -96,10 +116,10 @@ is_raised setting before i version partition route known few takes raises =
     by_lookup here first (inl came) =
         let none : (what_is_known before i).leg ≡ None =
         ((known.kept.packets i).came_in here.travelling came).1 in
-        omega (arith, few.none none, first)
+        omega (arith, few.seeking.none none, first)
     by_lookup here first (inr misses) = omega (
       arith,
-      few.sought misses.version misses.partition
+      few.seeking.sought misses.version misses.partition
           (leg_in before i (Some (Seek misses.version misses.partition)) misses.seeks),
       raises misses.version misses.partition misses.seeks,
     )
@@ -122,7 +142,7 @@ finds setting before i one two known few meets strong =
     let there : way.under_way.switch ≡ one =
     some_same held.stands way.under_way.switch here.under.switch way.under_way.stands
     here.under.stands ∙ sym here.at in
-    finds_one setting.net held.found one two known.is.net few.set strong.linked
+    finds_one setting.net held.found one two known.is.net few.turning.set strong.linked
     (knows_it.kept.avoids here.travelling meets.moving held.hops one two
     (way.stands ∙ ap Some there) (sym (next_in before i) ∙ meets.goes_on))
 
@@ -134,46 +154,46 @@ record Premises (setting : Setting) (before : List Item) (next : Item) : Type 0 
   way : WayCause setting before next
   strong : StrongCause setting before next
 
--- facts that leave the leg, the decision and the links found as they were, at this stage
-kept_few : (setting : Setting) (before : List Item) (i current : ℕ) (held : PacketFacts)
-    (stage : Option Stage) → current_mark before ≤ current → IsFewOf setting before i
-    → held.leg ≡ (what_is_known before i).leg → held.decision ≡ (what_is_known before i).decision
-    → held.found ≡ (what_is_known before i).found → (stage ≡ Some Judged → exits before i ≡ 0)
-    → (stage ≡ Some Blocked → detours before i + unfound setting.net.links (what_is_known before i).found
-    < length setting.net.links)
-    → IsFew setting current held stage (tally_of before i)
-kept_few setting before i current held stage more few leg decision found judged blocked = record {
-  none = λ is. few.none (sym leg ∙ is);
-  sought = λ version partition is. few.sought version partition (sym leg ∙ is);
+risen : {leg : Option Leg} {searches was current : ℕ} → was ≤ current
+    → SearchesAreFew was leg searches → SearchesAreFew current leg searches
+risen more few = record {
+  none = few.none;
+  sought = few.sought;
   searched = omega (arith, few.searched, more);
-  undecided = λ is. few.undecided (sym decision ∙ is);
-  judged = judged;
-  exited = few.exited;
-  set = subst IsLinkSet (sym found) few.set;
-  detoured = rw found few.detoured;
-  blocked = λ is. rw found (blocked is);
-  finds = rw found few.finds;
+}
+
+-- an item that leaves the leg, the decision, the links found and the counts as they were
+kept_few : (setting : Setting) (before : List Item) (i current : ℕ) (stage : Option Stage)
+    → current_mark before ≤ current → IsFewOf setting before i
+    → HasRoom setting (what_is_known before i).found (exits before i) (detours before i) stage
+    → IsFew setting current (what_is_known before i) stage (searches before i) (exits before i)
+    (detours before i) (finding_count before i)
+kept_few setting before i current stage more few room = record {
+  seeking = risen more few.seeking;
+  leaving = few.leaving;
+  turning = few.turning;
+  room = room;
 }
 
 -- and the stage too
-still_few : (setting : Setting) (before : List Item) (i current : ℕ) (held : PacketFacts)
+still_few : (setting : Setting) (before : List Item) (i current : ℕ)
     → current_mark before ≤ current → IsFewOf setting before i
-    → held.leg ≡ (what_is_known before i).leg → held.decision ≡ (what_is_known before i).decision
-    → held.found ≡ (what_is_known before i).found
-    → IsFew setting current held (stage_of before i) (tally_of before i)
-still_few setting before i current held more few leg decision found =
-    kept_few setting before i current held (stage_of before i) more few leg decision found
-    few.judged few.blocked
+    → IsFew setting current (what_is_known before i) (stage_of before i) (searches before i)
+    (exits before i) (detours before i) (finding_count before i)
+still_few setting before i current more few =
+    kept_few setting before i current (stage_of before i) more few few.room
 
 named_few : (setting : Setting) (before : List Item) (next : Item) (i current : ℕ)
     → Premises setting before next → current_mark before ≤ current → (b : Bool)
     → is_of_packet i next ≡ b → IsFewOf setting before i
     → IsFew setting current
     (if b then facts_after (retired_mark before) next (what_is_known before i) else what_is_known before i)
-    (option_or (tells_stage i next) (stage_of before i)) (tallied i next (tally_of before i))
+    (option_or (tells_stage i next) (stage_of before i))
+    (one_more (is_search i next) (searches before i)) (one_more (is_exit i next) (exits before i))
+    (one_more (is_detour i next) (detours before i))
+    (one_more (is_finding i next) (finding_count before i))
 named_few setting before (item.Entered packet s header) i current facts more true e few =
-    rw e (kept_few setting before i current _ _ more few refl refl refl (λ is. absurd cc)
-    (λ is. absurd cc))
+    rw e (kept_few setting before i current None more few tt)
 named_few setting before (item.Seeking packet v p route) i current facts more true e few =
     let same : packet ≡ i = eqb-true packet i e in
     let raised : IsRaised setting before packet v =
@@ -182,58 +202,48 @@ named_few setting before (item.Seeking packet v p route) i current facts more tr
     let above : searches before i + 1 ≤ v =
     subst (λ k. searches before k + 1 ≤ v) same raised.raised in
     rw e (record {
-      none = λ is. absurd cc;
-      sought = λ w q is. subst (λ n. searches before i + 1 ≤ n) (cc) above;
-      searched = omega (arith, above, raised.current, more);
-      undecided = few.undecided;
-      judged = λ is. absurd cc;
-      exited = few.exited;
-      set = few.set;
-      detoured = few.detoured;
-      blocked = λ is. absurd cc;
-      finds = few.finds;
+      seeking = record {
+        none = λ is. absurd cc;
+        sought = λ w q is. subst (λ n. searches before i + 1 ≤ n) (cc) above;
+        searched = omega (arith, above, raised.current, more);
+      };
+      leaving = few.leaving;
+      turning = few.turning;
+      room = tt;
     })
 named_few setting before (item.Exiting packet route) i current facts more true e few =
     let same : packet ≡ i = eqb-true packet i e in
     let judged : stage_of before i ≡ Some Judged =
     subst (λ k. stage_of before k ≡ Some Judged) same facts.way.by.takes.judged in
-    let first : exits before i ≡ 0 = few.judged judged in
+    let first : exits before i ≡ 0 = rw judged at few.room in
     let decision : Decision = facts.way.by.takes.decision in
     let decided : (what_is_known before i).decision ≡ Some decision =
     decision_in before i (Some decision)
     (subst (λ k. decision_of before k ≡ Some decision) same facts.way.by.takes.decided) in
     rw e (record {
-      none = λ is. absurd cc;
-      sought = λ v p is. absurd cc;
-      searched = omega (arith, few.searched, more);
-      undecided = λ is. absurd cc;
-      judged = λ is. absurd cc;
-      exited = omega (arith, first);
-      set = few.set;
-      detoured = few.detoured;
-      blocked = λ is. absurd cc;
-      finds = few.finds;
+      seeking = record {
+        none = λ is. absurd cc;
+        sought = λ v p is. absurd cc;
+        searched = omega (arith, few.seeking.searched, more);
+      };
+      leaving = record { undecided = λ is. absurd cc; exited = omega (arith, first) };
+      turning = few.turning;
+      room = tt;
     })
 named_few setting before (item.Rerouted packet route) i current facts more true e few =
-    let same : packet ≡ i = eqb-true packet i e in
     let blocked : stage_of before i ≡ Some Blocked =
-    subst (λ k. stage_of before k ≡ Some Blocked) same facts.way.blocked.blocked in
-    let room = few.blocked blocked in
+    subst (λ k. stage_of before k ≡ Some Blocked) (eqb-true packet i e)
+    facts.way.blocked.blocked in
+    let room : detours before i + unfound setting.net.links (what_is_known before i).found
+    < length setting.net.links = rw blocked at few.room in
     rw e (record {
-      none = few.none;
-      sought = few.sought;
-      searched = omega (arith, few.searched, more);
-      undecided = few.undecided;
-      judged = λ is. absurd cc;
-      exited = few.exited;
-      set = few.set;
-      detoured = omega (arith, room);
-      blocked = λ is. absurd cc;
-      finds = few.finds;
+      seeking = risen more few.seeking;
+      leaving = few.leaving;
+      turning = record { set = few.turning.set; detoured = omega (arith, room); once = few.turning.once };
+      room = tt;
     })
 named_few setting before (item.Hopped packet s) i current facts more true e few =
-    rw e (kept_few setting before i current _ _ more few refl refl refl (λ is. absurd cc)
-    (λ is. absurd cc))
+    rw e (kept_few setting before i current None more few tt)
 named_few setting before (item.FoundDown packet one two) i current facts more true e few =
     let same : packet ≡ i = eqb-true packet i e in
     let one_less : FindsOne setting.net (what_is_known before i).found one two =
@@ -241,67 +251,66 @@ named_few setting before (item.FoundDown packet one two) i current facts more tr
     (finds setting before packet one two facts.known
     (subst (IsFewOf setting before) (sym same) few) facts.way facts.strong) in
     rw e (record {
-      none = few.none;
-      sought = few.sought;
-      searched = omega (arith, few.searched, more);
-      undecided = few.undecided;
-      judged = λ is. absurd cc;
-      exited = few.exited;
-      set = one_less.set;
-      detoured = omega (arith, few.detoured, one_less.fewer);
-      blocked = λ is. omega (arith, few.detoured, one_less.fewer);
-      finds = omega (arith, few.finds, one_less.fewer);
+      seeking = risen more few.seeking;
+      leaving = few.leaving;
+      turning = record {
+        set = one_less.set;
+        detoured = omega (arith, few.turning.detoured, one_less.fewer);
+        once = omega (arith, few.turning.once, one_less.fewer);
+      };
+      room = omega (arith, few.turning.detoured, one_less.fewer);
     })
 named_few setting before (item.Decided packet v rule act by) i current facts more true e few =
-    let same : packet ≡ i = eqb-true packet i e in
     let undecided : (what_is_known before i).decision ≡ None =
     decision_in before i None
-    (subst (λ k. decision_of before k ≡ None) same facts.strong.undecided) in
+    (subst (λ k. decision_of before k ≡ None) (eqb-true packet i e) facts.strong.undecided) in
     rw e (record {
-      none = few.none;
-      sought = few.sought;
-      searched = omega (arith, few.searched, more);
-      undecided = λ is. absurd cc;
-      judged = λ is. few.undecided undecided;
-      exited = few.exited;
-      set = few.set;
-      detoured = few.detoured;
-      blocked = λ is. absurd cc;
-      finds = few.finds;
+      seeking = risen more few.seeking;
+      leaving = record { undecided = λ is. absurd cc; exited = few.leaving.exited };
+      turning = few.turning;
+      room = few.leaving.undecided undecided;
     })
 named_few setting before (item.Left packet port leaving) i current facts more true e few =
-    still_few setting before i current _ more few refl refl refl
+    still_few setting before i current more few
 named_few setting before (item.Dropped packet) i current facts more true e few =
-    still_few setting before i current _ more few refl refl refl
+    still_few setting before i current more few
 named_few setting before (item.Lost packet) i current facts more true e few =
-    still_few setting before i current _ more few refl refl refl
+    still_few setting before i current more few
 named_few setting before (item.Stuck packet s cause leg down) i current facts more true e few =
-    still_few setting before i current _ more few refl refl refl
+    still_few setting before i current more few
 named_few setting before (item.Entered packet s header) i current facts more false e few =
-    rw e (still_few setting before i current _ more few refl refl refl)
+    rw e (still_few setting before i current more few)
 named_few setting before (item.Seeking packet v p route) i current facts more false e few =
-    rw e (still_few setting before i current _ more few refl refl refl)
+    rw e (still_few setting before i current more few)
 named_few setting before (item.Exiting packet route) i current facts more false e few =
-    rw e (still_few setting before i current _ more few refl refl refl)
+    rw e (still_few setting before i current more few)
 named_few setting before (item.Rerouted packet route) i current facts more false e few =
-    rw e (still_few setting before i current _ more few refl refl refl)
+    rw e (still_few setting before i current more few)
 named_few setting before (item.Hopped packet s) i current facts more false e few =
-    rw e (still_few setting before i current _ more few refl refl refl)
+    rw e (still_few setting before i current more few)
 named_few setting before (item.FoundDown packet one two) i current facts more false e few =
-    rw e (still_few setting before i current _ more few refl refl refl)
+    rw e (still_few setting before i current more few)
 named_few setting before (item.Decided packet v rule act by) i current facts more false e few =
-    rw e (still_few setting before i current _ more few refl refl refl)
+    rw e (still_few setting before i current more few)
 named_few setting before next i current facts more true e few = absurd cc
 named_few setting before next i current facts more false e few =
-    still_few setting before i current _ more few refl refl refl
+    still_few setting before i current more few
 
 -- ---- all items
 
 few_more : (setting : Setting) (before : List Item) (next : Item) (i : ℕ)
     → Premises setting before next → HasItemCause setting before next
     → IsFewOf setting before i → IsFewOf setting (before ++ next ∷ []) i
+unfolding searches exits detours finding_count
 few_more setting before next i facts cause few =
-    rw (facts_grow i before next, stage_next before next i, tally_more i before next)
+    rw (
+      facts_grow i before next,
+      stage_next before next i,
+      count_more (is_search i) before next,
+      count_more (is_exit i) before next,
+      count_more (is_detour i) before next,
+      count_more (is_finding i) before next,
+    )
     (named_few setting before next i (current_mark (before ++ next ∷ [])) facts
     (current_rises setting before next cause) (is_of_packet i next) refl few)
 
@@ -324,16 +333,18 @@ premises_of setting before next is both = record {
 few_at_first : (setting : Setting) → RoutesAreFew setting []
 unfolding what_is_known stage_of leg_of decision_of found_down searches exits detours finding_count
 few_at_first setting i = record {
-  none = λ is. refl;
-  sought = λ version partition is. absurd cc;
-  searched = omega arith;
-  undecided = λ is. refl;
-  judged = λ is. absurd cc;
-  exited = omega arith;
-  set = none_is_link_set;
-  detoured = omega (arith, few_unfound setting.net no_links);
-  blocked = λ is. absurd cc;
-  finds = omega (arith, few_unfound setting.net no_links);
+  seeking = record {
+    none = λ is. refl;
+    sought = λ version partition is. absurd cc;
+    searched = omega arith;
+  };
+  leaving = record { undecided = λ is. refl; exited = omega arith };
+  turning = record {
+    set = none_is_link_set;
+    detoured = omega (arith, few_unfound setting.net no_links);
+    once = omega (arith, few_unfound setting.net no_links);
+  };
+  room = tt;
 }
 
 pub routes_few : (setting : Setting) (journal : List Item) → IsSetting setting
@@ -354,7 +365,7 @@ searched_few setting journal is have i =
     switches_of_all setting [] journal have in
     omega (
       arith,
-      (routes_few setting journal is have i).searched,
+      (routes_few setting journal is have i).seeking.searched,
       (bounded setting journal switches).there,
       (versions_planned setting journal switches).few,
     )
@@ -363,13 +374,13 @@ pub detoured_few : (setting : Setting) (journal : List Item) → IsSetting setti
     → HaveCauses (IsWayItem setting) [] journal → (i : ℕ)
     → detours journal i ≤ length setting.net.links
 detoured_few setting journal is have i =
-    omega (arith, (routes_few setting journal is have i).detoured)
+    omega (arith, (routes_few setting journal is have i).turning.detoured)
 
 pub finds_few : (setting : Setting) (journal : List Item) → IsSetting setting
     → HaveCauses (IsWayItem setting) [] journal → (i : ℕ)
     → finding_count journal i ≤ length setting.net.links
 finds_few setting journal is have i =
-    omega (arith, (routes_few setting journal is have i).finds)
+    omega (arith, (routes_few setting journal is have i).turning.once)
 
 pub taken_few : (setting : Setting) (journal : List Item) → IsSetting setting
     → HaveCauses (IsWayItem setting) [] journal → (i : ℕ)
@@ -377,7 +388,7 @@ pub taken_few : (setting : Setting) (journal : List Item) → IsSetting setting
 taken_few setting journal is have i = omega (
   arith,
   searched_few setting journal is have i,
-  (routes_few setting journal is have i).exited,
+  (routes_few setting journal is have i).leaving.exited,
   detoured_few setting journal is have i,
   is.net.few_links,
 )

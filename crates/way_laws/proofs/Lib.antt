@@ -31,7 +31,7 @@ mod RunRows
 mod StepRows
 pub mod Strong
 mod Links
-mod Tally
+mod Counts
 mod FewRoutes
 mod Waiting
 mod Flushing

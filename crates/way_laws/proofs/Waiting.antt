@@ -17,7 +17,7 @@ use Rattle.update_machine.specs.Pieces.{deliver_items, piece}
 use Rattle.update_machine.specs.Setting.{Setting}
 use Rattle.update_machine.proofs.CallerLemmas.{count_of_append, message_keeps, piece_next}
 use Rattle.version_laws.proofs.Facts.{AreKept, fact_on}
-use Rattle.way_laws.proofs.Tally.{count_more}
+use Rattle.way_laws.proofs.Counts.{count_more}
 
 -- ---- the least number
 

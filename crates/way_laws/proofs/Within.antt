@@ -18,7 +18,7 @@ use Rattle.version_laws.proofs.Facts.{Behind, Both, fact_on, have_both, have_wea
 use Rattle.way_laws.specs.OnWay.{IsOnLeg, IsOnWay}
 use Rattle.way_laws.specs.Facts.{PacketFacts, is_of_packet, facts_after, what_is_known}
 use Rattle.way_laws.proofs.PacketFacts.{facts_grow}
-use Rattle.way_laws.specs.Hops.{changes_taken, hops_taken, most_hops, most_switches, routes_taken}
+use Rattle.way_laws.specs.Hops.{changes_taken, detours, exits, hops_taken, is_detour, is_exit, is_search, most_hops, most_switches, routes_taken, searches}
 use Rattle.way_laws.specs.Kept.{AllKept, IsKept}
 use Rattle.way_laws.specs.Rest.{AreResting}
 use Rattle.way_laws.specs.Stages.{OnWay, Stage, stage_of, tells_stage}
@@ -30,7 +30,7 @@ use Rattle.way_laws.proofs.Rests.{IsWayItem, Past}
 use Rattle.way_laws.specs.Routes.{changes_on_route, hops_on_route}
 use Rattle.way_laws.proofs.FewRoutes.{taken_few}
 use Rattle.way_laws.proofs.Served.{stage_next}
-use Rattle.way_laws.proofs.Tally.{Tally, tallied, tally_more, tally_of}
+use Rattle.way_laws.proofs.Counts.{count_more, one_more}
 use Rattle.way_laws.proofs.Asked.{changes_asked, is_asked, asked_more}
 
 -- a step begins where all packets rest, and none was asked to hop
@@ -44,23 +44,20 @@ BeginsRested before _ = ⊤
 
 -- ---- what is kept
 
-abbrev routes_in : Tally → ℕ
-routes_in tally = tally.searches + tally.exits + tally.detours
-
 -- the packet took at most 64 hops for each route, and what is left of its route fits too, less the
 -- hop that it was asked; on its last route it took as many as its place there says, and at most 64
-record IsWithin (held : PacketFacts) (stage : Option Stage) (asked : Bool) (tally : Tally)
-    (taken on : ℕ) : Type 0 where
-  all : taken ≤ most_switches * routes_in tally
+record IsWithin (held : PacketFacts) (stage : Option Stage) (asked : Bool)
+    (routes taken on : ℕ) : Type 0 where
+  all : taken ≤ most_switches * routes
   each : on ≤ most_switches
   place : IsTrue held.travels → stage ≡ Some OnWay → on ≤ held.hops + (if asked then 1 else 0)
   left : IsTrue held.travels → stage ≡ Some OnWay → taken + (length held.route - held.hops)
-      ≤ most_switches * routes_in tally + (if asked then 1 else 0)
+      ≤ most_switches * routes + (if asked then 1 else 0)
 
 abbrev IsWithinOf : List Item → ℕ → Type 0
 IsWithinOf journal i =
-    IsWithin (what_is_known journal i) (stage_of journal i) (is_asked journal i) (tally_of journal i)
-    (hops_taken journal i) (hops_on_route journal i)
+    IsWithin (what_is_known journal i) (stage_of journal i) (is_asked journal i)
+    (routes_taken journal i) (hops_taken journal i) (hops_on_route journal i)
 
 one_at_most : (b : Bool) → (if b then 1 else 0) ≤ 1
 one_at_most true = omega arith
@@ -97,10 +94,10 @@ record Premises (setting : Setting) (before : List Item) (next : Item) : Type 0 
   begins : BeginsRested before next
 
 -- a packet that isn't on its way
-rests : {held : PacketFacts} {stage : Option Stage} {asked : Bool} {tally : Tally} {taken on : ℕ}
-    → taken ≤ most_switches * routes_in tally → on ≤ most_switches
+rests : {held : PacketFacts} {stage : Option Stage} {asked : Bool} {routes taken on : ℕ}
+    → taken ≤ most_switches * routes → on ≤ most_switches
     → (IsTrue held.travels → stage ≡ Some OnWay → ⊥)
-    → IsWithin held stage asked tally taken on
+    → IsWithin held stage asked routes taken on
 rests all each elsewhere = record {
   all = all;
   each = each;
@@ -109,10 +106,10 @@ rests all each elsewhere = record {
 }
 
 -- or that begins a route
-begins_route : {held : PacketFacts} {stage : Option Stage} {asked : Bool} {tally : Tally}
-    {taken : ℕ} → taken + most_switches ≤ most_switches * routes_in tally
+begins_route : {held : PacketFacts} {stage : Option Stage} {asked : Bool}
+    {routes taken : ℕ} → taken + most_switches ≤ most_switches * routes
     → (IsTrue held.travels → length held.route ≤ 64)
-    → IsWithin held stage asked tally taken 0
+    → IsWithin held stage asked routes taken 0
 begins_route room few = record {
   all = omega (arith, room);
   each = omega arith;
@@ -124,7 +121,7 @@ row_within : (setting : Setting) (before : List Item) (packet i : ℕ) → Befor
     → IsRested before → IsWithinOf before i → (b : Bool)
     → ((packet == i) && travels before i) ≡ b
     → IsWithin (what_is_known before i) (stage_of before i) (if b then true else is_asked before i)
-    (tally_of before i) (if b then hops_taken before i + 1 else hops_taken before i)
+    (routes_taken before i) (if b then hops_taken before i + 1 else hops_taken before i)
     (if b then hops_on_route before i + 1 else hops_on_route before i)
 row_within setting before packet i known rested within false e = within
 row_within setting before packet i known rested within true e =
@@ -151,7 +148,9 @@ within_by : (setting : Setting) (before : List Item) (next : Item) (i : ℕ)
     → IsWithin
     (if b then facts_after (retired_mark before) next (what_is_known before i) else what_is_known before i)
     (option_or (tells_stage i next) (stage_of before i))
-    (changes_asked i before (is_asked before i) next) (tallied i next (tally_of before i))
+    (changes_asked i before (is_asked before i) next)
+    (one_more (is_search i next) (searches before i) + one_more (is_exit i next) (exits before i)
+    + one_more (is_detour i next) (detours before i))
     (changes_taken i before (hops_taken before i) next)
     (changes_on_route i before (hops_on_route before i) next)
 within_by setting before (item.Row row (Hop packet)) i facts true e within = absurd cc
@@ -236,18 +235,21 @@ on_route_more before next i = folded_append (changes_on_route i) 0 before (next 
 
 within_more : (setting : Setting) (before : List Item) (next : Item) (i : ℕ)
     → Premises setting before next → IsWithinOf before i → IsWithinOf (before ++ next ∷ []) i
+unfolding searches exits detours
 within_more setting before next i facts within =
     rw (
       facts_grow i before next,
       stage_next before next i,
       asked_more before next i,
-      tally_more i before next,
+      count_more (is_search i) before next,
+      count_more (is_exit i) before next,
+      count_more (is_detour i) before next,
       hops_more before next i,
       on_route_more before next i,
     ) (within_by setting before next i facts (is_of_packet i next) refl within)
 
 within_at_first : (i : ℕ) → IsWithinOf [] i
-unfolding what_is_known stage_of is_asked hops_taken hops_on_route travels
+unfolding what_is_known stage_of is_asked hops_taken hops_on_route travels searches exits detours
 within_at_first i = record {
   all = omega arith;
   each = omega arith;
