@@ -1,28 +1,22 @@
 -- A switch that is asked to move a travelling packet on writes an item of it.
-use Rattle.std.proofs.Common.{ℕ, ◌≡◌, ◌==◌, Bool, true, false, Option, Some, None, List, [], ◌∷◌, refl, ap, sym, subst, ◌∙◌, arith, inl}
+use Rattle.std.proofs.Common.{ℕ, ◌≡◌, Bool, true, false, Option, Some, None, List, [], refl, ap, sym, subst, ◌∙◌, arith, inl}
 use Rattle.std.specs.Prelude.{IsTrue, is_some, option_and_then, position, unwrap_or}
-use Rattle.std.proofs.lemmas.Bool.{eq-eqb}
-use Rattle.masks.specs.Masks.{has}
 use Rattle.five_tuple.specs.Header.{number_of}
 use Rattle.policy_rules.specs.Rules.{is_held}
 use Rattle.policy_rules.specs.declared.packet.Leg.{Leg}
 use Rattle.policy_rules.specs.declared.packet.Leg.TheVariants.{Seek, Exit}
 use Rattle.switch_table.specs.Tables.{Placed}
-use Rattle.switch_table.specs.declared.search.Found.{Found}
 use Rattle.switch_table.specs.declared.search.Found.TheVariants as found
 use Rattle.journal.specs.declared.item.Item.{Item}
-use Rattle.journal.specs.declared.item.Item.TheVariants as item
 use Rattle.update_machine.specs.Links.{serves}
 use Rattle.update_machine.specs.Caches.{lookup_at}
 use Rattle.update_machine.specs.Causes.{HaveCauses}
-use Rattle.update_machine.specs.LinkMasks.{near}
-use Rattle.update_machine.specs.Moves.{AuthorityRule, arrive_by, arrive_items, authority_items, authority_rule, first_place, found_items, header_at, leg_items, lookup_items, move_items, put, reroute_items, route_for, stuck_on, takes_route}
+use Rattle.update_machine.specs.Moves.{AuthorityRule, arrive_by, arrive_items, authority_items, authority_rule, first_place, header_at, leg_items, lookup_items, move_items}
 use Rattle.update_machine.specs.Packets.{standing}
 use Rattle.update_machine.specs.Pieces.{hop_items}
 use Rattle.update_machine.specs.Setting.{Setting, IsSetting}
 use Rattle.update_machine.specs.Versions.{holds_version, policy_at, stamp_of, plan_at}
 use Rattle.update_machine.specs.Travels.{leg_of, travels}
-use Rattle.update_machine.specs.Ways.{next_switch}
 use Rattle.version_laws.specs.ItemCauses.{HasItemCause}
 use Rattle.way_laws.specs.OnWay.{IsOnWay, IsSeeking}
 use Rattle.way_laws.specs.Facts.{PacketFacts, what_is_known}
@@ -41,15 +35,7 @@ use Rattle.way_laws.proofs.Asked.{NamesFirst}
 leg_names : (setting : Setting) (journal : List Item) (i s : ℕ) (leg : Leg)
     → NamesFirst i (leg_items setting journal i s leg)
 unfolding leg_items
-leg_names setting journal i s leg = by_route leg (route_for setting journal i s leg)
-  where
-    by_route : (leg : Leg) (o : Option (List ℕ)) → NamesFirst i (elim o [
-      | None ↦ stuck_on setting journal i s leg ∷ []
-      | Some route ↦ takes_route i leg route ∷ []
-    ])
-    by_route leg None = own i
-    by_route (Seek version partition) (Some route) = own i
-    by_route (Exit port) (Some route) = own i
+leg_names setting journal i s leg = grind (arith, own)
 
 authority_names : (setting : Setting) (i s : ℕ) (o : Option AuthorityRule) (journal : List Item)
     → IsTrue (is_some o) → NamesFirst i (authority_items setting i s o journal)
@@ -66,18 +52,7 @@ RulesAreThere setting journal i s = (partition place : ℕ)
 lookup_names : (setting : Setting) (i s : ℕ) (journal : List Item)
     → RulesAreThere setting journal i s → NamesFirst i (lookup_items setting i s journal)
 unfolding lookup_items
-lookup_names setting i s journal there =
-    by_found (lookup_at setting journal s (header_at journal i)) refl
-  where
-    by_found : (what : Found) → lookup_at setting journal s (header_at journal i) ≡ what
-        → NamesFirst i (found_items setting i s what journal)
-    by_found (found.Cached entry) e = own i
-    by_found (found.Authority partition place) e =
-        authority_names setting i s
-        (authority_rule setting journal (stamp_of journal s) partition place) journal
-        (there partition place e)
-    by_found (found.Redirect partition targets) e =
-        leg_names setting journal i s (Seek (stamp_of journal s) partition)
+lookup_names setting i s journal there = grind (arith, own, authority_names, leg_names, there)
 
 -- ---- at a switch
 
@@ -167,24 +142,7 @@ arrive_names setting i s journal moved =
 move_names : (setting : Setting) (i s : ℕ) (journal : List Item) → IsMoved setting journal i s
     → NamesFirst i (move_items setting i s journal)
 unfolding move_items
-move_names setting i s journal moved = by_next (next_switch journal i)
-  where
-    by_link : (next : ℕ) (b : Bool) → NamesFirst i (elim b [
-      | true ↦ item.Hopped i next ∷ []
-      | false ↦ put (item.FoundDown i s next ∷ []) (reroute_items setting i s) journal
-    ])
-    by_link next true = own i
-    by_link next false = own i
-
-    by_next : (o : Option ℕ) → NamesFirst i (elim o [
-      | None ↦ arrive_items setting i s journal
-      | Some next ↦ elim (has (near setting journal s) next) [
-        | true ↦ item.Hopped i next ∷ []
-        | false ↦ put (item.FoundDown i s next ∷ []) (reroute_items setting i s) journal
-      ]
-    ])
-    by_next None = arrive_names setting i s journal moved
-    by_next (Some next) = by_link next (has (near setting journal s) next)
+move_names setting i s journal moved = grind (arith, own, arrive_names, moved)
 
 -- ---- a hop
 

@@ -1,5 +1,5 @@
 -- Packets at the end of their route, on journals of few items.
-use Rattle.std.proofs.Common.{◌≡◌, Some, None, List, [], ◌∷◌, refl}
+use Rattle.std.proofs.Common.{rules, ◌≡◌, Some, None, List, [], ◌∷◌}
 use Rattle.policy_rules.specs.declared.packet.Leg.TheVariants.{Seek}
 use Rattle.journal.specs.declared.item.Item.{Item}
 use Rattle.journal.specs.declared.item.Item.TheVariants as item
@@ -24,13 +24,7 @@ moved = item.Entered 1 0 one ∷ item.Seeking 1 1 0 (0 ∷ 1 ∷ []) ∷ item.Ho
 
 at_end : IsAtEnd moved 1 1 one (Seek 1 0)
 unfolding travels stage_of next_switch route_in route_place standing header_in leg_of
-at_end = record {
-  travelling = refl;
-  arrives = record { moving = refl; last = refl };
-  stands = refl;
-  with_header = refl;
-  takes = refl;
-}
+at_end = search rules
 
 -- in the midst of a hop: it found the link down, and switch 0 is another target
 abbrev rerouted : List Item
@@ -40,10 +34,4 @@ rerouted =
 
 at_another_target : IsAtEnd rerouted 1 0 one (Seek 1 0)
 unfolding travels stage_of next_switch route_in route_place standing header_in leg_of
-at_another_target = record {
-  travelling = refl;
-  arrives = record { moving = refl; last = refl };
-  stands = refl;
-  with_header = refl;
-  takes = refl;
-}
+at_another_target = search rules

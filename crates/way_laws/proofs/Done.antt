@@ -1,7 +1,6 @@
 -- A switch is done with a packet at the end of its blocks: the packet is on its way, or ended.
-use Rattle.std.proofs.Common.{ℕ, ◌≡◌, ◌==◌, Bool, true, false, Option, Some, None, List, [], ◌∷◌, ◌++◌, refl, sym, subst, ◌∙◌, append-nil, append_assoc}
+use Rattle.std.proofs.Common.{ℕ, ◌≡◌, ◌==◌, Bool, true, false, Option, Some, None, List, [], ◌∷◌, ◌++◌, refl, sym, subst, ◌∙◌, append-nil, append_assoc, arith}
 use Rattle.std.specs.Prelude.{IsTrue, unwrap_or}
-use Rattle.std.proofs.lemmas.Bool.{eq-eqb}
 use Rattle.masks.specs.Masks.{has}
 use Rattle.five_tuple.specs.declared.header.Header.{Header}
 use Rattle.policy_rules.specs.declared.packet.How.TheVariants as how
@@ -16,11 +15,11 @@ use Rattle.journal.specs.declared.item.Item.TheVariants as item
 use Rattle.update_machine.specs.Links.{serves}
 use Rattle.update_machine.specs.Caches.{lookup_at}
 use Rattle.update_machine.specs.LinkMasks.{near}
-use Rattle.update_machine.specs.Moves.{AuthorityRule, arrive_by, arrive_items, authority_items, authority_rule, cache_items, end_items, first_place, found_items, go_on, header_at, in_turn, leaves, leg_items, lookup_items, move_items, put, reroute_by, reroute_items, route_for, stuck_on, takes_route}
+use Rattle.update_machine.specs.Moves.{AuthorityRule, arrive_items, authority_items, authority_rule, cache_items, end_items, found_items, go_on, header_at, in_turn, leaves, leg_items, lookup_items, move_items, put, reroute_by, reroute_items, route_for, stuck_on, takes_route}
 use Rattle.update_machine.specs.Packets.{standing}
 use Rattle.update_machine.specs.Pieces.{hop_items, nothing, packet_items}
 use Rattle.update_machine.specs.Setting.{Setting}
-use Rattle.update_machine.specs.Versions.{holds_version, stamp_of}
+use Rattle.update_machine.specs.Versions.{stamp_of}
 use Rattle.update_machine.specs.Travels.{leg_of, tells_travelling, travels}
 use Rattle.update_machine.specs.Ways.{next_switch, owner}
 use Rattle.update_machine.proofs.CallerLemmas.{folded_append, last_told_append}
@@ -150,37 +149,12 @@ lookup_done setting i s journal none =
 arrive_done : (setting : Setting) (i s : ℕ) (journal : List Item) → IsMoving journal i
     → IsMoving (journal ++ arrive_items setting i s journal) i
 unfolding arrive_items
-arrive_done setting i s journal done = by_leg (leg_of journal i)
-  where
-    by_held : (version partition : ℕ) (b : Bool) → IsMoving (journal ++ elim b [
-      | false ↦ lookup_items setting i s journal
-      | true ↦ authority_items setting i s
-          (authority_rule setting journal version partition
-          (first_place setting journal version partition (header_at journal i))) journal
-    ]) i
-    by_held version partition false = lookup_done setting i s journal (λ part place answer none. done)
-    by_held version partition true =
-        authority_done setting i s
-        (authority_rule setting journal version partition
-        (first_place setting journal version partition (header_at journal i))) journal
-        (λ none. done)
-
-    by_leg : (o : Option Leg) → IsMoving (journal ++ arrive_by setting i s o journal) i
-    by_leg None = none_done journal i done
-    by_leg (Some (Exit port)) = ends_done journal (leaves journal i port) i (rw (own i) refl)
-    by_leg (Some (Seek version partition)) =
-        by_held version partition (holds_version journal s version)
+arrive_done setting i s journal done =
+    grind (arith, none_done, ends_done, own, lookup_done, authority_done, done)
 
 go_on_done : (setting : Setting) (i s : ℕ) (journal : List Item) → IsMoving journal i
     → IsMoving (journal ++ go_on setting i s journal) i
-go_on_done setting i s journal done = by_next (next_switch journal i)
-  where
-    by_next : (o : Option ℕ) → IsMoving (journal ++ elim o [
-      | None ↦ arrive_items setting i s journal
-      | Some next ↦ item.Hopped i next ∷ []
-    ]) i
-    by_next None = arrive_done setting i s journal done
-    by_next (Some next) = moves_done journal (item.Hopped i next) i (rw (own i) refl)
+go_on_done setting i s journal done = grind (arith, arrive_done, moves_done, own, done)
 
 reroute_done : (setting : Setting) (i s : ℕ) (leg : Leg) (journal : List Item)
     → leg_of journal i ≡ Some leg → IsMoving (journal ++ reroute_items setting i s journal) i

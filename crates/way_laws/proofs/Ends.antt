@@ -28,7 +28,7 @@ use Rattle.update_machine.specs.Packets.{Decision, decision_of, header_in, stand
 use Rattle.update_machine.specs.Setting.{Setting}
 use Rattle.update_machine.specs.Versions.{plan_at}
 use Rattle.update_machine.specs.Ways.{found_down, no_switch, owner, targets_of}
-use Rattle.update_machine.specs.ExactCauses.{FindsNextDown, SeeksOwn, FindsNoPath}
+use Rattle.update_machine.specs.ExactCauses.{SeeksOwn, FindsNoPath}
 use Rattle.update_machine.proofs.CallerLemmas.{plan_is, unreached}
 use Rattle.version_laws.specs.ItemCauses.{HasItemCause}
 use Rattle.version_laws.proofs.Openings.{IsKnown}
@@ -54,7 +54,7 @@ stands_at : (setting : Setting) (before : List Item) (i s : ℕ) → IsHere sett
 stands_at setting before i s here =
     stands_in before i here.under.switch here.under.stands ∙ ap Some (sym here.at)
 
-stands_known : (setting : Setting) (before : List Item) (i s : ℕ)
+pub stands_known : (setting : Setting) (before : List Item) (i s : ℕ)
     → Knows setting before i (stage_of before i) → IsAt before i s → standing before i ≡ Some s
 stands_known setting before i s knows at =
     stands_at setting before i s (here_known setting before i s knows at)
@@ -65,16 +65,6 @@ entered_as setting before i s here =
     header_in_facts before i here.under.header here.under.entered
 
 -- ---- links found down
-
-pub finds_next_down : (setting : Setting) (before : List Item) (i one two : ℕ)
-    → Knows setting before i (stage_of before i) → MeetsDown setting before i one two
-    → FindsNextDown setting before i one two
-finds_next_down setting before i one two knows meets =
-    record {
-      stands = stands_known setting before i one knows meets.at;
-      next = meets.goes_on;
-      unusable = meets.unusable;
-    }
 
 follows : (setting : Setting) (journal : List Item) (facts : PacketFacts) (way : IsOnWay setting journal facts)
     → FollowsLinks setting facts.route

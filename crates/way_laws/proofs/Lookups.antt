@@ -120,9 +120,7 @@ pub authority_found : (setting : Setting) (journal : List Item) (s : ℕ) (heade
     → lookup_at setting journal s header ≡ found.Authority partition place
     → FindsRule setting journal s header partition place
 authority_found setting journal s header partition at stamped sound answer =
-    let says =
-    says_of setting journal s header (found.Authority partition at) stamped sound answer
-    (λ entry e. absurd cc) in
+    let says = says_of setting journal s header _ stamped sound answer (λ entry e. absurd cc) in
     by_target says.looks (has_target s says.looks.placed) refl says.is
   where
     by_target : (looks : LooksUpAt setting journal s header) (b : Bool)
@@ -149,9 +147,7 @@ pub redirect_found : (setting : Setting) (journal : List Item) (s : ℕ) (header
     → lookup_at setting journal s header ≡ found.Redirect partition targets
     → FindsTargets setting journal s header partition targets
 redirect_found setting journal s header partition targets stamped sound answer =
-    let says =
-    says_of setting journal s header (found.Redirect partition targets) stamped sound answer
-    (λ entry e. absurd cc) in
+    let says = says_of setting journal s header _ stamped sound answer (λ entry e. absurd cc) in
     by_target says.looks (has_target s says.looks.placed) says.is
   where
     by_target : (looks : LooksUpAt setting journal s header) (b : Bool)

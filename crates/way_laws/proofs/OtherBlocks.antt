@@ -1,5 +1,5 @@
 -- Steps that aren't of packets bring no packet on and tell no cache rule.
-use Rattle.std.proofs.Common.{ℕ, ◌≡◌, ◌⊎◌, Bool, true, false, Option, Some, List, [], ◌∷◌, ◌++◌, map, min, max, inl, inr, sym, ◌∙◌, arith}
+use Rattle.std.proofs.Common.{ℕ, ◌≡◌, ◌⊎◌, Bool, true, false, Option, Some, List, [], ◌∷◌, ◌++◌, map, min, max, inl, inr, arith}
 use Rattle.std.specs.Prelude.{⊤, filter}
 use Rattle.std.specs.List.{AllByRecursion}
 use Rattle.ctrl_msg.specs.declared.message.Body.{Body}
@@ -18,7 +18,7 @@ use Rattle.update_machine.specs.Messages.{sends}
 use Rattle.update_machine.specs.Pieces.{deliver_items, expire_items, forget_items, link_items, resend_items, restart_items, update_items}
 use Rattle.update_machine.specs.Setting.{Setting, switches_of}
 use Rattle.update_machine.specs.Settling.{install_for, unacked, versions_from_current}
-use Rattle.update_machine.proofs.CallerLemmas.{have_first, step_stays}
+use Rattle.update_machine.proofs.CallerLemmas.{have_first}
 use Rattle.version_laws.proofs.Commands.{Control, IsCommand, IsControl, controller_control, update_has}
 use Rattle.version_laws.proofs.Delivered.{deliver_has, delivery_has}
 use Rattle.version_laws.proofs.Facts.{have_weaker}

@@ -1,5 +1,5 @@
 -- The blocks of a packet's items have their causes, whatever journal they stand behind.
-use Rattle.std.proofs.Common.{ℕ, ◌≡◌, ◌==◌, Bool, true, false, Option, Some, None, List, [], ◌∷◌, ◌++◌, refl, ap, sym, subst, ◌∙◌, append-nil, inl, inr, ◌⊎◌}
+use Rattle.std.proofs.Common.{rules, ℕ, ◌≡◌, ◌==◌, Bool, true, false, Option, Some, None, List, [], ◌∷◌, ◌++◌, refl, ap, sym, subst, ◌∙◌, append-nil, inl, inr, ◌⊎◌}
 use Rattle.std.specs.Prelude.{IsTrue, option_map, slice_get, unwrap_or}
 use Rattle.std.proofs.lemmas.Bool.{eq-eqb}
 use Rattle.ctrl_msg.specs.declared.message.Message.{Message}
@@ -15,7 +15,6 @@ use Rattle.switch_table.specs.declared.search.Found.{Found}
 use Rattle.switch_table.specs.declared.search.Found.TheVariants as found
 use Rattle.policy_rules.specs.declared.rules.Rule.{Rule}
 use Rattle.switch_table.specs.Tables.{Placed, part_of}
-use Rattle.switch_table.specs.declared.cache.CacheEntry.{CacheEntry}
 use Rattle.journal.specs.declared.item.Item.{Item}
 use Rattle.journal.specs.declared.item.Item.TheVariants as item
 use Rattle.steps.specs.declared.step.Step.TheVariants.{Lose}
@@ -335,38 +334,19 @@ rule_version setting journal version partition place found is =
     by_part None e = absurd cc
     by_part (Some placed) e = by_rule placed (slice_get placed.0.rules place) e
 
-cached_ways : (setting : Setting) (journal : List Item) (i s : ℕ) (entry : CacheEntry)
-    → IsAt journal i s → IsLookedUp journal i s
-    → lookup_at setting journal s (header_at journal i) ≡ found.Cached entry
-    → Ways setting journal (found_items setting i s (found.Cached entry) journal)
-cached_ways setting journal i s entry at looked answer =
-    have_first (WayCause setting)
-    (item.Decided i entry.version entry.rule entry.action (how.Cached entry.message))
-    (end_items setting i s entry.action) journal
-    (record {
-      switch = s;
-      at = at;
-      by = record {
-        looked_up = looked;
-        entry = entry;
-        answer = answer;
-        of_version = refl;
-        by_rule = refl;
-        says = refl;
-        brought = refl;
-      };
-    })
-    (end_ways setting _ i s
-    (record { version = entry.version; rule = entry.rule; action = entry.action }) entry.action
-    (judged_now journal i s entry.version entry.rule entry.action (how.Cached entry.message) at)
-    refl)
-
 found_ways : (setting : Setting) (journal : List Item) (i s : ℕ) (what : Found)
     → IsAt journal i s → IsLookedUp journal i s
     → lookup_at setting journal s (header_at journal i) ≡ what
     → Ways setting journal (found_items setting i s what journal)
 found_ways setting journal i s (found.Cached entry) at looked answer =
-    cached_ways setting journal i s entry at looked answer
+    have_first (WayCause setting)
+    (item.Decided i entry.version entry.rule entry.action (how.Cached entry.message))
+    (end_items setting i s entry.action) journal
+    (record { switch = s; at = at; by = search (rules, looked, answer) })
+    (end_ways setting _ i s
+    (record { version = entry.version; rule = entry.rule; action = entry.action }) entry.action
+    (judged_now journal i s entry.version entry.rule entry.action (how.Cached entry.message) at)
+    refl)
 found_ways setting journal i s (found.Authority partition place) at looked answer =
     authority_ways setting journal i s (stamp_of journal s)
     (authority_rule setting journal (stamp_of journal s) partition place) at (inl looked)

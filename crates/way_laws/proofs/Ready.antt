@@ -124,10 +124,10 @@ steps_ready setting before steps is own ready =
     carried_on setting (OfSettings IsReady setting) (ready_carried setting) before steps own
     (λ is. ready) is
 
-pub reached_ready : (setting : Setting) (journal : List Item) → IsSetting setting
-    → IsReached setting journal → IsReady setting journal
-reached_ready setting journal is reached =
-    reached_carries setting (OfSettings IsReady setting) (ready_carried setting) journal reached is
+pub reached_ready : (setting : Setting) (journal : List Item) → IsReached setting journal
+    → IsSetting setting → IsReady setting journal
+reached_ready setting =
+    reached_carries setting (OfSettings IsReady setting) (ready_carried setting)
 
 -- what holds where all items have their causes holds of each journal that is reached, within a
 -- step too

@@ -95,12 +95,12 @@ numbered setting journal have =
     fact_on (WayCause setting) AreNumbered (numbered_kept setting) [] journal have
     (λ i travelling. absurd cc)
 
-pub have_legs : (setting : Setting) (journal : List Item) → HaveCauses (WayCause setting) [] journal
+have_legs : (setting : Setting) (journal : List Item) → HaveCauses (IsWayItem setting) [] journal
     → HaveLegs journal
 unfolding stage_of
 have_legs setting journal have =
-    fact_on (WayCause setting) HaveLegs (legs_kept setting) [] journal have
-    (λ i moving. absurd cc)
+    fact_on (WayCause setting) HaveLegs (legs_kept setting) [] journal
+    (ways_of_all setting [] journal have) (λ i moving. absurd cc)
 
 -- ---- items behind which packets are served
 
@@ -387,7 +387,7 @@ step_moving setting before row step is own settled j = by_kind step own
         subst (λ k. IsMoving (here ++ step_items setting before (Hop k) here) j) (sym same)
         (hop_done setting j here
         (λ travelling.
-        let leg = have_legs setting before (ways_of_all setting [] before settled.causes) j
+        let leg = have_legs setting before settled.causes j
         (settled.rests.moving j (sym keeps.travels ∙ travelling)) in
         (leg.0, keeps.leg ∙ leg.1)) (resting (Hop i)))
     by_hop i (inr apart) = other (Hop i) (λ k e. ne_eqb k j (λ same. apart (cc)))

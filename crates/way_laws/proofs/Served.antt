@@ -1,6 +1,6 @@
 -- Travelling packets stand at switches that serve, behind each item but those of a crash; and what
 -- else each item keeps of packets' numbers and legs.
-use Rattle.std.proofs.Common.{ℕ, ◌≡◌, ◌+◌, ◌<◌, ◌≤◌, ◌==◌, Bool, true, false, Some, None, List, [], ◌∷◌, ◌++◌, refl, ap, sym, subst, ◌∙◌, arith, inl, inr, ◌⊎◌}
+use Rattle.std.proofs.Common.{ℕ, ◌≡◌, ◌+◌, ◌<◌, ◌≤◌, ◌==◌, if◌then◌else◌, Bool, true, false, Some, None, List, [], ◌∷◌, ◌++◌, refl, ap, sym, subst, ◌∙◌, arith, inl, inr, ◌⊎◌}
 use Rattle.std.specs.Prelude.{⊤, IsTrue, IsFalse, unwrap_or}
 use Rattle.std.specs.Option.{option_or}
 use Rattle.std.proofs.lemmas.Bool.{eqb-true}
@@ -23,7 +23,7 @@ use Rattle.version_laws.proofs.Facts.{AreKept}
 use Rattle.version_laws.proofs.Grown.{last_more, serving_more}
 use Rattle.advert_laws.proofs.NetLinks.{ends_serve}
 use Rattle.way_laws.specs.Rest.{AreServed, IsServed}
-use Rattle.way_laws.specs.Stages.{OnWay, stage_of, tells_stage}
+use Rattle.way_laws.specs.Stages.{Blocked, CameIn, Judged, OnWay, Stage, stage_of, tells_stage}
 use Rattle.way_laws.specs.WayCauses.{WayCause}
 use Rattle.way_laws.proofs.Others.{ends_or_not}
 
@@ -278,6 +278,18 @@ leg_behind before next packet i has own other moving = by_same (packet == i) ref
         ∙ sym (stage_next before next i) ∙ moving) in
         (there.0, leg_more before next i ∙ silent.1 ∙ there.1)
 
+-- an item that takes its packet off its way, to another stage
+off_way : (before : List Item) (next : Item) (packet i : ℕ) (stage : Stage)
+    → (Some stage ≡ Some OnWay → ⊥)
+    → tells_stage i next ≡ (if packet == i then Some stage else None)
+    → changes_leg i before (leg_of before i) next ≡ leg_of before i → HaveLegs before
+    → stage_of (before ++ next ∷ []) i ≡ Some OnWay
+    → (leg : Leg) × (leg_of (before ++ next ∷ []) i ≡ Some leg)
+off_way before next packet i stage other tells same has moving =
+    leg_behind before next packet i has
+    (λ e. absurd (other (rw (stage_next before next i, tells, e) at moving)))
+    (λ e. (rw (tells, e) refl, same)) moving
+
 pub legs_kept : (setting : Setting) → AreKept (WayCause setting) HaveLegs
 legs_kept setting before (item.Seeking packet version partition route) way has i moving =
     let next : Item = item.Seeking packet version partition route in
@@ -309,23 +321,11 @@ legs_kept setting before (item.Hopped packet s) way has i moving =
     ))
     (λ e. (rw e refl, refl)) moving
 legs_kept setting before (item.Entered packet s header) way has i moving =
-    let next : Item = item.Entered packet s header in
-    leg_behind before next packet i has
-    (λ e.
-    let other : Some _ ≡ Some OnWay = rw (stage_next before next i, e) at moving in absurd cc)
-    (λ e. (rw e refl, refl)) moving
+    off_way before (item.Entered packet s header) packet i CameIn (λ e. cc) refl refl has moving
 legs_kept setting before (item.Decided packet version rule act by) way has i moving =
-    let next : Item = item.Decided packet version rule act by in
-    leg_behind before next packet i has
-    (λ e.
-    let other : Some _ ≡ Some OnWay = rw (stage_next before next i, e) at moving in absurd cc)
-    (λ e. (rw e refl, refl)) moving
+    off_way before (item.Decided packet version rule act by) packet i Judged (λ e. cc) refl refl has moving
 legs_kept setting before (item.FoundDown packet one two) way has i moving =
-    let next : Item = item.FoundDown packet one two in
-    leg_behind before next packet i has
-    (λ e.
-    let other : Some _ ≡ Some OnWay = rw (stage_next before next i, e) at moving in absurd cc)
-    (λ e. (rw e refl, refl)) moving
+    off_way before (item.FoundDown packet one two) packet i Blocked (λ e. cc) refl refl has moving
 legs_kept setting before next way has i moving =
     let there = has i (rw (stage_next before next i) at moving) in
     (there.0, rw (leg_more before next i) there.1)

@@ -1,5 +1,5 @@
 -- The strong causes follow from those that are read off the items, and from what is kept.
-use Rattle.std.proofs.Common.{ℕ, ◌≡◌, ◌<◌, Option, Some, None, List, [], length, refl, ap, sym, subst, ◌∙◌, arith, inl, inr, ◌⊎◌}
+use Rattle.std.proofs.Common.{ℕ, ◌≡◌, ◌<◌, Option, Some, None, List, [], length, sym, subst, ◌∙◌, arith, inl, inr, ◌⊎◌}
 use Rattle.std.specs.Prelude.{IsFalse, IsTrue}
 use Rattle.policy_rules.specs.declared.packet.Cause.{Cause}
 use Rattle.policy_rules.specs.declared.packet.How.{How}
@@ -24,7 +24,7 @@ use Rattle.way_laws.specs.Stages.{stage_of}
 use Rattle.way_laws.specs.StrongCauses.{AvoidsFound, FindsLinkDown, IsDecidedRightly, IsOnRightLeg, IsStuckOnLeg, RaisesVersion, StrongCause}
 use Rattle.way_laws.specs.WayCauses.{FindsNoRoute, IsBlockedOn, IsDecided, IsLookedUp, MeetsDown, TakesLeg, TakesRoute, WayCause}
 use Rattle.way_laws.proofs.AllKept.{Before, kept_before, known_before, knows}
-use Rattle.way_laws.proofs.Ends.{decision_out, finds_next_down, leaves_rightly, mark_in, meets_link, seeks_rightly, stuck_rightly}
+use Rattle.way_laws.proofs.Ends.{decision_out, leaves_rightly, mark_in, meets_link, seeks_rightly, stands_known, stuck_rightly}
 use Rattle.way_laws.proofs.Here.{IsHere, here_of, leg_in, seeking_of, some_same}
 use Rattle.way_laws.proofs.Kept.{IsDecidedNow, Knows, decided_now, stage_when, undecided_of}
 use Rattle.way_laws.proofs.Rests.{IsWayItem, Past}
@@ -34,7 +34,11 @@ finds_link : (setting : Setting) (before : List Item) (i one two : ℕ)
     → Knows setting before i (stage_of before i) → MeetsDown setting before i one two
     → FindsLinkDown setting before i one two
 finds_link setting before i one two knows_it meets = record {
-  finds = finds_next_down setting before i one two knows_it meets;
+  finds = record {
+    stands = stands_known setting before i one knows_it meets.at;
+    next = meets.goes_on;
+    unusable = meets.unusable;
+  };
   linked = meets_link setting before i one two knows_it meets;
 }
 
