@@ -18,7 +18,7 @@ use Rattle.update_machine.specs.Setting.{Setting, IsSetting}
 use Rattle.update_machine.specs.Versions.{holds_version, policy_at, stamp_of, plan_at}
 use Rattle.update_machine.specs.Travels.{leg_of, travels}
 use Rattle.version_laws.specs.ItemCauses.{HasItemCause}
-use Rattle.way_laws.specs.OnWay.{IsOnWay, IsSeeking}
+use Rattle.way_laws.specs.OnWay.{IsOnWay, IsOnLeg}
 use Rattle.way_laws.specs.Facts.{PacketFacts, what_is_known}
 use Rattle.way_laws.specs.Kept.{AllKept}
 use Rattle.way_laws.specs.Rest.{AreResting}
@@ -81,7 +81,7 @@ sought_there : (setting : Setting) (journal : List Item) (i s version partition 
     (first_place setting journal version partition (header_at journal i))))
 sought_there setting journal i s version partition moved seeks =
     let facts : PacketFacts = what_is_known journal i in
-    let on : IsSeeking setting journal facts moved.here.under.header version partition =
+    let on : IsOnLeg setting journal facts moved.here.under.header (Seek version partition) =
     seeking_of setting journal facts moved.here.under.header version partition moved.way
     moved.here.under.entered (leg_in journal i (Some (Seek version partition)) seeks) in
     let planned : IsPlanned setting (policy_at setting journal version)

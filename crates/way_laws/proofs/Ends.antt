@@ -34,7 +34,7 @@ use Rattle.version_laws.specs.ItemCauses.{HasItemCause}
 use Rattle.version_laws.proofs.Openings.{IsKnown}
 use Rattle.advert_laws.proofs.Claims.{own_end}
 use Rattle.advert_laws.proofs.NetLinks.{linked_by_mask}
-use Rattle.way_laws.specs.OnWay.{FollowsLinks, IsExiting, IsOnLeg, IsOnWay, IsPartitionOf, IsSeeking}
+use Rattle.way_laws.specs.OnWay.{FollowsLinks, IsOnLeg, IsOnWay, IsPartitionOf}
 use Rattle.way_laws.specs.Facts.{PacketFacts, entry_mark, what_is_known}
 use Rattle.way_laws.specs.Kept.{IsJudged}
 use Rattle.way_laws.specs.Stages.{stage_of}
@@ -116,8 +116,7 @@ seeks_part : (setting : Setting) (before : List Item) (i s version partition : �
 seeks_part setting before i s version partition knows here (inl takes) =
     redirected_to setting before i s version partition here takes
 seeks_part setting before i s version partition knows here (inr blocked) =
-    let on : IsSeeking setting before (what_is_known before i) here.under.header version partition =
-    seeking_of setting before (what_is_known before i) here.under.header version partition
+    let on = seeking_of setting before (what_is_known before i) here.under.header version partition
     (knows.kept.on_way here.travelling (inr blocked.blocked)) here.under.entered
     (leg_in before i (Some (Seek version partition)) blocked.takes) in
     (on.placed, on.own)
@@ -131,8 +130,7 @@ exits_by : (setting : Setting) (before : List Item) (i s port : ℕ)
 exits_by setting before i s port knows here (inl takes) =
     (takes.decision, takes.decided, takes.action)
 exits_by setting before i s port knows here (inr blocked) =
-    let on : IsExiting setting (what_is_known before i) port =
-    exiting_of setting before (what_is_known before i) port
+    let on = exiting_of setting before (what_is_known before i) port
     (knows.kept.on_way here.travelling (inr blocked.blocked))
     (leg_in before i (Some (Exit port)) blocked.takes) in
     (on.decision, decision_out before i (Some on.decision) on.decided, on.action)
@@ -172,8 +170,7 @@ seeks_rightly setting before i s version partition knows here (inl takes) = reco
   current = omega (arith, here.stamped.current, takes.stamp);
 }
 seeks_rightly setting before i s version partition knows here (inr blocked) =
-    let on : IsSeeking setting before (what_is_known before i) here.under.header version partition =
-    seeking_of setting before (what_is_known before i) here.under.header version partition
+    let on = seeking_of setting before (what_is_known before i) here.under.header version partition
     (knows.kept.on_way here.travelling (inr blocked.blocked)) here.under.entered
     (leg_in before i (Some (Seek version partition)) blocked.takes) in
     record {
@@ -369,8 +366,7 @@ leaves_by setting before i port leaving knows way here = by_port way.at_port
     by_port (inr arrived) =
         let was : IsOnWay setting before facts =
         knows.kept.on_way here.travelling (inl arrived.0.moving) in
-        let on : IsExiting setting facts port =
-        exiting_of setting before facts port was (leg_in before i (Some (Exit port)) arrived.1) in
+        let on = exiting_of setting before facts port was (leg_in before i (Some (Exit port)) arrived.1) in
         let ends : was.under_way.switch ≡ on.leads.ends.target =
         last_here facts.route facts.hops was.under_way.switch on.leads.ends.target was.stands
         (sym (next_in before i) ∙ arrived.0.last) on.leads.ends.last in

@@ -21,7 +21,7 @@ use Rattle.version_laws.proofs.Facts.{Behind, Both, fact_on, have_both}
 use Rattle.version_laws.proofs.Marks.{bounded}
 use Rattle.version_laws.proofs.Bounded.{current_rises}
 use Rattle.version_laws.proofs.Planned.{versions_planned}
-use Rattle.way_laws.specs.OnWay.{IsOnWay, IsSeeking}
+use Rattle.way_laws.specs.OnWay.{IsOnWay, IsOnLeg}
 use Rattle.way_laws.specs.Facts.{PacketFacts, is_of_packet, facts_after, what_is_known}
 use Rattle.way_laws.proofs.PacketFacts.{facts_grow}
 use Rattle.way_laws.specs.Hops.{detours, exits, is_detour, is_exit, is_search, routes_taken, searches}
@@ -103,7 +103,7 @@ is_raised setting before i version partition route known few takes raises =
     let way : IsOnWay setting before after =
     (seeking_after setting before i 0 version partition route knows_it takes).on_way
     here.travelling (inl refl) in
-    let on : IsSeeking setting before after here.under.header version partition =
+    let on : IsOnLeg setting before after here.under.header (Seek version partition) =
     seeking_of setting before after here.under.header version partition way here.under.entered
     refl in
     record {

@@ -21,9 +21,9 @@ use Rattle.version_laws.proofs.Retired.{retired_rises}
 use Rattle.version_laws.specs.Planned.{HasPlan}
 use Rattle.version_laws.proofs.Planned.{versions_planned}
 use Rattle.way_laws.specs.Rules.{IsRightRule}
-use Rattle.way_laws.specs.OnWay.{IsOnLeg, IsOnWay, IsPartitionOf, IsUnderWay}
+use Rattle.way_laws.specs.OnWay.{IsOnLeg, IsOnWay, IsPartitionOf, IsSought, IsUnderWay}
 use Rattle.way_laws.specs.Facts.{PacketFacts}
-use Rattle.way_laws.specs.Kept.{IsJudged, IsKept, IsSought}
+use Rattle.way_laws.specs.Kept.{IsJudged, IsKept}
 use Rattle.way_laws.specs.Stages.{Stage}
 
 -- marks rise, and the versions that are current or were keep their policies and plans
@@ -76,16 +76,25 @@ part_on setting before after header version partition placed grow above below ow
   holds = own.holds;
 }
 
+sought_on : (setting : Setting) (before after : List Item) (mark : ℕ) (header : Header)
+    (version partition : ℕ) → Grows setting before after
+    → IsSought setting before mark header version partition
+    → IsSought setting after mark header version partition
+sought_on setting before after mark header version partition grow sought = record {
+  not_retired = sought.not_retired;
+  current = omega (arith, sought.current, grow.current);
+  placed = sought.placed;
+  own = part_on setting before after header version partition sought.placed grow
+      (omega (arith, sought.not_retired)) sought.current sought.own;
+}
+
 leg_on : (setting : Setting) (before after : List Item) (facts : PacketFacts) (header : Header)
     (leg : Leg) → Grows setting before after → IsOnLeg setting before facts header leg
     → IsOnLeg setting after facts header leg
+unfolding sought_on
 leg_on setting before after facts header (Seek version partition) grow on = record {
   undecided = on.undecided;
-  not_retired = on.not_retired;
-  current = omega (arith, on.current, grow.current);
-  placed = on.placed;
-  own = part_on setting before after header version partition on.placed grow
-      (omega (arith, on.not_retired)) on.current on.own;
+  sought = sought_on setting before after facts.mark header version partition grow on.sought;
   leads = on.leads;
 }
 leg_on setting before after facts header (Exit port) grow on = on
@@ -94,15 +103,8 @@ under_on : (setting : Setting) (before after : List Item) (facts : PacketFacts)
     → Grows setting before after → IsUnderWay setting before facts
     → IsUnderWay setting after facts
 under_on setting before after facts grow under = record {
-  header = under.header;
-  ingress = under.ingress;
-  switch = under.switch;
-  entered = under.entered;
-  sound = under.sound;
-  came = under.came;
-  at_first = under.at_first;
-  stands = under.stands;
-  now = under.now;
+  entry = under.entry;
+  place = under.place;
   mark = omega (arith, under.mark, grow.retired);
 }
 
@@ -130,15 +132,8 @@ judged_on setting before after facts header grow judged = record {
       ∙ judged.first_match;
   named = judged.named;
   sought = λ version partition takes.
-      let sought : IsSought setting before facts header version partition =
-      judged.sought version partition takes in
-      record {
-        not_retired = sought.not_retired;
-        current = omega (arith, sought.current, grow.current);
-        placed = sought.placed;
-        own = part_on setting before after header version partition sought.placed grow
-            (omega (arith, sought.not_retired)) sought.current sought.own;
-      };
+      sought_on setting before after facts.mark header version partition grow
+      (judged.sought version partition takes);
 }
 
 pub kept_on : (setting : Setting) (before after : List Item) (facts : PacketFacts)

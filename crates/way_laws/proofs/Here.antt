@@ -18,9 +18,9 @@ use Rattle.update_machine.specs.Versions.{policy_at, stamp_of, plan_at}
 use Rattle.update_machine.specs.Travels.{leg_of, travels}
 use Rattle.update_machine.specs.Ways.{found_down, next_switch}
 use Rattle.version_laws.specs.ItemCauses.{HasItemCause}
-use Rattle.way_laws.specs.OnWay.{IsExiting, IsOnLeg, IsOnWay, IsSeeking, IsUnderWay}
+use Rattle.way_laws.specs.OnWay.{IsOnLeg, IsOnWay, IsSought, IsUnderWay}
 use Rattle.way_laws.specs.Facts.{PacketFacts, what_is_known}
-use Rattle.way_laws.specs.Kept.{IsKept, IsSought}
+use Rattle.way_laws.specs.Kept.{IsKept}
 use Rattle.way_laws.specs.Stages.{Stage}
 use Rattle.way_laws.specs.WayCauses.{AuthorityFinds, IsAt}
 use Rattle.way_laws.proofs.Lookups.{FindsRule, IsStamped, authority_found, current_planned, deciding, rule_there, stamped}
@@ -102,18 +102,18 @@ leg_is one other facts p q = some_same facts.leg one other p q
 pub seeking_of : (setting : Setting) (journal : List Item) (facts : PacketFacts) (header : Header)
     (version partition : ℕ) → IsOnWay setting journal facts → facts.header ≡ Some header
     → facts.leg ≡ Some (Seek version partition)
-    → IsSeeking setting journal facts header version partition
+    → IsOnLeg setting journal facts header (Seek version partition)
 seeking_of setting journal facts header version partition way entered seeks =
     let same : way.leg ≡ Seek version partition =
     leg_is way.leg (Seek version partition) facts way.takes seeks in
     let own : way.under_way.header ≡ header =
     some_same facts.header way.under_way.header header way.under_way.entered entered in
-    subst (λ h. IsSeeking setting journal facts h version partition) own
+    subst (λ h. IsOnLeg setting journal facts h (Seek version partition)) own
     (subst (λ leg. IsOnLeg setting journal facts way.under_way.header leg) same way.on_leg)
 
 pub exiting_of : (setting : Setting) (journal : List Item) (facts : PacketFacts) (port : ℕ)
-    → IsOnWay setting journal facts → facts.leg ≡ Some (Exit port)
-    → IsExiting setting facts port
+    (way : IsOnWay setting journal facts) → facts.leg ≡ Some (Exit port)
+    → IsOnLeg setting journal facts way.under_way.header (Exit port)
 exiting_of setting journal facts port way exits =
     let same : way.leg ≡ Exit port = leg_is way.leg (Exit port) facts way.takes exits in
     subst (λ leg. IsOnLeg setting journal facts way.under_way.header leg) same way.on_leg
@@ -140,7 +140,7 @@ pub rules_of : (setting : Setting) (before : List Item) (i s version : ℕ) (fou
     → IsSetting setting → HaveCauses (HasItemCause setting) [] before
     → (here : IsHere setting before i s)
     → ((v p : ℕ) → (what_is_known before i).leg ≡ Some (Seek v p)
-    → IsSought setting before (what_is_known before i) here.under.header v p)
+    → IsSought setting before (what_is_known before i).mark here.under.header v p)
     → AuthorityFinds setting before i s version found
     → Rules setting before (what_is_known before i) here.under.header version found
 rules_of setting before i s version found is have here sought finds = elim finds.says [
@@ -167,7 +167,7 @@ rules_of setting before i s version found is have here sought finds = elim finds
             own.part.finds own.part.number);
       })
   | inr by ↦
-      let leg : IsSought setting before (what_is_known before i) here.under.header version
+      let leg : IsSought setting before (what_is_known before i).mark here.under.header version
       finds.partition =
       sought version finds.partition (leg_in before i (Some (Seek version finds.partition)) by.seeks)
       in

@@ -44,9 +44,9 @@ use Rattle.version_laws.specs.ItemCauses.{HasItemCause}
 use Rattle.advert_laws.specs.Adverts.{LinksAreThere}
 use Rattle.advert_laws.proofs.BothCauses.{HasBothCauses}
 use Rattle.way_laws.specs.Rules.{IsRightEntry}
-use Rattle.way_laws.specs.OnWay.{IsExiting, IsOnLeg, IsOnWay, IsPartitionOf, IsSeeking, IsUnderWay, LeadsTo}
-use Rattle.way_laws.specs.Facts.{PacketFacts, port_decided, facts_after, what_is_known}
-use Rattle.way_laws.specs.Kept.{Avoids, IsJudged, IsKept, IsSought}
+use Rattle.way_laws.specs.OnWay.{IsOnLeg, IsOnWay, IsPartitionOf, IsSought, IsUnderWay, LeadsTo}
+use Rattle.way_laws.specs.Facts.{PacketFacts, facts_after, what_is_known}
+use Rattle.way_laws.specs.Kept.{Avoids, IsJudged, IsKept}
 use Rattle.way_laws.specs.Stages.{Blocked, CameIn, Judged, OnWay, Stage, stage_of}
 use Rattle.way_laws.specs.WayCauses.{AuthorityDecides, CacheDecides, DecidesBy, IsAt, IsDecided, IsRedirected, MeetsDown, MovesOver, TakesDetour, TakesExit, TakesRoute}
 use Rattle.way_laws.proofs.Here.{IsHere, Rules, found_in, here_of, leg_in, next_in, decision_in, rules_of, seeking_of, some_same}
@@ -69,23 +69,6 @@ pub here_known : (setting : Setting) (before : List Item) (i s : ℕ)
     → Knows setting before i (stage_of before i) → IsAt before i s → IsHere setting before i s
 here_known setting before i s knows at =
     here_of setting before i s (stage_of before i) knows.is knows.have knows.kept at
-
--- facts that leave it under way as it was
-abbrev under_as : (setting : Setting) (before : List Item) (one other : PacketFacts)
-    → other.header ≡ one.header → other.ingress ≡ one.ingress → other.stands ≡ one.stands
-    → other.mark ≡ one.mark → IsUnderWay setting before one → IsUnderWay setting before other
-under_as setting before one other header ingress stands mark under = record {
-  header = under.header;
-  ingress = under.ingress;
-  switch = under.switch;
-  entered = header ∙ under.entered;
-  sound = under.sound;
-  came = ingress ∙ under.came;
-  at_first = under.at_first;
-  stands = stands ∙ under.stands;
-  now = under.now;
-  mark = subst (λ m. m ≤ retired_mark before) (sym mark) under.mark;
-}
 
 -- a packet that moves on
 moving_on : (setting : Setting) (before : List Item) (facts : PacketFacts)
@@ -145,20 +128,13 @@ sought_of : (setting : Setting) (before : List Item) (i s : ℕ) (stage : Option
     → IsKept setting before (what_is_known before i) stage
     → (here : IsHere setting before i s) → (stage ≡ Some CameIn) ⊎ (stage ≡ Some OnWay)
     → (v p : ℕ) → (what_is_known before i).leg ≡ Some (Seek v p)
-    → IsSought setting before (what_is_known before i) here.under.header v p
+    → IsSought setting before (what_is_known before i).mark here.under.header v p
 sought_of setting before i s stage kept here (inl came) v p seeks =
     let none : (what_is_known before i).leg ≡ None = (kept.came_in here.travelling came).1 in
     absurd cc
 sought_of setting before i s stage kept here (inr moving) v p seeks =
-    let on : IsSeeking setting before (what_is_known before i) here.under.header v p =
-    seeking_of setting before (what_is_known before i) here.under.header v p
-    (kept.on_way here.travelling (inl moving)) here.under.entered seeks in
-    record {
-      not_retired = on.not_retired;
-      current = on.current;
-      placed = on.placed;
-      own = on.own;
-    }
+    (seeking_of setting before (what_is_known before i) here.under.header v p
+    (kept.on_way here.travelling (inl moving)) here.under.entered seeks).sought
 
 -- where a packet is looked up or arrives
 pub stage_when : (before : List Item) (i s version : ℕ) → WhenDecided before i s version
@@ -219,6 +195,25 @@ seek_targets : (setting : Setting) (before : List Item) (header : Header)
 seek_targets setting before header version partition placed own =
     ap (λ o. unwrap_or (option_map (λ (p : Placed). p.1) o) []) own.found
 
+-- a packet that takes a route where it stands
+sets_out : (setting : Setting) (before : List Item) (i s : ℕ) (taken : Option Leg) (leg : Leg)
+    (targets route : List ℕ) (here : IsHere setting before i s) → taken ≡ Some leg
+    → IsWay setting s targets (what_is_known before i).found route
+    → let after = record (what_is_known before i) { leg = taken; route = route; hops = 0 } in
+    IsOnLeg setting before after here.under.header leg → IsKept setting before after (Some OnWay)
+sets_out setting before i s taken leg targets route here takes way on =
+    moving_on setting before _ (record {
+      under_way = record {
+        entry = here.under.entry;
+        place = here.under.place;
+        mark = here.under.mark;
+      };
+      leg = leg;
+      takes = takes;
+      on_leg = on;
+      stands = way.begins ∙ ap Some here.at;
+    }) way.avoids
+
 pub seeking_after : (setting : Setting) (before : List Item) (i mark version partition : ℕ)
     (route : List ℕ) → Knows setting before i (stage_of before i)
     → TakesRoute setting before i (Seek version partition) route
@@ -226,36 +221,28 @@ pub seeking_after : (setting : Setting) (before : List Item) (i mark version par
     (facts_after mark (item.Seeking i version partition route) (what_is_known before i)) (Some OnWay)
 seeking_after setting before i mark version partition route knows takes =
     let facts : PacketFacts = what_is_known before i in
-    let after : PacketFacts = facts_after mark (item.Seeking i version partition route) facts in
     let s : ℕ = takes.switch in
     let here : IsHere setting before i s = here_known setting before i s knows takes.at in
-    let under : IsUnderWay setting before after =
-    under_as setting before facts after refl refl refl refl here.under in
     let part = redirected_to setting before i s version partition here takes.takes in
     let placed : Placed = part.0 in
-    let own : IsPartitionOf setting before here.under.header version partition placed = part.1 in
     let targets : targets_of setting before (Seek version partition) ≡ placed.1 =
-    seek_targets setting before here.under.header version partition placed own in
+    seek_targets setting before here.under.header version partition placed part.1 in
     let way : IsWay setting s placed.1 facts.found route =
     route_way setting before s placed.1 facts.found route knows.links
     (subst (λ down. route_from setting before s placed.1 down ≡ Some route) (found_in before i)
     (ap (λ all. route_from setting before s all (found_down before i)) (sym targets)
     ∙ takes.leads)) in
-    moving_on setting before after (record {
-      under_way = under;
-      leg = Seek version partition;
-      takes = refl;
-      on_leg = record {
-        undecided = undecided_of setting before i s (stage_of before i) knows.kept here
-            (stage_when before i s 0 (inl takes.takes.looked_up));
+    sets_out setting before i s _ (Seek version partition) placed.1 route here refl way (record {
+      undecided = undecided_of setting before i s (stage_of before i) knows.kept here
+          (stage_when before i s 0 (inl takes.takes.looked_up));
+      sought = record {
         not_retired = omega (arith, here.under.mark, here.stamped.retired, takes.takes.stamp);
         current = omega (arith, here.stamped.current, takes.takes.stamp);
         placed = placed;
-        own = own;
-        leads = way.leads;
+        own = part.1;
       };
-      stands = way.begins ∙ ap Some here.at;
-    }) way.avoids
+      leads = way.leads;
+    })
 
 is_home : (o : Option ℕ) → IsTrue (is_some o) → o ≡ Some (unwrap_or o no_switch)
 is_home None e = absurd cc
@@ -272,64 +259,49 @@ pub exiting_after : (setting : Setting) (before : List Item) (i mark : ℕ) (rou
     → IsKept setting before (facts_after mark (item.Exiting i route) (what_is_known before i)) (Some OnWay)
 exiting_after setting before i mark route knows exits =
     let facts : PacketFacts = what_is_known before i in
-    let after : PacketFacts = facts_after mark (item.Exiting i route) facts in
     let s : ℕ = exits.by.switch in
     let out = exits.by.takes in
     let here : IsHere setting before i s = here_known setting before i s knows exits.by.at in
-    let under : IsUnderWay setting before after =
-    under_as setting before facts after refl refl refl refl here.under in
     let judged : IsJudged setting before facts here.under.header =
     knows.kept.judged here.travelling out.judged here.under.header here.under.entered in
     let decided : facts.decision ≡ Some out.decision =
     decision_in before i (Some out.decision) out.decided in
     let same : judged.decision ≡ out.decision =
     some_same facts.decision judged.decision out.decision judged.decided decided in
-    let has_port : owner_of setting.net.switches exits.port ≡ Some (owner setting exits.port) =
-    port_named setting exits.port judged.decision.action
-    (ap (λ (d : Decision). d.action) same ∙ out.action) judged.named in
-    let way : IsWay setting s (owner setting exits.port ∷ []) facts.found route =
-    route_way setting before s (owner setting exits.port ∷ []) facts.found route knows.links
-    (subst (λ down. route_from setting before s (owner setting exits.port ∷ []) down ≡ Some route)
-    (found_in before i) exits.by.leads) in
-    let port : port_decided facts.decision ≡ exits.port = rw (decided, out.action) refl in
-    let exiting : IsExiting setting after exits.port = record {
+    let home : List ℕ = owner setting exits.port ∷ [] in
+    let way : IsWay setting s home facts.found route =
+    route_way setting before s home facts.found route knows.links
+    (subst (λ down. route_from setting before s home down ≡ Some route) (found_in before i)
+    exits.by.leads) in
+    sets_out setting before i s _ (Exit exits.port) home route here (rw (decided, out.action) refl)
+    way (record {
       decision = out.decision;
       decided = decided;
       action = out.action;
       owner = owner setting exits.port;
-      has_port = has_port;
+      has_port = port_named setting exits.port judged.decision.action
+          (ap (λ (d : Decision). d.action) same ∙ out.action) judged.named;
       leads = way.leads;
-    } in
-    moving_on setting before after (record {
-      under_way = under;
-      leg = Exit (port_decided facts.decision);
-      takes = refl;
-      on_leg = subst (IsExiting setting after) (sym port) exiting;
-      stands = way.begins ∙ ap Some here.at;
-    }) way.avoids
+    })
 
 -- on its leg with another route
-leg_by : (setting : Setting) (before : List Item) (facts after : PacketFacts) (header : Header)
-    (leg : Leg) → after.decision ≡ facts.decision → after.mark ≡ facts.mark
-    → IsOnLeg setting before facts header leg
-    → LeadsTo setting (targets_of setting before leg) after.route
-    → IsOnLeg setting before after header leg
-leg_by setting before facts after header (Seek version partition) decision mark on leads = record {
-  undecided = decision ∙ on.undecided;
-  not_retired = subst (λ m. m < version) (sym mark) on.not_retired;
-  current = on.current;
-  placed = on.placed;
-  own = on.own;
-  leads = subst (λ targets. LeadsTo setting targets after.route)
+leg_by : (setting : Setting) (before : List Item) (facts : PacketFacts) (route : List ℕ)
+    (header : Header) (leg : Leg) → IsOnLeg setting before facts header leg
+    → LeadsTo setting (targets_of setting before leg) route
+    → IsOnLeg setting before (record facts { route = route }) header leg
+leg_by setting before facts route header (Seek version partition) on leads = record {
+  undecided = on.undecided;
+  sought = on.sought;
+  leads = subst (λ targets. LeadsTo setting targets route)
       (seek_targets setting before header version partition on.placed on.own) leads;
 }
-leg_by setting before facts after header (Exit port) decision mark on leads = record {
+leg_by setting before facts route header (Exit port) on leads = record {
   decision = on.decision;
-  decided = decision ∙ on.decided;
+  decided = on.decided;
   action = on.action;
   owner = on.owner;
   has_port = on.has_port;
-  leads = subst (λ home. LeadsTo setting (home ∷ []) after.route)
+  leads = subst (λ home. LeadsTo setting (home ∷ []) route)
       (ap (λ o. unwrap_or o no_switch) on.has_port) leads;
 }
 
@@ -338,11 +310,8 @@ pub rerouted_after : (setting : Setting) (before : List Item) (i mark : ℕ) (ro
     → IsKept setting before (facts_after mark (item.Rerouted i route) (what_is_known before i)) (Some OnWay)
 rerouted_after setting before i mark route knows turns =
     let facts : PacketFacts = what_is_known before i in
-    let after : PacketFacts = facts_after mark (item.Rerouted i route) facts in
     let s : ℕ = turns.switch in
     let here : IsHere setting before i s = here_known setting before i s knows turns.at in
-    let under : IsUnderWay setting before after =
-    under_as setting before facts after refl refl refl refl here.under in
     let was : IsOnWay setting before facts =
     knows.kept.on_way here.travelling (inr turns.blocked.blocked) in
     let leg : was.leg ≡ turns.leg =
@@ -351,69 +320,36 @@ rerouted_after setting before i mark route knows turns =
     let header : was.under_way.header ≡ here.under.header =
     some_same facts.header was.under_way.header here.under.header was.under_way.entered
     here.under.entered in
-    let way : IsWay setting s (targets_of setting before turns.leg) facts.found route =
-    route_way setting before s (targets_of setting before turns.leg) facts.found route knows.links
-    (subst (λ down. route_from setting before s (targets_of setting before turns.leg) down
-    ≡ Some route) (found_in before i) turns.leads) in
-    moving_on setting before after (record {
-      under_way = under;
-      leg = turns.leg;
-      takes = was.takes ∙ ap Some leg;
-      on_leg = leg_by setting before facts after here.under.header turns.leg refl refl
-          (subst (λ l. IsOnLeg setting before facts here.under.header l) leg
-          (subst (λ h. IsOnLeg setting before facts h was.leg) header was.on_leg)) way.leads;
-      stands = way.begins ∙ ap Some here.at;
-    }) way.avoids
-
--- the route of a packet on its leg leads to a target of it
-leads_on : (setting : Setting) (before : List Item) (facts : PacketFacts) (header : Header)
-    (leg : Leg) → IsOnLeg setting before facts header leg
-    → LeadsTo setting (targets_of setting before leg) facts.route
-leads_on setting before facts header (Seek version partition) on =
-    subst (λ targets. LeadsTo setting targets facts.route)
-    (sym (seek_targets setting before header version partition on.placed on.own)) on.leads
-leads_on setting before facts header (Exit port) on =
-    subst (λ home. LeadsTo setting (home ∷ []) facts.route)
-    (sym (ap (λ o. unwrap_or o no_switch) on.has_port)) on.leads
-
--- on its leg and its route as it was
-leg_same : (setting : Setting) (before : List Item) (facts after : PacketFacts) (header : Header)
-    (leg : Leg) → after.decision ≡ facts.decision → after.mark ≡ facts.mark
-    → after.route ≡ facts.route → IsOnLeg setting before facts header leg
-    → IsOnLeg setting before after header leg
-leg_same setting before facts after header leg decision mark route on =
-    leg_by setting before facts after header leg decision mark on
-    (subst (LeadsTo setting (targets_of setting before leg)) (sym route)
-    (leads_on setting before facts header leg on))
+    let targets : List ℕ = targets_of setting before turns.leg in
+    let way : IsWay setting s targets facts.found route =
+    route_way setting before s targets facts.found route knows.links
+    (subst (λ down. route_from setting before s targets down ≡ Some route) (found_in before i)
+    turns.leads) in
+    sets_out setting before i s facts.leg turns.leg targets route here (was.takes ∙ ap Some leg)
+    way (leg_by setting before facts route here.under.header turns.leg
+    (subst (λ l. IsOnLeg setting before facts here.under.header l) leg
+    (subst (λ h. IsOnLeg setting before facts h was.leg) header was.on_leg)) way.leads)
 
 pub hopped_after : (setting : Setting) (before : List Item) (i mark next : ℕ)
     → Knows setting before i (stage_of before i) → MovesOver setting before i next
     → IsKept setting before (facts_after mark (item.Hopped i next) (what_is_known before i)) (Some OnWay)
 hopped_after setting before i mark next knows moves =
-    let facts : PacketFacts = what_is_known before i in
-    let after : PacketFacts = facts_after mark (item.Hopped i next) facts in
-    let s : ℕ = moves.switch in
-    let here : IsHere setting before i s = here_known setting before i s knows moves.at in
-    let was : IsOnWay setting before facts = knows.kept.on_way here.travelling (inl moves.moving) in
-    let under : IsUnderWay setting before after = record {
-      header = was.under_way.header;
-      ingress = was.under_way.ingress;
-      switch = next;
-      entered = was.under_way.entered;
-      sound = was.under_way.sound;
-      came = was.under_way.came;
-      at_first = was.under_way.at_first;
-      stands = refl;
-      now = linked_there setting s next knows.is.net
-          (knows.links.usable s next moves.usable);
-      mark = was.under_way.mark;
-    } in
-    moving_on setting before after (record {
-      under_way = under;
+    let here = here_known setting before i moves.switch knows moves.at in
+    let was = knows.kept.on_way here.travelling (inl moves.moving) in
+    moving_on setting before _ (record {
+      under_way = record {
+        entry = was.under_way.entry;
+        place = record {
+          switch = next;
+          stands = refl;
+          now = linked_there setting moves.switch next knows.is.net
+              (knows.links.usable moves.switch next moves.usable);
+        };
+        mark = was.under_way.mark;
+      };
       leg = was.leg;
       takes = was.takes;
-      on_leg = leg_same setting before facts after was.under_way.header was.leg refl refl refl
-          was.on_leg;
+      on_leg = was.on_leg;
       stands = sym (next_in before i) ∙ moves.goes_on;
     }) (knows.kept.avoids here.travelling moves.moving)
 
@@ -421,30 +357,32 @@ pub found_after : (setting : Setting) (before : List Item) (i mark one two : ℕ
     → Knows setting before i (stage_of before i) → MeetsDown setting before i one two
     → IsKept setting before (facts_after mark (item.FoundDown i one two) (what_is_known before i))
     (Some Blocked)
-found_after setting before i mark one two knows meets =
-    let facts : PacketFacts = what_is_known before i in
-    let after : PacketFacts = facts_after mark (item.FoundDown i one two) facts in
-    let here : IsHere setting before i one = here_known setting before i one knows meets.at in
-    let was : IsOnWay setting before facts = knows.kept.on_way here.travelling (inl meets.moving) in
-    let under : IsUnderWay setting before after =
-    under_as setting before facts after refl refl refl refl was.under_way in
-    record {
-      under_way = λ travels. under;
-      came_in = λ travels is. absurd cc;
-      judged = λ travels is header entered. absurd cc;
-      on_way = λ travels is. record {
-        under_way = under;
-        leg = was.leg;
-        takes = was.takes;
-        on_leg = leg_same setting before facts after under.header was.leg refl refl refl
-            (subst (λ h. IsOnLeg setting before facts h was.leg)
-            (some_same facts.header was.under_way.header under.header was.under_way.entered
-            under.entered) was.on_leg);
-        stands = was.stands ∙ ap Some
-            (some_same facts.stands was.under_way.switch under.switch was.under_way.stands
-            under.stands);
-      };
-      avoids = λ travels is. absurd cc;
+found_after setting before i mark one two knows meets = record {
+  under_way = λ travels. under;
+  came_in = λ travels is. absurd cc;
+  judged = λ travels is header entered. absurd cc;
+  on_way = λ travels is. record {
+    under_way = under;
+    leg = was.leg;
+    takes = was.takes;
+    on_leg = was.on_leg;
+    stands = was.stands;
+  };
+  avoids = λ travels is. absurd cc;
+}
+  where
+    here : IsHere setting before i one
+    here = here_known setting before i one knows meets.at
+
+    was : IsOnWay setting before (what_is_known before i)
+    was = knows.kept.on_way here.travelling (inl meets.moving)
+
+    under : IsUnderWay setting before
+        (facts_after mark (item.FoundDown i one two) (what_is_known before i))
+    under = record {
+      entry = was.under_way.entry;
+      place = was.under_way.place;
+      mark = was.under_way.mark;
     }
 
 pub entered_after : (setting : Setting) (before : List Item) (i s : ℕ) (header : Header)
@@ -454,15 +392,15 @@ pub entered_after : (setting : Setting) (before : List Item) (i s : ℕ) (header
     (Some CameIn)
 entered_after setting before i s header facts there sound undecided no_leg = record {
   under_way = λ travels. record {
-    header = header;
-    ingress = s;
-    switch = s;
-    entered = refl;
-    sound = sound;
-    came = refl;
-    at_first = there;
-    stands = refl;
-    now = there;
+    entry = record {
+      header = header;
+      ingress = s;
+      entered = refl;
+      sound = sound;
+      came = refl;
+      at_first = there;
+    };
+    place = record { switch = s; stands = refl; now = there };
     mark = omega arith;
   };
   came_in = λ travels is. (undecided, no_leg);
@@ -628,19 +566,15 @@ decided_after setting before i mark version rule act by knows right decided =
       current = now.rightly.current;
       first_match = now.rightly.first_match;
       named = now.rightly.named;
-      sought = λ v p seeks.
-          let sought : IsSought setting before facts here.under.header v p =
-          sought_of setting before i s (stage_of before i) knows.kept here
-          (stage_alone (stage_when before i s version now.when)) v p seeks in
-          record {
-            not_retired = sought.not_retired;
-            current = sought.current;
-            placed = sought.placed;
-            own = sought.own;
-          };
+      sought = sought_of setting before i s (stage_of before i) knows.kept here
+          (stage_alone (stage_when before i s version now.when));
     } in
     record {
-      under_way = λ travels. under_as setting before facts after refl refl refl refl here.under;
+      under_way = λ travels. record {
+        entry = here.under.entry;
+        place = here.under.place;
+        mark = here.under.mark;
+      };
       came_in = λ travels is. absurd cc;
       judged = λ travels is header entered.
           subst (IsJudged setting before after)

@@ -17,7 +17,7 @@ use Rattle.update_machine.specs.Travels.{leg_of}
 use Rattle.version_laws.specs.ItemCauses.{HasItemCause}
 use Rattle.version_laws.proofs.Facts.{Behind, have_weaker}
 use Rattle.version_laws.proofs.Serving.{serving_hold}
-use Rattle.way_laws.specs.OnWay.{IsSeeking}
+use Rattle.way_laws.specs.OnWay.{IsOnLeg}
 use Rattle.way_laws.specs.Facts.{PacketFacts, what_is_known}
 use Rattle.way_laws.specs.Kept.{AllKept}
 use Rattle.way_laws.specs.Stages.{stage_of}
@@ -118,7 +118,7 @@ raises_version setting before i version partition route knows_it takes earlier p
         let clash : None ≡ Some (Seek earlier part) = sym none ∙ sought in
         absurd cc
     by_lookup (inr misses) =
-        let on : IsSeeking setting before facts here.under.header earlier part =
+        let on : IsOnLeg setting before facts here.under.header (Seek earlier part) =
         seeking_of setting before facts here.under.header earlier part
         (knows_it.kept.on_way here.travelling (inl misses.arrives.moving)) here.under.entered
         sought in

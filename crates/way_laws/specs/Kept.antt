@@ -7,7 +7,6 @@ use Rattle.failover.specs.Links.{has_link}
 use Rattle.five_tuple.specs.declared.header.Header.{Header}
 use Rattle.policy_rules.specs.Scan.{scan}
 use Rattle.policy_rules.specs.declared.packet.Leg.TheVariants.{Seek}
-use Rattle.switch_table.specs.Tables.{Placed}
 use Rattle.journal.specs.declared.item.Item.{Item}
 use Rattle.update_machine.specs.Caches.{cache_of}
 use Rattle.update_machine.specs.Marks.{current_mark}
@@ -16,7 +15,7 @@ use Rattle.update_machine.specs.Packets.{Decision, next_packet}
 use Rattle.update_machine.specs.Setting.{Setting, NamesOwnPort}
 use Rattle.update_machine.specs.Versions.{policy_at}
 use Rattle.way_laws.specs.Rules.{IsRightEntry, IsRightRule}
-use Rattle.way_laws.specs.OnWay.{IsOnWay, IsPartitionOf, IsUnderWay, IsUnknown}
+use Rattle.way_laws.specs.OnWay.{IsOnWay, IsSought, IsUnderWay, IsUnknown}
 use Rattle.way_laws.specs.Facts.{PacketFacts, what_is_known}
 use Rattle.way_laws.specs.Stages.{Blocked, CameIn, Judged, OnWay, Stage, stage_of}
 
@@ -25,16 +24,8 @@ abbrev pub Avoids : List ℕ → List ℕ → Type 0
 Avoids down route = (k one two : ℕ) → slice_get route k ≡ Some one
     → slice_get route (k + 1) ≡ Some two → IsFalse (has_link down one two)
 
--- the packet sought the partition whose region holds its header, by a version that wasn't retired
--- as it came in and is at most the current one
-pub record IsSought (setting : Setting) (journal : List Item) (facts : PacketFacts)
-    (header : Header) (version partition : ℕ) : Type 0 where
-  pub not_retired : facts.mark < version
-  pub current : version ≤ current_mark journal
-  pub placed : Placed
-  pub own : IsPartitionOf setting journal header version partition placed
-
--- it was decided by the first match of such a version
+-- it was decided by the first match of a version that wasn't retired as it came in and is at most
+-- the current one
 pub record IsJudged (setting : Setting) (journal : List Item) (facts : PacketFacts)
     (header : Header) : Type 0 where
   pub decision : Decision
@@ -45,7 +36,7 @@ pub record IsJudged (setting : Setting) (journal : List Item) (facts : PacketFac
       ≡ record { rule = decision.rule; action = decision.action }
   pub named : NamesOwnPort setting decision.action
   pub sought : (version partition : ℕ) → facts.leg ≡ Some (Seek version partition)
-      → IsSought setting journal facts header version partition
+      → IsSought setting journal facts.mark header version partition
 
 -- what is kept of a packet of which this is known, in this stage: it is undecided as it comes in; it
 -- stands at its place of a route that leads to a target of its leg, also where it found the next

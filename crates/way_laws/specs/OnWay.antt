@@ -1,5 +1,5 @@
 -- A packet on its way: it stands at a place of a route that ends at a target of its leg.
-use Rattle.std.specs.Prelude.{ℕ, ◌≡◌, ◌+◌, ◌-◌, ◌<◌, ◌≤◌, false, nat_eq, Some, None, find, List, [], ◌∷◌, length, slice_get, IsTrue}
+use Rattle.std.specs.Prelude.{ℕ, ◌≡◌, ◌+◌, ◌-◌, ◌<◌, ◌≤◌, false, nat_eq, Option, Some, None, find, List, [], ◌∷◌, length, slice_get, IsTrue}
 use Rattle.std.specs.List.{list_any}
 use Rattle.failover.specs.Links.{no_links}
 use Rattle.masks.specs.Masks.{has}
@@ -55,44 +55,66 @@ pub record IsPartitionOf (setting : Setting) (journal : List Item) (header : Hea
       ≡ Some placed
   pub holds : IsTrue (is_in header (part_of placed))
 
--- on its way to an authority switch a packet is undecided, its version wasn't retired as it came in
--- and is at most the current one, and it seeks the partition whose region holds its header
-pub record IsSeeking (setting : Setting) (journal : List Item) (facts : PacketFacts)
-    (header : Header) (version partition : ℕ) : Type 0 where
-  pub undecided : facts.decision ≡ None
-  pub not_retired : facts.mark < version
+-- a packet of this mark seeks the partition whose region holds its header, by a version that wasn't
+-- retired as it came in and is at most the current one
+pub record IsSought (setting : Setting) (journal : List Item) (mark : ℕ) (header : Header)
+    (version partition : ℕ) : Type 0 where
+  pub not_retired : mark < version
   pub current : version ≤ current_mark journal
   pub placed : Placed
   pub own : IsPartitionOf setting journal header version partition placed
-  pub leads : LeadsTo setting placed.1 facts.route
+
+-- on its way to an authority switch it is undecided
+pub record IsSeeking (setting : Setting) (journal : List Item) (held : Option Decision) (mark : ℕ)
+    (route : List ℕ) (header : Header) (version partition : ℕ) : Type 0 where
+  pub undecided : held ≡ None
+  pub sought : IsSought setting journal mark header version partition
+  pub open sought use *
+  pub leads : LeadsTo setting placed.1 route
 
 -- on its way out it was decided, by its port, whose switch its route leads to
-pub record IsExiting (setting : Setting) (facts : PacketFacts) (port : ℕ) : Type 0 where
+pub record IsExiting (setting : Setting) (held : Option Decision) (route : List ℕ) (port : ℕ)
+    : Type 0 where
   pub decision : Decision
-  pub decided : facts.decision ≡ Some decision
+  pub decided : held ≡ Some decision
   pub action : decision.action ≡ Out port
   pub owner : ℕ
   pub has_port : owner_of setting.net.switches port ≡ Some owner
-  pub leads : LeadsTo setting (owner ∷ []) facts.route
+  pub leads : LeadsTo setting (owner ∷ []) route
+
+-- what binds a packet of this decision, mark and route on its leg
+abbrev pub IsBound : Setting → List Item → Option Decision → ℕ → List ℕ → Header → Leg → Type 0
+IsBound setting journal held mark route header (Seek version partition) =
+    IsSeeking setting journal held mark route header version partition
+IsBound setting journal held mark route header (Exit port) = IsExiting setting held route port
 
 abbrev pub IsOnLeg : Setting → List Item → PacketFacts → Header → Leg → Type 0
-IsOnLeg setting journal facts header (Seek version partition) =
-    IsSeeking setting journal facts header version partition
-IsOnLeg setting journal facts header (Exit port) = IsExiting setting facts port
+IsOnLeg setting journal facts header leg =
+    IsBound setting journal facts.decision facts.mark facts.route header leg
 
 -- ---- travelling packets
 
--- a travelling packet has a header, came in at a switch, and stands at one
-pub record IsUnderWay (setting : Setting) (journal : List Item) (facts : PacketFacts) : Type 0 where
+-- it came in with a header, at a switch
+pub record HasComeIn (setting : Setting) (told : Option Header) (first : Option ℕ) : Type 0 where
   pub header : Header
   pub ingress : ℕ
-  pub switch : ℕ
-  pub entered : facts.header ≡ Some header
+  pub entered : told ≡ Some header
   pub sound : IsHeader header
-  pub came : facts.ingress ≡ Some ingress
+  pub came : first ≡ Some ingress
   pub at_first : ingress < length setting.net.switches
-  pub stands : facts.stands ≡ Some switch
+
+-- it stands at a switch
+pub record StandsThere (setting : Setting) (place : Option ℕ) : Type 0 where
+  pub switch : ℕ
+  pub stands : place ≡ Some switch
   pub now : switch < length setting.net.switches
+
+-- a travelling packet has a header, came in at a switch, and stands at one
+pub record IsUnderWay (setting : Setting) (journal : List Item) (facts : PacketFacts) : Type 0 where
+  pub entry : HasComeIn setting facts.header facts.ingress
+  pub open entry use *
+  pub place : StandsThere setting facts.stands
+  pub open place use *
   pub mark : facts.mark ≤ retired_mark journal
 
 -- and, once its switch is done with it, it stands at its place of the route of its leg

@@ -31,7 +31,7 @@ use Rattle.update_machine.specs.Setting.{Setting}
 use Rattle.update_machine.specs.Versions.{holds_version, policy_at, tables_at, plan_at}
 use Rattle.update_machine.specs.Ways.{targets_of}
 use Rattle.update_machine.proofs.CallerLemmas.{policies_keep}
-use Rattle.way_laws.specs.OnWay.{IsOnLeg, IsSeeking}
+use Rattle.way_laws.specs.OnWay.{IsOnLeg}
 use Rattle.way_laws.specs.Facts.{PacketFacts, what_is_known}
 use Rattle.way_laws.proofs.Ends.{last_here, one_target}
 use Rattle.way_laws.proofs.Lookups.{current_planned}
@@ -64,7 +64,7 @@ IsAtEnd setting journal s header (Exit port) = owner_of setting.net.switches por
 
 pub ours_of : (setting : Setting) (journal : List Item) (s : ℕ) (facts : PacketFacts)
     (header : Header) (version partition : ℕ) → Known setting journal → IsHeader header
-    → (seeks : IsSeeking setting journal facts header version partition)
+    → (seeks : IsOnLeg setting journal facts header (Seek version partition))
     → IsTrue (list_any (nat_eq s) seeks.placed.1)
     → IsOurs setting journal s header version partition
 ours_of setting journal s facts header version partition knows sound seeks target =
