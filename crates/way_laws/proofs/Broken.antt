@@ -122,16 +122,16 @@ stuck_have_causes = (
 
 not_stuck_by_a_retired_version : StrongCause open_net retired (seeking 1) → ⊥
 unfolding entry_mark retired_mark
-not_stuck_by_a_retired_version cause = absurd (omega (arith, cause.rightly.not_retired))
+not_stuck_by_a_retired_version cause = absurd (omega (arith, cause.1.rightly.not_retired))
 
 not_stuck_by_a_version_to_come : StrongCause open_net to_come (seeking 2) → ⊥
 unfolding current_mark
-not_stuck_by_a_version_to_come cause = absurd (omega (arith, cause.rightly.current))
+not_stuck_by_a_version_to_come cause = absurd (omega (arith, cause.1.rightly.current))
 
 -- nor by one that never was
 not_stuck_by_no_version : StrongCause open_net to_come (seeking 7) → ⊥
 unfolding current_mark
-not_stuck_by_no_version cause = absurd (omega (arith, cause.rightly.current))
+not_stuck_by_no_version cause = absurd (omega (arith, cause.1.rightly.current))
 
 not_stuck_seeking_once_decided : HasCause open_net decided (seeking 1) → ⊥
 unfolding decision_of
@@ -143,11 +143,11 @@ not_stuck_on_another_leg : StrongCause open_net decided
 unfolding decision_of
 not_stuck_on_another_leg cause =
     let own : Decision = record { version = 1; rule = Some 100; action = Out 2 } in
-    let decision = cause.stuck.own_leg.0 in
-    let is : Some own ≡ Some decision = cause.stuck.own_leg.1 in
+    let decision = cause.1.stuck.own_leg.0 in
+    let is : Some own ≡ Some decision = cause.1.stuck.own_leg.1 in
     let same : own ≡ decision = cc in
     let by : Out 2 ≡ decision.action = ap (λ (d : Decision). d.action) same in
-    let out : decision.action ≡ Out 1 = cause.stuck.own_leg.2 in
+    let out : decision.action ≡ Out 1 = cause.1.stuck.own_leg.2 in
     absurd cc
 
 -- ---- packets that are stuck, though their switch knows a way: no cause of either sort
@@ -192,7 +192,7 @@ not_with_another_header : StrongCause open_net (item.Row 1 (Packet 0 one) ∷ []
     (item.Entered 1 0 other) → ⊥
 unfolding present_step
 not_with_another_header cause =
-    let row : Some (Packet 0 one) ≡ Some (Packet 0 other) = cause.0.row in
+    let row : Some (Packet 0 one) ≡ Some (Packet 0 other) = cause.0.0.row in
     let same : one ≡ other = cc in
     let apart : number_of one ≡ number_of other = ap number_of same in
     absurd (omega (arith, apart))
@@ -201,26 +201,26 @@ not_with_another_header cause =
 not_at_another_switch : StrongCause open_net (item.Row 1 (Packet 0 one) ∷ [])
     (item.Entered 1 1 one) → ⊥
 unfolding present_step
-not_at_another_switch cause = let row = cause.0.row in absurd cc
+not_at_another_switch cause = let row = cause.0.0.row in absurd cc
 
 -- in the row of no packet
 not_in_another_row : StrongCause open_net (item.Row 1 (Deliver 7) ∷ [])
     (item.Entered 1 0 one) → ⊥
 unfolding present_step
-not_in_another_row cause = let row = cause.0.row in absurd cc
+not_in_another_row cause = let row = cause.0.0.row in absurd cc
 
 -- at a switch that is down
 not_at_one_that_is_down : StrongCause open_net
     (item.Row 1 (Crash 0) ∷ item.Down 0 ∷ item.Row 2 (Packet 0 one) ∷ [])
     (item.Entered 1 0 one) → ⊥
 unfolding serves
-not_at_one_that_is_down cause = let served : false ≡ true = cause.1 in absurd cc
+not_at_one_that_is_down cause = let served : false ≡ true = cause.0.1 in absurd cc
 
 -- or is refused where the switch serves
 not_refused_where_served : StrongCause open_net (item.Row 1 (Packet 0 one) ∷ [])
     (item.Closed 1 0) → ⊥
 unfolding serves
-not_refused_where_served cause = let closed : true ≡ false = cause.1 in absurd cc
+not_refused_where_served cause = let closed : true ≡ false = cause.0.1 in absurd cc
 
 -- ---- packets on their way
 
@@ -238,7 +238,7 @@ hops_over_usable setting before packet s next moves at =
 not_hopped_where_no_link_leads : StrongCause line_of_three leap (item.Hopped 1 2) → ⊥
 unfolding near standing has mask_of mask_where switches is_link_up serves
 not_hopped_where_no_link_leads cause =
-    let usable : false ≡ true = hops_over_usable line_of_three leap 1 0 2 cause cause.at.stands in
+    let usable : false ≡ true = hops_over_usable line_of_three leap 1 0 2 cause.0 cause.0.at.stands in
     absurd cc
 
 not_found_down_where_no_link_is : HasCause line_of_three leap (item.FoundDown 1 0 2) → ⊥
@@ -253,7 +253,7 @@ failing = item.Row 1 (Packet 0 one) ∷ item.Entered 1 0 one ∷ item.Seeking 1 
 not_hopped_over_a_failed_link : StrongCause open_net failing (item.Hopped 1 1) → ⊥
 unfolding near standing has mask_of mask_where switches is_link_up serves
 not_hopped_over_a_failed_link cause =
-    let usable : false ≡ true = hops_over_usable open_net failing 1 0 1 cause cause.at.stands in
+    let usable : false ≡ true = hops_over_usable open_net failing 1 0 1 cause.0 cause.0.at.stands in
     absurd cc
 
 -- ---- what fails
@@ -294,7 +294,7 @@ not_hopped_off_its_route : StrongCause ring
     (item.Hopped 1 2) → ⊥
 unfolding next_switch route_in route_place
 not_hopped_off_its_route cause =
-    let next : ◌≡◌ {A = Option ℕ} (Some 1) (Some 2) = cause.goes_on in absurd cc
+    let next : ◌≡◌ {A = Option ℕ} (Some 1) (Some 2) = cause.0.goes_on in absurd cc
 
 -- ---- decisions and losses
 
@@ -302,7 +302,7 @@ not_hopped_off_its_route cause =
 not_decided_by_a_version_to_come : StrongCause open_net to_come
     (item.Decided 1 2 (Some 100) Drop (Authority 0 0)) → ⊥
 unfolding current_mark
-not_decided_by_a_version_to_come cause = absurd (omega (arith, cause.current))
+not_decided_by_a_version_to_come cause = absurd (omega (arith, cause.1.current))
 
 -- in the row of a crash that didn't happen
 abbrev uncrashed : List Item
@@ -314,7 +314,7 @@ lost_has_cause = inr (record { switch = 0; crashes = refl; stands = refl })
 
 not_lost_without_a_crash : StrongCause open_net uncrashed (item.Lost 1) → ⊥
 unfolding present_step is_up standing
-not_lost_without_a_crash cause = by_how cause.how
+not_lost_without_a_crash cause = by_how cause.0.how
   where
     by_how : (present_step uncrashed ≡ Some (Lose 1)) ⊎ IsLostInCrash uncrashed 1 → ⊥
     by_how (inl row) = absurd cc
@@ -329,7 +329,7 @@ not_lost_without_a_crash cause = by_how cause.how
 -- a version of a file that isn't there
 not_submitted_without_a_file : StrongCause open_net (item.Row 1 (Update 7) ∷ [])
     (item.Submitted 7 2) → ⊥
-not_submitted_without_a_file cause = let there : false ≡ true = cause.there in absurd cc
+not_submitted_without_a_file cause = let there : false ≡ true = cause.1.there in absurd cc
 
 -- a mark that isn't below the stamp that each member acknowledged
 not_retired_while_stamped : StrongCause open_net
@@ -337,4 +337,4 @@ not_retired_while_stamped : StrongCause open_net
     (item.Retired 1) → ⊥
 unfolding next_retired acked_stamp is_member is_over known_boot opened_at controller_heard
     current_mark
-not_retired_while_stamped cause = let least : 1 ≡ 0 = cause.least in absurd (omega (arith, least))
+not_retired_while_stamped cause = let least : 1 ≡ 0 = cause.1.least in absurd (omega (arith, least))

@@ -118,12 +118,12 @@ not_looked_up_by_an_older_version : StrongCause open_net
     (item.Entered 1 0 one ∷ item.Seeking 1 2 0 (0 ∷ 1 ∷ []) ∷ item.Hopped 1 1 ∷ [])
     (item.Seeking 1 1 0 (1 ∷ 0 ∷ [])) → ⊥
 unfolding leg_of
-not_looked_up_by_an_older_version causes = omega (arith, causes.0 2 0 refl)
+not_looked_up_by_an_older_version causes = omega (arith, causes.1.0 2 0 refl)
 
 -- a new route over a link that was found down
 not_rerouted_over_a_link_found_down : StrongCause open_net
     (item.Entered 1 0 one ∷ item.Seeking 1 1 0 (0 ∷ 1 ∷ []) ∷ item.FoundDown 1 0 1 ∷ [])
     (item.Rerouted 1 (0 ∷ 1 ∷ [])) → ⊥
 unfolding found_down with_link has_link has
-not_rerouted_over_a_link_found_down avoids =
-    let up : true ≡ false = avoids 0 0 1 refl refl in cc
+not_rerouted_over_a_link_found_down causes =
+    let up : true ≡ false = causes.1 0 0 1 refl refl in cc

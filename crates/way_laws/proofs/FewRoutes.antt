@@ -27,7 +27,7 @@ use Rattle.way_laws.proofs.PacketFacts.{facts_grow}
 use Rattle.way_laws.specs.Hops.{detours, exits, is_detour, is_exit, is_search, routes_taken, searches}
 use Rattle.way_laws.specs.Kept.{AllKept}
 use Rattle.way_laws.specs.Stages.{Blocked, Judged, Stage, stage_of, tells_stage}
-use Rattle.way_laws.specs.StrongCauses.{StrongCause}
+use Rattle.way_laws.specs.StrongCauses.{FindsLinkDown, FurtherCause, StrongCause}
 use Rattle.way_laws.specs.WayCauses.{IsLookedUp, MeetsDown, TakesRoute, WayCause}
 use Rattle.way_laws.proofs.AllKept.{Before, kept_before, known_before, knows}
 use Rattle.way_laws.proofs.Here.{IsHere, decision_in, here_of, leg_in, next_in, seeking_of, some_same}
@@ -129,9 +129,9 @@ is_raised setting before i version partition route known few takes raises =
 -- a link that is found down is one of the network, which the packet didn't find yet
 finds : (setting : Setting) (before : List Item) (i one two : ℕ) → Before setting before
     → IsFewOf setting before i → MeetsDown setting before i one two
-    → StrongCause setting before (item.FoundDown i one two)
+    → FindsLinkDown setting before i one two
     → FindsOne setting.net (what_is_known before i).found one two
-finds setting before i one two known few meets strong =
+finds setting before i one two known few meets down =
     let knows_it : Knows setting before i (stage_of before i) = knows setting before i known in
     let held : PacketFacts = what_is_known before i in
     let here : IsHere setting before i one =
@@ -142,7 +142,7 @@ finds setting before i one two known few meets strong =
     let there : way.under_way.switch ≡ one =
     some_same held.stands way.under_way.switch here.under.switch way.under_way.stands
     here.under.stands ∙ sym here.at in
-    finds_one setting.net held.found one two known.is.net few.turning.set strong.linked
+    finds_one setting.net held.found one two known.is.net few.turning.set down.linked
     (knows_it.kept.avoids here.travelling meets.moving held.hops one two
     (way.stands ∙ ap Some there) (sym (next_in before i) ∙ meets.goes_on))
 
@@ -152,7 +152,7 @@ finds setting before i one two known few meets strong =
 record Premises (setting : Setting) (before : List Item) (next : Item) : Type 0 where
   known : Before setting before
   way : WayCause setting before next
-  strong : StrongCause setting before next
+  further : FurtherCause setting before next
 
 risen : {leg : Option Leg} {searches was current : ℕ} → was ≤ current
     → SearchesAreFew was leg searches → SearchesAreFew current leg searches
@@ -198,7 +198,7 @@ named_few setting before (item.Seeking packet v p route) i current facts more tr
     let same : packet ≡ i = eqb-true packet i e in
     let raised : IsRaised setting before packet v =
     is_raised setting before packet v p route facts.known
-    (subst (IsFewOf setting before) (sym same) few) facts.way facts.strong.0 in
+    (subst (IsFewOf setting before) (sym same) few) facts.way facts.further.0 in
     let above : searches before i + 1 ≤ v =
     subst (λ k. searches before k + 1 ≤ v) same raised.raised in
     rw e (record {
@@ -249,7 +249,7 @@ named_few setting before (item.FoundDown packet one two) i current facts more tr
     let one_less : FindsOne setting.net (what_is_known before i).found one two =
     subst (λ k. FindsOne setting.net (what_is_known before k).found one two) same
     (finds setting before packet one two facts.known
-    (subst (IsFewOf setting before) (sym same) few) facts.way facts.strong) in
+    (subst (IsFewOf setting before) (sym same) few) facts.way facts.further) in
     rw e (record {
       seeking = risen more few.seeking;
       leaving = few.leaving;
@@ -263,7 +263,7 @@ named_few setting before (item.FoundDown packet one two) i current facts more tr
 named_few setting before (item.Decided packet v rule act by) i current facts more true e few =
     let undecided : (what_is_known before i).decision ≡ None =
     decision_in before i None
-    (subst (λ k. decision_of before k ≡ None) (eqb-true packet i e) facts.strong.undecided) in
+    (subst (λ k. decision_of before k ≡ None) (eqb-true packet i e) facts.further.undecided) in
     rw e (record {
       seeking = risen more few.seeking;
       leaving = record { undecided = λ is. absurd cc; exited = few.leaving.exited };
@@ -327,7 +327,7 @@ premises_of : (setting : Setting) (before : List Item) (next : Item) → IsSetti
 premises_of setting before next is both = record {
   known = known_before setting is before next both.first;
   way = both.first.caused.caused.way;
-  strong = both.second;
+  further = both.second.1;
 }
 
 few_at_first : (setting : Setting) → RoutesAreFew setting []

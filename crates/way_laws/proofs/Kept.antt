@@ -1,5 +1,5 @@
 -- Items that have their causes keep each packet on its way.
-use Rattle.std.proofs.Common.{ℕ, ◌≡◌, ◌<◌, ◌≤◌, ◌==◌, ◌&&◌, true, false, Option, Some, None, List, [], ◌∷◌, length, refl, ap, sym, subst, ◌∙◌, arith, inl, inr, ◌⊎◌}
+use Rattle.std.proofs.Common.{rules, ℕ, ◌≡◌, ◌<◌, ◌≤◌, ◌==◌, ◌&&◌, true, false, Option, Some, None, List, [], ◌∷◌, length, refl, ap, sym, subst, ◌∙◌, arith, inl, inr, ◌⊎◌}
 use Rattle.std.specs.Prelude.{All, Contains, IsTrue, is_some, find, option_map, slice_get, unwrap_or}
 use Rattle.std.specs.Option.{option_map_or}
 use Rattle.std.proofs.lemmas.Bool.{and_parts, eqb-true}
@@ -392,26 +392,15 @@ pub entered_after : (setting : Setting) (before : List Item) (i s : ℕ) (header
     (Some CameIn)
 entered_after setting before i s header facts there sound undecided no_leg = record {
   under_way = λ travels. record {
-    entry = record {
-      header = header;
-      ingress = s;
-      entered = refl;
-      sound = sound;
-      came = refl;
-      at_first = there;
-    };
+    entry = search (rules, sound, there);
     place = record { switch = s; stands = refl; now = there };
     mark = omega arith;
   };
   came_in = λ travels is. (undecided, no_leg);
   judged = λ travels is other entered. absurd cc;
-  on_way = λ travels is. absurd_stage is;
+  on_way = λ travels is. grind arith;
   avoids = λ travels is. absurd cc;
 }
-  where
-    absurd_stage : {X : Type 0} → (Some CameIn ≡ Some OnWay) ⊎ (Some CameIn ≡ Some Blocked) → X
-    absurd_stage (inl e) = absurd cc
-    absurd_stage (inr e) = absurd cc
 
 -- ---- decisions
 
@@ -579,10 +568,6 @@ decided_after setting before i mark version rule act by knows right decided =
       judged = λ travels is header entered.
           subst (IsJudged setting before after)
           (some_same facts.header here.under.header header here.under.entered entered) judged;
-      on_way = λ travels is. absurd_stage is;
+      on_way = λ travels is. grind arith;
       avoids = λ travels is. absurd cc;
     }
-  where
-    absurd_stage : {X : Type 0} → (Some Judged ≡ Some OnWay) ⊎ (Some Judged ≡ Some Blocked) → X
-    absurd_stage (inl e) = absurd cc
-    absurd_stage (inr e) = absurd cc

@@ -21,7 +21,7 @@ use Rattle.way_laws.specs.OnWay.{IsOnLeg}
 use Rattle.way_laws.specs.Facts.{PacketFacts, what_is_known}
 use Rattle.way_laws.specs.Kept.{AllKept}
 use Rattle.way_laws.specs.Stages.{stage_of}
-use Rattle.way_laws.specs.StrongCauses.{AvoidsFound, FindsLinkDown, IsDecidedRightly, IsOnRightLeg, IsStuckOnLeg, RaisesVersion, StrongCause}
+use Rattle.way_laws.specs.StrongCauses.{AvoidsFound, FindsLinkDown, FurtherCause, IsOnRightLeg, IsStuckOnLeg, RaisesVersion, SeeksRightly, StrongCause}
 use Rattle.way_laws.specs.WayCauses.{FindsNoRoute, IsBlockedOn, IsDecided, IsLookedUp, MeetsDown, TakesLeg, TakesRoute, WayCause}
 use Rattle.way_laws.proofs.AllKept.{Before, kept_before, known_before, knows}
 use Rattle.way_laws.proofs.Ends.{decision_out, leaves_rightly, mark_in, meets_link, seeks_rightly, stands_known, stuck_rightly}
@@ -66,7 +66,7 @@ stuck_on_leg setting before i s cause leg down knows_it finds = record {
 
 decided_rightly : (setting : Setting) (before : List Item) (i version : ℕ) (rule : Option ℕ)
     (act : Action) (by : How) → Before setting before → IsDecided setting before i version rule act by
-    → IsDecidedRightly setting before i version rule act by
+    → SeeksRightly before i version
 decided_rightly setting before i version rule act by known way =
     let knows_it : Knows setting before i (stage_of before i) = knows setting before i known in
     let s : ℕ = way.switch in
@@ -75,7 +75,6 @@ decided_rightly setting before i version rule act by known way =
     let now : IsDecidedNow setting before i s version rule act here.under.header =
     decided_now setting before i s version rule act by knows_it here (known.kept.cached s) way.by in
     record {
-      decided = way;
       undecided = decision_out before i None
           (undecided_of setting before i s (stage_of before i) knows_it.kept here
           (stage_when before i s version now.when));
@@ -138,43 +137,40 @@ route_avoids setting before i s leg route knows_it leads =
     (route_way setting before s (targets_of setting before leg) (found_down before i) route
     knows_it.links leads).avoids
 
-strong : (setting : Setting) (before : List Item) (next : Item) → Before setting before
+further : (setting : Setting) (before : List Item) (next : Item) → Before setting before
     → HasItemCause setting before next → WayCause setting before next
-    → StrongCause setting before next
-strong setting before (item.Submitted file version) known cause way = cause
-strong setting before (item.Retired version) known cause way = cause
-strong setting before (item.Entered packet switch header) known cause way = way
-strong setting before (item.Closed packet switch) known cause way = way
-strong setting before (item.Seeking packet version partition route) known cause way = (
+    → FurtherCause setting before next
+further setting before (item.Submitted file version) known cause way = cause
+further setting before (item.Retired version) known cause way = cause
+further setting before (item.Seeking packet version partition route) known cause way = (
   raises_version setting before packet version partition route (knows setting before packet known)
       way,
   route_avoids setting before packet way.switch (Seek version partition) route
       (knows setting before packet known) way.leads,
 )
-strong setting before (item.Exiting packet route) known cause way =
+further setting before (item.Exiting packet route) known cause way =
     route_avoids setting before packet way.by.switch (Exit way.port) route
     (knows setting before packet known) way.by.leads
-strong setting before (item.Rerouted packet route) known cause way =
+further setting before (item.Rerouted packet route) known cause way =
     route_avoids setting before packet way.switch way.leg route (knows setting before packet known)
     way.leads
-strong setting before (item.Hopped packet switch) known cause way = way
-strong setting before (item.FoundDown packet one two) known cause way =
+further setting before (item.FoundDown packet one two) known cause way =
     finds_link setting before packet one two (knows setting before packet known) way
-strong setting before (item.Decided packet version rule act by) known cause way =
+further setting before (item.Decided packet version rule act by) known cause way =
     decided_rightly setting before packet version rule act by known way
-strong setting before (item.Left packet port leaving) known cause way =
+further setting before (item.Left packet port leaving) known cause way =
     leaves_rightly setting before packet port leaving (knows setting before packet known) way
-strong setting before (item.Dropped packet) known cause way = way
-strong setting before (item.Lost packet) known cause way = way
-strong setting before (item.Stuck packet switch why leg down) known cause way =
+further setting before (item.Stuck packet switch why leg down) known cause way =
     stuck_on_leg setting before packet switch why leg down (knows setting before packet known) way
-strong setting before next known cause way = tt
+further setting before next known cause way = tt
 
 pub strongly_caused : (setting : Setting) (journal : List Item) → IsSetting setting
     → HaveCauses (IsWayItem setting) [] journal → HaveCauses (StrongCause setting) [] journal
 strongly_caused setting journal is have =
     have_weaker (Behind (Past (IsWayItem setting)) (AllKept setting)) (StrongCause setting)
-    (λ before next behind.
-    strong setting before next (known_before setting is before next behind)
-    behind.caused.caused.switches behind.caused.caused.way) [] journal
+    (λ before next behind. (
+      behind.caused.caused.way,
+      further setting before next (known_before setting is before next behind)
+          behind.caused.caused.switches behind.caused.caused.way,
+    )) [] journal
     (kept_before setting journal is have)

@@ -1,18 +1,14 @@
 -- Causes as strong as a reader may ask. With them a run whose rows are the schedule's keeps the
 -- promise: each packet is decided by one whole version that wasn't retired as it came in, or was
 -- lost by a row, or was stuck where no route was known.
-use Rattle.std.specs.Prelude.{⊤, ℕ, ◌≡◌, ◌<◌, ◌≤◌, Option, Some, None, List, IsTrue, IsFalse}
-use Rattle.five_tuple.specs.declared.header.Header.{Header}
+use Rattle.std.specs.Prelude.{⊤, ℕ, ◌≡◌, ◌<◌, ◌≤◌, Some, None, List}
 use Rattle.policy_rules.specs.declared.packet.Cause.{Cause}
-use Rattle.policy_rules.specs.declared.packet.How.{How}
 use Rattle.policy_rules.specs.declared.packet.Leg.{Leg}
 use Rattle.policy_rules.specs.declared.packet.Leg.TheVariants.{Seek, Exit}
-use Rattle.policy_rules.specs.declared.policy.Action.{Action}
 use Rattle.journal.specs.declared.item.Item.{Item}
 use Rattle.journal.specs.declared.item.Item.TheVariants as item
 use Rattle.steps.specs.Steps.{HasLink}
 use Rattle.update_machine.specs.Adverts.{route_from}
-use Rattle.update_machine.specs.Links.{serves}
 use Rattle.update_machine.specs.Causes.{LeavesRightly}
 use Rattle.update_machine.specs.Marks.{current_mark}
 use Rattle.update_machine.specs.Moves.{cause_at}
@@ -24,7 +20,7 @@ use Rattle.update_machine.specs.ExactCauses.{FindsNextDown, FindsNoPath}
 use Rattle.version_laws.specs.ItemCauses.{RetiresRightly, SubmitsRightly}
 use Rattle.way_laws.specs.Facts.{entry_mark}
 use Rattle.way_laws.specs.Kept.{Avoids}
-use Rattle.way_laws.specs.WayCauses.{IsDecided, IsDroppedHere, IsLostHere, IsOfRow, MovesOver}
+use Rattle.way_laws.specs.WayCauses.{WayCause}
 
 -- a link of the network, from where the packet stands to the next switch of its route, which its
 -- switch can't use
@@ -33,8 +29,8 @@ pub record FindsLinkDown (setting : Setting) (before : List Item) (packet one tw
     pub finds : FindsNextDown setting before packet one two
     pub linked : HasLink setting.net one two
 
--- on its way to an authority the packet is undecided, and its version wasn't retired as it came in
--- and is at most the current one
+-- on its way to an authority, and as it is decided, the packet is undecided, and its version wasn't
+-- retired as it came in and is at most the current one
 pub record SeeksRightly (before : List Item) (packet version : ℕ) : Type 0 where
   pub undecided : decision_of before packet ≡ None
   pub not_retired : entry_mark before packet < version
@@ -54,15 +50,6 @@ pub record IsStuckOnLeg (setting : Setting) (before : List Item) (packet switch 
   pub why : cause ≡ cause_at setting before switch down leg
   pub rightly : IsOnRightLeg before packet leg
 
--- the packet is decided where it stands, by a version that wasn't retired as it came in and is at
--- most the current one
-pub record IsDecidedRightly (setting : Setting) (before : List Item) (packet version : ℕ)
-    (rule : Option ℕ) (action : Action) (how : How) : Type 0 where
-  pub decided : IsDecided setting before packet version rule action how
-  pub undecided : decision_of before packet ≡ None
-  pub not_retired : entry_mark before packet < version
-  pub current : version ≤ current_mark before
-
 -- a lookup on the way raises the version that the packet seeks
 abbrev pub RaisesVersion : List Item → ℕ → ℕ → Type 0
 RaisesVersion before packet version = (earlier partition : ℕ)
@@ -72,27 +59,25 @@ RaisesVersion before packet version = (earlier partition : ℕ)
 abbrev pub AvoidsFound : List Item → ℕ → List ℕ → Type 0
 AvoidsFound before packet route = Avoids (found_down before packet) route
 
-abbrev pub StrongCause : Setting → List Item → Item → Type 0
-StrongCause setting before (item.Submitted file version) =
+-- what is asked of an item beyond its cause
+abbrev pub FurtherCause : Setting → List Item → Item → Type 0
+FurtherCause setting before (item.Submitted file version) =
     SubmitsRightly setting before file version
-StrongCause setting before (item.Retired version) = RetiresRightly setting before version
-StrongCause setting before (item.Entered packet switch header) =
-    IsOfRow before packet switch header × IsTrue (serves before switch)
-StrongCause setting before (item.Closed packet switch) =
-    ((header : Header) × IsOfRow before packet switch header) × IsFalse (serves before switch)
-StrongCause setting before (item.Seeking packet version partition route) =
+FurtherCause setting before (item.Retired version) = RetiresRightly setting before version
+FurtherCause setting before (item.Seeking packet version partition route) =
     RaisesVersion before packet version × AvoidsFound before packet route
-StrongCause setting before (item.Exiting packet route) = AvoidsFound before packet route
-StrongCause setting before (item.Rerouted packet route) = AvoidsFound before packet route
-StrongCause setting before (item.Hopped packet switch) = MovesOver setting before packet switch
-StrongCause setting before (item.FoundDown packet one two) =
+FurtherCause setting before (item.Exiting packet route) = AvoidsFound before packet route
+FurtherCause setting before (item.Rerouted packet route) = AvoidsFound before packet route
+FurtherCause setting before (item.FoundDown packet one two) =
     FindsLinkDown setting before packet one two
-StrongCause setting before (item.Decided packet version rule action how) =
-    IsDecidedRightly setting before packet version rule action how
-StrongCause setting before (item.Left packet port leaving) =
+FurtherCause setting before (item.Decided packet version rule action how) =
+    SeeksRightly before packet version
+FurtherCause setting before (item.Left packet port leaving) =
     LeavesRightly setting before packet port leaving
-StrongCause setting before (item.Dropped packet) = IsDroppedHere before packet
-StrongCause setting before (item.Lost packet) = IsLostHere before packet
-StrongCause setting before (item.Stuck packet switch cause leg down) =
+FurtherCause setting before (item.Stuck packet switch cause leg down) =
     IsStuckOnLeg setting before packet switch cause leg down
-StrongCause setting before _ = ⊤
+FurtherCause setting before _ = ⊤
+
+abbrev pub StrongCause : Setting → List Item → Item → Type 0
+StrongCause setting before next =
+    WayCause setting before next × FurtherCause setting before next
