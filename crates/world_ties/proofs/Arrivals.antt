@@ -15,7 +15,7 @@ use Rattle.journal.specs.declared.item.Item.{Item}
 use Rattle.journal.specs.declared.item.Item.TheVariants as item
 use Rattle.switch_core.specs.Answering.{arrived_on, decided_at, decided_in, looked_up}
 use Rattle.switch_core.specs.Deciding.{place_of_first, part_numbered}
-use Rattle.switch_core.specs.Ends.{Site, around}
+use Rattle.switch_core.specs.Ends.{around}
 use Rattle.switch_core.specs.State.{SwitchValue, held_tables}
 use Rattle.switch_core.specs.declared.answers.Arrived.{Arrived}
 use Rattle.switch_core.specs.declared.answers.Arrived.TheVariants as arrived
@@ -128,9 +128,6 @@ GoesOut targets at (arrived.Answered what) = IsComing targets at what
 
 module _ (setting : Setting) (journal : List Item) (s : ℕ) (w : SwitchValue) (mask : ℕ)
     (ports : Ports) (packet : Packet) (asked : IsAsked setting journal s w mask ports packet) where
-  abbrev site : Site
-  site = around mask ports
-
   abbrev at : Standing
   at = at_switch s packet
 
@@ -171,13 +168,13 @@ module _ (setting : Setting) (journal : List Item) (s : ℕ) (w : SwitchValue) (
             (header_at journal packet.number))) journal
       ]
       ≡ arrived_items (next_message journal) at t
-      (arrived_on w site packet (Seek version partition))
+      (arrived_on w (around mask ports) packet (Seek version partition))
   unfolding decided_in
   sought_law t version partition false missing ours =
       looked_law setting journal s w mask ports packet asked
       ∙ ap (λ (o : Option Tables). arrived_items (next_message journal) at t
-      (arrived.Answered (option_map_or (decided_in w site packet partition) o
-      (looked_up w site packet))))
+      (arrived.Answered (option_map_or (decided_in w (around mask ports) packet partition) o
+      (looked_up w (around mask ports) packet))))
       (sym (asked.sees.tables version
       ∙ ap (λ b. if b then Some (tables_at setting journal version s) else None) missing))
   sought_law t version partition true held ours =
@@ -186,12 +183,12 @@ module _ (setting : Setting) (journal : List Item) (s : ℕ) (w : SwitchValue) (
       (place_in_plan version partition ours)
       ∙ sym (ruled_law setting journal s w mask ports packet asked version partition ours)
       ∙ ap (λ place. arrived_items (next_message journal) at t (arrived.Answered
-      (decided_at w site packet version
+      (decided_at w (around mask ports) packet version
       (part_numbered (tables_at setting journal version s) partition) place)))
       (sym (place_in_tables version partition ours))
       ∙ ap (λ (o : Option Tables). arrived_items (next_message journal) at t
-      (arrived.Answered (option_map_or (decided_in w site packet partition) o
-      (looked_up w site packet))))
+      (arrived.Answered (option_map_or (decided_in w (around mask ports) packet partition) o
+      (looked_up w (around mask ports) packet))))
       (sym (asked.sees.tables version
       ∙ ap (λ b. if b then Some (tables_at setting journal version s) else None) held))
 
@@ -228,7 +225,7 @@ module _ (setting : Setting) (journal : List Item) (s : ℕ) (w : SwitchValue) (
   arrive_comes (Seek version partition) = by_tables (held_tables w version)
     where
       by_tables : (o : Option Tables) → IsComing (targets_of setting journal) at
-          (option_map_or (decided_in w site packet partition) o (looked_up w site packet))
+          (option_map_or (decided_in w (around mask ports) packet partition) o (looked_up w (around mask ports) packet))
       by_tables None = looked_goes setting journal s w mask ports packet asked
       by_tables (Some tables) =
           ruled_goes setting journal s tables.version

@@ -1,5 +1,5 @@
 -- What the bag says of a message, and a message that is forgotten.
-use Rattle.std.proofs.Common.{ℕ, ◌≡◌, Bool, true, false, if◌then◌else◌, Option, Some, None, List, [], ◌∷◌, ◌++◌, refl, ap, sym, subst, ◌∙◌, append_assoc, length}
+use Rattle.std.proofs.Common.{ℕ, ◌≡◌, Bool, true, false, if◌then◌else◌, Option, Some, None, List, [], ◌∷◌, ◌++◌, refl, ap, sym, subst, ◌∙◌, append_assoc, length, rules}
 use Rattle.std.specs.Prelude.{IfSome, IsFalse, not, ◌&&◌, is_some, option_map}
 use Rattle.std.specs.Option.{option_and_then}
 use Rattle.bag.specs.Posts.{IsMessageOf, Post, framed, is_post_deliverable, remembered, with_forgotten}
@@ -97,71 +97,49 @@ unfolding AreTied
 nothing_happens control setting journal switches before count row step tied may uncalled is = (
   is,
   tied_one control control.posts setting journal switches switches before count row step
-      item.Nothing tied (record {
-        may = may;
-        piece_is = is;
-        not_told = (refl, (refl, tt));
-        apart = λ q. (refl, (refl, tt));
-        no_links = (refl, (refl, tt));
-        as_before = refl;
-        as_many = refl;
-        each = switches_stay control setting journal switches before count
-            (item.Row row step ∷ item.Nothing ∷ []) tied (λ q. (refl, (refl, tt)))
-            (λ q. (uncalled q, (refl, tt)));
-        bag = bag_on journal (item.Row row step ∷ item.Nothing ∷ []) control.posts
-            (refl, (refl, tt)) tied.bag;
-      }),
+      item.Nothing tied (search (rules, switches_stay, bag_on)),
 )
 
 -- ---- a message is forgotten
 
-pub forgotten_tied : (control : Control) (setting : Setting) (journal : List Item)
+module _ (control : Control) (setting : Setting) (journal : List Item)
     (switches : List SwitchValue) (before : Travellers) (count row n : ℕ)
-    → AreTied setting journal switches before count control → IsStep setting.net (length setting.policies) (Forget n)
-    → is_post_deliverable control.posts n ≡ true
-    → (piece setting journal row (Forget n)
-    ≡ item.Row row (Forget n) ∷ item.Forgotten n ∷ [])
-    × AreTied setting (grown journal row (Forget n) (item.Forgotten n)) switches before count
-    (record control { posts = with_forgotten control.posts n })
-unfolding AreTied
-forgotten_tied control setting journal switches before count row n tied may there =
-    let rowed : List Item = journal ++ item.Row row (Forget n) ∷ [] in
-    let is : piece setting journal row (Forget n)
-    ≡ item.Row row (Forget n) ∷ item.Forgotten n ∷ [] =
-    forget_piece setting journal row n
-    ∙ ap (λ b. item.Row row (Forget n) ∷ (if b then item.Forgotten n ∷ [] else nothing))
-    (deliverable_as journal control.posts n tied.bag ∙ there) in (
-      is,
-      tied_one control (with_forgotten control.posts n) setting journal switches
-          switches before count row (Forget n) (item.Forgotten n) tied (record {
-            may = may;
-            piece_is = is;
-            not_told = (refl, (refl, tt));
-            apart = λ q. (refl, (refl, tt));
-            no_links = (refl, (refl, tt));
-            as_before = refl;
-            as_many = refl;
-            each = switches_stay control setting journal switches before count
-                (item.Row row (Forget n) ∷ item.Forgotten n ∷ []) tied (λ q. (refl, (refl, tt)))
-                (λ q. (refl, (refl, tt)));
-            bag = subst (λ js. IsBagOf js (with_forgotten control.posts n))
-                (append_assoc journal (item.Row row (Forget n) ∷ []) (item.Forgotten n ∷ []))
-                (bag_forgotten rowed control.posts n (some_within control.posts n there)
-                (bag_on journal (item.Row row (Forget n) ∷ []) control.posts (refl, tt)
-                tied.bag));
-          }),
-    )
+    (tied : AreTied setting journal switches before count control)
+    (may : IsStep setting.net (length setting.policies) (Forget n)) where
+  abbrev first : Item
+  first = item.Row row (Forget n)
 
--- no such message may be forgotten
-pub unforgotten : (control : Control) (setting : Setting) (journal : List Item)
-    (switches : List SwitchValue) (before : Travellers) (count row n : ℕ)
-    → AreTied setting journal switches before count control → IsStep setting.net (length setting.policies) (Forget n)
-    → is_post_deliverable control.posts n ≡ false
-    → (piece setting journal row (Forget n) ≡ item.Row row (Forget n) ∷ nothing)
-    × AreTied setting (grown journal row (Forget n) item.Nothing) switches before count control
-unfolding AreTied
-unforgotten control setting journal switches before count row n tied may none =
-    nothing_happens control setting journal switches before count row (Forget n) tied may
-    (λ q. refl) (forget_piece setting journal row n
-    ∙ ap (λ b. item.Row row (Forget n) ∷ (if b then item.Forgotten n ∷ [] else nothing))
-    (deliverable_as journal control.posts n tied.bag ∙ none))
+  abbrev one : Item
+  one = item.Forgotten n
+
+  -- by whether the bag has it
+  piece_by : (b : Bool) → is_post_deliverable control.posts n ≡ b
+      → piece setting journal row (Forget n) ≡ first ∷ (if b then one ∷ [] else nothing)
+  unfolding AreTied
+  piece_by b is = forget_piece setting journal row n
+      ∙ ap (λ c. first ∷ (if c then one ∷ [] else nothing))
+      (deliverable_as journal control.posts n tied.bag ∙ is)
+
+  pub forgotten_tied : is_post_deliverable control.posts n ≡ true
+      → (piece setting journal row (Forget n) ≡ first ∷ one ∷ [])
+      × AreTied setting (grown journal row (Forget n) one) switches before count
+      (record control { posts = with_forgotten control.posts n })
+  unfolding AreTied
+  forgotten_tied there =
+      let is = piece_by true there in
+      let bag = subst (λ js. IsBagOf js (with_forgotten control.posts n))
+      (append_assoc journal (first ∷ []) (one ∷ []))
+      (bag_forgotten (journal ++ first ∷ []) control.posts n (some_within control.posts n there)
+      (bag_on journal (first ∷ []) control.posts (refl, tt) tied.bag)) in (
+        is,
+        tied_one control (with_forgotten control.posts n) setting journal switches
+            switches before count row (Forget n) one tied (search (rules, switches_stay)),
+      )
+
+  -- no such message may be forgotten
+  pub unforgotten : is_post_deliverable control.posts n ≡ false
+      → (piece setting journal row (Forget n) ≡ first ∷ nothing)
+      × AreTied setting (grown journal row (Forget n) item.Nothing) switches before count control
+  unforgotten none =
+      nothing_happens control setting journal switches before count row (Forget n) tied may
+      (λ q. refl) (piece_by false none)

@@ -1,5 +1,5 @@
 -- A cached rule times out.
-use Rattle.std.proofs.Common.{ℕ, zero, suc, ◌≡◌, ◌<◌, ◌==◌, false, Option, Some, None, List, [], ◌∷◌, ◌++◌, refl, ap, sym, ◌∙◌, length, get_or, set, append_assoc}
+use Rattle.std.proofs.Common.{ℕ, zero, suc, ◌≡◌, ◌<◌, ◌==◌, false, Option, Some, None, List, [], ◌∷◌, ◌++◌, refl, ap, sym, ◌∙◌, length, get_or, set, append_assoc, rules}
 use Rattle.std.specs.Prelude.{◌||◌, option_map, remove, slice_get}
 use Rattle.std.proofs.lemmas.List.{length-set}
 use Rattle.journal.specs.declared.item.Item.{Item}
@@ -119,31 +119,10 @@ expired_writes : (control : Control) (setting : Setting) (journal : List Item)
     ≡ switch_of setting (grown journal row (Expire s place) (expired_item s place found)) q)
     → WritesOne setting journal row (Expire s place) (expired_item s place found) switches
     (set switches s changed) control.posts
-expired_writes control setting journal switches row s place changed None may bag is each = record {
-  may = may;
-  piece_is = is;
-  not_told = (refl, (refl, tt));
-  apart = λ q. (refl, (refl, tt));
-  no_links = (refl, (refl, tt));
-  as_before = refl;
-  as_many = length-set switches s changed;
-  each = each;
-  bag = bag_on journal (item.Row row (Expire s place) ∷ item.Nothing ∷ []) control.posts
-      (refl, (refl, tt)) bag;
-}
-expired_writes control setting journal switches row s place changed (Some message) may bag is each
-    = record {
-      may = may;
-      piece_is = is;
-      not_told = (refl, (refl, tt));
-      apart = λ q. (refl, (refl, tt));
-      no_links = (refl, (refl, tt));
-      as_before = refl;
-      as_many = length-set switches s changed;
-      each = each;
-      bag = bag_on journal (item.Row row (Expire s place) ∷ item.Expired s place message ∷ [])
-          control.posts (refl, (refl, tt)) bag;
-    }
+expired_writes control setting journal switches row s place changed None may bag is each =
+    search (rules, bag_on, length-set)
+expired_writes control setting journal switches row s place changed (Some message) may bag is each =
+    search (rules, bag_on, length-set)
 
 pub expired_tied : (control : Control) (setting : Setting) (journal : List Item)
     (switches : List SwitchValue) (before : Travellers) (count row s place : ℕ)

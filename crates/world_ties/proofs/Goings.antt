@@ -37,11 +37,11 @@ use Rattle.update_machine.specs.Setting.{Setting}
 use Rattle.update_machine.specs.Versions.{stamp_of, tables_at}
 use Rattle.way_laws.specs.OnWay.{IsUnknown}
 use Rattle.way_laws.specs.Facts.{PacketFacts, facts_after}
-use Rattle.way_laws.proofs.Lookups.{FindsTargets, IsStamped, redirect_found, stamped}
+use Rattle.way_laws.proofs.Lookups.{FindsTargets, redirect_found}
 use Rattle.world_log.specs.Writing.{answer_items, answer_traveller, cache_message, entered_items, entered_traveller, messages_in}
 use Rattle.travelling.specs.Travelling.{Standing}
 use Rattle.world_ties.proofs.Legs.{at_switch}
-use Rattle.world_ties.proofs.Looking.{IsAsked, targets_are}
+use Rattle.world_ties.proofs.Looking.{IsAsked, targets_are, its_stamp}
 use Rattle.world_ties.proofs.Others.{sends_unnamed}
 use Rattle.world_ties.proofs.Own.{GoesOnward, IsSeen, decided_goes}
 use Rattle.world_ties.proofs.FactsAlong.{Targets, traveller_by, facts_along}
@@ -158,10 +158,9 @@ module _ (setting : Setting) (journal : List Item) (s : ℕ) (w : SwitchValue) (
       (part_numbered (tables_at setting journal (stamp_of journal s) s) partition) asked.owners
   found_goes (found.Redirect partition to) answer =
       let version : ℕ = stamp_of journal s in
-      let stamp : IsStamped setting journal s =
-      stamped setting journal s asked.is asked.caused asked.there asked.serving in
       let own : FindsTargets setting journal s packet.header partition to =
-      redirect_found setting journal s packet.header partition to stamp asked.sound answer in
+      redirect_found setting journal s packet.header partition to
+      (its_stamp setting journal s w mask ports packet asked) asked.sound answer in
       seek_goes leads packet s version partition to
       (cause_of w mask packet.down (Seek version partition) to)
       (route_of w.database w.number to mask packet.down)

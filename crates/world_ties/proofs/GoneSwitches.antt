@@ -1,6 +1,6 @@
 -- A switch that is down is confirmed to be gone: what is written then, and what the parts are
 -- behind it.
-use Rattle.std.proofs.Common.{ℕ, ◌≡◌, ◌+◌, ◌<◌, true, false, List, [], ◌∷◌, ◌++◌, refl, ap, sym, ◌∙◌, length, get_or}
+use Rattle.std.proofs.Common.{ℕ, ◌≡◌, ◌+◌, ◌<◌, true, false, List, [], ◌∷◌, ◌++◌, refl, ap, sym, ◌∙◌, length, get_or, rules}
 use Rattle.world_ties.specs.Written.{AreWritten}
 use Rattle.world_ties.proofs.Calls.{confirms}
 use Rattle.controller.specs.Controller.{ControllerValue, SettlesWith}
@@ -11,7 +11,6 @@ use Rattle.journal.specs.declared.item.Item.TheVariants as item
 use Rattle.steps.specs.declared.step.Step.TheVariants.{Confirm}
 use Rattle.switch_core.specs.State.{SwitchValue}
 use Rattle.switch_ties.specs.SwitchOf.{switch_of}
-use Rattle.switch_ties.proofs.Links.{kept_is}
 use Rattle.update_machine.specs.Boots.{is_up}
 use Rattle.update_machine.specs.Moves.{put}
 use Rattle.update_machine.specs.Pieces.{confirm_items, nothing, piece}
@@ -32,7 +31,7 @@ use Rattle.world_ties.proofs.OneItem.{grown}
 use Rattle.world_ties.proofs.Posting.{bag_on}
 use Rattle.world_ties.proofs.Switches.{switch_is, switch_known}
 use Rattle.world_ties.proofs.Told.{tied_told}
-use Rattle.world_ties.proofs.Tying.{links_stay, up_stay}
+use Rattle.world_ties.proofs.Tying.{links_stay, switches_stay, up_stay}
 use Rattle.world_ties.proofs.Sendable.{may_note}
 
 -- a switch is up as the journal says
@@ -96,21 +95,8 @@ module _ (control : Control) (setting : Setting) (journal : List Item)
         (record control { controller = new; posts = control.posts ++ act_posts acts })
     unfolding AreTied
     gone_tied = tied_told control (record control { controller = new }) setting journal
-        switches switches before count row (Confirm s) (item.OverNow s ∷ []) acts tied (record {
-          may = may;
-          piece_is = gone_piece;
-          packet = λ i. (refl, (refl, tt));
-          packets = (refl, (refl, tt));
-          as_many = refl;
-          each = λ q d below. tied.each q d below
-              ∙ sym (kept_is setting q journal first (refl, (refl, tt)) (refl, (refl, tt)));
-          bag = bag_behind;
-          number = refl;
-          controller = confirms_so.after;
-          up = up_stay control setting journal switches before count first tied (refl, (refl, tt));
-          usable = links_stay control setting journal switches before count first tied
-              (refl, (refl, tt));
-        })
+        switches switches before count row (Confirm s) (item.OverNow s ∷ []) acts tied
+        (search (rules, gone_piece, bag_behind, confirms_so, switches_stay, links_stay, up_stay))
 
     pub gone_may : length control.posts < 990_000 → MayNote control.posts acts
     gone_may = may_note control setting journal switches before count row (Confirm s)

@@ -293,96 +293,88 @@ known_as here after s known next stays is boot phase version acked stamp = recor
   stamp = stamp;
 }
 
+-- the journal behind the message that is heard
+abbrev behind_delivery : List Item → ℕ → List Item
+behind_delivery here n = here ++ delivered n ∷ []
+
 installed_known : (here : List Item) (n s boot v : ℕ) (known : SwitchRecord) → 1 ≤ v
     → said_to_controller here n ≡ Some (Installed s boot v) → IsKnown here s known
     → IsKnown (here ++ delivered n ∷ []) s (after_installed boot v known)
 installed_known here n s boot v known there said is = by_taken (takes_installed boot known) refl
   where
-    after : List Item
-    after = here ++ delivered n ∷ []
-
-    body : Body
-    body = Installed s boot v
-
-    stays : AckStays here after s
-    stays = ack_stays here n s body said refl
+    stays : AckStays here (behind_delivery here n) s
+    stays = ack_stays here n s (Installed s boot v) said refl
 
     by_own : (b : Bool) (w : ℕ) → (b && w == v)
         ≡ list_any (nat_eq w) (option_to_list (if b then Some v else None))
     by_own true w = sym (or-false (w == v))
     by_own false w = refl
 
-    acked : (b : Bool) → takes_installed boot known ≡ b → IsFalse (machine.is_over after s)
+    acked : (b : Bool) → takes_installed boot known ≡ b → IsFalse (machine.is_over (behind_delivery here n) s)
         → (w : ℕ) → 1 ≤ w
         → has_acked (if b then record known { acked = bit_or known.acked (2 ^ (v - 1)) }
-        else known) w ≡ machine.has_acked after s w
+        else known) w ≡ machine.has_acked (behind_delivery here n) s w
     acked b e none w low =
         let here_none : machine.is_over here s ≡ false = sym stays.over ∙ none in
         let not_over : not (is_over known.phase) ≡ true = ap not (is.over ∙ here_none) in
         subst (λ c. has_acked (if c then record known { acked = bit_or known.acked (2 ^ (v - 1)) }
-        else known) w ≡ machine.has_acked after s w) e
+        else known) w ≡ machine.has_acked (behind_delivery here n) s w) e
         (installed_acked boot v w known there low
         ∙ ap (λ c. c || (takes_installed boot known && w == v)) (is.acked here_none w low)
         ∙ ap (λ c. machine.has_acked here s w || (c && w == v))
         (own_boot here s boot known (not (is_over known.phase)) is.boot not_over)
         ∙ ap (λ c. machine.has_acked here s w || c)
         (by_own (s == s && boot == known_boot here s) w)
-        ∙ sym (acked_told here n s w body said stays.boot))
+        ∙ sym (acked_told here n s w (Installed s boot v) said stays.boot))
 
-    stamp : IsTrue (machine.is_member after s) → known.acked_stamp ≡ acked_stamp after s
-    stamp now = is.stamp (sym stays.member ∙ now) ∙ sym (stamp_told here n s body said stays.boot)
+    stamp : IsTrue (machine.is_member (behind_delivery here n) s) → known.acked_stamp ≡ acked_stamp (behind_delivery here n) s
+    stamp now = is.stamp (sym stays.member ∙ now) ∙ sym (stamp_told here n s (Installed s boot v) said stays.boot)
 
-    by_taken : (b : Bool) → takes_installed boot known ≡ b → IsKnown after s
+    by_taken : (b : Bool) → takes_installed boot known ≡ b → IsKnown (behind_delivery here n) s
         (if b then record known { acked = bit_or known.acked (2 ^ (v - 1)) } else known)
     by_taken true e =
-        known_as here after s known (record known { acked = bit_or known.acked (2 ^ (v - 1)) })
+        known_as here (behind_delivery here n) s known (record known { acked = bit_or known.acked (2 ^ (v - 1)) })
         stays is refl refl refl (acked true e) stamp
     by_taken false e =
-        known_as here after s known known stays is refl refl refl (acked false e) stamp
+        known_as here (behind_delivery here n) s known known stays is refl refl refl (acked false e) stamp
 
 stamped_known : (here : List Item) (n s boot v : ℕ) (known : SwitchRecord)
     → said_to_controller here n ≡ Some (Stamped s boot v) → IsKnown here s known
     → IsKnown (here ++ delivered n ∷ []) s (after_stamped boot v known)
 stamped_known here n s boot v known said is = by_taken (takes_stamped boot known) refl
   where
-    after : List Item
-    after = here ++ delivered n ∷ []
+    stays : AckStays here (behind_delivery here n) s
+    stays = ack_stays here n s (Stamped s boot v) said refl
 
-    body : Body
-    body = Stamped s boot v
-
-    stays : AckStays here after s
-    stays = ack_stays here n s body said refl
-
-    acked : IsFalse (machine.is_over after s) → (w : ℕ) → 1 ≤ w
-        → has_acked known w ≡ machine.has_acked after s w
+    acked : IsFalse (machine.is_over (behind_delivery here n) s) → (w : ℕ) → 1 ≤ w
+        → has_acked known w ≡ machine.has_acked (behind_delivery here n) s w
     acked none w low = is.acked (sym stays.over ∙ none) w low
-        ∙ sym (acked_told here n s w body said stays.boot ∙ or-false (machine.has_acked here s w))
+        ∙ sym (acked_told here n s w (Stamped s boot v) said stays.boot ∙ or-false (machine.has_acked here s w))
 
     by_own : (b : Bool) (a : ℕ) → (if b then max a v else a)
         ≡ fold max a (option_to_list (if b then Some v else None))
     by_own true a = refl
     by_own false a = refl
 
-    stamp : (b : Bool) → takes_stamped boot known ≡ b → IsTrue (machine.is_member after s)
-        → (if b then max known.acked_stamp v else known.acked_stamp) ≡ acked_stamp after s
+    stamp : (b : Bool) → takes_stamped boot known ≡ b → IsTrue (machine.is_member (behind_delivery here n) s)
+        → (if b then max known.acked_stamp v else known.acked_stamp) ≡ acked_stamp (behind_delivery here n) s
     stamp b e now =
         let here_member : machine.is_member here s ≡ true = sym stays.member ∙ now in
         subst (λ c. (if c then max known.acked_stamp v else known.acked_stamp)
-        ≡ acked_stamp after s) e
+        ≡ acked_stamp (behind_delivery here n) s) e
         (ap (λ a. if takes_stamped boot known then max a v else a) (is.stamp here_member)
         ∙ ap (λ c. if c then max (acked_stamp here s) v else acked_stamp here s)
         (own_boot here s boot known (is_member known.phase) is.boot (is.member ∙ here_member))
         ∙ by_own (s == s && boot == known_boot here s) (acked_stamp here s)
-        ∙ sym (stamp_told here n s body said stays.boot))
+        ∙ sym (stamp_told here n s (Stamped s boot v) said stays.boot))
 
-    by_taken : (b : Bool) → takes_stamped boot known ≡ b → IsKnown after s
+    by_taken : (b : Bool) → takes_stamped boot known ≡ b → IsKnown (behind_delivery here n) s
         (if b then record known { acked_stamp = max known.acked_stamp v } else known)
     by_taken true e =
-        known_as here after s known (record known { acked_stamp = max known.acked_stamp v })
+        known_as here (behind_delivery here n) s known (record known { acked_stamp = max known.acked_stamp v })
         stays is refl refl refl acked (stamp true e)
     by_taken false e =
-        known_as here after s known known stays is refl refl refl acked (stamp false e)
+        known_as here (behind_delivery here n) s known known stays is refl refl refl acked (stamp false e)
 
 -- ---- all marks
 

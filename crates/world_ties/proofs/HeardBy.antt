@@ -1,5 +1,5 @@
 -- A message that is delivered is heard: what is written then, and what the parts are behind it.
-use Rattle.std.proofs.Common.{ℕ, ◌≡◌, ◌+◌, ◌<◌, ◌==◌, Bool, true, false, Some, None, List, [], ◌∷◌, ◌++◌, refl, ap, sym, subst, ◌∙◌, length, get_or, map, set, append_assoc}
+use Rattle.std.proofs.Common.{ℕ, ◌≡◌, ◌+◌, ◌<◌, ◌==◌, Bool, true, false, Some, None, List, [], ◌∷◌, ◌++◌, refl, ap, sym, subst, ◌∙◌, length, get_or, map, set, append_assoc, rules}
 use Rattle.std.specs.Prelude.{is_some, ◌||◌}
 use Rattle.std.specs.Option.{option_map_or}
 use Rattle.std.proofs.lemmas.List.{length-set}
@@ -198,21 +198,12 @@ module _ (control : Control) (setting : Setting) (journal : List Item)
         posts = with_delivered control.posts n;
       })
   unfolding AreTied
-  control_told = record {
-    may = may;
-    piece_is = control_piece;
-    packet = λ i. (refl, (refl, tt));
-    packets = (refl, (refl, tt));
-    as_many = refl;
-    each = λ s d below. tied.each s d below
-        ∙ sym (not_to setting journal row n s message its.sent (ap (is_to_switch s) to));
-    bag = its.bag;
-    number = its.as_many;
-    controller = heard_so.after;
-    up = up_stay control setting journal switches before count first tied (refl, (refl, tt));
-    usable = links_stay control setting journal switches before count first tied
-        (refl, (refl, tt));
-  }
+  control_told =
+      let each : (s : ℕ) (d : SwitchValue) → s < length switches → get_or switches s d
+      ≡ switch_of setting (grown journal row (Deliver n) (item.Delivered n)) s =
+      λ s d below. tied.each s d below
+      ∙ sym (not_to setting journal row n s message its.sent (ap (is_to_switch s) to)) in
+      search (rules, control_piece, its.bag, its.as_many, heard_so.after, links_stay, up_stay)
 
   pub control_tied : AreTied setting (journal ++ item.Row row (Deliver n) ∷ item.Delivered n
       ∷ act_items (length control.posts + 1) acts) switches before count
@@ -294,27 +285,17 @@ module _ (control : Control) (setting : Setting) (journal : List Item)
       (set switches s changed) control
       (record control { posts = with_delivered control.posts n })
   unfolding AreTied
-  shut_told = record {
-    may = may;
-    piece_is = shut_piece_acts;
-    packet = λ i. (refl, (refl, tt));
-    packets = (refl, (refl, tt));
-    as_many = length-set switches s changed;
-    each = λ q d below.
-        one_changes setting journal (grown journal row (Deliver n) (item.Delivered n)) switches s q
-        changed d (s == q) refl within
-        (changed_is ∙ ap (λ w. with_message w n message.body) own_is ∙ sym (hears_shut.record_of row))
-        (λ other. not_to setting journal row n q message mine.sent
-        (ap (is_to_switch q) to ∙ other)) (tied.each q d below);
-    bag = mine.bag;
-    number = mine.as_many;
-    controller = steps_leave setting journal row (Deliver n) control.controller
-        (reached_known setting journal tied.sound tied.reached).caused not_controller tied.controller;
-    up = up_stay control setting journal switches before count
-        (item.Row row (Deliver n) ∷ item.Delivered n ∷ []) tied (refl, (refl, tt));
-    usable = links_stay control setting journal switches before count
-        (item.Row row (Deliver n) ∷ item.Delivered n ∷ []) tied (refl, (refl, tt));
-  }
+  shut_told =
+      let each : (q : ℕ) (d : SwitchValue) → q < length switches → get_or (set switches s changed) q d
+      ≡ switch_of setting (grown journal row (Deliver n) (item.Delivered n)) q = λ q d below.
+      one_changes setting journal (grown journal row (Deliver n) (item.Delivered n)) switches s q
+      changed d (s == q) refl within
+      (changed_is ∙ ap (λ w. with_message w n message.body) own_is ∙ sym (hears_shut.record_of row))
+      (λ other. not_to setting journal row n q message mine.sent
+      (ap (is_to_switch q) to ∙ other)) (tied.each q d below) in
+      let controller = steps_leave setting journal row (Deliver n) control.controller
+      (reached_known setting journal tied.sound tied.reached).caused not_controller tied.controller in
+      search (rules, shut_piece_acts, mine.bag, mine.as_many, length-set, links_stay, up_stay)
 
   pub shut_piece : piece setting journal row (Deliver n)
       ≡ item.Row row (Deliver n) ∷ item.Delivered n ∷ sent_from (length control.posts + 1) messages

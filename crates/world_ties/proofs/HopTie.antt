@@ -9,7 +9,6 @@ use Rattle.net_file.specs.declared.ports.Ports.{Ports}
 use Rattle.steps.specs.declared.step.Step.TheVariants.{Hop}
 use Rattle.switch_core.specs.Moving.{hopped}
 use Rattle.switch_core.specs.State.{SwitchValue, call_counted}
-use Rattle.switch_core.specs.declared.answers.HopEnd.{HopEnd}
 use Rattle.switch_ties.specs.SwitchOf.{switch_of}
 use Rattle.update_machine.specs.Messages.{next_message}
 use Rattle.update_machine.specs.Packets.{standing}
@@ -39,23 +38,17 @@ module _ (control : Control) (setting : Setting) (journal : List Item)
     (s near : ℕ) (w : SwitchValue) (ports : Ports)
     (tied : AreTied setting journal switches before count control)
     (may : IsStep setting.net (length setting.policies) (Hop i)) (can : CanAsk setting journal i t s near w ports) where
-  abbrev number : ℕ
-  number = next_message journal
-
   abbrev items : List Item
-  items = hop_written number w near ports t
+  items = hop_written (next_message journal) w near ports t
 
   abbrev all : List Item
   all = item.Row row (Hop i) ∷ items
 
-  abbrev end : HopEnd
-  end = (hopped w near t.tunnel).end
-
   knows : Known setting journal
   knows = known_of control setting journal switches before count tied
 
-  sends : SendFrom number items
-  sends = (hop_sends number w near ports t).0
+  sends : SendFrom (next_message journal) items
+  sends = (hop_sends (next_message journal) w near ports t).0
 
   -- and all packets
   travels_then : (after : Travellers) → WithOne before i (hop_traveller w near ports t) after
@@ -89,7 +82,7 @@ module _ (control : Control) (setting : Setting) (journal : List Item)
     each = λ k d within.
         one_changes setting journal (journal ++ all) switches s k (hopped_switch w near t) d
         (s == k) refl there
-        (ap (λ (u : SwitchValue). ended_switch (call_counted u) end) own
+        (ap (λ (u : SwitchValue). ended_switch (call_counted u) (hopped w near t.tunnel).end) own
         ∙ sym (hop_called setting journal row i t s near w ports can s true (eq-eqb s s refl)))
         (hop_called setting journal row i t s near w ports can k false) (each k d within);
     travels = λ q. travels_then after with q (packets q);
@@ -112,7 +105,7 @@ module _ (control : Control) (setting : Setting) (journal : List Item)
       row (Hop i) items tied
       (steps_of after with there own (packets_are control setting journal switches before count tied)
       (switches_are control setting journal switches before count tied))
-      (omega (arith, hop_packets row i items (hop_later number w near ports t))) in
+      (omega (arith, hop_packets row i items (hop_later (next_message journal) w near ports t))) in
       subst (λ n. AreTied setting (journal ++ item.Row row (Hop i) ∷ hop_written n w near ports t)
       (set switches s other) after count
       (record control { posts = control.posts ++ hop_posts w near ports t }))
@@ -120,7 +113,7 @@ module _ (control : Control) (setting : Setting) (journal : List Item)
       (subst (λ u. AreTied setting (journal ++ all) (set switches s u) after count
       (record control { posts = control.posts ++ hop_posts w near ports t })) (sym answered)
       (subst (λ more. AreTied setting (journal ++ all) (set switches s last) after count
-      (record control { posts = control.posts ++ more })) (hop_sends number w near ports t).1 kept))
+      (record control { posts = control.posts ++ more })) (hop_sends (next_message journal) w near ports t).1 kept))
 
   -- the piece of a hop, by what its switch is told
   pub hop_piece_of : piece setting journal row (Hop i) ≡ item.Row row (Hop i)

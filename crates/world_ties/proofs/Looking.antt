@@ -93,6 +93,9 @@ module _ (setting : Setting) (journal : List Item) (s : ℕ) (w : SwitchValue) (
   abbrev at : Standing
   at = at_switch s packet
 
+  pub its_stamp : IsStamped setting journal s
+  its_stamp = stamped setting journal s asked.is asked.caused asked.there asked.serving
+
   pub below : s < 64
   below = omega (arith, asked.there, asked.is.net.few_switches)
 
@@ -151,12 +154,10 @@ module _ (setting : Setting) (journal : List Item) (s : ℕ) (w : SwitchValue) (
       cached_law (tables_at setting journal (stamp_of journal s) s) entry
   answer_law (found.Authority partition place) answer =
       let version : ℕ = stamp_of journal s in
-      let stamp : IsStamped setting journal s =
-      stamped setting journal s asked.is asked.caused asked.there asked.serving in
       let own : FindsRule setting journal s packet.header partition place =
-      authority_found setting journal s packet.header partition place stamp asked.sound answer in
+      authority_found setting journal s packet.header partition place its_stamp asked.sound answer in
       let ours : IsOurs setting journal s packet.header version partition = record {
-        planned = stamp.planned;
+        planned = its_stamp.planned;
         placed = own.part.placed;
         finds = own.part.finds;
         number = own.part.number;
@@ -170,10 +171,8 @@ module _ (setting : Setting) (journal : List Item) (s : ℕ) (w : SwitchValue) (
   answer_law (found.Redirect partition targets) answer =
       let version : ℕ = stamp_of journal s in
       let leg : Leg = Seek version partition in
-      let stamp : IsStamped setting journal s =
-      stamped setting journal s asked.is asked.caused asked.there asked.serving in
       let own : FindsTargets setting journal s packet.header partition targets =
-      redirect_found setting journal s packet.header partition targets stamp asked.sound answer in
+      redirect_found setting journal s packet.header partition targets its_stamp asked.sound answer in
       let are : targets_of setting journal leg ≡ targets =
       targets_are setting journal version partition targets own.part.placed own.part.finds.at
       own.part.number own.own in

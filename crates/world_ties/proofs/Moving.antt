@@ -1,5 +1,5 @@
 -- A packet on its way at its switch: what a hop writes, and what becomes of the packet.
-use Rattle.std.proofs.Common.{ℕ, ◌≡◌, ◌+◌, ◌==◌, Bool, true, false, Option, Some, None, List, [], ◌∷◌, ◌++◌, refl, ap, sym, subst, ◌∙◌, eq-eqb}
+use Rattle.std.proofs.Common.{ℕ, ◌≡◌, ◌+◌, ◌==◌, Bool, true, false, Option, Some, None, List, [], ◌∷◌, ◌++◌, refl, ap, sym, subst, ◌∙◌, eq-eqb, rules}
 use Rattle.std.specs.Prelude.{IsTrue, nat_eq, option_map, slice_get, unwrap_or}
 use Rattle.std.specs.List.{list_any}
 use Rattle.failover.specs.Links.{with_link}
@@ -326,15 +326,7 @@ module _ (setting : Setting) (journal : List Item) (row i s : ℕ) (header : Hea
   links_are two b is = ap (λ links. has links two) (sym stays_begun.sees.usable) ∙ is
 
   are_begun : AreNow begun facts facts.found
-  are_begun = record {
-    same = facts_begun;
-    entered = hops.stands.entered;
-    came = hops.stands.came;
-    takes = hops.stands.takes;
-    on = hops.stands.on;
-    decision = refl;
-    marked = refl;
-  }
+  are_begun = search (rules, facts_begun)
 
   -- it is at the end of its route
   arrives : next t.tunnel ≡ None → Outcome s None (moved t.tunnel None)
@@ -356,13 +348,7 @@ module _ (setting : Setting) (journal : List Item) (row i s : ℕ) (header : Hea
           | true ↦ item.Hopped i two ∷ []
           | false ↦ put (item.FoundDown i s two ∷ []) (reroute_items setting i s) begun
         ]) (links_are two true usable),
-    rw (
-      own i,
-      hops.stands.on,
-      hops.stands.entered,
-      hops.stands.came,
-      hops.stands.takes,
-    ) refl,
+    search (rules, own i),
     refl,
   )
 
@@ -471,13 +457,7 @@ module _ (setting : Setting) (journal : List Item) (row i s : ℕ) (header : Hea
     blocked_items two (Some route) goes off is
         ∙ ap (λ o. item.FoundDown i s two ∷ item.Rerouted i route ∷ go_by two route o)
         (next_turned two route ∙ on),
-    rw (
-      own i,
-      hops.stands.on,
-      hops.stands.entered,
-      hops.stands.came,
-      hops.stands.takes,
-    ) refl,
+    search (rules, own i),
     refl,
   )
 
@@ -513,15 +493,7 @@ module _ (setting : Setting) (journal : List Item) (row i s : ℕ) (header : Hea
 
   are_turned : (two : ℕ) (route : List ℕ)
       → AreNow (turned two route) (facts_turned two route) (down two)
-  are_turned two route = record {
-    same = turned_is two route;
-    entered = hops.stands.entered;
-    came = hops.stands.came;
-    takes = hops.stands.takes;
-    on = hops.stands.on;
-    decision = refl;
-    marked = refl;
-  }
+  are_turned two route = search (rules, turned_is)
 
   turned_along : (two : ℕ) (route : List ℕ) (items : List Item)
       → facts_along i begun (item.FoundDown i s two ∷ item.Rerouted i route ∷ items) facts

@@ -5,7 +5,6 @@ use Rattle.ctrl_msg.specs.declared.message.Body.TheVariants.{Installed}
 use Rattle.ctrl_msg.specs.Kinds.{to_controller}
 use Rattle.journal.specs.declared.item.Item.{Item}
 use Rattle.journal.specs.declared.item.Item.TheVariants as item
-use Rattle.update_machine.specs.Boots.{heard}
 use Rattle.update_machine.specs.Causes.{HaveCauses}
 use Rattle.update_machine.specs.Marks.{controller_heard, installed_in, known_boot, said_to_controller}
 use Rattle.update_machine.specs.Setting.{Setting}

@@ -1,6 +1,6 @@
 -- The bag of a world has the frames of the messages that its journal says.
-use Rattle.std.proofs.Common.{ℕ, zero, suc, ◌≡◌, ◌+◌, ◌<◌, ◌≤◌, ◌==◌, Bool, true, false, if◌then◌else◌, Option, Some, None, List, [], ◌∷◌, ◌++◌, refl, ap, sym, subst, ◌∙◌, length, length-append, append-nil, append_assoc, arith, eq-eqb, eqb-true, ne_eqb}
-use Rattle.std.specs.Prelude.{⊤, IsFalse, is_some, nat_lt, option_map, slice_get}
+use Rattle.std.proofs.Common.{ℕ, zero, suc, ◌≡◌, ◌+◌, ◌<◌, ◌≤◌, ◌==◌, Bool, true, false, if◌then◌else◌, Option, Some, None, List, [], ◌∷◌, ◌++◌, refl, ap, sym, subst, ◌∙◌, length, length-append, append-nil, append_assoc, zero-add, arith, eq-eqb, eqb-true, ne_eqb}
+use Rattle.std.specs.Prelude.{⊤, ◌||◌, IsFalse, is_some, nat_lt, option_map, slice_get}
 use Rattle.std.specs.Option.{option_and_then, option_or}
 use Rattle.std.proofs.lemmas.Bool.Decides.{nat_tests}
 use Rattle.std.proofs.lemmas.Option.{slice_get_within}
@@ -49,6 +49,10 @@ bag_on before items posts apart is =
 
 -- ---- one item
 
+-- behind the item the posts are these
+abbrev BagGoesOn : List Item → List Post → Item → List Post → Type 0
+BagGoesOn before posts item after = IsBagOf before posts → IsBagOf (before ++ item ∷ []) after
+
 number_on : (n : ℕ) (before : List Item) (item : Item) → IsFalse (concerns_message n before item)
     → MessageKeeps n before (before ++ item ∷ [])
 number_on n before item apart = message_keeps n before (item ∷ []) (apart, tt)
@@ -64,21 +68,18 @@ unfolding next_message
 sending_one before number message =
     omega (arith, count_of_append is_sending before (item.Sent number message ∷ []))
 
-delivering_one : (before : List Item) (n : ℕ)
-    → was_delivered (before ++ item.Delivered n ∷ []) n ≡ true
-unfolding was_delivered
-delivering_one before n =
-    let one : count_of (is_delivery n) (item.Delivered n ∷ []) ≡ 1 = rw (eq-eqb n n refl) refl in
-    let more = count_of_append (is_delivery n) before (item.Delivered n ∷ []) in
-    grind (arith, nat_tests)
-
-forgetting_one : (before : List Item) (n : ℕ)
-    → is_forgotten (before ++ item.Forgotten n ∷ []) n ≡ true
-unfolding is_forgotten
-forgetting_one before n =
-    let one : count_of (is_forgetting n) (item.Forgotten n ∷ []) ≡ 1 = rw (eq-eqb n n refl) refl in
-    let more = count_of_append (is_forgetting n) before (item.Forgotten n ∷ []) in
-    grind (arith, nat_tests)
+-- an item of its kind raises a flag, and any other one leaves it
+flag_on : (test : Item → Bool) (before : List Item) (item : Item)
+    → nat_lt 0 (count_of test (before ++ item ∷ []))
+    ≡ (test item || nat_lt 0 (count_of test before))
+flag_on test before item = by_test (test item) refl
+  where
+    by_test : (b : Bool) → test item ≡ b → nat_lt 0 (count_of test (before ++ item ∷ []))
+        ≡ (b || nat_lt 0 (count_of test before))
+    by_test b is =
+        let one : count_of test (item ∷ []) ≡ (if b then 1 else 0) = rw is (zero-add _) in
+        let more = count_of_append test before (item ∷ []) in
+        grind (arith, nat_tests)
 
 -- ---- a message is sent
 
@@ -90,30 +91,19 @@ sent_facts before n message =
     ∙ ap (λ b. option_or (if b then Some message else None)
     (last_told (tells_message n) before)) (eq-eqb n n refl)
 
-sent_flags : (before : List Item) (n : ℕ) (message : Message)
-    → (was_delivered (before ++ item.Sent n message ∷ []) n ≡ was_delivered before n)
-    × (is_forgotten (before ++ item.Sent n message ∷ []) n ≡ is_forgotten before n)
-unfolding was_delivered is_forgotten
-sent_flags before n message = (
-  ap (nat_lt 0) (count_of_append (is_delivery n) before (item.Sent n message ∷ [])
-      ∙ omega arith),
-  ap (nat_lt 0) (count_of_append (is_forgetting n) before (item.Sent n message ∷ [])
-      ∙ omega arith),
-)
-
 sent_post : (n : ℕ) (before : List Item) (posts : List Post) (message : Message) (b : Bool)
     → (n == length posts + 1) ≡ b → IsBagOf before posts
     → (if b then Some (posted message) else numbered posts n)
     ≡ post_in (before ++ item.Sent (length posts + 1) message ∷ []) n
-unfolding post_in
+unfolding post_in was_delivered is_forgotten
 sent_post n before posts message true is bag =
     let k : ℕ = length posts + 1 in
     let same : n ≡ k = eqb-true n k is in
     rw (
       same,
       sent_facts before k message,
-      (sent_flags before k message).0,
-      (sent_flags before k message).1,
+      flag_on (is_delivery k) before (item.Sent k message),
+      flag_on (is_forgetting k) before (item.Sent k message),
       bag.undelivered k (omega arith),
       bag.remembered k (omega arith),
     ) refl
@@ -122,8 +112,8 @@ sent_post n before posts message false is bag =
     (number_on n before (item.Sent (length posts + 1) message)
     (other_number n (length posts + 1) is)))
 
-pub bag_sent : (before : List Item) (posts : List Post) (message : Message) → IsBagOf before posts
-    → IsBagOf (before ++ item.Sent (length posts + 1) message ∷ []) (posts ++ posted message ∷ [])
+pub bag_sent : (before : List Item) (posts : List Post) (message : Message)
+    → BagGoesOn before posts (item.Sent (length posts + 1) message) (posts ++ posted message ∷ [])
 bag_sent before posts message bag =
     let k : ℕ = length posts + 1 in
     let sent : Item = item.Sent k message in
@@ -190,8 +180,8 @@ changed_post change k n before posts item false is changes bag =
 
 bag_changed : (change : Post → Post) (k : ℕ) (before : List Item) (posts : List Post)
     (item : Item) → ChangesOne change k before item → k ≤ length posts
-    → next_message (before ++ item ∷ []) ≡ next_message before → IsBagOf before posts
-    → IsBagOf (before ++ item ∷ []) (with_changed change posts k)
+    → next_message (before ++ item ∷ []) ≡ next_message before
+    → BagGoesOn before posts item (with_changed change posts k)
 bag_changed change k before posts item changes posted_it as_many bag =
     let same : length (with_changed change posts k) ≡ length posts =
     length_changed change posts k in
@@ -208,67 +198,64 @@ bag_changed change k before posts item changes posted_it as_many bag =
           ∙ bag.remembered n (omega (arith, same, past));
     }
 
--- what is said of a message that an item doesn't send, by its flags
-flagged : (o : Option Message) (change : Post → Post) (was now : Bool × Bool)
-    → ((m : Message) → change (framed m, record { delivered = was.0; forgotten = was.1 })
-    ≡ (framed m, record { delivered = now.0; forgotten = now.1 }))
-    → option_map (λ (m : Message). (framed m, record { delivered = now.0; forgotten = now.1 })) o
-    ≡ option_map change
-    (option_map (λ (m : Message). (framed m, record { delivered = was.0; forgotten = was.1 })) o)
-flagged None change was now same = refl
-flagged (Some m) change was now same = ap Some (sym (same m))
-
-delivered_facts : (before : List Item) (k : ℕ)
-    → (message_of (before ++ item.Delivered k ∷ []) k ≡ message_of before k)
-    × (is_forgotten (before ++ item.Delivered k ∷ []) k ≡ is_forgotten before k)
-    × (next_message (before ++ item.Delivered k ∷ []) ≡ next_message before)
-unfolding message_of is_forgotten next_message
-delivered_facts before k = (
-  last_told_append (tells_message k) before (item.Delivered k ∷ []),
-  ap (nat_lt 0) (count_of_append (is_forgetting k) before (item.Delivered k ∷ [])
-      ∙ omega arith),
-  omega (arith, count_of_append is_sending before (item.Delivered k ∷ [])),
-)
-
-forgotten_facts : (before : List Item) (k : ℕ)
-    → (message_of (before ++ item.Forgotten k ∷ []) k ≡ message_of before k)
-    × (was_delivered (before ++ item.Forgotten k ∷ []) k ≡ was_delivered before k)
-    × (next_message (before ++ item.Forgotten k ∷ []) ≡ next_message before)
-unfolding message_of was_delivered next_message
-forgotten_facts before k = (
-  last_told_append (tells_message k) before (item.Forgotten k ∷ []),
-  ap (nat_lt 0) (count_of_append (is_delivery k) before (item.Forgotten k ∷ [])
-      ∙ omega arith),
-  omega (arith, count_of_append is_sending before (item.Forgotten k ∷ [])),
-)
+-- an item that sends no message raises flags of one
+bag_flagged : (change : Post → Post) (k : ℕ) (before : List Item) (posts : List Post)
+    (item : Item) → ((n : ℕ) → (k == n) ≡ false → IsFalse (concerns_message n before item))
+    → tells_message k item ≡ None → is_sending item ≡ false
+    → ((m : Message) → (
+      framed m,
+      record {
+        delivered = is_delivery k item || was_delivered before k;
+        forgotten = is_forgetting k item || is_forgotten before k;
+      },
+    ) ≡ change (
+      framed m,
+      record {
+        delivered = was_delivered before k;
+        forgotten = is_forgotten before k;
+      },
+    ))
+    → k ≤ length posts → BagGoesOn before posts item (with_changed change posts k)
+unfolding post_in message_of was_delivered is_forgotten next_message
+bag_flagged change k before posts item apart untold unsent flags posted_it bag =
+    let none : count_of is_sending (item ∷ []) ≡ 0 = rw unsent refl in
+    bag_changed change k before posts item (
+      apart,
+      rw (
+        last_told_append (tells_message k) before (item ∷ []),
+        untold,
+        flag_on (is_delivery k) before item,
+        flag_on (is_forgetting k) before item,
+      ) (by_told (message_of before k)),
+    ) posted_it (omega (arith, none, count_of_append is_sending before (item ∷ []))) bag
+  where
+    by_told : (o : Option Message) → option_map (λ (m : Message). (
+      framed m,
+      record {
+        delivered = is_delivery k item || was_delivered before k;
+        forgotten = is_forgetting k item || is_forgotten before k;
+      },
+    )) o ≡ option_map change (option_map (λ (m : Message). (
+      framed m,
+      record {
+        delivered = was_delivered before k;
+        forgotten = is_forgotten before k;
+      },
+    )) o)
+    by_told None = refl
+    by_told (Some m) = ap Some (flags m)
 
 pub bag_delivered : (before : List Item) (posts : List Post) (k : ℕ) → k ≤ length posts
-    → IsBagOf before posts
-    → IsBagOf (before ++ item.Delivered k ∷ []) (with_delivered posts k)
-unfolding post_in
-bag_delivered before posts k posted_it bag =
-    let facts = delivered_facts before k in
-    bag_changed (with_status delivered) k before posts (item.Delivered k) (
-      λ n apart. apart,
-      rw (facts.0, facts.1, delivering_one before k)
-          (flagged (message_of before k) (with_status delivered)
-          (was_delivered before k, is_forgotten before k) (true, is_forgotten before k)
-          (λ m. refl)),
-    ) posted_it facts.2 bag
+    → BagGoesOn before posts (item.Delivered k) (with_delivered posts k)
+bag_delivered before posts k =
+    bag_flagged (with_status delivered) k before posts (item.Delivered k) (λ n apart. apart) refl
+    refl (λ m. rw (eq-eqb k k refl) refl)
 
 pub bag_forgotten : (before : List Item) (posts : List Post) (k : ℕ) → k ≤ length posts
-    → IsBagOf before posts
-    → IsBagOf (before ++ item.Forgotten k ∷ []) (with_forgotten posts k)
-unfolding post_in
-bag_forgotten before posts k posted_it bag =
-    let facts = forgotten_facts before k in
-    bag_changed (with_status forgotten) k before posts (item.Forgotten k) (
-      λ n apart. apart,
-      rw (facts.0, facts.1, forgetting_one before k)
-          (flagged (message_of before k) (with_status forgotten)
-          (was_delivered before k, is_forgotten before k) (was_delivered before k, true)
-          (λ m. refl)),
-    ) posted_it facts.2 bag
+    → BagGoesOn before posts (item.Forgotten k) (with_forgotten posts k)
+bag_forgotten before posts k =
+    bag_flagged (with_status forgotten) k before posts (item.Forgotten k) (λ n apart. apart) refl
+    refl (λ m. rw (eq-eqb k k refl) refl)
 
 -- ---- items of packets
 

@@ -53,46 +53,21 @@ joined_usable journal s k link joined = by_order (link.one == s && link.two == k
     up = is_up_link journal link
 
     swap : (a b c : Bool) → (a && b && c) ≡ (a && c && b)
-    swap true true true = refl
-    swap true true false = refl
-    swap true false true = refl
-    swap true false false = refl
-    swap false b c = refl
+    swap a b c = grind arith
 
     by_order : (b : Bool) → (link.one == s && link.two == k) ≡ b
         → (b || (link.one == k && link.two == s)) ≡ true
         → is_usable journal link ≡ (up && serves_in journal s && serves_in journal k)
     by_order true e is =
         let parts = and_parts (link.one == s) (link.two == k) e in
-        ap (λ x. up && serves_in journal x && serves_in journal link.two)
-        (eqb-true link.one s parts.0)
-        ∙ ap (λ x. up && serves_in journal s && serves_in journal x)
-        (eqb-true link.two k parts.1)
+        rw (eqb-true link.one s parts.0, eqb-true link.two k parts.1) refl
     by_order false e is =
         let parts = and_parts (link.one == k) (link.two == s) is in
-        ap (λ x. up && serves_in journal x && serves_in journal link.two)
-        (eqb-true link.one k parts.0)
-        ∙ ap (λ x. up && serves_in journal k && serves_in journal x)
-        (eqb-true link.two s parts.1)
-        ∙ swap up (serves_in journal k) (serves_in journal s)
+        rw (eqb-true link.one k parts.0, eqb-true link.two s parts.1)
+        (swap _ (serves_in journal k) (serves_in journal s))
 
 spread : (p b x y : Bool) → ((p && x && y) || (b && x && y)) ≡ ((p || b) && x && y)
-spread true true true true = refl
-spread true true true false = refl
-spread true true false true = refl
-spread true true false false = refl
-spread true false true true = refl
-spread true false true false = refl
-spread true false false true = refl
-spread true false false false = refl
-spread false true true true = refl
-spread false true true false = refl
-spread false true false true = refl
-spread false true false false = refl
-spread false false true true = refl
-spread false false true false = refl
-spread false false false true = refl
-spread false false false false = refl
+spread p b x y = grind arith
 
 -- usable links join two switches that serve and that links join that are up
 usable_joins : (journal : List Item) (s k : ℕ) (links : List LinkRow)

@@ -1,5 +1,5 @@
 -- What a switch has and knows is what the journal says, also within a step.
-use Rattle.std.proofs.Common.{ℕ, ◌≡◌, ◌<◌, Bool, true, false, ◌||◌, ◌&&◌, if◌then◌else◌, Some, None, List, [], ◌∷◌, ◌++◌, refl, ap, sym, ◌∙◌, length}
+use Rattle.std.proofs.Common.{ℕ, ◌≡◌, ◌<◌, Bool, true, false, ◌||◌, ◌&&◌, if◌then◌else◌, Some, None, List, [], ◌∷◌, ◌++◌, refl, ap, sym, ◌∙◌, length, rules}
 use Rattle.std.specs.Prelude.{IsFalse, IsTrue, unwrap_or}
 use Rattle.failover.specs.Isolated.{is_isolated}
 use Rattle.failover.specs.Routes.{route_of}
@@ -82,18 +82,7 @@ sees setting journal s knows there =
 -- one more call changes nothing of it
 pub sees_counted : (setting : Setting) (journal : List Item) (s : ℕ) (w : SwitchValue) (mask : ℕ)
     → Sees setting journal s w mask → Sees setting journal s (call_counted w) mask
-sees_counted setting journal s w mask sees = record {
-  number = sees.number;
-  serving = sees.serving;
-  stamp = sees.stamp;
-  held = sees.held;
-  tables = sees.tables;
-  lookup = sees.lookup;
-  stamped = sees.stamped;
-  route = sees.route;
-  cut_off = sees.cut_off;
-  usable = sees.usable;
-}
+sees_counted setting journal s w mask sees = search (rules, sees.held, sees.tables, sees.lookup, sees.stamped, sees.route, sees.cut_off)
 
 -- nor does an item that concerns neither the switch, nor links, nor policies
 pub record Spares (s : ℕ) (before : List Item) (next : Item) : Type 0 where

@@ -1,5 +1,5 @@
 -- The marks settle as the journal's rule says, and what is sent then is what the definition says.
-use Rattle.std.proofs.Common.{ℕ, ◌≡◌, ◌+◌, ◌-◌, ◌<◌, ◌≤◌, ◌&&◌, ◌==◌, Bool, true, false, not, if◌then◌else◌, Option, Some, None, List, [], ◌∷◌, ◌++◌, length, map, refl, ap, sym, subst, ◌∙◌, append-nil, append_assoc, arith}
+use Rattle.std.proofs.Common.{ℕ, ◌≡◌, ◌+◌, ◌-◌, ◌<◌, ◌≤◌, ◌&&◌, ◌==◌, Bool, true, false, not, if◌then◌else◌, Option, Some, None, List, [], ◌∷◌, ◌++◌, length, map, refl, ap, sym, subst, ◌∙◌, append-nil, append_assoc, arith, rules}
 use Rattle.std.specs.Prelude.{◌||◌, IsTrue, IsFalse, filter, is_some, nat_lt, slice_get, unwrap_or}
 use Rattle.std.specs.List.{list_all, list_any, range_with_len}
 use Rattle.std.specs.Option.{option_map_or, option_or}
@@ -20,7 +20,7 @@ use Rattle.update_machine.specs.Marks.{acked_stamp, controller_heard, current_ma
 use Rattle.update_machine.specs.Messages.{next_message, sends, sent_from}
 use Rattle.update_machine.specs.Moves.{put}
 use Rattle.update_machine.specs.Setting.{Setting, switches_of}
-use Rattle.update_machine.specs.Settling.{collect_for, current_items, open_for, open_items, opening, retired_items, settling, stamp_for, to_switch}
+use Rattle.update_machine.specs.Settling.{current_items, open_for, open_items, opening, retired_items, settling, to_switch}
 use Rattle.update_machine.specs.Versions.{version_count}
 use Rattle.update_machine.proofs.CallerLemmas.{have_append}
 use Rattle.version_laws.specs.ItemCauses.{HasItemCause}
@@ -154,43 +154,66 @@ rises_same setting now before current are rises =
 abbrev SameBoots : List Item → MarksValue → ℕ → Type 0
 SameBoots journal after n = (s : ℕ) → s < n → boot_recorded after s ≡ known_boot journal s
 
--- a mark rises, members are told of it, and the marks are the risen ones; or it stays
-rises_on : (setting : Setting) (journal : List Item) (after value risen : MarksValue) (act : Act)
-    (body : ℕ → Body) (message : ℕ → Message)
-    → AreMarksOf setting journal value
-    → ((s : ℕ) → s < length value.switches
-    → acts.post s (body (boot_recorded after s)) ≡ Post (message s))
-    → ((s : ℕ) → ReopensAlone (journal ++ item_of journal act ∷ []) (message s))
+-- members are told of a mark
+abbrev told_to : (ℕ → Body) → List Item → ℕ → Message
+told_to body journal s = to_switch s (body (known_boot journal s))
+
+-- a mark rises and members are told of it, or it stays
+abbrev risen_items : Setting → List Item → Item → (ℕ → Body) → Bool → List Item
+risen_items setting journal next body b = elim b [
+  | false ↦ []
+  | true ↦ put (next ∷ []) (λ raised.
+      sends raised (map (told_to body journal) (machine.members setting journal))) journal
+]
+
+-- then the marks are the risen ones
+rises_by : (setting : Setting) (journal : List Item) (after value risen : MarksValue) (act : Act)
+    (body : ℕ → Body)
+    → AreMarksOf setting journal value → SameBoots journal after (length value.switches)
+    → ((s : ℕ) → ReopensAlone (journal ++ item_of journal act ∷ []) (told_to body journal s))
     → AreMarksOf setting (journal ++ item_of journal act ∷ []) risen
     → (b : Bool) → (b ≡ false → AreMarksOf setting journal risen)
     → (written journal (if b
     then act ∷ tell after body (those (λ known. is_member known.phase) value.switches)
-    else []) ≡ elim b [
-      | false ↦ []
-      | true ↦ put (item_of journal act ∷ [])
-          (λ raised. sends raised (map message (machine.members setting journal))) journal
-    ])
-    × AreMarksOf setting (journal ++ elim b [
-      | false ↦ []
-      | true ↦ put (item_of journal act ∷ [])
-          (λ raised. sends raised (map message (machine.members setting journal))) journal
-    ]) risen
-rises_on setting journal after value risen act body message are posts leaves rises false stays = (
+    else []) ≡ risen_items setting journal (item_of journal act) body b)
+    × AreMarksOf setting (journal ++ risen_items setting journal (item_of journal act) body b) risen
+rises_by setting journal after value risen act body are boots leaves rises false stays = (
   refl,
   subst (λ js. AreMarksOf setting js risen) (sym (append-nil journal)) (stays refl),
 )
-rises_on setting journal after value risen act body message are posts leaves rises true stays =
+rises_by setting journal after value risen act body are boots leaves rises true stays =
     let next : Item = item_of journal act in
-    let raised : List Item = journal ++ next ∷ [] in (
+    let raised : List Item = journal ++ next ∷ [] in
+    let message : ℕ → Message = told_to body journal in (
       ap (λ items. next ∷ items)
           (told_posted (λ s. acts.post s (body (boot_recorded after s))) message
           (λ known. is_member known.phase) (machine.is_member journal) setting raised value are.many
-          (λ s there. (are.each s there).member) posts),
+          (λ s there. (are.each s there).member)
+          (λ s there. ap (λ boot. Post (to_switch s (body boot))) (boots s there))),
       subst (λ js. AreMarksOf setting js risen)
           (append_assoc journal (next ∷ [])
           (sends raised (map message (machine.members setting journal))))
           (leave_on setting raised risen message (machine.members setting journal) leaves rises),
     )
+
+-- so it is where a mark rises to what the journal says
+rises_on : (setting : Setting) (journal : List Item) (after value : MarksValue)
+    (risen : ℕ → MarksValue) (act : ℕ → Act) (body : ℕ → ℕ → Body) (low high mark version : ℕ)
+    → low ≡ mark → high ≡ version → AreMarksOf setting journal value
+    → SameBoots journal after (length value.switches)
+    → ((s : ℕ) → ReopensAlone (journal ++ item_of journal (act version) ∷ [])
+    (told_to (body version) journal s))
+    → AreMarksOf setting (journal ++ item_of journal (act version) ∷ []) (risen version)
+    → (nat_lt mark version ≡ false → AreMarksOf setting journal (risen version))
+    → (let items = risen_items setting journal (item_of journal (act version)) (body version)
+    (nat_lt mark version) in
+    (written journal (if nat_lt low high
+    then act high ∷ tell after (body high) (those (λ known. is_member known.phase) value.switches)
+    else []) ≡ items) × AreMarksOf setting (journal ++ items) (risen high))
+rises_on setting journal after value risen act body low high mark version low_is high_is are boots
+    leaves rises stays =
+    rw (low_is, high_is) (rises_by setting journal after value (risen version) (act version)
+    (body version) are boots leaves rises (nat_lt mark version) stays)
 
 raises_on : (setting : Setting) (now : List Item) (before after : MarksValue)
     → AreMarksOf setting now before → before.current ≤ after.current
@@ -201,37 +224,13 @@ raises_on : (setting : Setting) (now : List Item) (before after : MarksValue)
     (record before { current = after.current })
 unfolding current_items
 raises_on setting now before after are up is boots =
-    let both = rises_on setting now after before (record before { current = version })
-    (Current version) (λ boot. Stamp boot version) (stamp_for now version) are
-    (λ s there. ap (λ boot. Post (to_switch s (Stamp boot version))) (boots s there)) (λ s. tt)
-    (current_on setting now version before are) (nat_lt (current_mark now) version) stays in (
-      ap (written now)
-          (ap (λ low. stamped low after.current) are.current ∙ ap (stamped (current_mark now)) is)
-          ∙ both.0,
-      subst (λ v. AreMarksOf setting (now ++ current_items setting now)
-          (record before { current = v })) (sym is) both.1,
-    )
-  where
-    version : ℕ
-    version = next_current setting now
-
-    stamped : ℕ → ℕ → List Act
-    stamped low high = if nat_lt low high
-        then Current high ∷ tell after (λ boot. Stamp boot high)
-        (those (λ known. is_member known.phase) before.switches)
-        else []
-
-    stays : nat_lt (current_mark now) version ≡ false
-        → AreMarksOf setting now (record before { current = version })
-    stays e = record {
-      count = are.count;
-      current =
-          let first = are.current in
-          grind (arith, nat_tests);
-      retired = are.retired;
-      many = are.many;
-      each = are.each;
-    }
+    rises_on setting now after before (λ v. record before { current = v }) Current
+    (λ v boot. Stamp boot v) before.current after.current (current_mark now)
+    (next_current setting now) are.current is are boots (λ s. tt)
+    (current_on setting now (next_current setting now) before are) (λ e.
+    let stays : next_current setting now ≡ current_mark now =
+    let first = are.current in grind (arith, nat_tests) in
+    search (rules, are.each))
 
 -- ---- joining switches open
 
@@ -483,38 +482,13 @@ retires_on : (setting : Setting) (two : List Item) (before after : MarksValue)
     × AreMarksOf setting (two ++ retired_items setting two) after
 unfolding retired_items
 retires_on setting two before after are is least_is boots =
-    let both = rises_on setting two after value (record after { retired = version })
-    (Retired version) (λ boot. Collect boot version) (collect_for two version) are
-    (λ s there. ap (λ boot. Post (to_switch s (Collect boot version))) (boots s there)) (λ s. tt)
-    (retired_on setting two version value are) (nat_lt (retired_mark two) version) stays in (
-      ap (written two)
-          (ap (λ low. collected low after.retired) are.retired
-          ∙ ap (collected (retired_mark two)) is) ∙ both.0,
-      subst (λ v. AreMarksOf setting (two ++ retired_items setting two)
-          (record after { retired = v })) (sym is) both.1,
-    )
-  where
-    version : ℕ
-    version = next_retired setting two
-
-    value : MarksValue
-    value = record after { retired = before.retired }
-
-    collected : ℕ → ℕ → List Act
-    collected low high = if nat_lt low high
-        then Retired high ∷ tell after (λ boot. Collect boot high)
-        (those (λ known. is_member known.phase) after.switches)
-        else []
-
-    stays : nat_lt (retired_mark two) version ≡ false
-        → AreMarksOf setting two (record after { retired = version })
-    stays e = record {
-      count = are.count;
-      current = are.current;
-      retired = grind (arith, nat_tests);
-      many = are.many;
-      each = are.each;
-    }
+    rises_on setting two after (record after { retired = before.retired })
+    (λ v. record after { retired = v }) Retired (λ v boot. Collect boot v) before.retired
+    after.retired (retired_mark two) (next_retired setting two) are.retired is are boots (λ s. tt)
+    (retired_on setting two (next_retired setting two) (record after { retired = before.retired })
+    are) (λ e.
+    let stays : next_retired setting two ≡ retired_mark two = grind (arith, nat_tests) in
+    search (rules, are.each))
 
 -- ---- together
 

@@ -1,5 +1,5 @@
 -- A policy is submitted or refused: what is written then, and what the parts are behind it.
-use Rattle.std.proofs.Common.{ℕ, ◌≡◌, ◌≢◌, ◌+◌, ◌-◌, ◌<◌, ◌≤◌, Some, None, List, [], ◌∷◌, ◌++◌, refl, ap, sym, subst, ◌∙◌, length, get_or, append-nil, arith, ne_eqb}
+use Rattle.std.proofs.Common.{ℕ, ◌≡◌, ◌≢◌, ◌+◌, ◌-◌, ◌<◌, ◌≤◌, Some, None, List, [], ◌∷◌, ◌++◌, refl, ap, sym, subst, ◌∙◌, length, get_or, append-nil, arith, ne_eqb, rules}
 use Rattle.std.specs.Prelude.{Err, Ok, if◌then◌else◌, slice_get, Result}
 use Rattle.std.proofs.lemmas.Option.{slice_get-get_or}
 use Rattle.world_ties.specs.Controller.{IsControllerOf, IsPlanOfFile}
@@ -19,7 +19,6 @@ use Rattle.policy_rules.specs.declared.policy.Row.{Row}
 use Rattle.policy_rules.specs.Placed.{NoPlan, TooManyLeaves}
 use Rattle.steps.specs.declared.step.Step.TheVariants.{Update}
 use Rattle.switch_core.specs.State.{SwitchValue}
-use Rattle.switch_ties.proofs.Links.{kept_is}
 use Rattle.update_machine.specs.Moves.{put}
 use Rattle.update_machine.specs.Pieces.{marks_code, piece, plan_code, update_code, update_items}
 use Rattle.steps.specs.Steps.{IsStep}
@@ -35,7 +34,7 @@ use Rattle.world_ties.proofs.Known.{reached_known}
 use Rattle.world_ties.proofs.OneItem.{grown}
 use Rattle.world_ties.proofs.Posting.{bag_on}
 use Rattle.world_ties.proofs.Told.{tied_told}
-use Rattle.world_ties.proofs.Tying.{links_stay, up_stay}
+use Rattle.world_ties.proofs.Tying.{links_stay, switches_stay, up_stay}
 use Rattle.world_ties.proofs.Sendable.{may_note}
 
 -- ---- files
@@ -104,27 +103,13 @@ module _ (control : Control) (setting : Setting) (journal : List Item)
   unfolding AreTied act_items act_posts
   refused_tied code is =
       let one : Item = item.Refused file code in
+      let controller = subst (λ more. IsControllerOf setting (journal ++ more) control.controller)
+      (sym is) (items_leave setting journal (first one) control.controller
+      (reached_known setting journal tied.sound tied.reached).caused (refl, (refl, tt)) tied.controller) in
       subst (λ posts. AreTied setting (grown journal row (Update file) one) switches before count
       (record control { posts = posts })) (append-nil control.posts)
       (tied_told control control setting journal switches switches before count row (Update file)
-      (one ∷ []) [] tied (record {
-        may = may;
-        piece_is = is;
-        packet = λ i. (refl, (refl, tt));
-        packets = (refl, (refl, tt));
-        as_many = refl;
-        each = λ s d below. tied.each s d below
-            ∙ sym (kept_is setting s journal (first one) (refl, (refl, tt)) (refl, (refl, tt)));
-        bag = bag_on journal (first one) control.posts (refl, (refl, tt)) tied.bag;
-        number = refl;
-        controller = subst (λ more. IsControllerOf setting (journal ++ more) control.controller)
-            (sym is) (items_leave setting journal (first one) control.controller
-            (reached_known setting journal tied.sound tied.reached).caused (refl, (refl, tt)) tied.controller);
-        up = up_stay control setting journal switches before count (first one) tied
-            (refl, (refl, tt));
-        usable = links_stay control setting journal switches before count (first one) tied
-            (refl, (refl, tt));
-      }))
+      (one ∷ []) [] tied (search (rules, switches_stay, bag_on, links_stay, up_stay)))
 
   module _ (plan : PlanValue) (new : ControllerValue) (of_file : IsPlanOfFile setting file plan)
       (live : control.controller.marks.count - control.controller.marks.retired ≢ 8)
@@ -160,22 +145,8 @@ module _ (control : Control) (setting : Setting) (journal : List Item)
         (record control { controller = new; posts = control.posts ++ act_posts acts })
     unfolding AreTied
     submitted_tied = tied_told control (record control { controller = new }) setting journal
-        switches switches before count row (Update file) (one ∷ []) acts tied (record {
-          may = may;
-          piece_is = submitted_piece;
-          packet = λ i. (refl, (refl, tt));
-          packets = (refl, (refl, tt));
-          as_many = refl;
-          each = λ s d below. tied.each s d below
-              ∙ sym (kept_is setting s journal (first one) (refl, (refl, tt)) (refl, (refl, tt)));
-          bag = bag_behind;
-          number = refl;
-          controller = submits_so.after;
-          up = up_stay control setting journal switches before count (first one) tied
-              (refl, (refl, tt));
-          usable = links_stay control setting journal switches before count (first one) tied
-              (refl, (refl, tt));
-        })
+        switches switches before count row (Update file) (one ∷ []) acts tied
+        (search (rules, submitted_piece, bag_behind, submits_so, switches_stay, links_stay, up_stay))
 
     -- and it may be written
     pub submitted_may : length control.posts < 990_000 → MayNote control.posts acts

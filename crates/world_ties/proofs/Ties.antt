@@ -1,5 +1,5 @@
 -- The laws of this crate, of what is known within a step.
-use Rattle.std.proofs.Common.{ℕ, ◌≡◌, ◌<◌, ◌==◌, Bool, true, false, if◌then◌else◌, List, [], ◌∷◌, ◌++◌, refl, ap, sym, ◌∙◌, length, eq-eqb, arith}
+use Rattle.std.proofs.Common.{ℕ, ◌≡◌, ◌<◌, ◌==◌, Bool, true, false, if◌then◌else◌, List, [], ◌∷◌, ◌++◌, refl, ap, sym, ◌∙◌, length, eq-eqb, arith, rules}
 use Rattle.five_tuple.specs.Header.{IsHeader}
 use Rattle.five_tuple.specs.declared.header.Header.{Header}
 use Rattle.journal.specs.declared.item.Item.{Item}
@@ -137,10 +137,4 @@ hop_ties setting journal row i t ports of its =
 -- ---- messages
 
 pub bag_ties : BagTies
-bag_ties = record {
-  begun = bag_begun;
-  sent = bag_sent;
-  delivered = bag_delivered;
-  forgotten = bag_forgotten;
-  others = bag_on;
-}
+bag_ties = search (rules, bag_begun, bag_sent, bag_delivered, bag_forgotten, bag_on)

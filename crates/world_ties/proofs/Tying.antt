@@ -62,16 +62,6 @@ controller_stays control setting journal switches before count row step items ti
     (steps_leave setting journal row step control.controller
     (reached_known setting journal tied.sound tied.reached).caused not_told tied.controller)
 
--- and the links, where it does nothing to links
-pub links_stay : (control : Control) (setting : Setting) (journal : List Item)
-    (switches : List SwitchValue) (before : Travellers) (count : ℕ) (items : List Item)
-    → AreTied setting journal switches before count control
-    → NoneConcern concerns_links journal items
-    → AreUsable setting (journal ++ items) control.near
-unfolding AreTied
-links_stay control setting journal switches before count items tied none =
-    λ s below. tied.usable s below ∙ sym (near_stays setting s journal items none)
-
 -- links that are up as before are the same
 pub same_links : (now before : List Item) (links : List LinkRow)
     → ((link : LinkRow) → is_up_link now link ≡ is_up_link before link)
@@ -90,14 +80,27 @@ up_stays setting journal items links none up = λ s below. up s below
     ∙ ap (λ rows. links_of rows s) (sym (same_links (journal ++ items) journal setting.net.links
     (λ link. (links_keep setting journal items none).up link.one link.two)))
 
-pub up_stay : (control : Control) (setting : Setting) (journal : List Item)
+-- and the links and the switches, where it does nothing to them
+module _ (control : Control) (setting : Setting) (journal : List Item)
     (switches : List SwitchValue) (before : Travellers) (count : ℕ) (items : List Item)
-    → AreTied setting journal switches before count control
-    → NoneConcern concerns_links journal items
-    → AreUp setting (journal ++ items) control.links
-unfolding AreTied
-up_stay control setting journal switches before count items tied none =
-    up_stays setting journal items control.links none tied.up
+    (tied : AreTied setting journal switches before count control) where
+  pub links_stay : NoneConcern concerns_links journal items
+      → AreUsable setting (journal ++ items) control.near
+  unfolding AreTied
+  links_stay none = λ s below. tied.usable s below ∙ sym (near_stays setting s journal items none)
+
+  pub up_stay : NoneConcern concerns_links journal items
+      → AreUp setting (journal ++ items) control.links
+  unfolding AreTied
+  up_stay none = up_stays setting journal items control.links none tied.up
+
+  pub switches_stay : ((s : ℕ) → NoneConcern (concerns_known s) journal items)
+      → ((s : ℕ) → NoneConcern (concerns_calls s) journal items)
+      → (s : ℕ) (d : SwitchValue) → s < length switches
+      → get_or switches s d ≡ switch_of setting (journal ++ items) s
+  unfolding AreTied
+  switches_stay none calls s d there =
+      tied.each s d there ∙ sym (kept_is setting s journal items (none s) (calls s))
 
 -- what a step writes, and what the switches, the packets on their way and the control plane are
 -- behind it
@@ -168,29 +171,22 @@ tied_taken control later setting journal switches others before after count next
       usable = taken.usable;
     }
 
--- what the tie says of one packet, and of one switch
-pub packets_are : (control : Control) (setting : Setting) (journal : List Item)
+-- what the tie says of one packet, of one switch and of the next message's number
+module _ (control : Control) (setting : Setting) (journal : List Item)
     (switches : List SwitchValue) (before : Travellers) (count : ℕ)
-    → AreTied setting journal switches before count control
-    → (i : ℕ) → traveller before i ≡ traveller_in setting journal i
-unfolding AreTied
-packets_are control setting journal switches before count tied = tied.packet
+    (tied : AreTied setting journal switches before count control) where
+  pub packets_are : (i : ℕ) → traveller before i ≡ traveller_in setting journal i
+  unfolding AreTied
+  packets_are = tied.packet
 
-pub switches_are : (control : Control) (setting : Setting) (journal : List Item)
-    (switches : List SwitchValue) (before : Travellers) (count : ℕ)
-    → AreTied setting journal switches before count control
-    → (s : ℕ) (d : SwitchValue) → s < length switches
-    → get_or switches s d ≡ switch_of setting journal s
-unfolding AreTied
-switches_are control setting journal switches before count tied = tied.each
+  pub switches_are : (s : ℕ) (d : SwitchValue) → s < length switches
+      → get_or switches s d ≡ switch_of setting journal s
+  unfolding AreTied
+  switches_are = tied.each
 
--- the next message's number
-pub numbered : (control : Control) (setting : Setting) (journal : List Item)
-    (switches : List SwitchValue) (before : Travellers) (count : ℕ)
-    → AreTied setting journal switches before count control
-    → next_message journal ≡ length control.posts + 1
-unfolding AreTied
-numbered control setting journal switches before count tied = tied.bag.many
+  pub numbered : next_message journal ≡ length control.posts + 1
+  unfolding AreTied
+  numbered = tied.bag.many
 
 -- ---- a step of packets
 
@@ -247,17 +243,3 @@ tied_silent control setting journal switches others before after count next row 
     (ap (λ more. control.posts ++ more) none ∙ append-nil control.posts)
     (tied_more control setting journal switches others before after count next row step items tied
     steps counted)
-
--- ---- switches that a step leaves
-
--- those that the items don't concern
-pub switches_stay : (control : Control) (setting : Setting) (journal : List Item)
-    (switches : List SwitchValue) (before : Travellers) (count : ℕ) (items : List Item)
-    → AreTied setting journal switches before count control
-    → ((s : ℕ) → NoneConcern (concerns_known s) journal items)
-    → ((s : ℕ) → NoneConcern (concerns_calls s) journal items)
-    → (s : ℕ) (d : SwitchValue) → s < length switches
-    → get_or switches s d ≡ switch_of setting (journal ++ items) s
-unfolding AreTied
-switches_stay control setting journal switches before count items tied none calls s d there =
-    tied.each s d there ∙ sym (kept_is setting s journal items (none s) (calls s))
