@@ -2,11 +2,7 @@ ghost use Rattle.std.specs.Prelude.{◌≡◌, ℕ, List, IsSomeAnd, IsTrue};
 ghost use Rattle.policy_rules.specs.Placed.{is_in};
 ghost use Rattle.policy_rules.specs.declared.packet.Leg.TheVariants.{Seek as SeekLeg};
 ghost use Rattle.switch_core.specs.declared.answers.Arrived.TheVariants.{Answered};
-ghost use Rattle.switch_core.specs.Answering.{CanLookUp, IsAtAuthority, IsUncached, answer_by, arrived, arrived_on, decided_at, decided_in, entered, incoming, looked_up, packet_of};
-ghost use Rattle.switch_core.specs.Deciding.{IsFirstHit, IsFound, own_part, packet_with};
-ghost use Rattle.switch_core.specs.Ends.{around};
-ghost use Rattle.switch_core.specs.State.{call_counted, holds_version, serves};
-ghost use Rattle.switch_core.specs.Verdicts.{answer_of, arrived_as, entered_as};
+ghost use Rattle.switch_core.specs.Switches.{CanLookUp, IsAtAuthority, IsFirstHit, IsFound, IsUncached, answer_by, answer_of, around, arrived, arrived_as, arrived_on, call_counted, decided_at, decided_in, entered, entered_as, holds_version, incoming, looked_up, own_part, packet_of, packet_with, serves};
 
 use crate::answers::{Arrived, Decision, Entered};
 use crate::deciding::{cache_rule, found_in, own_part, rule_in};

@@ -1,4 +1,4 @@
-ghost use Rattle.std.specs.Prelude.{◌≡◌, ◌<◌, [], ◌∷◌, OnErr, OnOk, IfOk, IsTrue};
+ghost use Rattle.std.specs.Prelude.{◌≡◌, ◌<◌, [], ◌∷◌, OnErr, OnOk, IfOk};
 ghost use Rattle.switch_table.specs.Tables.{AreSoundTables};
 ghost use Rattle.ctrl_msg.specs.declared.message.Body.TheVariants.{Advertise};
 ghost use Rattle.ctrl_msg.specs.Kinds.{to_controller};

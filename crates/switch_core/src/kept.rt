@@ -1,5 +1,4 @@
 ghost use Rattle.std.specs.Prelude.{◌≡◌, IfOk, IsSomeAnd, IsTrue};
-ghost use Rattle.five_tuple.specs.Header.{IsHeader};
 ghost use Rattle.policy_rules.specs.Placed.{is_in};
 ghost use Rattle.switch_table.specs.Lookup.{lookup_of};
 ghost use Rattle.switch_table.specs.Tables.{AreSoundTables};
