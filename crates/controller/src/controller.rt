@@ -1,16 +1,13 @@
-ghost use Rattle.std.specs.Prelude.{◌≡◌, ◌≢◌, ◌+◌, ◌-◌, ◌<◌, ◌≤◌, ◌↔◌, ◌++◌, [], ◌∷◌, map, filter, length, not, nat_le, Err, Some, IsTrue, IsFalse, IfOk, IfErr, OnOk, OnErr};
+ghost use Rattle.std.specs.Prelude.{◌≡◌, ◌≢◌, ◌+◌, ◌-◌, ◌<◌, ◌≤◌, ◌↔◌, ◌++◌, [], map, length, not, Err, Some, IsTrue, IsFalse, IfOk, IfErr, OnOk, OnErr};
 ghost use Rattle.net_file.specs.Net.{IsNet};
 ghost use Rattle.ctrl_msg.specs.Kinds.{is_for_controller};
 ghost use Rattle.ctrl_msg.specs.declared.message.Body.TheVariants.{Hello};
 ghost use Rattle.switch_table.specs.Tables.{AreSoundTables};
-ghost use Rattle.version_update.specs.Marks.{AreMarksSettled, StaySettled, at_switch, record_of, with_version};
+ghost use Rattle.version_update.specs.Marks.{StaySettled, at_switch, record_of, with_version};
 ghost use Rattle.version_update.specs.Record.{is_member, is_over, after_over};
 ghost use Rattle.version_update.specs.Settling.{Settles};
 ghost use Rattle.version_update.specs.declared.record.Phase.TheVariants.{Joining, Member};
-ghost use Rattle.controller.specs.Controller.{first_controller, kept_tables, plans_from, IsController, StaysController, SettlesWith};
-ghost use Rattle.controller.specs.Replies.{after_reply};
-ghost use Rattle.controller.specs.Sends.{those, boot_recorded, install_act, settling_acts, submitting, marks_after, hearing, NamesBoth, NamesThere, resending, resending_to};
-ghost use Rattle.controller.specs.Submit.{SubmitsPlan, IsLeft};
+ghost use Rattle.controller.specs.Controllers.{IsController, IsLeft, NamesBoth, NamesThere, SettlesWith, StaysController, SubmitsPlan, after_reply, boot_recorded, first_controller, hearing, install_act, kept_tables, marks_after, resending, resending_to, settling_acts, submitting, those};
 ghost use Rattle.controller.specs.declared.submit_error.SubmitError.TheVariants.{TooManyLive, TooManyVersions, NoMemory};
 
 use crate::plan::Plan;

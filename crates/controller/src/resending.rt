@@ -1,5 +1,5 @@
 //! What a switch may lack is sent again.
-ghost use Rattle.std.specs.Prelude.{◌≡◌, ◌++◌, ◌+◌, ◌<◌, ◌≤◌, ◌&&◌, not, nat_le, length, map, filter, All, IsTrue, OnOk};
+ghost use Rattle.std.specs.Prelude.{◌≡◌, ◌++◌, ◌+◌, ◌<◌, ◌≤◌, ◌&&◌, length, All, IsTrue, OnOk};
 ghost use Rattle.version_update.specs.Record.{is_member};
 ghost use Rattle.version_update.specs.Marks.{record_of};
 ghost use Rattle.controller.specs.Sends.{is_missing, missing_installs, stamp_again, collect_again};

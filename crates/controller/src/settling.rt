@@ -1,10 +1,8 @@
 //! What is sent as the marks settle.
-ghost use Rattle.std.specs.Prelude.{◌≡◌, ◌++◌, ◌==◌, ◌<◌, length, IfOk, OnOk};
+ghost use Rattle.std.specs.Prelude.{◌≡◌, ◌++◌, ◌<◌, length, IfOk, OnOk};
 ghost use Rattle.version_update.specs.Marks.{MarksValue};
 ghost use Rattle.version_update.specs.Settling.{Settles};
-ghost use Rattle.controller.specs.Controller.{plans_from};
-ghost use Rattle.controller.specs.News.{body_of, switches_named};
-ghost use Rattle.controller.specs.Sends.{tell, stamp_acts, opens, collect_acts, settling_acts};
+ghost use Rattle.controller.specs.Controllers.{body_of, collect_acts, opens, plans_from, settling_acts, stamp_acts, switches_named, tell};
 
 use crate::sends::{Act, Sends};
 use crate::version::Version;

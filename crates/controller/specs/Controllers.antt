@@ -1,0 +1,8 @@
+-- The definitions by which clauses of this crate and of those above speak of the controller, passed
+-- on from the files that define them.
+pub use Rattle.controller.specs.Controller.{ControllerValue, IsController, SettlesWith, StaysController, first_controller, kept_tables, plans_from, tables_by_switch}
+pub use Rattle.controller.specs.News.{body_of, switches_named}
+pub use Rattle.controller.specs.Plan.{PlanValue}
+pub use Rattle.controller.specs.Replies.{after_reply}
+pub use Rattle.controller.specs.Sends.{NamesBoth, NamesThere, boot_recorded, collect_acts, hearing, install_act, marks_after, opens, resending, resending_to, settling_acts, stamp_acts, submitting, tell, those}
+pub use Rattle.controller.specs.Submit.{IsLeft, SubmitsPlan}
