@@ -1,16 +1,24 @@
--- The definitions by which clauses of the crates above speak of journals, passed on from the files
--- that define them.
-pub use Rattle.update_machine.specs.Answers.{AreAll, AreSome, IsReached, StepOfRow, after_steps, next_delivery, next_hop}
+-- The definitions by which clauses of this crate and of those above speak of journals, passed on
+-- from the files that define them.
+pub use Rattle.update_machine.specs.Answers.{Answers, AnswersSoFar, AreAll, AreAnswered, AreSome, AreStepsOf, BeginsAnswer, HaveSteps, IsReached, StepOfRow, after_steps, next_delivery, next_hop}
 pub use Rattle.update_machine.specs.Boots.{is_up}
-pub use Rattle.update_machine.specs.Causes.{HaveCauses}
+pub use Rattle.update_machine.specs.Causes.{HasCause, HaveCauses}
 pub use Rattle.update_machine.specs.Concerns.{NoneConcern, concerns_controller}
-pub use Rattle.update_machine.specs.Full.{HasPlay, HasRoom, HaveRoom, IsPlay}
+pub use Rattle.update_machine.specs.Full.{HasPlay, HasRoom, HaveRoom, IsFull, IsPlay, StopsFull, full_at}
+pub use Rattle.update_machine.specs.Laws.{ConcernLaws, ControllerKeeps, KnownLinkLaws, StartLaws}
 pub use Rattle.update_machine.specs.Links.{message_of}
+pub use Rattle.update_machine.specs.Machine.{IsRun}
 pub use Rattle.update_machine.specs.Marks.{AreSettled, current_mark, most_versions, next_retired, retired_mark}
-pub use Rattle.update_machine.specs.Messages.{is_deliverable, next_waiting, sends}
+pub use Rattle.update_machine.specs.Messages.{is_deliverable, is_sending, next_waiting, sends, sent_from}
+pub use Rattle.update_machine.specs.Moves.{takes_route}
+pub use Rattle.update_machine.specs.Numbers.{AreNumbered, VersionsAreNumbered}
 pub use Rattle.update_machine.specs.Packets.{next_packet}
 pub use Rattle.update_machine.specs.Pieces.{piece}
 pub use Rattle.update_machine.specs.Quiet.{IsQuiet}
-pub use Rattle.update_machine.specs.Setting.{IsSetting, Setting}
+pub use Rattle.update_machine.specs.Setting.{IsSetting, NamesOwnPort, Setting, policy_of_file, setting_of}
 pub use Rattle.update_machine.specs.Settling.{resent_by_controller}
-pub use Rattle.update_machine.specs.Travels.{next_travelling}
+pub use Rattle.update_machine.specs.Travels.{next_travelling, travels}
+pub use Rattle.update_machine.specs.Versions.{file_of, is_version, placed_in, plan_at, policy_at}
+pub use Rattle.journal.specs.declared.item.Item.{Item}
+pub use Rattle.steps.specs.declared.step.Event.{Event}
+pub use Rattle.steps.specs.declared.step.Step.{Step}

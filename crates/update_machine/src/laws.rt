@@ -2,18 +2,9 @@
 ghost use Rattle.std.specs.Prelude.{◌≡◌, ◌+◌, ◌++◌, ◌↔◌, ◌≤◌, ℕ, Bool, Option, Some, List, [], ◌∷◌, length, map, IsTrue};
 ghost use Rattle.std.specs.Option.{option_or};
 ghost use Rattle.policy_rules.specs.declared.policy.Row.{Row};
-ghost use Rattle.journal.specs.declared.item.Item.{Item};
-ghost use Rattle.steps.specs.declared.step.Event.{Event};
 ghost use Rattle.steps.specs.declared.step.Event.TheVariants.{One};
-ghost use Rattle.steps.specs.declared.step.Step.{Step};
-ghost use Rattle.update_machine.specs.Answers.{Answers, AnswersSoFar, AreAnswered, AreStepsOf, BeginsAnswer, HaveSteps, StepOfRow, after_steps};
-ghost use Rattle.update_machine.specs.Full.{HasPlay, IsFull, IsPlay, StopsFull, full_at};
-ghost use Rattle.update_machine.specs.Laws.{ConcernLaws, KnownLinkLaws, StartLaws};
-ghost use Rattle.update_machine.specs.Messages.{is_sending};
-ghost use Rattle.update_machine.specs.Numbers.{AreNumbered};
-ghost use Rattle.update_machine.specs.Setting.{Setting, policy_of_file};
+ghost use Rattle.update_machine.specs.Journals.{Answers, AnswersSoFar, AreAnswered, AreNumbered, AreStepsOf, BeginsAnswer, ConcernLaws, Event, HasPlay, HaveSteps, IsFull, IsPlay, Item, KnownLinkLaws, Setting, StartLaws, Step, StepOfRow, StopsFull, after_steps, file_of, full_at, is_sending, is_version, placed_in, plan_at, policy_at, policy_of_file};
 ghost use Rattle.update_machine.specs.Folds.{all_given, count_of, first_told, folded, folded_from, last_told};
-ghost use Rattle.update_machine.specs.Versions.{is_version, policy_at, placed_in, file_of, plan_at};
 ghost use Rattle.update_machine.specs.declared.full.TheConstants.{FULL_AT};
 
 /// What a journal says, once more items stand behind it: a law for each of the five folds, over
