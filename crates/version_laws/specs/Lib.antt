@@ -10,3 +10,4 @@ pub mod Authorities
 pub mod Named
 pub mod Rises
 pub mod Steps
+pub mod Laws

@@ -1,22 +1,8 @@
 //! The laws.
 ghost use Rattle.std.specs.Prelude.{[], ℕ, ◌++◌, ◌≤◌, List, IsFalse};
 ghost use Rattle.net_file.specs.Net.{IsNet};
-ghost use Rattle.steps.specs.declared.step.Step.{Step};
-ghost use Rattle.journal.specs.declared.item.Item.{Item};
-ghost use Rattle.update_machine.specs.Journals.{HaveCauses, AreSettled, Setting, next_retired, piece, retired_mark};
-ghost use Rattle.update_machine.specs.Laws.{ControllerKeeps};
-ghost use Rattle.update_machine.specs.Numbers.{VersionsAreNumbered};
-ghost use Rattle.version_laws.specs.Acknowledged.{IsAckedFirst, MembersAcknowledged};
-ghost use Rattle.version_laws.specs.Always.{HoldsAlways, HoldsReached, HoldsAtEnds};
-ghost use Rattle.version_laws.specs.BootLaws.{BootsAreKnown, OpensAtOneVersion, ServingIsKnown};
-ghost use Rattle.version_laws.specs.Bounds.{MarksAreBounded};
-ghost use Rattle.version_laws.specs.Heard.{AcksHold, InstallsArePlanned};
-ghost use Rattle.version_laws.specs.ItemCauses.{HasItemCause};
-ghost use Rattle.version_laws.specs.Named.{BodiesNameThere};
-ghost use Rattle.version_laws.specs.Planned.{TablesArePlanned, VersionsArePlanned};
-ghost use Rattle.version_laws.specs.Rises.{RisesRightly};
-ghost use Rattle.version_laws.specs.Serving.{ServingHold};
-ghost use Rattle.version_laws.specs.Steps.{asks_controller};
+ghost use Rattle.update_machine.specs.Journals.{AreSettled, ControllerKeeps, HaveCauses, Item, Setting, Step, VersionsAreNumbered, next_retired, piece, retired_mark};
+ghost use Rattle.version_laws.specs.Laws.{AcksHold, BodiesNameThere, BootsAreKnown, HasItemCause, HoldsAlways, HoldsAtEnds, HoldsReached, InstallsArePlanned, IsAckedFirst, MarksAreBounded, MembersAcknowledged, OpensAtOneVersion, RisesRightly, ServingHold, ServingIsKnown, TablesArePlanned, VersionsArePlanned, asks_controller};
 
 /// Each item of switches and their controller has its cause in the journal before it.
 pub fn items_have_causes()
