@@ -1,26 +1,10 @@
 //! The laws.
 ghost use Rattle.std.specs.Prelude.{[], All, ◌≡◌, ◌++◌, ◌*◌, ◌-◌, ◌<◌, ◌≤◌, Some, List, length, ℕ, Option};
 ghost use Rattle.steps.specs.Steps.{IsEvent};
-ghost use Rattle.steps.specs.declared.step.Event.{Event};
 ghost use Rattle.steps.specs.declared.step.Step.TheVariants.{Deliver, Hop};
-ghost use Rattle.journal.specs.declared.item.Item.{Item};
-ghost use Rattle.update_machine.specs.Causes.{HasCause};
-ghost use Rattle.update_machine.specs.Journals.{HaveCauses, IsSetting, AreAll, AreSome, HasPlay, IsReached, Setting, StepOfRow, current_mark, most_versions, next_delivery, next_hop, next_packet, next_travelling, next_waiting, piece, IsPlay};
-ghost use Rattle.update_machine.specs.Machine.{IsRun};
+ghost use Rattle.update_machine.specs.Journals.{AreAll, AreSome, Event, HasCause, HasPlay, HaveCauses, IsPlay, IsReached, IsRun, IsSetting, Item, Setting, StepOfRow, current_mark, most_versions, next_delivery, next_hop, next_packet, next_travelling, next_waiting, piece};
 ghost use Rattle.version_laws.specs.Always.{HoldsReached};
-ghost use Rattle.way_laws.specs.Arriving.{PacketsArrive};
-ghost use Rattle.way_laws.specs.Between.{HoldsBetween};
-ghost use Rattle.way_laws.specs.Drains.{drain_left};
-ghost use Rattle.way_laws.specs.Entries.{AreEntered, rows_played};
-ghost use Rattle.way_laws.specs.Hops.{detours, exits, hops_taken, most_hops, most_switches, routes_taken, searches};
-ghost use Rattle.way_laws.specs.Kept.{AllKept};
-ghost use Rattle.way_laws.specs.Rest.{AreResting};
-ghost use Rattle.way_laws.specs.Routes.{finding_count, hops_on_route, most_routes};
-ghost use Rattle.way_laws.specs.Stops.{GoesOrStops};
-ghost use Rattle.way_laws.specs.StrongCauses.{StrongCause};
-ghost use Rattle.way_laws.specs.Travelling.{PacketsTravel, RulesAreRight};
-ghost use Rattle.way_laws.specs.WayCauses.{WayCause};
-ghost use Rattle.way_laws.specs.Whole.{KeepVersionsWhole};
+ghost use Rattle.way_laws.specs.Laws.{AllKept, AreEntered, AreResting, GoesOrStops, HoldsBetween, KeepVersionsWhole, PacketsArrive, PacketsTravel, RulesAreRight, StrongCause, WayCause, detours, drain_left, exits, finding_count, hops_on_route, hops_taken, most_hops, most_routes, most_switches, routes_taken, rows_played, searches};
 
 use version_laws::{
     acknowledgements_hold, boots_are_known, installs_are_planned, items_have_causes,
