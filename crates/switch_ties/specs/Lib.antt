@@ -5,3 +5,4 @@ pub mod Life
 pub mod Hearing
 pub mod Knowing
 pub mod Asked
+pub mod Laws

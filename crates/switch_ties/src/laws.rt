@@ -1,10 +1,5 @@
 //! The laws.
-ghost use Rattle.switch_ties.specs.Asked.{AskedTies};
-ghost use Rattle.switch_ties.specs.Calls.{CallTies};
-ghost use Rattle.switch_ties.specs.Hearing.{HearTies};
-ghost use Rattle.switch_ties.specs.Knowing.{KnowTies};
-ghost use Rattle.switch_ties.specs.Life.{LifeTies};
-ghost use Rattle.switch_ties.specs.Links.{LinkTies};
+ghost use Rattle.switch_ties.specs.Laws.{AskedTies, CallTies, HearTies, KnowTies, LifeTies, LinkTies};
 
 /// Items that don't concern a switch leave its record. In a step that does nothing to the switch
 /// itself, whatever happens to links and to other switches, its record changes by its next advert
