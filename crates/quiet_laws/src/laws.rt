@@ -1,15 +1,9 @@
 //! The laws.
 ghost use Rattle.std.specs.Prelude.{List};
 ghost use Rattle.net_file.specs.Net.{IsNet};
-ghost use Rattle.journal.specs.declared.item.Item.{Item};
-ghost use Rattle.steps.specs.declared.step.Event.{Event};
-ghost use Rattle.update_machine.specs.Journals.{IsQuiet, Setting};
+ghost use Rattle.update_machine.specs.Journals.{Event, IsQuiet, Item, Setting};
 ghost use Rattle.version_laws.specs.Always.{HoldsAtEnds, HoldsBehindItems};
-ghost use Rattle.quiet_laws.specs.Converged.{HasConverged};
-ghost use Rattle.quiet_laws.specs.Finished.{EndsFinished, IsFinished};
-ghost use Rattle.quiet_laws.specs.News.{NewsSpreads};
-ghost use Rattle.quiet_laws.specs.Stuck.{GetStuckApart};
-ghost use Rattle.quiet_laws.specs.Updated.{IsUpdated};
+ghost use Rattle.quiet_laws.specs.Laws.{EndsFinished, GetStuckApart, HasConverged, IsFinished, IsUpdated, NewsSpreads};
 
 /// Over each link that can be used, each end holds adverts at least as new as those of the other
 /// end, or one was sent to it in its present boot: at the end of each step, quiet or not.
