@@ -7,3 +7,4 @@ pub mod Travellers
 pub mod Ties
 pub mod Tied
 pub mod Begun
+pub mod Laws

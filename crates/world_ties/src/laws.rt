@@ -5,25 +5,14 @@ ghost use Rattle.version_update.specs.Record.{after_over};
 ghost use Rattle.ctrl_msg.specs.Kinds.{to_controller};
 ghost use Rattle.ctrl_msg.specs.declared.message.Body.{Body};
 ghost use Rattle.ctrl_msg.specs.declared.message.Message.{Message};
-ghost use Rattle.controller.specs.Controller.{ControllerValue, SettlesWith, first_controller};
-ghost use Rattle.controller.specs.Plan.{PlanValue};
-ghost use Rattle.controller.specs.Sends.{NamesThere, marks_after, hearing, resending, settling_acts, submitting};
-ghost use Rattle.controller.specs.Submit.{SubmitsPlan};
+ghost use Rattle.controller.specs.Controllers.{ControllerValue, NamesThere, PlanValue, SettlesWith, SubmitsPlan, first_controller, hearing, marks_after, resending, settling_acts, submitting};
 ghost use Rattle.controller.specs.declared.sends.Act.{Act};
 ghost use Rattle.controller.specs.declared.sends.Act.TheVariants.{Post};
-ghost use Rattle.steps.specs.declared.step.Step.{Step};
 ghost use Rattle.steps.specs.declared.step.Step.TheVariants.{Confirm, Deliver, Resend, Update};
-ghost use Rattle.journal.specs.declared.item.Item.{Item};
 ghost use Rattle.journal.specs.declared.item.Item.TheVariants.{Row, Delivered, Nothing, OverNow, Refused, Submitted};
-ghost use Rattle.update_machine.specs.Journals.{IsReached, IsSetting, Setting, HaveCauses, NoneConcern, concerns_controller, is_deliverable, is_up, message_of, piece, resent_by_controller, sends};
-ghost use Rattle.version_laws.specs.ItemCauses.{HasItemCause};
-ghost use Rattle.version_laws.specs.Named.{BodiesNameThere};
-ghost use Rattle.version_laws.specs.Steps.{asks_controller};
-ghost use Rattle.world_ties.specs.Controller.{IsControllerOf, IsPlanOfFile};
-ghost use Rattle.world_ties.specs.Marks.{AreMarksOf};
-ghost use Rattle.world_ties.specs.Spelled.{AreSpelled};
-ghost use Rattle.world_ties.specs.Ties.{BagTies, ComeTies, HopTies};
-ghost use Rattle.world_ties.specs.Written.{AreWritten, resent, written};
+ghost use Rattle.update_machine.specs.Journals.{HaveCauses, IsReached, IsSetting, Item, NoneConcern, Setting, Step, concerns_controller, is_deliverable, is_up, message_of, piece, resent_by_controller, sends};
+ghost use Rattle.version_laws.specs.Laws.{BodiesNameThere, HasItemCause, asks_controller};
+ghost use Rattle.world_ties.specs.Laws.{AreMarksOf, AreSpelled, AreWritten, BagTies, ComeTies, HopTies, IsControllerOf, IsPlanOfFile, resent, written};
 
 /// A controller begins as a journal without items says, where its plan is that of the first file.
 pub fn controllers_begin()
