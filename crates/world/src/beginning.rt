@@ -1,7 +1,6 @@
 ghost use Rattle.std.specs.Prelude.{◌≡◌, length, map, IfOk};
 ghost use Rattle.std.specs.List.{range_with_len};
-ghost use Rattle.controller.specs.Controller.{first_controller};
-ghost use Rattle.controller.specs.Plan.{PlanValue};
+ghost use Rattle.controller.specs.Controllers.{PlanValue, first_controller};
 ghost use Rattle.net_file.specs.Net.{IsNet};
 ghost use Rattle.usable_links.specs.Linking.{AreNear};
 ghost use Rattle.world_ties.specs.Begun.{IsFirstController, switch_begun};
