@@ -1,8 +1,7 @@
 //! Whether a network is quiet.
-ghost use Rattle.std.specs.Prelude.{ℕ, ◌≡◌, ◌↔◌, ◌<◌, IfOk, IsTrue};
+ghost use Rattle.std.specs.Prelude.{◌≡◌, ◌↔◌, ◌<◌, IfOk, IsTrue};
 ghost use Rattle.net_file.specs.Net.{IsNet};
-ghost use Rattle.update_machine.specs.Quiet.{IsQuiet};
-ghost use Rattle.update_machine.specs.Setting.{Setting};
+ghost use Rattle.update_machine.specs.Journals.{IsQuiet, Setting};
 ghost use Rattle.quiet_journals.specs.Judging.{is_settled};
 ghost use Rattle.quiet_journals.specs.Plain.{IsPlain};
 

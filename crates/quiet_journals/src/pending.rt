@@ -1,8 +1,8 @@
 //! What is pending of each switch, found in one pass over a journal for all of them.
-ghost use Rattle.std.specs.Prelude.{ℕ, ◌≡◌, ◌<◌, ◌==◌, ◌&&◌, Bool, true, false, not, List, [], get_or, length, IfOk, OnOk};
+ghost use Rattle.std.specs.Prelude.{ℕ, ◌≡◌, ◌<◌, ◌&&◌, Bool, true, false, not, List, [], get_or, length, IfOk, OnOk};
 ghost use Rattle.quiet_journals.specs.Judging.{concerned, is_missed, is_named, party, speaks};
 ghost use Rattle.quiet_journals.specs.Lanes.{are_empty};
-ghost use Rattle.quiet_journals.specs.Pending.{ArePending, IsAfter, IsPending};
+ghost use Rattle.quiet_journals.specs.Pending.{ArePending, IsAfter};
 ghost use Rattle.quiet_journals.specs.declared.pending.Pending.{Pending};
 
 use crate::lane::{Lane, are_empty, empty_lanes};
