@@ -1,11 +1,6 @@
-ghost use Rattle.std.specs.Prelude.{◌≡◌, ◌<◌, ℕ, map, ◌↔◌, slice_set, IfSome, IsTrue};
+ghost use Rattle.std.specs.Prelude.{◌≡◌, ◌<◌, map, ◌↔◌, slice_set, IfSome, IsTrue};
 ghost use Rattle.std.specs.Bool.{OnTrue};
-ghost use Rattle.failover.specs.Adverts.{held, is_news, after_hearing, no_adverts, first_of, first_adverts};
-ghost use Rattle.failover.specs.Links.{neighbours_named, known_links};
-ghost use Rattle.failover.specs.Paths.{IsIsolated, IsRoute};
-ghost use Rattle.failover.specs.RouteList.{IsRouteList};
-ghost use Rattle.failover.specs.Routes.{route_of};
-ghost use Rattle.failover.specs.Isolated.{is_isolated};
+ghost use Rattle.failover.specs.Databases.{IsIsolated, IsRoute, IsRouteList, after_hearing, first_adverts, first_of, held, is_isolated, is_news, known_links, neighbours_named, no_adverts, route_of};
 
 use crate::SWITCHES;
 use crate::advert::Advert;

@@ -1,6 +1,5 @@
 ghost use Rattle.std.specs.Prelude.{◌≡◌, ◌≢◌, ◌<◌, ◌||◌, ℕ, false};
-ghost use Rattle.failover.specs.DownSet.{is_link_of};
-ghost use Rattle.failover.specs.Links.{has_link, no_links, with_link};
+ghost use Rattle.failover.specs.Databases.{has_link, is_link_of, no_links, with_link};
 
 use crate::SWITCHES;
 use masks::{has, only_if};

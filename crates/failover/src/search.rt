@@ -1,8 +1,5 @@
 ghost use Rattle.std.specs.Prelude.{◌≡◌, ◌<◌, ◌∷◌, IfSome, IfNone};
-ghost use Rattle.failover.specs.Isolated.{links_of_each};
-ghost use Rattle.failover.specs.Routes.{wider, first_route, route_to};
-ghost use Rattle.failover.specs.RouteList.{IsRouteList};
-ghost use Rattle.failover.specs.Search.{IsAway, IsOutOfReach, AreBalls, IsEdge, along};
+ghost use Rattle.failover.specs.Databases.{AreBalls, IsAway, IsEdge, IsOutOfReach, IsRouteList, along, first_route, links_of_each, route_to, wider};
 
 use crate::SWITCHES;
 use crate::down_set::DownSet;
