@@ -164,21 +164,11 @@ pub chosen_at : (first second : List ℕ) (place next which bit : ℕ) → next 
 chosen_at first second place next which bit is within also =
     let a = get_or first place 0 in
     let b = get_or second place 0 in
+    let of_first = planes_at first place next bit is within in
+    let of_second = planes_at second place next bit is also in
     elim (cases_eq (bit_at which bit) 1) [
-      | inl set ↦ omega (
-        arith,
-        by_second (drop place first) (drop place second) which bit set,
-        by_second (drop next first) (drop next second) which bit set,
-        chosen_digit a b which bit set,
-        planes_at second place next bit is also,
-      )
-      | inr clear ↦ omega (
-        arith,
-        by_first (drop place first) (drop place second) which bit clear,
-        by_first (drop next first) (drop next second) which bit clear,
-        left_digit a b which bit clear,
-        planes_at first place next bit is within,
-      )
+      | inl set ↦ rw (eq-eqb _ _ set, chosen_digit a b which bit set) of_second
+      | inr clear ↦ rw (ne_eqb _ _ clear, left_digit a b which bit clear) of_first
     ]
 
 -- past the height there is no difference

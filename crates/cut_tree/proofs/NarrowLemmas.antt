@@ -70,10 +70,9 @@ pub narrow_last : (rules : List Rule) (index : ℕ) (rule : Rule) (region word :
     word ∷ []
 unfolding narrowed
 narrow_last rules index rule region word within is some covers =
-    let rest : List Rule = drop (index + 1) rules in
     let met = meet_some _ _ _ some in
     at_item (λ rs. narrow rs region) rules index rule within is
-    ∙ narrow_covered region rule rest met.0 covers
+    ∙ narrow_covered region rule (drop (index + 1) rules) met.0 covers
     ∙ ap (λ w. with_word rule w ∷ []) met.1
 
 pub narrow_step : (rules : List Rule) (index : ℕ) (rule : Rule) (region word : WordValue)

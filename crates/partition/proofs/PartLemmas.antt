@@ -5,7 +5,7 @@ use Rattle.std.specs.Int.{bit_at, from_bool}
 use Rattle.std.specs.List.{All, count_by, enumerate_from}
 use Rattle.std.proofs.lemmas.Bool.{cases_Bool, both_ways, cond-true, cond-false}
 use Rattle.std.proofs.lemmas.List.Elements.{All-nil, All-cons, All-head, All-tail, All-append, All-weaker, All-same}
-use Rattle.std.proofs.lemmas.List.{length-map, at_drop_all}
+use Rattle.std.proofs.lemmas.List.{length-map}
 use Rattle.std.proofs.lemmas.List.FromFn.{length-enumerate_from}
 use Rattle.std.proofs.lemmas.List.Sums.{sum_by-append, sum_by-cons}
 use Rattle.std.proofs.lemmas.Nat.Bits.{bit_at-lt}
@@ -327,30 +327,6 @@ pub part_here : (header : Header) (parts : List Partition) (index : ℕ) (part :
 part_here header parts index part within is here =
     at_item (find (is_in header)) parts index part within is
     ∙ cond-true _ (Some part) (find (is_in header) (drop (index + 1) parts)) here
-
-pub part_away : (header : Header) (parts : List Partition) (index : ℕ) (part : Partition)
-    → index < length parts → part ≡ get_or parts index part → is_in header part ≡ false
-    → find (is_in header) (drop index parts) ≡ find (is_in header) (drop (index + 1) parts)
-part_away header parts index part within is away =
-    at_item (find (is_in header)) parts index part within is
-    ∙ cond-false _ (Some part) (find (is_in header) (drop (index + 1) parts)) away
-
-pub count_away : (header : Header) (parts : List Partition) (index : ℕ) (part : Partition)
-    → index < length parts → part ≡ get_or parts index part → is_in header part ≡ false
-    → count_by (is_in header) (drop index parts) ≡ count_by (is_in header) (drop (index + 1) parts)
-count_away header parts index part within is away =
-    let rest = drop (index + 1) parts in
-    let from : count_by (is_in header) (drop index parts) ≡ count_by (is_in header) (part ∷ rest) =
-    at_item (count_by (is_in header)) parts index part within is in
-    let front : count_by (is_in header) (part ∷ rest) ≡ cond (is_in header part) 1 0 + count_by
-    (is_in header) rest = sum_by-cons (λ part. cond (is_in header part) 1 0) part rest in
-    let never : ◌≡◌ {A = ℕ} (cond (is_in header part) 1 0) 0 = cond-false (is_in header part) 1 0
-    away in
-    omega (arith, from, front, never)
-
-pub count_end : (header : Header) (parts : List Partition) (index : ℕ) → length parts ≤ index
-    → count_by (is_in header) (drop index parts) ≡ 0
-count_end header parts index past = at_drop_all (count_by (is_in header)) parts index past
 
 -- ---- partitions pushed leaf by leaf
 
