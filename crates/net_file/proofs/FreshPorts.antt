@@ -1,14 +1,14 @@
 -- Ports one by one, with the mask of those before.
 use Rattle.std.proofs.Common.{ℕ, ◌≡◌, ◌^◌, Bool, true, false, not, ◌&&◌, ◌||◌, [], ◌∷◌, ◌++◌, refl, ap, sym, ◌∙◌, arith}
-use Rattle.std.specs.Prelude.{List, Ok, Some, None, filter_map, is_some, map, bit_or, nat_eq}
+use Rattle.std.specs.Prelude.{List, Ok, Some, None, codes, filter_map, is_some, map, bit_or, nat_eq}
 use Rattle.std.specs.List.{list_all, list_any}
 use Rattle.std.proofs.lemmas.List.Folds.{list_all-map, list_any-append}
-use Rattle.toml.specs.Data.{Data, as_integer}
+use Rattle.toml.specs.Data.{Data, Members, as_integer, get_member}
 use Rattle.toml.specs.View.{view}
 use Rattle.toml.specs.declared.value.Value.{Value}
 use Rattle.std.proofs.lemmas.Bool.Decides.{nat_tests}
 use Rattle.net_file.specs.Joins.{has_port}
-use Rattle.net_file.specs.Reading.{are_distinct, are_new, array_in, port_read, ports_in}
+use Rattle.net_file.specs.Reading.{are_distinct, are_new, array_in, port_read, ports_at}
 use Rattle.net_file.specs.Refusals.{require}
 use Rattle.net_file.specs.declared.net.SwitchRow.{SwitchRow}
 use Rattle.net_file.specs.Owners.{have_port}
@@ -107,21 +107,19 @@ pub have_port_push : (rows : List SwitchRow) (row : SwitchRow) (k : ℕ)
 have_port_push rows row k = list_any-append (has_port k) rows (row ∷ [])
     ∙ ap (λ b. have_port rows k || b) (or_nothing (has_port k row))
 
--- what the checks of an array of ports say of its values
-pub ports_in_values : (d : Data) (vs : List Value) → array_in d ≡ Ok (map view vs)
-    → ports_in d ≡ require (list_all (λ v. is_some (as_integer (view v))) vs) refusal.WrongType
-    (require (list_all (λ v. is_some (port_read (view v))) vs) refusal.Range
-    (Ok (filter_map port_read (map view vs))))
-ports_in_values d vs e =
+-- what the checks of the array `ports` say of its values
+pub ports_tested : (table : Members) (d : Data) (vs : List Value) (integers ports : Bool)
+    → Some d ≡ get_member (codes "ports") table → array_in d ≡ Ok (map view vs)
+    → integers ≡ list_all (λ v. is_some (as_integer (view v))) vs
+    → ports ≡ list_all (λ v. is_some (port_read (view v))) vs
+    → ports_at table ≡ require integers refusal.WrongType
+    (require ports refusal.Range (Ok (filter_map port_read (map view vs))))
+ports_tested table d vs integers ports there values are_integers are_ports =
     rw (
-      e,
+      ← there,
+      values,
       list_all-map (λ port. is_some (as_integer port)) view vs,
       list_all-map (λ port. is_some (port_read port)) view vs,
+      are_integers,
+      are_ports,
     ) refl
-
--- and where they are integers
-pub ports_in_integers : (d : Data) (vs : List Value) (ports : Bool) → array_in d ≡ Ok (map view vs)
-    → list_all (λ v. is_some (as_integer (view v))) vs ≡ true
-    → ports ≡ list_all (λ v. is_some (port_read (view v))) vs
-    → ports_in d ≡ require ports refusal.Range (Ok (filter_map port_read (map view vs)))
-ports_in_integers d vs ports e integers are = rw (ports_in_values d vs e, integers, are) refl

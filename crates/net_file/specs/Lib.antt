@@ -6,3 +6,4 @@ pub mod Reading
 pub mod Owners
 pub mod Laws
 pub mod Stated
+pub mod Outcomes

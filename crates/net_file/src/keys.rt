@@ -1,7 +1,8 @@
-ghost use Rattle.std.specs.Prelude.{◌≡◌, option_map, map, Ok, Err, IfOk, IfErr};
+ghost use Rattle.std.specs.Prelude.{◌≡◌, option_map};
 ghost use Rattle.toml.specs.Data.{as_str, as_table, get_member};
 ghost use Rattle.toml.specs.View.{table_view, view};
 ghost use Rattle.net_file.specs.Keys.{of_type, within};
+ghost use Rattle.net_file.specs.Outcomes.{IsRead, seen_values};
 ghost use Rattle.net_file.specs.Reading.{array_in, number_stated, setting_read};
 
 use crate::error::NetRefusal;
@@ -50,8 +51,7 @@ pub fn setting_of(
 
 /// The values of an array.
 pub fn array_in(value: &Value) -> Result<&[Value], NetRefusal>
-    ensures values { IfOk result (λ values. array_in (view value.now) ≡ Ok (map view values.now)) }
-    ensures refused { IfErr result (λ refusal. array_in (view value.now) ≡ Err refusal) }
+    ensures { IsRead seen_values (array_in (view value.now)) result }
 {
     match value.as_array() {
         Some(values) => Ok(values.as_slice()),
@@ -61,9 +61,7 @@ pub fn array_in(value: &Value) -> Result<&[Value], NetRefusal>
 
 /// The keys of a table.
 pub fn table_in(value: &Value) -> Result<&Table, NetRefusal>
-    ensures keys { IfOk result (λ keys.
-        of_type (as_table (view value.now)) ≡ Ok (table_view keys.now)) }
-    ensures refused { IfErr result (λ refusal. of_type (as_table (view value.now)) ≡ Err refusal) }
+    ensures { IsRead (λ keys. table_view keys.now) (of_type (as_table (view value.now))) result }
 {
     match value.as_table() {
         Some(keys) => Ok(keys),
@@ -73,8 +71,7 @@ pub fn table_in(value: &Value) -> Result<&Table, NetRefusal>
 
 /// The text that a value must be.
 pub fn text_in(value: &Value) -> Result<&str, NetRefusal>
-    ensures text { IfOk result (λ text. of_type (as_str (view value.now)) ≡ Ok text.now) }
-    ensures refused { IfErr result (λ refusal. of_type (as_str (view value.now)) ≡ Err refusal) }
+    ensures { IsRead (λ text. text.now) (of_type (as_str (view value.now))) result }
 {
     match value.as_str() {
         Some(text) => Ok(text),

@@ -1,6 +1,7 @@
-ghost use Rattle.std.specs.Prelude.{◌≡◌, ◌≤◌, ◌<◌, ◌^◌, Ok, Err, [], IfOk, IfErr, length, map};
+ghost use Rattle.std.specs.Prelude.{◌≡◌, ◌≤◌, ◌<◌, ◌^◌, Ok, [], IfOk, IfErr, length, map};
 ghost use Rattle.toml.specs.View.{table_view, view};
 ghost use Rattle.net_file.specs.Joins.{are_linked, joins};
+ghost use Rattle.net_file.specs.Outcomes.{IsRead, seen_values};
 ghost use Rattle.net_file.specs.Reading.{end_read, ends_in, link_array, link_of, links_in};
 ghost use Rattle.failure.specs.Refusals.{IsRefusal};
 
@@ -14,15 +15,10 @@ use toml::{Table, Value};
 /// The most links of a network.
 const MOST_LINKS: usize = 256;
 
-/// The row of a link is its number above this.
-const LINK_ROWS: u32 = 100;
-
 /// The values of the array `link`.
 pub fn link_array(table: &Table) -> Result<&[Value], NetRefusal>
-    ensures values { IfOk result (λ values.
-        link_array (table_view table.now) ≡ Ok (map view values.now)) }
+    ensures values { IsRead seen_values (link_array (table_view table.now)) result }
     ensures few { IfOk result (λ values. length values.now ≤ 256) }
-    ensures refused { IfErr result (λ refusal. link_array (table_view table.now) ≡ Err refusal) }
 {
     let Some(value) = value_at(table, "link") else {
         return Ok(&[]);
@@ -36,8 +32,7 @@ pub fn link_array(table: &Table) -> Result<&[Value], NetRefusal>
 
 // The two names that a value must be.
 fn ends_in(value: &Value) -> Result<(&str, &str), NetRefusal>
-    ensures ends { IfOk result (λ ends. ends_in (view value.now) ≡ Ok (ends.0.now, ends.1.now)) }
-    ensures refused { IfErr result (λ refusal. ends_in (view value.now) ≡ Err refusal) }
+    ensures { IsRead (λ ends. (ends.0.now, ends.1.now)) (ends_in (view value.now)) result }
 {
     let [one, two] = array_in(value)? else {
         return Err(NetRefusal::WrongType);
@@ -86,6 +81,9 @@ fn read_link(
     }
     Ok(LinkRow { one, two })
 }
+
+/// The row of a link is its number above this.
+const LINK_ROWS: u32 = 100;
 
 /// The links that the values of the array `link` state.
 ///

@@ -1,8 +1,9 @@
-ghost use Rattle.std.specs.Prelude.{◌≡◌, ◌≤◌, ◌<◌, Ok, Err, [], IfOk, IfErr, IfSome, length, map, is_some, vec_len};
+ghost use Rattle.std.specs.Prelude.{◌≡◌, ◌≤◌, ◌<◌, Ok, [], IfOk, IfErr, IfSome, length, map, is_some, vec_len};
 ghost use Rattle.std.specs.List.{list_all};
 ghost use Rattle.toml.specs.Data.{as_integer};
 ghost use Rattle.toml.specs.View.{table_view, view};
 ghost use Rattle.net_file.specs.Net.{are_name_bytes, is_label, is_name, is_name_byte};
+ghost use Rattle.net_file.specs.Outcomes.{IsRead, seen_values};
 ghost use Rattle.net_file.specs.Reading.{are_new, name_at, port_bits, port_read, ports_at, ports_of, switch_array, switch_read, switch_with, switches_read};
 ghost use Rattle.failure.specs.Refusals.{IsRefusal, in_row};
 ghost use Rattle.net_file.specs.Stated.{row_stated};
@@ -28,10 +29,8 @@ const MOST_MORE: usize = 15;
 
 /// The values of the array `switch`.
 pub fn switch_array(table: &Table) -> Result<&[Value], NetRefusal>
-    ensures values { IfOk result (λ values.
-        switch_array (table_view table.now) ≡ Ok (map view values.now)) }
+    ensures values { IsRead seen_values (switch_array (table_view table.now)) result }
     ensures few { IfOk result (λ values. length values.now ≤ 64) }
-    ensures refused { IfErr result (λ refusal. switch_array (table_view table.now) ≡ Err refusal) }
 {
     let Some(value) = value_at(table, "switch") else {
         return Err(NetRefusal::MissingKey);
@@ -82,8 +81,7 @@ pub fn is_name(name: &[u8]) -> bool
 
 // The name of a switch.
 fn read_name(keys: &Table) -> Result<&str, NetRefusal>
-    ensures name { IfOk result (λ name. name_at (table_view keys.now) ≡ Ok name.now) }
-    ensures refused { IfErr result (λ refusal. name_at (table_view keys.now) ≡ Err refusal) }
+    ensures { IsRead (λ name. name.now) (name_at (table_view keys.now)) result }
 {
     let Some(value) = value_at(keys, "name") else {
         return Err(NetRefusal::MissingKey);
@@ -119,9 +117,8 @@ fn are_ports(values: &[Value]) -> bool
 
 // The values of the array `ports`, each of which is a port.
 fn read_ports(keys: &Table) -> Result<&[Value], NetRefusal>
-    ensures ports { IfOk result (λ values.
-        ports_at (table_view keys.now) ≡ Ok (ports_of (map view values.now))) }
-    ensures refused { IfErr result (λ refusal. ports_at (table_view keys.now) ≡ Err refusal) }
+    ensures { IsRead (λ values. ports_of (seen_values values))
+        (ports_at (table_view keys.now)) result }
 {
     let Some(value) = value_at(keys, "ports") else {
         return Ok(&[]);
@@ -177,10 +174,7 @@ fn read_keys<'a>(
     keys: &'a Table,
 ) -> Result<Stated<'a>, NetRefusal>
     requires { IsMask taken (have_port earlier.now) }
-    ensures stated { IfOk result (λ stated.
-        switch_with earlier.now (table_view keys.now) ≡ Ok (row_stated stated)) }
-    ensures refused { IfErr result (λ refusal.
-        switch_with earlier.now (table_view keys.now) ≡ Err refusal) }
+    ensures { IsRead row_stated (switch_with earlier.now (table_view keys.now)) result }
 {
     let name = read_name(keys)?;
     let values = read_ports(keys)?;

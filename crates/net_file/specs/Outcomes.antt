@@ -1,0 +1,16 @@
+-- What a reader of a part of the text answers.
+use Rattle.std.specs.Prelude.{◌≡◌, List, map, Result, Ok, Err}
+use Rattle.std.specs.Borrow.{Bor}
+use Rattle.toml.specs.Data.{Data}
+use Rattle.toml.specs.View.{view}
+use Rattle.toml.specs.declared.value.Value.{Value}
+use Rattle.net_file.specs.declared.error.NetRefusal.{NetRefusal}
+
+-- the part is read to what contracts see of the value, or has this refusal
+abbrev pub IsRead : {X Y : Type 0} → (Y → X) → Result X NetRefusal → Result Y NetRefusal → Type 0
+IsRead seen read (Ok value) = read ≡ Ok (seen value)
+IsRead seen read (Err refusal) = read ≡ Err refusal
+
+-- what contracts see of an array's values
+abbrev pub seen_values : Bor (List Value) → List Data
+seen_values values = map view values.now
