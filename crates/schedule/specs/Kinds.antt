@@ -1,8 +1,5 @@
 -- The kinds of a schedule's rows, each named by a word.
-use Rattle.std.specs.Prelude.{ℕ, ◌≡◌, Bool, true, false, IsTrue, Option, Some, List, [], ◌∷◌, find, codes, bytes_eq}
-use Rattle.steps.specs.declared.step.Event.{Event}
-use Rattle.steps.specs.declared.step.Event.TheVariants.{One, Flush, Drain}
-use Rattle.steps.specs.declared.step.Step.TheVariants as step
+use Rattle.std.specs.Prelude.{ℕ, ◌≡◌, Option, Some, List, [], ◌∷◌, find, codes, bytes_eq}
 use Rattle.schedule.specs.declared.kind.Kind.{Kind}
 use Rattle.schedule.specs.declared.kind.Kind.TheVariants as kind
 

@@ -40,19 +40,15 @@ pub fn read_schedule(
     let mut records = Records::new(alloc, bytes);
     let mut fields = ByteRecord::new(alloc);
     if !records.read_next(&mut fields)? || !is_heading(&fields) {
-        return Err(ScheduleError::Refused(InRow {
-            refusal: ScheduleRefusal::Heading,
-            row: 0,
-        }));
+        let refusal = ScheduleRefusal::Heading;
+        return Err(ScheduleError::Refused(InRow { refusal, row: 0 }));
     }
     let mut events = Vec::new(alloc);
     while records.read_next(&mut fields)? {
         let row = events.len() as u32 + 1;
         if events.len() == MAX_EVENTS {
-            return Err(ScheduleError::Refused(InRow {
-                refusal: ScheduleRefusal::TooManyRows,
-                row,
-            }));
+            let refusal = ScheduleRefusal::TooManyRows;
+            return Err(ScheduleError::Refused(InRow { refusal, row }));
         }
         match read_event(&fields, net, files) {
             Ok(event) => events.push(event)?,
