@@ -6,9 +6,9 @@ use net_file::{Net, NetError, is_name, read_net, solo};
 use std::alloc::{AllocError, Global};
 use std::test::Fail;
 
-// The code and the row of a refusal.
-fn refusal(outcome: Result<Net, NetError>) -> Option<(u32, u32)> {
-    match outcome {
+// The code and the row of the refusal of this text.
+fn refused(alloc: Global, text: &[u8]) -> Option<(u32, u32)> {
+    match read_net(alloc, text) {
         Err(NetError::Refused(why)) => Some((why.refusal.code(), why.row)),
         _ => None,
     }
@@ -60,74 +60,87 @@ fn reads_each_spelling(rt: HostRuntime) {
     }
 }
 
+// Texts by the row of their refusal, each with its code.
+const REFUSED: [(u32, &[(&str, u32)]); 3] = [
+    (
+        0,
+        &[
+            ("", 2),
+            ("switch", 1),
+            ("cache = 9223372036854775808", 1),
+            ("leaf_rules = true\nbackups = 4", 3),
+            ("leaf_rules = 0\nbackups = 1.0", 4),
+            ("backups = 4\ncache = \"1\"", 4),
+            ("cache = 65537", 4),
+            ("switch = []", 4),
+            ("switch = 1979-05-27", 3),
+        ],
+    ),
+    (
+        1,
+        &[
+            ("switch = [1]", 3),
+            ("[[switch]]\nports = 1", 2),
+            ("[[switch]]\nname = \"controller\"", 4),
+            ("[[switch]]\nname = \"a\"\nports = [64, true]", 3),
+            (
+                "[[switch]]\nname = \"a\"\nports = [-1]\nauthority = true",
+                4,
+            ),
+            ("[[switch]]\nname = \"a\"\nports = [1, 1]", 7),
+        ],
+    ),
+    (
+        2,
+        &[
+            (
+                "[[switch]]\nname = \"a\"\nports = [1]\n[[switch]]\nname = \"a\"\nports = [1]",
+                6,
+            ),
+            (
+                "[[switch]]\nname = \"a\"\nports = [1]\n[[switch]]\nname = \"b\"\nports = [1]",
+                7,
+            ),
+        ],
+    ),
+];
+
+#[test]
+fn refuses_with_code_and_row(rt: HostRuntime) {
+    for (row, texts) in &REFUSED {
+        for (text, code) in *texts {
+            let told = refused(rt.alloc(), text.as_bytes());
+            assert!(rt; told == Some((*code, *row)), "at {text}");
+        }
+    }
+}
+
 // Two switches, their link, and a second row of links.
 const PAIR: &str = "[[switch]]\nname = \"a\"\n[[switch]]\nname = \"b\"\n[[link]]\n\
      ends = [\"a\", \"b\"]\n[[link]]\n";
 
-// Texts of two lines, each with the code and the row of its refusal.
-const REFUSED: [(&str, &str, u32, u32); 22] = [
-    ("", "", 2, 0),
-    ("switch", "", 1, 0),
-    ("cache = 9223372036854775808", "", 1, 0),
-    ("leaf_rules = true\nbackups = 4", "", 3, 0),
-    ("leaf_rules = 0\nbackups = 1.0", "", 4, 0),
-    ("backups = 4\ncache = \"1\"", "", 4, 0),
-    ("cache = 65537", "", 4, 0),
-    ("switch = []", "", 4, 0),
-    ("switch = 1979-05-27", "", 3, 0),
-    ("switch = [1]", "", 3, 1),
-    ("[[switch]]\nports = 1", "", 2, 1),
-    ("[[switch]]\nname = \"controller\"", "", 4, 1),
-    ("[[switch]]\nname = \"a\"\nports = [64, true]", "", 3, 1),
-    (
-        "[[switch]]\nname = \"a\"\nports = [-1]\nauthority = true",
-        "",
-        4,
-        1,
-    ),
-    (
-        "[[switch]]\nname = \"a\"\nports = [1]\n[[switch]]\nname = \"a\"\nports = [1]",
-        "",
-        6,
-        2,
-    ),
-    ("[[switch]]\nname = \"a\"\nports = [1, 1]", "", 7, 1),
-    (
-        "[[switch]]\nname = \"a\"\nports = [1]\n[[switch]]\nname = \"b\"\nports = [1]",
-        "",
-        7,
-        2,
-    ),
-    (PAIR, "ends = [\"a\"]", 3, 102),
-    (PAIR, "", 2, 102),
-    (PAIR, "ends = [\"a\", \"c\"]", 5, 102),
-    (PAIR, "ends = [\"b\", \"b\"]", 8, 102),
-    (PAIR, "ends = [\"b\", \"a\"]", 9, 102),
+// Keys of the second link, each with the code of its refusal.
+const REFUSED_LINKS: [(&str, u32); 5] = [
+    ("ends = [\"a\"]", 3),
+    ("", 2),
+    ("ends = [\"a\", \"c\"]", 5),
+    ("ends = [\"b\", \"b\"]", 8),
+    ("ends = [\"b\", \"a\"]", 9),
 ];
 
-// Whether a text of these two lines is refused with this code at this row.
-fn is_refused(
-    alloc: Global,
-    before: &str,
-    after: &str,
-    told: (u32, u32),
-) -> Result<bool, AllocError> {
-    let text = format!(in alloc; "{before}\n{after}\n")?;
-    Ok(refusal(read_net(alloc, text.as_bytes())) == Some(told))
-}
-
 #[test]
-fn refuses_with_code_and_row(rt: HostRuntime) -> Result<(), Fail> {
-    for (before, after, code, row) in &REFUSED {
-        let is_so = is_refused(rt.alloc(), before, after, (*code, *row))?;
-        assert!(rt; is_so, "at {before} {after}");
+fn refuses_links(rt: HostRuntime) -> Result<(), Fail> {
+    for (keys, code) in &REFUSED_LINKS {
+        let text = format!(in rt.alloc(); "{PAIR}{keys}\n")?;
+        let told = refused(rt.alloc(), text.as_bytes());
+        assert!(rt; told == Some((*code, 102)), "at {keys}");
     }
     Ok(())
 }
 
 #[test]
 fn refuses_other_bytes(rt: HostRuntime) {
-    assert!(rt; refusal(read_net(rt.alloc(), &[255])) == Some((1, 0)));
+    assert!(rt; refused(rt.alloc(), &[255]) == Some((1, 0)));
 }
 
 // The head of a text, and so many values in the array that it opens.
@@ -143,7 +156,7 @@ fn with_many(alloc: Global, head: &str, count: u32) -> Result<String, AllocError
 // Whether a text with so many values is refused for their count.
 fn has_too_many(alloc: Global, head: &str, count: u32) -> Result<bool, AllocError> {
     let text = with_many(alloc, head, count)?;
-    Ok(refusal(read_net(alloc, text.as_bytes())) == Some((10, 0)))
+    Ok(refused(alloc, text.as_bytes()) == Some((10, 0)))
 }
 
 #[test]

@@ -156,19 +156,13 @@ const REFUSED: [(&str, u32); 19] = [
     ("update,2", 7),
 ];
 
-// The code and the row of the refusal of a schedule with this second row.
-fn refused_second(alloc: Global, row: &str) -> Result<Option<(u32, u32)>, Fail> {
-    let rows = format!(in alloc; "drain\n{row}\nskip\n")?;
-    refused(alloc, &under_heading(alloc, rows.as_str())?, 1)
-}
-
 #[test]
 fn refuses_with_code_and_row(rt: HostRuntime) -> Result<(), Fail> {
+    let alloc = rt.alloc();
     for (row, code) in &REFUSED {
-        assert!(rt;
-            refused_second(rt.alloc(), row)? == Some((*code, 2)),
-            "at {row}"
-        );
+        let rows = format!(in alloc; "drain\n{row}\nskip\n")?;
+        let text = under_heading(alloc, rows.as_str())?;
+        assert!(rt; refused(alloc, &text, 1)? == Some((*code, 2)), "at {row}");
     }
     Ok(())
 }
