@@ -1,7 +1,7 @@
 //! Pieces of a text that are gathered before they are written.
 ghost use Rattle.std.specs.Prelude.{◌≡◌, ◌≢◌, ◌≤◌, ◌+◌, ◌++◌, [], List, Option, ℕ, IsOk, IsErrOf, OnErr, OnOk, length, IsTrue};
 ghost use Rattle.shelf.specs.Sink.{GainedPart, gained, Rose};
-ghost use Rattle.shelf.specs.SinkWrites.{IsGathered};
+ghost use Rattle.shelf.specs.SinkWrites.{IsAfterWrite, IsGathered};
 
 use crate::output::{Sink, SinkError, write_whole};
 use std::marker::Model;
@@ -13,18 +13,19 @@ const BLOCK_BYTES: usize = 65_536;
 /// the system is called once for many of them. It takes no memory. Contracts see these bytes.
 #[derive(Drop)]
 pub struct Block {
-    bytes: [u8; 65_536],
+    bytes: [u8; BLOCK_BYTES],
     len: usize,
 }
 
 impl Model for Block {
     ghost use Rattle.std.specs.Prelude.{List, ℕ, take, ◌≤◌};
+    ghost use Rattle.shelf.specs.declared.block.TheConstants.{BLOCK_BYTES};
 
     ghost Value = { List ℕ };
 
     ghost view = { λ block. take block.len block.bytes };
 
-    ghost invariant = { λ block. block.len ≤ 65536 };
+    ghost invariant = { λ block. block.len ≤ BLOCK_BYTES };
 }
 
 impl Block {
@@ -33,7 +34,7 @@ impl Block {
         ensures { result ≡ [] }
     {
         Block {
-            bytes: [0; 65_536],
+            bytes: [0; BLOCK_BYTES],
             len: 0,
         }
     }
@@ -95,12 +96,8 @@ impl Block {
             → IsGathered text before (K.state sink.old).bytes self
             → OnErr result (GainedPart before text (K.state sink.new).bytes) }
         ensures no_bytes { self ≡ [] → IsOk result × (sink.new ≡ sink.old) }
-        ensures faults { (K.state sink.old).faults ≤ (K.state sink.new).faults }
-        ensures calm { result ≢ Err SinkError.Failed
-            → (K.state sink.new).faults ≡ (K.state sink.old).faults }
-        ensures failed { IsErrOf result SinkError.Failed
-            → Rose (K.state sink.old).faults (K.state sink.new).faults }
-        ensures no_memory { IsErrOf result SinkError.NoMemory → IsTrue K.takes_memory }
+        ensures after { IsAfterWrite self K.takes_memory
+            (K.state sink.old) (K.state sink.new) result }
     {
         write_whole(sink, self.bytes())
     }

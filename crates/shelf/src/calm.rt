@@ -3,24 +3,15 @@ ghost use Rattle.std.specs.Prelude.{◌≡◌, ◌↔◌, [], Some, true, false,
 ghost use Rattle.shelf.specs.Sink.{counted};
 
 use crate::output::{Sink, SinkError};
-use crate::source::{Shelf, ShelfError, copy_named};
+use crate::source::{HeldFiles, Shelf, ShelfError};
 use std::alloc::Global;
 use std::marker::Model;
 
 /// Files in memory that can always be read, where there is memory for a copy.
 #[derive(Drop)]
 pub struct CalmShelf {
-    alloc: Global,
-    files: Vec<(String, Vec<u8>)>,
+    files: HeldFiles,
     reads: u64,
-}
-
-impl Model for CalmShelf {
-    ghost use Rattle.shelf.specs.Shelf.{CalmFiles, files_of};
-
-    ghost Value = { CalmFiles };
-
-    ghost view = { λ s. record { files = files_of s.files.items; reads = s.reads } };
 }
 
 impl CalmShelf {
@@ -31,8 +22,7 @@ impl CalmShelf {
         ensures { result ≡ record { files = files_of files.items; reads = 0 } }
     {
         CalmShelf {
-            alloc,
-            files,
+            files: HeldFiles::new(alloc, files),
             reads: 0,
         }
     }
@@ -53,22 +43,20 @@ impl Shelf for CalmShelf {
             ↔ HasLongerFile self.old.files name.now limit }
     {
         self.reads = self.reads.saturating_add(1);
-        copy_named(self.alloc, &self.files, name, limit)
+        self.files.copy(name, limit)
     }
 }
 
 /// Bytes in memory, which can always be added to, where there is memory.
 #[derive(Drop)]
-pub struct CalmSink {
-    bytes: Vec<u8>,
-}
+pub struct CalmSink(Vec<u8>);
 
 impl Model for CalmSink {
     ghost use Rattle.std.specs.Prelude.{List, ℕ};
 
     ghost Value = { List ℕ };
 
-    ghost view = { λ s. s.bytes.items };
+    ghost view = { λ s. s.0.items };
 }
 
 impl CalmSink {
@@ -76,16 +64,14 @@ impl CalmSink {
     pub fn new(alloc: Global) -> Self
         ensures { result ≡ [] }
     {
-        CalmSink {
-            bytes: Vec::new(alloc),
-        }
+        CalmSink(Vec::new(alloc))
     }
 
     /// The bytes that were written.
     pub fn bytes(&self) -> &[u8]
         ensures { result.now ≡ self.now }
     {
-        &self.bytes
+        &self.0
     }
 }
 
@@ -95,7 +81,7 @@ impl Sink for CalmSink {
     ghost takes_memory = { true };
 
     fn write(&mut self, piece: &[u8]) -> Result<u64, SinkError> {
-        self.bytes.extend_from_slice(piece)?;
+        self.0.extend_from_slice(piece)?;
         Ok(piece.len() as u64)
     }
 }

@@ -4,11 +4,13 @@ ghost use Rattle.shelf.specs.Sink.{counted};
 ghost use Rattle.shelf.specs.Scripts.{script_of, FailsNext, after_call};
 
 use crate::output::{Sink, SinkError};
-use crate::source::{Shelf, ShelfError, copy_named};
+use crate::source::{HeldFiles, Shelf, ShelfError};
 use std::alloc::Global;
 use std::marker::Model;
 
-/// Which calls are to fail, how many there were, and how many faults.
+/// Faults that are ordered beforehand: the numbers of the calls that are to fail, counted from 1,
+/// how many calls there were, and how often a fault was counted. Both counts stand still at their
+/// last value.
 #[derive(Drop)]
 struct Script {
     failing: Vec<u64>,
@@ -16,17 +18,9 @@ struct Script {
     faults: u64,
 }
 
-impl Model for Script {
-    ghost use Rattle.shelf.specs.Scripts.{CallScript};
-
-    ghost Value = { CallScript };
-
-    ghost view = { λ s. record { failing = s.failing.items; calls = s.calls; faults = s.faults } };
-}
-
 impl Script {
     fn new(failing: Vec<u64>) -> Self
-        ensures { result ≡ script_of failing.items }
+        ensures { result ≡ script_of failing }
     {
         Script {
             failing,
@@ -63,17 +57,8 @@ impl Script {
 /// Calls are counted from 1. The count of faults rises at the listed calls, and at no other.
 #[derive(Drop)]
 pub struct MemShelf {
-    alloc: Global,
-    files: Vec<(String, Vec<u8>)>,
+    files: HeldFiles,
     script: Script,
-}
-
-impl Model for MemShelf {
-    ghost use Rattle.shelf.specs.Shelf.{ScriptedFiles, files_of};
-
-    ghost Value = { ScriptedFiles };
-
-    ghost view = { λ s. record { files = files_of s.files.items; script = s.script } };
 }
 
 impl MemShelf {
@@ -83,12 +68,10 @@ impl MemShelf {
     ///
     /// Of two files of one name the first counts.
     pub fn new(alloc: Global, files: Vec<(String, Vec<u8>)>, failing: Vec<u64>) -> Self
-        ensures { result
-            ≡ record { files = files_of files.items; script = script_of failing.items } }
+        ensures { result ≡ record { files = files_of files.items; script = script_of failing } }
     {
         MemShelf {
-            alloc,
-            files,
+            files: HeldFiles::new(alloc, files),
             script: Script::new(failing),
         }
     }
@@ -119,7 +102,7 @@ impl Shelf for MemShelf {
         if self.script.begin_call() {
             return Err(ShelfError::Failed);
         }
-        copy_named(self.alloc, &self.files, name, limit)
+        self.files.copy(name, limit)
     }
 }
 
@@ -146,7 +129,7 @@ impl MemSink {
     /// An empty sink that takes at most `most` bytes a call, and at which the calls with these
     /// numbers fail.
     pub fn new(alloc: Global, most: u64, failing: Vec<u64>) -> Self
-        ensures { result ≡ record { bytes = []; most = most; script = script_of failing.items } }
+        ensures { result ≡ record { bytes = []; most = most; script = script_of failing } }
     {
         MemSink {
             bytes: Vec::new(alloc),

@@ -3,10 +3,11 @@ ghost use Rattle.std.specs.Prelude.{◌≡◌, ◌≤◌, ◌↔◌, IfOk, IsErr
 ghost use Rattle.std.specs.Option.{ForSome, ForNone, option_copied};
 ghost use Rattle.std.specs.Str.{bytes_eq};
 ghost use Rattle.shelf.specs.Sink.{Rose, counted};
-ghost use Rattle.shelf.specs.Shelf.{ShelfState, HasFile, LacksFile, HasLongerFile, IsNoFault, files_of, is_read_fault};
+ghost use Rattle.shelf.specs.Shelf.{ShelfState, HasFile, LacksFile, HasLongerFile, IsNoFault, file_named, files_of, is_read_fault};
 ghost use Rattle.shelf.specs.declared.source.ShelfError.TheVariants.{NoMemory};
 
 use std::alloc::{AllocError, Global};
+use std::marker::Model;
 use thiserror::Error;
 
 /// Why a file wasn't read.
@@ -70,6 +71,21 @@ pub trait Shelf {
             → Rose (state self.old).faults (state self.new).faults) };
 }
 
+/// Files in memory, of which the first of a name counts. Contracts see the names and the contents.
+#[derive(Drop)]
+pub(crate) struct HeldFiles {
+    alloc: Global,
+    files: Vec<(String, Vec<u8>)>,
+}
+
+impl Model for HeldFiles {
+    ghost use Rattle.shelf.specs.Shelf.{Files, files_of};
+
+    ghost Value = { Files };
+
+    ghost view = { λ held. files_of held.files.items };
+}
+
 /// The first of these files with this name.
 fn find_named<'a>(files: &'a [(String, Vec<u8>)], name: &str) -> Option<&'a (String, Vec<u8>)>
     ensures { option_copied result
@@ -78,27 +94,37 @@ fn find_named<'a>(files: &'a [(String, Vec<u8>)], name: &str) -> Option<&'a (Str
     files.iter().find(|file| file.0.as_str() == name)
 }
 
-/// A copy of the first of these files with this name, where it has at most `limit` bytes.
+/// Its content.
 #[tactic(auto, using(crate::proofs::Lookups::file_named_kept))]
-pub(crate) fn copy_named(
-    alloc: Global,
-    files: &[(String, Vec<u8>)],
-    name: &str,
-    limit: u64,
-) -> Result<Vec<u8>, ShelfError>
-    ensures no_fault { is_read_fault result ≡ false }
-    ensures content { IfOk result (λ content.
-        HasFile (files_of files.now) name.now limit content.items) }
-    ensures missing { IsErrOf result ShelfError.Missing
-        ↔ LacksFile (files_of files.now) name.now }
-    ensures too_long { IsErrOf result ShelfError.TooLong
-        ↔ HasLongerFile (files_of files.now) name.now limit }
+fn content_of<'a>(files: &'a [(String, Vec<u8>)], name: &str) -> Option<&'a [u8]>
+    ensures { option_copied result ≡ file_named (files_of files.now) name.now }
 {
-    let Some(file) = find_named(files, name) else {
-        return Err(ShelfError::Missing);
-    };
-    if file.1.len() as u64 > limit {
-        return Err(ShelfError::TooLong);
+    match find_named(files, name) {
+        Some(file) => Some(&file.1),
+        None => None,
     }
-    Ok(Vec::from_slice(alloc, &file.1)?)
+}
+
+impl HeldFiles {
+    /// These files, and the allocator of the copies.
+    pub(crate) fn new(alloc: Global, files: Vec<(String, Vec<u8>)>) -> Self
+        ensures { result ≡ files_of files.items }
+    {
+        HeldFiles { alloc, files }
+    }
+
+    /// A copy of the file of this name, where it has at most `limit` bytes.
+    pub(crate) fn copy(&self, name: &str, limit: u64) -> Result<Vec<u8>, ShelfError>
+        ensures no_fault { is_read_fault result ≡ false }
+        ensures content { IfOk result (λ content. HasFile self.now name.now limit content.items) }
+        ensures missing { IsErrOf result ShelfError.Missing ↔ LacksFile self.now name.now }
+        ensures too_long { IsErrOf result ShelfError.TooLong
+            ↔ HasLongerFile self.now name.now limit }
+    {
+        let content = content_of(&self.files, name).ok_or(ShelfError::Missing)?;
+        if content.len() as u64 > limit {
+            return Err(ShelfError::TooLong);
+        }
+        Ok(Vec::from_slice(self.alloc, content)?)
+    }
 }
