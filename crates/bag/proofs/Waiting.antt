@@ -114,14 +114,12 @@ changed_at change statuses (suc place) status is here =
     let same : suc place - 1 ≡ place = omega arith in
     rw same (changed_place change statuses place status is (rw same at here))
 
-pub changed_from : (change : Status → Status) (before statuses : List Status) (number : ℕ)
-    → (status after : Status)
+pub changed_from : (change : Status → Status) (before statuses : List Status) (number : ℕ) (status : Status)
     → IsTrue (is_deliverable statuses number) → before ≡ statuses
-    → status ≡ get_or before (number - 1) status → after ≡ change status
-    → set before (number - 1) after ≡ with_changed change statuses number
-changed_from change before statuses number status after is same here changed =
-    ap (set before (number - 1)) changed ∙ ap (λ statuses. set statuses (number - 1) (change status)) same
-    ∙ changed_at change statuses number status is
+    → status ≡ get_or before (number - 1) status
+    → set statuses (number - 1) (change status) ≡ with_changed change statuses number
+changed_from change before statuses number status is same here =
+    changed_at change statuses number status is
     (subst (λ statuses. status ≡ get_or statuses (number - 1) status) same here)
 
 -- the messages up to the first that waits have been passed
@@ -136,7 +134,8 @@ changed_passed change passed number first before statuses seen status still are 
     sees found =
     let after : List Status = set before (number - 1) (change status) in
     let changed : after ≡ with_changed change statuses number =
-    changed_from change before statuses number status _ there same here refl in
+    ap (λ statuses. set statuses (number - 1) (change status)) same
+    ∙ changed_from change before statuses number status there same here in
     let long : length after ≡ length before =
     ap length changed ∙ length_changed change statuses number ∙ sym (ap length same) in
     let is : IsFirstWaiting after passed first =
@@ -183,30 +182,41 @@ not_found p from (suc n) none =
     not_found p (from + 1) n (λ number past before. none number (omega arith) (omega arith)) in
     grind (arith, common_steps)
 
--- a search that begins behind what was passed misses nothing
-none_before : (statuses : List Status) (passed from start place : ℕ) → ArePassed passed statuses
-    → start ≡ max (from - 1) passed → IsFirstWaiting statuses start place
+-- a place that was searched for from this number on, behind what was passed
+pub record IsSearched (statuses : List Status) (passed from start place : ℕ) : Type 0 where
+  pub are : ArePassed passed statuses
+  pub begins : start ≡ max (from - 1) passed
+  pub first : IsFirstWaiting statuses start place
+
+-- by whatever name the statuses go
+pub searched : {inside now seen : List Status} {passed start place : ℕ} (from : ℕ) → ArePassed passed inside
+    → start ≡ max (from - 1) passed → IsFirstWaiting seen start place → inside ≡ now → seen ≡ inside
+    → IsSearched now passed from start place
+searched {passed = passed} {start = start} {place = place} from are begins first same sees = record {
+  are = subst (ArePassed passed) same are;
+  begins = begins;
+  first = subst (λ statuses. IsFirstWaiting statuses start place) (sees ∙ same) first;
+}
+
+-- the search misses nothing
+none_before : {statuses : List Status} {passed from start place : ℕ} → IsSearched statuses passed from start place
     → (number : ℕ) → from ≤ number → number ≤ place → is_waiting statuses number ≡ false
-none_before statuses passed from start place are begins is zero above below = refl
-none_before statuses passed from start place are begins is (suc at) above below =
+none_before is zero above below = refl
+none_before {passed = passed} is (suc at) above below =
     elim (cases_lt passed (suc at)) [
-      | inl past ↦ is.none (suc at) (omega arith) below
-      | inr within ↦ are.none (suc at) within
+      | inl past ↦ is.first.none (suc at) (omega (arith, is.begins)) below
+      | inr within ↦ is.are.none (suc at) within
     ]
 
-pub next_is : (statuses : List Status) (passed from start place : ℕ) → ArePassed passed statuses
-    → start ≡ max (from - 1) passed → IsFirstWaiting statuses start place → place < length statuses
-    → next_waiting statuses from ≡ Some (place + 1)
-next_is statuses passed from start place are begins is within =
-    found_at (is_waiting statuses) from (length statuses + 1 - from) (place + 1)
-    (λ number above below.
-    none_before statuses passed from start place are begins is number above (omega arith))
-    (omega (arith, is.above)) (omega (arith, is.above)) (is.here within)
+pub next_is : {statuses : List Status} {passed from start place : ℕ} → IsSearched statuses passed from start place
+    → place < length statuses → Some (place + 1) ≡ next_waiting statuses from
+next_is {statuses = statuses} {from = from} {place = place} is within =
+    sym (found_at (is_waiting statuses) from (length statuses + 1 - from) (place + 1)
+    (λ number above below. none_before is number above (omega arith))
+    (omega (arith, is.begins, is.first.above)) (omega (arith, is.begins, is.first.above)) (is.first.here within))
 
-pub next_is_none : (statuses : List Status) (passed from start place : ℕ) → ArePassed passed statuses
-    → start ≡ max (from - 1) passed → IsFirstWaiting statuses start place → length statuses ≤ place
-    → next_waiting statuses from ≡ None
-next_is_none statuses passed from start place are begins is past =
-    not_found (is_waiting statuses) from (length statuses + 1 - from)
-    (λ number above below.
-    none_before statuses passed from start place are begins is number above (omega arith))
+pub next_is_none : {statuses : List Status} {passed from start place : ℕ} → IsSearched statuses passed from start place
+    → length statuses ≤ place → None ≡ next_waiting statuses from
+next_is_none {statuses = statuses} {from = from} is past =
+    sym (not_found (is_waiting statuses) from (length statuses + 1 - from)
+    (λ number above below. none_before is number above (omega arith)))
