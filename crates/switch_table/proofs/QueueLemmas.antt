@@ -19,7 +19,7 @@ use Rattle.ternary.specs.Meets.{word_eq}
 use Rattle.switch_table.specs.Cache.{HaveDistinctKeys, same_key}
 use Rattle.switch_table.specs.Queue.{IsRing, Pair, equal_keys, key_of, pair_of, pairs_from, ring_entries, turned}
 use Rattle.switch_table.specs.declared.cache.CacheEntry.{CacheEntry}
-use Rattle.switch_table.specs.declared.queue.CacheKey.{CacheKey}
+use Rattle.switch_table.specs.declared.key.CacheKey.{CacheKey}
 
 -- the entry has the key
 abbrev pub keyed : CacheKey → CacheEntry → Bool

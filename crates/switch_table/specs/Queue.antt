@@ -3,7 +3,7 @@ use Rattle.std.specs.Prelude.{ℕ, ◌≡◌, ◌≤◌, Bool, ◌&&◌, ◌==�
 use Rattle.ternary.specs.Meets.{word_eq}
 use Rattle.switch_table.specs.Cache.{HaveDistinctKeys}
 use Rattle.switch_table.specs.declared.cache.CacheEntry.{CacheEntry}
-use Rattle.switch_table.specs.declared.queue.CacheKey.{CacheKey}
+use Rattle.switch_table.specs.declared.key.CacheKey.{CacheKey}
 
 abbrev pub key_of : CacheEntry → CacheKey
 key_of entry = record { version = entry.version; word = entry.word }

@@ -1,7 +1,7 @@
 ghost use Rattle.std.specs.Prelude.{◌≡◌, ◌++◌};
 
 use crate::cache::CacheEntry;
-use crate::queue::CacheKey;
+use crate::key::CacheKey;
 use indexmap::map::Values;
 use std::marker::Model;
 

@@ -12,6 +12,7 @@
 
 mod cache;
 mod items;
+mod key;
 mod queue;
 mod search;
 mod tables;

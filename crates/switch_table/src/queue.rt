@@ -1,32 +1,14 @@
 ghost use Rattle.std.specs.Prelude.{◌≡◌, ◌<◌, [], ◌∷◌, ◌++◌, length, drop, remove, map, filter, nat_le, slice_get, IsFalse, IfOk, OnOk, OnErr};
 ghost use Rattle.std.specs.List.{list_any};
 ghost use Rattle.switch_table.specs.Cache.{same_key, HaveDistinctKeys};
-ghost use Rattle.switch_table.specs.Queue.{key_of, pair_of};
+ghost use Rattle.switch_table.specs.Queue.{pair_of};
 
 use crate::cache::CacheEntry;
 use crate::items::CacheItems;
+use crate::key::CacheKey;
 use indexmap::IndexMap;
 use std::alloc::{AllocError, Global};
 use std::marker::Model;
-use ternary::Word;
-
-/// What makes a cache entry one of its kind.
-#[derive(Clone, Copy, PartialEq, Eq, Hash)]
-pub struct CacheKey {
-    pub version: u32,
-    pub word: Word,
-}
-
-impl CacheKey {
-    fn of(entry: &CacheEntry) -> CacheKey
-        ensures { result ≡ key_of entry.now }
-    {
-        CacheKey {
-            version: entry.version,
-            word: entry.word,
-        }
-    }
-}
 
 /// Entries in the order in which they came, no two of one key. Contracts see the list.
 ///
