@@ -1,4 +1,4 @@
-ghost use Rattle.std.specs.Prelude.{◌≡◌, ◌<◌, ◌+◌, ◌-◌, ◌^◌, [], ◌∷◌, ◌++◌, false, List, length, set, IsTrue, OnOk, OnErr};
+ghost use Rattle.std.specs.Prelude.{◌≡◌, ◌<◌, ◌+◌, ◌-◌, ◌^◌, [], ◌∷◌, ◌++◌, List, length, IsTrue, OnOk, OnErr};
 ghost use Rattle.bag.specs.Deliveries.{delivered, forgotten, is_deliverable, may_be_delivered, next_waiting, waiting, waits, IsFirstWaiting};
 ghost use Rattle.bag.specs.Numbered.{with_changed};
 ghost use Rattle.bag.specs.declared.deliveries.Status.{Status};
@@ -112,32 +112,22 @@ impl Deliveries {
     }
 
     /// The message of this number was delivered, perhaps once more.
+    #[tactic(auto, using(crate::proofs::Waiting::changed_from))]
     pub fn deliver(&mut self, number: u32)
         requires { IsTrue (is_deliverable self.old number) }
         ensures { self.new ≡ with_changed delivered self.old number }
     {
-        let mut status = self.statuses[number as usize - 1];
-        status.delivered = true;
-        self.write(number, status);
+        self.statuses[number as usize - 1].delivered = true;
+        self.passed = first_waiting(&self.statuses, self.passed);
     }
 
     /// The message of this number is never delivered again.
+    #[tactic(auto, using(crate::proofs::Waiting::changed_from))]
     pub fn forget(&mut self, number: u32)
         requires { IsTrue (is_deliverable self.old number) }
         ensures { self.new ≡ with_changed forgotten self.old number }
     {
-        let mut status = self.statuses[number as usize - 1];
-        status.forgotten = true;
-        self.write(number, status);
-    }
-
-    // The message of this number doesn't wait any more: this became of it.
-    fn write(&mut self, number: u32, status: Status)
-        requires there { IsTrue (is_deliverable self.old number) }
-        requires still { waits status ≡ false }
-        ensures { self.new ≡ set self.old (number - 1) status }
-    {
-        self.statuses[number as usize - 1] = status;
+        self.statuses[number as usize - 1].forgotten = true;
         self.passed = first_waiting(&self.statuses, self.passed);
     }
 
