@@ -137,6 +137,15 @@ whole old before marks answer kept plans stays is low versions sound picked =
       versions = settled_versions before marks answer kept plans is low versions picked;
     }
 
+-- settling from a controller's marks, as it is seen
+pub settles_seen : (s : ℕ) (change : SwitchRecord → SwitchRecord) (old marks : MarksValue)
+    (kept : List KeptPlan) (answer : Settled) (value : ControllerValue)
+    → record { marks = old; plans = kept } ≡ value → Settles (at_switch s change old) marks answer
+    → Settles (at_switch s change value.marks) marks answer
+settles_seen s change old marks kept answer value seen settled =
+    subst (λ (value : ControllerValue). Settles (at_switch s change value.marks) marks answer) seen
+    settled
+
 module _ (s : ℕ) (change : SwitchRecord → SwitchRecord) (old : MarksValue) (kept : List KeptPlan)
     (marks : MarksValue) (answer : Settled) (plans : List KeptPlan) where
   -- one switch's record changed

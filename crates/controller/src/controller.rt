@@ -1,9 +1,9 @@
-ghost use Rattle.std.specs.Prelude.{◌≡◌, ◌≢◌, ◌+◌, ◌-◌, ◌<◌, ◌≤◌, ◌↔◌, ◌++◌, [], map, length, not, Err, Some, IsTrue, IsFalse, IfOk, IfErr, OnOk, OnErr};
+ghost use Rattle.std.specs.Prelude.{◌≡◌, ◌≢◌, ◌+◌, ◌-◌, ◌<◌, ◌≤◌, ◌↔◌, ◌++◌, [], map, length, not, Err, Some, IsTrue, IsFalse, IfOk, IfErr, OnOk, OnErr, if◌then◌else◌};
 ghost use Rattle.net_file.specs.Net.{IsNet};
 ghost use Rattle.ctrl_msg.specs.Kinds.{is_for_controller};
 ghost use Rattle.ctrl_msg.specs.declared.message.Body.TheVariants.{Hello};
 ghost use Rattle.switch_table.specs.Tables.{AreSoundTables};
-ghost use Rattle.version_update.specs.Marks.{StaySettled, at_switch, record_of, with_version};
+ghost use Rattle.version_update.specs.Marks.{StaySettled, at_switch, record_of, with_version, MarksValue};
 ghost use Rattle.version_update.specs.Record.{is_member, is_over, after_over};
 ghost use Rattle.version_update.specs.Settling.{Settles};
 ghost use Rattle.version_update.specs.declared.record.Phase.TheVariants.{Joining, Member};
@@ -256,12 +256,7 @@ impl Controller {
         ensures rule { StaysController self.old self.new }
     {
         let settled = self.marks.hello(s, boot);
-        let mut acts = Vec::new(alloc);
-        settle(&mut acts, &mut self.versions, &self.marks, &settled)?;
-        if settled.taken {
-            install_all(&mut acts, alloc, &self.versions, s, boot)?;
-        }
-        Ok(Sends::new(acts))
+        hello_sends(alloc, &mut self.versions, &self.marks, &settled, s, boot)
     }
 
     // A switch replied that it has the tables of a version, or stamps packets with it.
@@ -320,6 +315,28 @@ fn is_there(phase: Phase) -> bool
     ensures { result ≡ not (is_over phase) }
 {
     phase != Phase::Over
+}
+
+// The marks settled on a hello: what is then sent, and all versions to the switch if its boot is new.
+fn hello_sends(
+    alloc: Global,
+    versions: &mut Vec<Version>,
+    marks: &Marks,
+    settled: &Settled,
+    s: u32,
+    boot: u32,
+) -> Result<Sends, AllocError>
+    ensures sends { (before : MarksValue) → Settles before marks.now settled.now
+        → IfOk result (λ sends. sends ≡ settling_acts before marks.now
+        ++ (if settled.now.taken then map (install_act s boot) versions.new.items else [])) }
+    ensures versions { versions.new.items ≡ plans_from marks.now.current versions.old.items }
+{
+    let mut acts = Vec::new(alloc);
+    settle(&mut acts, versions, marks, settled)?;
+    if settled.taken {
+        install_all(&mut acts, alloc, versions, s, boot)?;
+    }
+    Ok(Sends::new(acts))
 }
 
 // All versions to one switch.

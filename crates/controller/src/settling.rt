@@ -64,9 +64,8 @@ pub fn settled_sends(
     marks: &Marks,
     settled: &Settled,
 ) -> Result<Sends, AllocError>
-    ensures sends { IfOk result (λ sends.
-        (before : MarksValue) → Settles before marks.now settled.now
-        → sends ≡ settling_acts before marks.now) }
+    ensures sends { (before : MarksValue) → Settles before marks.now settled.now
+        → IfOk result (λ sends. sends ≡ settling_acts before marks.now) }
     ensures versions { versions.new.items ≡ plans_from marks.now.current versions.old.items }
 {
     let mut acts = Vec::new(alloc);
