@@ -1,17 +1,17 @@
 -- What is told as the marks settle, from the masks of the answer.
 use Rattle.std.proofs.Common.{ℕ, ◌≡◌, Bool, true, false, cond, ◌&&◌, ltb, List, [], ◌∷◌, ◌++◌, length, refl, ap, sym, ◌∙◌, append_assoc, append-nil}
-use Rattle.std.specs.Prelude.{Some, None}
+use Rattle.std.specs.Prelude.{Option, Some, None}
 use Rattle.std.proofs.lemmas.List.{length-map}
-use Rattle.ctrl_msg.specs.declared.message.Body.TheVariants.{OpenAt, Stamp, Collect}
+use Rattle.ctrl_msg.specs.declared.message.Body.{Body}
+use Rattle.ctrl_msg.specs.declared.message.Body.TheVariants.{OpenAt}
 use Rattle.version_update.specs.declared.record.SwitchRecord.{SwitchRecord}
 use Rattle.version_update.specs.declared.marks.Settled.{Settled}
 use Rattle.version_update.specs.Record.{is_member, opens_at}
 use Rattle.version_update.specs.Marks.{MarksValue}
 use Rattle.version_update.specs.Settling.{Names, rises_to, Settles}
 use Rattle.controller.specs.News.{switches_named}
-use Rattle.controller.specs.Sends.{tell, those, stamp_acts, opens, collect_acts, settling_acts}
+use Rattle.controller.specs.Sends.{tell, those, rising_acts, stamp_acts, opens, collect_acts, settling_acts}
 use Rattle.controller.specs.declared.sends.Act.{Act}
-use Rattle.controller.specs.declared.sends.Act.TheVariants.{Current, Retired}
 use Rattle.controller.proofs.Picking.{those_named}
 
 -- no switch comes or goes
@@ -46,29 +46,32 @@ headed : (head : Act) (old rest mid acts : List Act) → mid ≡ old ++ head ∷
 headed head old rest mid acts begun made = made ∙ ap (λ l. l ++ rest) begun
     ∙ append_assoc old (head ∷ []) rest
 
-pub stamps_told : (before after : MarksValue) (answer : Settled) (n current : ℕ)
-    (old mid acts : List Act) → n ≡ length after.switches → answer.current ≡ Some current
-    → mid ≡ old ++ Current current ∷ [] → acts ≡ mid ++ tell after (λ boot. Stamp boot current)
-    (switches_named answer.stamps n) → Settles before after answer → acts ≡ old ++ stamp_acts before after
-stamps_told before after answer n current old mid acts all risen begun made is =
-    let up = rose before.current after.current current (sym is.tells.current ∙ risen) in
-    let names = and_first _ (λ known. is_member known.phase) answer.stamps before.switches up.1
-    is.tells.stamps in
-    let told : List ℕ = those (λ known. is_member known.phase) before.switches in
-    let who : switches_named answer.stamps n ≡ told = those_named answer.stamps n _ before.switches
-    (all ∙ same_number before after answer is) names in
-    headed (Current current) old _ mid acts begun made
-    ∙ ap (λ l. old ++ Current current ∷ tell after (λ boot. Stamp boot current) l) who
-    ∙ ap (λ v. old ++ Current v ∷ tell after (λ boot. Stamp boot v) told) up.0
-    ∙ ap (λ b. old ++ cond b
-    (Current after.current ∷ tell after (λ boot. Stamp boot after.current) told) []) (sym up.1)
+pub rising_told : (old new number mask n : ℕ) (answered : Option ℕ) (says : ℕ → Act)
+    (body : ℕ → ℕ → Body) (after : MarksValue) (switches : List SwitchRecord)
+    (base mid acts : List Act) → answered ≡ rises_to old new
+    → Names mask (λ known. ltb old new && is_member known.phase) switches → n ≡ length switches
+    → answered ≡ Some number → mid ≡ base ++ says number ∷ []
+    → acts ≡ mid ++ tell after (λ boot. body boot number) (switches_named mask n)
+    → acts ≡ base ++ rising_acts old new says body after switches
+rising_told old new number mask n answered says body after switches base mid acts is names all risen
+    begun made =
+    let up = rose old new number (sym is ∙ risen) in
+    let told : List ℕ = those (λ known. is_member known.phase) switches in
+    let who : switches_named mask n ≡ told = those_named mask n _ switches all
+    (and_first _ (λ known. is_member known.phase) mask switches up.1 names) in
+    headed (says number) base _ mid acts begun made
+    ∙ ap (λ l. base ++ says number ∷ tell after (λ boot. body boot number) l) who
+    ∙ ap (λ v. base ++ says v ∷ tell after (λ boot. body boot v) told) up.0
+    ∙ ap (λ b. base ++ cond b (says new ∷ tell after (λ boot. body boot new) told) []) (sym up.1)
 
-pub stamps_none : (before after : MarksValue) (answer : Settled) → answer.current ≡ None
-    → Settles before after answer → stamp_acts before after ≡ []
-stamps_none before after answer none is =
-    ap (λ b. cond b (Current after.current ∷ tell after (λ boot. Stamp boot after.current)
-    (those (λ known. is_member known.phase) before.switches)) [])
-    (stays before.current after.current (sym is.tells.current ∙ none))
+pub rising_none : (old new : ℕ) (answered : Option ℕ) (says : ℕ → Act) (body : ℕ → ℕ → Body)
+    (after : MarksValue) (switches : List SwitchRecord) (base : List Act)
+    → answered ≡ rises_to old new → answered ≡ None
+    → base ≡ base ++ rising_acts old new says body after switches
+rising_none old new answered says body after switches base is none =
+    sym (append-nil base)
+    ∙ ap (λ b. base ++ cond b (says new ∷ tell after (λ boot. body boot new)
+    (those (λ known. is_member known.phase) switches)) []) (sym (stays old new (sym is ∙ none)))
 
 pub opens_told : (before after : MarksValue) (answer : Settled) (n current : ℕ)
     (old acts : List Act) → n ≡ length after.switches → current ≡ after.current
@@ -81,31 +84,6 @@ opens_told before after answer n current old acts all is_current made is =
     made ∙ ap (λ l. old ++ tell after (λ boot. OpenAt boot current) l) who
     ∙ ap (λ v. old ++ tell after (λ boot. OpenAt boot v)
     (those (opens_at after.current) before.switches)) is_current
-
-pub collects_told : (before after : MarksValue) (answer : Settled) (n retired : ℕ)
-    (old mid acts : List Act) → n ≡ length after.switches → answer.retired ≡ Some retired
-    → mid ≡ old ++ Retired retired ∷ [] → acts ≡ mid ++ tell after (λ boot. Collect boot retired)
-    (switches_named answer.collects n) → Settles before after answer → acts ≡ old ++ collect_acts before after
-collects_told before after answer n retired old mid acts all risen begun made is =
-    let up = rose before.retired after.retired retired (sym is.tells.retired ∙ risen) in
-    let names = and_first _ (λ known. is_member known.phase) answer.collects after.switches up.1
-    is.tells.collects in
-    let told : List ℕ = those (λ known. is_member known.phase) after.switches in
-    let who : switches_named answer.collects n ≡ told = those_named answer.collects n _ after.switches all
-    names in
-    headed (Retired retired) old _ mid acts begun made
-    ∙ ap (λ l. old ++ Retired retired ∷ tell after (λ boot. Collect boot retired) l) who
-    ∙ ap (λ v. old ++ Retired v ∷ tell after (λ boot. Collect boot v) told) up.0
-    ∙ ap (λ b. old ++ cond b
-    (Retired after.retired ∷ tell after (λ boot. Collect boot after.retired) told) [])
-    (sym up.1)
-
-pub collects_none : (before after : MarksValue) (answer : Settled) → answer.retired ≡ None
-    → Settles before after answer → collect_acts before after ≡ []
-collects_none before after answer none is =
-    ap (λ b. cond b (Retired after.retired ∷ tell after (λ boot. Collect boot after.retired)
-    (those (λ known. is_member known.phase) after.switches)) [])
-    (stays before.retired after.retired (sym is.tells.retired ∙ none))
 
 -- the three parts, one after another
 pub settling_told : (before after : MarksValue) (old one two three : List Act)

@@ -44,13 +44,19 @@ tell marks body switches = map (λ s. post s (body (boot_recorded marks s))) swi
 
 -- ---- settling
 
+-- a mark rose: it is the new one, and the members among these switches are told
+abbrev pub rising_acts : ℕ → ℕ → (ℕ → Act) → (ℕ → ℕ → Body) → MarksValue → List SwitchRecord
+    → List Act
+rising_acts old new says body marks switches = if nat_lt old new
+    then says new ∷ tell marks (λ boot. body boot new)
+    (those (λ known. is_member known.phase) switches)
+    else []
+
 -- a new current version, and its stamps to the members from before: they have its tables, and
 -- those that join open at it
 abbrev pub stamp_acts : MarksValue → MarksValue → List Act
-stamp_acts before after = if nat_lt before.current after.current
-    then Current after.current ∷ tell after (λ boot. Stamp boot after.current)
-    (those (λ known. is_member known.phase) before.switches)
-    else []
+stamp_acts before after =
+    rising_acts before.current after.current Current Stamp after before.switches
 
 -- the new members open at the current version, which they acknowledged
 abbrev pub opens : MarksValue → MarksValue → List Act
@@ -60,10 +66,8 @@ opens before after = tell after (λ boot. OpenAt boot after.current)
 -- a newly retired version, and to all members that they drop the tables up to it: no member stamps
 -- with it any more
 abbrev pub collect_acts : MarksValue → MarksValue → List Act
-collect_acts before after = if nat_lt before.retired after.retired
-    then Retired after.retired ∷ tell after (λ boot. Collect boot after.retired)
-    (those (λ known. is_member known.phase) after.switches)
-    else []
+collect_acts before after =
+    rising_acts before.retired after.retired Retired Collect after after.switches
 
 -- what is sent as marks settle
 abbrev pub settling_acts : MarksValue → MarksValue → List Act

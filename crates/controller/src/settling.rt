@@ -2,7 +2,10 @@
 ghost use Rattle.std.specs.Prelude.{◌≡◌, ◌++◌, ◌<◌, length, IfOk, OnOk};
 ghost use Rattle.version_update.specs.Marks.{MarksValue};
 ghost use Rattle.version_update.specs.Settling.{Settles};
-ghost use Rattle.controller.specs.Controllers.{body_of, collect_acts, opens, plans_from, settling_acts, stamp_acts, switches_named, tell};
+ghost use Rattle.controller.specs.Controllers.{body_of, opens, plans_from, settling_acts, switches_named, tell};
+ghost use Rattle.controller.specs.Controller.{plans_from};
+ghost use Rattle.controller.specs.News.{body_of, switches_named};
+ghost use Rattle.controller.specs.Sends.{tell, settling_acts};
 
 use crate::sends::{Act, Sends};
 use crate::version::Version;
@@ -47,9 +50,16 @@ pub fn settle(
     ensures versions { versions.new.items ≡ plans_from marks.now.current versions.old.items }
 {
     let_go(versions, marks.current());
-    stamp(acts, marks, settled)?;
-    open(acts, marks, settled)?;
-    collect(acts, marks, settled)?;
+    if let Some(current) = settled.current {
+        acts.push(Act::Current(current))?;
+        tell(acts, marks, settled.stamps, News::Stamp, current)?;
+    }
+    let current = marks.current();
+    tell(acts, marks, settled.opens, News::OpenAt, current)?;
+    if let Some(retired) = settled.retired {
+        acts.push(Act::Retired(retired))?;
+        tell(acts, marks, settled.collects, News::Collect, retired)?;
+    }
     Ok(())
 }
 
@@ -78,37 +88,6 @@ fn let_go(versions: &mut Vec<Version>, current: u32)
     ensures { versions.new.items ≡ plans_from current versions.old.items }
 {
     versions.retain(|kept| current <= kept.version());
-}
-
-fn stamp(acts: &mut Vec<Act>, marks: &Marks, settled: &Settled) -> Result<(), AllocError>
-    ensures { OnOk result ((before : MarksValue) → Settles before marks.now settled.now
-        → acts.new.items ≡ acts.old.items ++ stamp_acts before marks.now) }
-{
-    if let Some(current) = settled.current {
-        acts.push(Act::Current(current))?;
-        tell(acts, marks, settled.stamps, News::Stamp, current)?;
-    }
-    Ok(())
-}
-
-fn open(acts: &mut Vec<Act>, marks: &Marks, settled: &Settled) -> Result<(), AllocError>
-    ensures { OnOk result ((before : MarksValue) → Settles before marks.now settled.now
-        → acts.new.items ≡ acts.old.items ++ opens before marks.now) }
-{
-    let current = marks.current();
-    tell(acts, marks, settled.opens, News::OpenAt, current)?;
-    Ok(())
-}
-
-fn collect(acts: &mut Vec<Act>, marks: &Marks, settled: &Settled) -> Result<(), AllocError>
-    ensures { OnOk result ((before : MarksValue) → Settles before marks.now settled.now
-        → acts.new.items ≡ acts.old.items ++ collect_acts before marks.now) }
-{
-    if let Some(retired) = settled.retired {
-        acts.push(Act::Retired(retired))?;
-        tell(acts, marks, settled.collects, News::Collect, retired)?;
-    }
-    Ok(())
 }
 
 // Tells the switches of the mask, each in the boot that is known of it.
