@@ -125,11 +125,11 @@ written = refl
 
 linked_once_back : LinksAreThere open_net back
 linked_once_back = subst (LinksAreThere open_net) written
-    ((behind_both LinksAreThere links_there).stepped open_net its_steps)
+    ((behind_both LinksAreThere links_there).ends.stepped open_net its_steps)
 
 newest_once_back : OwnAreNewest open_net back
 newest_once_back = subst (OwnAreNewest open_net) written
-    ((behind_both OwnAreNewest own_newest).stepped open_net its_steps)
+    ((behind_both OwnAreNewest own_newest).ends.stepped open_net its_steps)
 
 -- ---- journals in which wrong adverts were sent
 
@@ -195,4 +195,4 @@ unfolding piece crash_items restart_items link_changes near is_link_up serves is
     next_message sent_from mask_of mask_where switches
 of_the_switch =
     (behind_both (λ setting journal. IsNet setting.net → AdvertsAreOfSwitches setting journal)
-    of_switches).stepped solo restart is_net
+    of_switches).ends.stepped solo restart is_net

@@ -19,6 +19,8 @@ use Rattle.policy_rules.specs.declared.policy.Action.TheVariants as action
 use Rattle.switch_table.specs.declared.search.Found.{Found}
 use Rattle.journal.specs.declared.item.Item.{Item}
 use Rattle.journal.specs.declared.item.Item.TheVariants as item
+use Rattle.steps.specs.declared.step.Step.{Step}
+use Rattle.steps.specs.declared.step.Step.TheVariants.{Hop, Lose, Forget, Expire}
 use Rattle.update_machine.specs.Adverts.{held_adverts}
 use Rattle.update_machine.specs.Boots.{is_up}
 use Rattle.update_machine.specs.Caches.{lookup_at}
@@ -26,16 +28,17 @@ use Rattle.update_machine.specs.Concerns.{NoneConcern, concerns_policies}
 use Rattle.update_machine.specs.Deliveries.{advert_to, after_hello, controller_items, is_new_boot, passed_on, switches_in}
 use Rattle.update_machine.specs.Folds.{count_of}
 use Rattle.update_machine.specs.LinkMasks.{near}
-use Rattle.update_machine.specs.Marks.{acked_stamp, current_mark, has_acked, is_member, is_over, members, next_current, next_retired, retired_mark}
+use Rattle.update_machine.specs.Marks.{acked_stamp, current_mark, has_acked, is_member, is_over, members, retired_mark}
 use Rattle.update_machine.specs.Messages.{is_sending, next_message, sends, sent_from}
 use Rattle.update_machine.specs.Moves.{AuthorityRule, arrive_items, authority_items, cache_items, end_items, found_items, header_at, in_turn, leg_items, lookup_items, move_items, put, reroute_items}
-use Rattle.update_machine.specs.Pieces.{confirm_items, expire_items, forget_items, hello_of, hop_items, lose_items, nothing, packet_items, resend_items, resent_by_switch, sends_or_nothing, update_code, update_items}
+use Rattle.update_machine.specs.Pieces.{confirm_items, expire_items, forget_items, hello_of, hop_items, lose_items, nothing, packet_items, resend_items, resent_by_switch, sends_or_nothing, step_items, update_code, update_items}
 use Rattle.update_machine.specs.Setting.{Setting, switches_of}
 use Rattle.update_machine.specs.Settling.{collect_for, current_items, install_for, installs_to, installs_to_all, open_items, resent_by_controller, resent_to_member, retired_items, settling, stamp_for, submitted_items, unacked, versions_from_current}
 use Rattle.update_machine.specs.Versions.{version_count}
 use Rattle.update_machine.proofs.CallerLemmas.{count_of_append, policies_keep}
 use Rattle.version_laws.proofs.Commands.{IsOfSettling, settling_settles}
 use Rattle.version_laws.proofs.Facts.{have_weaker}
+use Rattle.version_laws.proofs.Traffic.{IsWorkStep}
 use Rattle.advert_laws.proofs.LinkSends.{held_few}
 use Rattle.advert_laws.proofs.Sums.{length_filter_less, sum_each}
 
@@ -122,14 +125,15 @@ pub packet_few : (setting : Setting) (i s : ℕ) (header : Header) (journal : Li
 unfolding packet_items
 packet_few setting i s header journal = grind (arith, sent_more, lookup_few)
 
-pub hop_few : (setting : Setting) (i : ℕ) (journal : List Item)
-    → sent (hop_items setting i journal) ≤ 1
-unfolding hop_items
-hop_few setting i journal = grind (arith, move_few)
-
-pub lose_few : (i : ℕ) (journal : List Item) → sent (lose_items i journal) ≤ 1
-unfolding lose_items
-lose_few i journal = grind arith
+-- so what is work alone sends at most one message
+pub step_few : (setting : Setting) (before : List Item) (step : Step) (here : List Item)
+    → IsWorkStep step → sent (step_items setting before step here) ≤ 1
+unfolding hop_items lose_items forget_items expire_items
+step_few setting before (Hop packet) here is = grind (arith, move_few)
+step_few setting before (Lose packet) here is = grind arith
+step_few setting before (Forget message) here is = grind arith
+step_few setting before (Expire s place) here is = grind arith
+step_few setting before step here is = absurd is
 
 -- ---- settling
 
@@ -174,9 +178,7 @@ current_few : (setting : Setting) → IsNet setting.net → (journal : List Item
     → sent (current_items setting journal) ≤ 64
 unfolding current_items
 current_few setting net journal =
-    let version : ℕ = next_current setting journal in
-    mark_few setting net journal (item.Current version) refl (stamp_for journal version)
-    (nat_lt (current_mark journal) version)
+    mark_few setting net journal (item.Current _) refl _ _
 
 open_few : (setting : Setting) → IsNet setting.net → (journal : List Item)
     → sent (open_items setting journal) ≤ 64
@@ -187,9 +189,7 @@ retired_few : (setting : Setting) → IsNet setting.net → (journal : List Item
     → sent (retired_items setting journal) ≤ 64
 unfolding retired_items
 retired_few setting net journal =
-    let version : ℕ = next_retired setting journal in
-    mark_few setting net journal (item.Retired version) refl (collect_for journal version)
-    (nat_lt (retired_mark journal) version)
+    mark_few setting net journal (item.Retired _) refl _ _
 
 pub settling_few : (setting : Setting) → IsNet setting.net → (journal : List Item)
     → sent (settling setting journal) ≤ 192
@@ -367,15 +367,6 @@ resend_few setting net s journal =
         omega (arith, few, sends_count journal (message ∷ messages))
 
 -- ---- steps without links
-
-pub forget_few : (number : ℕ) (journal : List Item) → sent (forget_items number journal) ≤ 1
-unfolding forget_items
-forget_few number journal = grind arith
-
-pub expire_few : (setting : Setting) (s place : ℕ) (journal : List Item)
-    → sent (expire_items setting s place journal) ≤ 1
-unfolding expire_items
-expire_few setting s place journal = grind arith
 
 pub update_few : (setting : Setting) → IsNet setting.net → (file : ℕ) (journal : List Item)
     → sent (update_items setting file journal) ≤ 256

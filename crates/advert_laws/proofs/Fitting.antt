@@ -13,7 +13,7 @@ use Rattle.update_machine.specs.Setting.{Setting}
 use Rattle.update_machine.specs.Versions.{version_count}
 use Rattle.update_machine.proofs.CallerLemmas.{have_append, start_laws}
 use Rattle.version_laws.specs.ItemCauses.{HasItemCause}
-use Rattle.version_laws.proofs.Facts.{AreKept, fact_on}
+use Rattle.version_laws.proofs.Facts.{AreKept, FromCauses, from_causes}
 use Rattle.version_laws.proofs.Grown.{count_more}
 use Rattle.version_laws.proofs.Pieces.{pieces_have}
 use Rattle.advert_laws.specs.Sends.{NumbersAreFew, NumbersFit}
@@ -31,11 +31,10 @@ versions_on setting before (item.Submitted file version) cause few =
     omega (arith, count_more before (item.Submitted file version))
 versions_on setting before next cause few = omega (arith, few, count_more before next)
 
-pub versions_few : (setting : Setting) (journal : List Item)
-    → HaveCauses (HasItemCause setting) [] journal → version_count journal ≤ 64
-versions_few setting journal have =
-    fact_on (HasItemCause setting) (λ js. version_count js ≤ 64) (versions_on setting) [] journal
-    have (omega (arith, start_laws.count))
+pub versions_few : FromCauses (λ setting journal. version_count journal ≤ 64)
+versions_few =
+    from_causes (λ setting journal. version_count journal ≤ 64) versions_on
+    (λ setting. omega (arith, start_laws.count))
 
 -- ---- numbers
 

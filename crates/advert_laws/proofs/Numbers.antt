@@ -33,7 +33,7 @@ use Rattle.update_machine.specs.Steps.{StepItems, changes_steps, steps_in, with_
 use Rattle.update_machine.proofs.CallerLemmas.{count_of_append, folded_append, have_append, known_link_laws, links_keep, start_laws}
 use Rattle.version_laws.specs.ItemCauses.{HasItemCause}
 use Rattle.version_laws.proofs.Boots.{boot_rises}
-use Rattle.version_laws.proofs.Facts.{AreKept, fact_on}
+use Rattle.version_laws.proofs.Facts.{AreKept, FromCauses, from_causes}
 use Rattle.version_laws.proofs.Grown.{boot_more, up_more}
 use Rattle.version_laws.proofs.Pieces.{pieces_have}
 use Rattle.advert_laws.proofs.LinkCauses.{ChangedNoLinks}
@@ -96,10 +96,8 @@ past_at_first = record {
   past = λ s. All-nil (λ (step : StepItems). boot_of step.before s ≤ boot_of [] s);
 }
 
-pub steps_past : (setting : Setting) (journal : List Item)
-    → HaveCauses (HasItemCause setting) [] journal → StepsArePast journal
-steps_past setting journal have =
-    fact_on (HasItemCause setting) StepsArePast (past_on setting) [] journal have past_at_first
+pub steps_past : FromCauses (λ setting. StepsArePast)
+steps_past = from_causes (λ setting. StepsArePast) past_on (λ setting. past_at_first)
 
 -- so none of them counts in a new boot
 pub none_counted : (setting : Setting) (s old boot : ℕ) (steps : List StepItems) → old < boot

@@ -12,7 +12,7 @@ use Rattle.net_file.specs.Net.{IsNet}
 use Rattle.journal.specs.declared.item.Item.{Item}
 use Rattle.journal.specs.declared.item.Item.TheVariants as item
 use Rattle.steps.specs.declared.step.Step.{Step}
-use Rattle.steps.specs.declared.step.Step.TheVariants.{Packet, Hop, Lose, Deliver, Forget, Expire, Update, LinkDown, LinkUp, Crash, Restart, Confirm, Resend}
+use Rattle.steps.specs.declared.step.Step.TheVariants.{Packet, Deliver, Update, LinkDown, LinkUp, Crash, Restart, Confirm, Resend}
 use Rattle.update_machine.specs.Boots.{boot_of, is_up, said_to}
 use Rattle.update_machine.specs.Concerns.{NoneConcern, concerns_links}
 use Rattle.update_machine.specs.Deliveries.{controller_items, delivery_items, is_news_to, link_changes, passed_on, received_items, switch_items}
@@ -29,9 +29,9 @@ use Rattle.version_laws.proofs.Crashes.{losts_have}
 use Rattle.version_laws.proofs.Grown.{count_more}
 use Rattle.version_laws.proofs.Sent.{resends_any}
 use Rattle.advert_laws.proofs.LinkCauses.{ChangedNoLinks}
-use Rattle.advert_laws.proofs.Plain.{IsPlain, control_is_plain, control_plain, expire_plain, forget_plain, hop_plain, lose_plain, packet_plain, plain_keeps_links, sends_silent}
+use Rattle.advert_laws.proofs.Plain.{IsPlain, control_is_plain, control_plain, packet_plain, step_plain, plain_keeps_links, sends_silent}
 use Rattle.advert_laws.proofs.Stepping.{delivered_first, row_first}
-use Rattle.advert_laws.proofs.Counts.{confirm_few, controller_few, expire_few, forget_few, hop_few, lose_few, packet_few, passed_few, put_few, resend_few, sends_count, sent, sent_more, update_few}
+use Rattle.advert_laws.proofs.Counts.{confirm_few, controller_few, packet_few, passed_few, put_few, resend_few, sends_count, sent, sent_more, step_few, update_few}
 use Rattle.advert_laws.proofs.LinkSends.{all_told, changes_few}
 use Rattle.advert_laws.proofs.LinkPieces.{IsLinkPiece, link_piece}
 
@@ -332,32 +332,8 @@ step_kind setting before row (Packet s header) = behind_row setting before row _
       packet_few setting (next_packet before) s header
           (before ++ item.Row row (Packet s header) ∷ []),
     ))
-step_kind setting before row (Hop packet) = behind_row setting before row _ _
-    (plain_keeps_links _ _ (hop_plain setting packet _))
-    (λ net versions. omega (
-      arith,
-      hop_few setting packet
-          (before ++ item.Row row (Hop packet) ∷ []),
-    ))
-step_kind setting before row (Lose packet) = behind_row setting before row _ _
-    (plain_keeps_links _ _ (lose_plain setting packet _))
-    (λ net versions. omega (arith, lose_few packet (before ++ item.Row row (Lose packet) ∷ [])))
 step_kind setting before row (Deliver number) =
     deliver_kind setting before row number (Deliver number)
-step_kind setting before row (Forget number) = behind_row setting before row _ _
-    (plain_keeps_links _ _ (forget_plain setting number _))
-    (λ net versions. omega (
-      arith,
-      forget_few number
-          (before ++ item.Row row (Forget number) ∷ []),
-    ))
-step_kind setting before row (Expire s place) = behind_row setting before row _ _
-    (plain_keeps_links _ _ (expire_plain setting s place _))
-    (λ net versions. omega (
-      arith,
-      expire_few setting s place
-          (before ++ item.Row row (Expire s place) ∷ []),
-    ))
 step_kind setting before row (Update file) = behind_row setting before row _ _
     (plain_keeps_links _ _
     (update_has IsPlain control_is_plain setting file _ (λ version. tt)))
@@ -386,6 +362,10 @@ step_kind setting before row (Resend s) = behind_row setting before row _ _
       resend_few setting net s
           (before ++ item.Row row (Resend s) ∷ []),
     ))
+step_kind setting before row step = behind_row setting before row _ _
+    (plain_keeps_links _ _ (step_plain setting before step _ tt))
+    (λ net versions.
+    omega (arith, step_few setting before step (before ++ item.Row row step ∷ []) tt))
 
 pub piece_kind : (setting : Setting) (before : List Item) (row : ℕ) (step : Step)
     → PieceKind setting before (piece setting before row step)

@@ -2,23 +2,22 @@
 use Rattle.std.specs.Prelude.{⊤, IsFalse}
 use Rattle.std.proofs.Common.{ℕ, List, refl}
 use Rattle.ctrl_msg.specs.declared.message.Body.{Body}
-use Rattle.ctrl_msg.specs.declared.message.Body.TheVariants.{Advertise, CacheRule}
+use Rattle.ctrl_msg.specs.declared.message.Body.TheVariants.{Advertise}
 use Rattle.ctrl_msg.specs.declared.message.Message.{Message}
-use Rattle.ctrl_msg.specs.declared.message.Receiver.{Receiver}
-use Rattle.ctrl_msg.specs.declared.message.Receiver.TheVariants as receiver
 use Rattle.five_tuple.specs.declared.header.Header.{Header}
 use Rattle.journal.specs.declared.item.Item.{Item}
 use Rattle.journal.specs.declared.item.Item.TheVariants as item
+use Rattle.steps.specs.declared.step.Step.{Step}
 use Rattle.update_machine.specs.Causes.{HaveCauses}
 use Rattle.update_machine.specs.Concerns.{NoneConcern, concerns_links}
 use Rattle.update_machine.specs.Messages.{sends}
-use Rattle.update_machine.specs.Pieces.{expire_items, forget_items, hop_items, lose_items, packet_items}
+use Rattle.update_machine.specs.Pieces.{packet_items, step_items}
 use Rattle.update_machine.specs.Quiet.{is_advert}
 use Rattle.update_machine.specs.Setting.{Setting}
 use Rattle.version_laws.proofs.Commands.{Control, IsCommand, IsControl}
 use Rattle.version_laws.proofs.Facts.{have_weaker}
 use Rattle.version_laws.proofs.Sent.{sends_any}
-use Rattle.version_laws.proofs.Traffic.{IsRuleTo, IsWork, Work, expire_work, forget_work, hop_work, lose_work, packet_works}
+use Rattle.version_laws.proofs.Traffic.{IsWork, IsWorkStep, Work, packet_works, rule_cases, step_work}
 
 -- the item changes no links, and sends no advert
 abbrev pub IsPlain : List Item → Item → Type 0
@@ -56,15 +55,11 @@ sends_silent =
 
 -- ---- packets, and messages and cache rules that end
 
-rule_plain : (before : List Item) (to : Receiver) (body : Body) → IsRuleTo before to body
-    → IsFalse (is_advert body)
-rule_plain before (receiver.Switch s) (CacheRule version word rule action) is = refl
-rule_plain before to body is = absurd is
-
 work_plain : (setting : Setting) (before : List Item) (next : Item) → IsWork setting before next
     → IsPlain before next
 work_plain setting before (item.Sent number message) is =
-    rule_plain before message.to message.body is
+    rule_cases before (λ to body. IsFalse (is_advert body))
+    (λ s version word rule action there ingress. refl) message.to message.body is
 work_plain setting before (item.Down s) is = is
 work_plain setting before (item.Booted s boot) is = is
 work_plain setting before (item.Opened s version) is = is
@@ -81,23 +76,10 @@ pub packet_plain : (setting : Setting) (i s : ℕ) (header : Header) (journal : 
 packet_plain setting i s header journal =
     packet_works setting IsPlain (work_plain setting) i s header journal tt
 
-pub hop_plain : (setting : Setting) (i : ℕ) (journal : List Item)
-    → ArePlain journal (hop_items setting i journal)
-hop_plain setting i journal = works_plain setting journal _ (hop_work setting i journal)
-
-pub lose_plain : (setting : Setting) (i : ℕ) (journal : List Item)
-    → ArePlain journal (lose_items i journal)
-lose_plain setting i journal = works_plain setting journal _ (lose_work setting i journal)
-
-pub forget_plain : (setting : Setting) (number : ℕ) (journal : List Item)
-    → ArePlain journal (forget_items number journal)
-forget_plain setting number journal =
-    works_plain setting journal _ (forget_work setting number journal)
-
-pub expire_plain : (setting : Setting) (s place : ℕ) (journal : List Item)
-    → ArePlain journal (expire_items setting s place journal)
-expire_plain setting s place journal =
-    works_plain setting journal _ (expire_work setting s place journal)
+pub step_plain : (setting : Setting) (before : List Item) (step : Step) (here : List Item)
+    → IsWorkStep step → ArePlain here (step_items setting before step here)
+step_plain setting before step here is =
+    works_plain setting here _ (step_work setting before step here is)
 
 -- ---- the controller
 

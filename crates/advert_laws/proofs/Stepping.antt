@@ -8,7 +8,7 @@ use Rattle.ctrl_msg.specs.Kinds.{to_controller}
 use Rattle.journal.specs.declared.item.Item.{Item}
 use Rattle.journal.specs.declared.item.Item.TheVariants as item
 use Rattle.steps.specs.declared.step.Step.{Step}
-use Rattle.steps.specs.declared.step.Step.TheVariants.{Packet, Hop, Lose, Deliver, Forget, Expire, Update, LinkDown, LinkUp, Crash, Restart, Confirm, Resend}
+use Rattle.steps.specs.declared.step.Step.TheVariants.{Packet, Deliver, Update, LinkDown, LinkUp, Crash, Restart, Confirm, Resend}
 use Rattle.update_machine.specs.Boots.{heard, said_to}
 use Rattle.update_machine.specs.Concerns.{concerns_links}
 use Rattle.update_machine.specs.Deliveries.{is_news_to, link_changes, passed_on, switch_items}
@@ -24,12 +24,12 @@ use Rattle.update_machine.specs.Links.{serves}
 use Rattle.update_machine.proofs.CallerLemmas.{PiecesHave, folded_append, have_append, have_first, have_put}
 use Rattle.version_laws.proofs.Commands.{confirm_control, controller_control, update_has}
 use Rattle.version_laws.proofs.Crashes.{losts_have}
-use Rattle.version_laws.proofs.Delivered.{deliver_has, delivery_has}
+use Rattle.version_laws.proofs.Delivered.{deliver_has}
 use Rattle.version_laws.proofs.Facts.{have_weaker}
 use Rattle.version_laws.proofs.SwitchBlocks.{said_row}
 use Rattle.version_laws.proofs.Grown.{heard_more}
 use Rattle.advert_laws.proofs.LinkCauses.{ChangedNoLinks, HasLinkCause, HaveLinkCauses, IsToldIn}
-use Rattle.advert_laws.proofs.Plain.{ArePlain, IsPlain, control_is_plain, control_plain, expire_plain, forget_plain, hop_plain, lose_plain, packet_plain}
+use Rattle.advert_laws.proofs.Plain.{ArePlain, IsPlain, control_is_plain, control_plain, packet_plain, step_plain}
 use Rattle.advert_laws.proofs.Resent.{resend_caused}
 use Rattle.advert_laws.proofs.Telling.{changes_told, last_heard, passed_told, sends_told}
 
@@ -142,15 +142,12 @@ deliver_caused : (setting : Setting) (before : List Item) (row number : ℕ) (st
     → let here = before ++ item.Row row step ∷ [] in
     HaveLinkCauses setting here (deliver_items setting before number here)
 deliver_caused setting before row number step =
-    let here : List Item = before ++ item.Row row step ∷ [] in
-    let now : List Item = here ++ item.Delivered number ∷ [] in
-    deliver_has (HasLinkCause setting) setting before number here tt tt
-    (delivery_has (HaveLinkCauses setting now) setting before number now tt
-    (λ body sent. are_caused setting now _
-    (control_plain now _ (controller_control setting before body now)))
-    (λ s body said. switch_caused setting before now s (heard here s) body
-    (delivered_first here number (row_first before row step))
-    (heard_now before row s number step body said)))
+    deliver_has (HasLinkCause setting) setting before number _ tt tt
+    (λ body sent. are_caused setting _ _
+    (control_plain _ _ (controller_control setting before body _)))
+    (λ s body said. switch_caused setting before _ s _ body
+    (delivered_first _ number (row_first before row step))
+    (heard_now before row s number step body said))
 
 -- ---- links, switches
 
@@ -187,15 +184,8 @@ step_caused : (setting : Setting) (before : List Item) (row : ℕ) (step : Step)
     HaveLinkCauses setting here (step_items setting before step here)
 step_caused setting before row (Packet s header) =
     are_caused setting _ _ (packet_plain setting (next_packet before) s header _)
-step_caused setting before row (Hop packet) =
-    are_caused setting _ _ (hop_plain setting packet _)
-step_caused setting before row (Lose packet) = are_caused setting _ _ (lose_plain setting packet _)
 step_caused setting before row (Deliver message) =
     deliver_caused setting before row message (Deliver message)
-step_caused setting before row (Forget message) =
-    are_caused setting _ _ (forget_plain setting message _)
-step_caused setting before row (Expire s place) =
-    are_caused setting _ _ (expire_plain setting s place _)
 step_caused setting before row (Update file) =
     are_caused setting _ _ (update_has IsPlain control_is_plain setting file _ (λ version. tt))
 step_caused setting before row (LinkDown one two) =
@@ -209,6 +199,8 @@ step_caused setting before row (Restart s) =
 step_caused setting before row (Confirm s) =
     are_caused setting _ _ (control_plain _ _ (confirm_control setting s _))
 step_caused setting before row (Resend s) = resend_caused setting s _
+step_caused setting before row step =
+    are_caused setting _ _ (step_plain setting before step _ tt)
 
 pub pieces_caused : (setting : Setting) → PiecesHave (HasLinkCause setting) setting
 unfolding piece

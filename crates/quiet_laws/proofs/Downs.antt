@@ -12,7 +12,6 @@ use Rattle.ctrl_msg.specs.Kinds.{to_controller}
 use Rattle.journal.specs.declared.item.Item.{Item}
 use Rattle.journal.specs.declared.item.Item.TheVariants as item
 use Rattle.update_machine.specs.Boots.{boot_of, heard, is_up}
-use Rattle.update_machine.specs.Causes.{HaveCauses}
 use Rattle.update_machine.specs.Folds.{all_given}
 use Rattle.update_machine.specs.Marks.{controller_heard, first_number, has_acked, installed_in, is_over, known_boot, open_sent, opened_at, raises_known, said_to_controller}
 use Rattle.update_machine.specs.Quiet.{Sending, is_waited_for, sendings, tells_waited_for}
@@ -23,7 +22,7 @@ use Rattle.update_machine.specs.Links.{serves, message_of}
 use Rattle.update_machine.proofs.CallerLemmas.{start_laws}
 use Rattle.version_laws.specs.ItemCauses.{HasItemCause, IsRightInstalled, IsRightOpening}
 use Rattle.version_laws.proofs.Boots.{by_number, known_rises, said_sent}
-use Rattle.version_laws.proofs.Facts.{AreKept, fact_on}
+use Rattle.version_laws.proofs.Facts.{AreKept, FromCauses, from_causes}
 use Rattle.version_laws.proofs.Grown.{boot_more, known_more, last_more, opened_at_more, opened_in, opened_more, opens_by, over_more, serving_more, told_more, up_more}
 use Rattle.version_laws.proofs.Openings.{IsKnown, known_at_first, known_kept}
 use Rattle.version_laws.proofs.HeardTables.{heard_known}
@@ -238,45 +237,12 @@ waited_more before next s = last_more (tells_waited_for s) before next false
 idle_was : (before : List Item) (next : Item) (s : ℕ) → IsFalse (is_delivered next)
     → IsIdle (before ++ next ∷ []) s → IsIdle before s
 idle_was before (item.Delivered number) s none idle = absurd cc
-idle_was before (item.Down t) s none idle = by_test (t == s) refl
-  where
-    next : Item
-    next = item.Down t
-
-    by_test : (b : Bool) → (t == s) ≡ b → IsIdle before s
-    by_test true e =
-        let clash : true ≡ false = rw (waited_more before next s, e) at idle.confirmed in absurd cc
-    by_test false e = record {
-      down = rw (up_more before next s, e) at idle.down;
-      confirmed = rw (waited_more before next s, e) at idle.confirmed;
-      not_over = rw (over_more before next s) at idle.not_over;
-    }
-idle_was before (item.Booted t boot) s none idle = by_test (t == s) refl
-  where
-    next : Item
-    next = item.Booted t boot
-
-    by_test : (b : Bool) → (t == s) ≡ b → IsIdle before s
-    by_test true e =
-        let clash : true ≡ false = rw (up_more before next s, e) at idle.down in absurd cc
-    by_test false e = record {
-      down = rw (up_more before next s, e) at idle.down;
-      confirmed = rw (waited_more before next s) at idle.confirmed;
-      not_over = rw (over_more before next s) at idle.not_over;
-    }
-idle_was before (item.OverNow t) s none idle = by_test (t == s) refl
-  where
-    next : Item
-    next = item.OverNow t
-
-    by_test : (b : Bool) → (t == s) ≡ b → IsIdle before s
-    by_test true e =
-        let clash : true ≡ false = rw (over_more before next s, e) at idle.not_over in absurd cc
-    by_test false e = record {
-      down = rw (up_more before next s) at idle.down;
-      confirmed = rw (waited_more before next s, e) at idle.confirmed;
-      not_over = rw (over_more before next s, e) at idle.not_over;
-    }
+idle_was before (item.Down t) s none idle =
+    grind (arith, up_more, over_more, waited_more before (item.Down t) s)
+idle_was before (item.Booted t boot) s none idle =
+    grind (arith, up_more, over_more, waited_more before (item.Booted t boot) s)
+idle_was before (item.OverNow t) s none idle =
+    grind (arith, up_more, over_more, waited_more before (item.OverNow t) s)
 idle_was before next s none idle = record {
   down = rw (up_more before next s) at idle.down;
   confirmed = rw (waited_more before next s) at idle.confirmed;
@@ -493,8 +459,6 @@ recorded_at_first = record {
     by_first s boot true e version is = inl (eqb-true boot 1 e)
     by_first s boot false e version is = absurd cc
 
-pub caused_recorded : (setting : Setting) (journal : List Item)
-    → HaveCauses (HasItemCause setting) [] journal → AreRecorded journal
-caused_recorded setting journal have =
-    fact_on (HasItemCause setting) AreRecorded (recorded_kept setting) [] journal have
-    recorded_at_first
+pub caused_recorded : FromCauses (λ setting. AreRecorded)
+caused_recorded =
+    from_causes (λ setting. AreRecorded) recorded_kept (λ setting. recorded_at_first)

@@ -21,7 +21,7 @@ use Rattle.net_file.specs.Owners.{links_of}
 use Rattle.journal.specs.declared.item.Item.{Item}
 use Rattle.journal.specs.declared.item.Item.TheVariants as item
 use Rattle.steps.specs.declared.step.Step.{Step}
-use Rattle.steps.specs.declared.step.Step.TheVariants.{Packet, Hop, Lose, Deliver, Forget, Expire, Update, LinkDown, LinkUp, Crash, Restart, Confirm, Resend}
+use Rattle.steps.specs.declared.step.Step.TheVariants.{Packet, Deliver, Update, LinkDown, LinkUp, Crash, Restart, Confirm, Resend}
 use Rattle.update_machine.specs.Adverts.{advert_known, adverts_known, own_advert}
 use Rattle.update_machine.specs.Answers.{StepOfRow, after_steps}
 use Rattle.update_machine.specs.Boots.{said_to}
@@ -43,8 +43,8 @@ use Rattle.version_laws.proofs.Grown.{boot_more, heard_more, up_more}
 use Rattle.version_laws.proofs.Sent.{resends_any}
 use Rattle.version_laws.proofs.Openings.{IsKnown, known_kept}
 use Rattle.version_laws.proofs.StepCases.{deliver_cases}
-use Rattle.version_laws.proofs.SwitchBlocks.{delivery_have, said_parts, said_row}
-use Rattle.version_laws.proofs.Traffic.{expire_work, forget_work, hop_work, lose_work, packet_works}
+use Rattle.version_laws.proofs.SwitchBlocks.{said_have, said_parts, said_row}
+use Rattle.version_laws.proofs.Traffic.{packet_works, step_work}
 use Rattle.advert_laws.proofs.AllAdverts.{is_newest}
 use Rattle.advert_laws.proofs.NetLinks.{own_origin}
 use Rattle.advert_laws.proofs.Stepping.{delivered_first, row_first}
@@ -142,11 +142,8 @@ advert_spread setting before row number step t advert net said alone spread have
     here : List Item
     here = before ++ item.Row row step ∷ []
 
-    next : Item
-    next = item.Delivered number
-
     now : List Item
-    now = here ++ next ∷ []
+    now = here ++ item.Delivered number ∷ []
 
     messages : List Message
     messages = passed_on setting now t advert
@@ -188,7 +185,7 @@ advert_spread setting before row number step t advert net said alone spread have
         let near_here : IsTrue (has (near setting here t) neighbour) =
         subst (λ u. IsTrue (has (near setting here u) neighbour)) is.0
         (subst (λ mask. IsTrue (has mask neighbour))
-        ((links_keep setting here (next ∷ []) (refl, tt)).near s) linked) in
+        ((links_keep setting here (item.Delivered number ∷ []) (refl, tt)).near s) linked) in
         by_has a best.0 (record { origin = given.of; new = best.2 })
         (spread.each t neighbour best.0 near_here (inr (record {
           other = λ same. apart (sym given.of ∙ same);
@@ -203,6 +200,7 @@ advert_spread setting before row number step t advert net said alone spread have
             → HasNews setting now neighbour a
         by_has a c as_new (inl none) = absurd none
         by_has a c as_new (inr has) =
+            let next : Item = item.Delivered number in
             let later = news_on setting here next neighbour c (up_more here next neighbour)
             (boot_more here next neighbour) (delivered_grows here number neighbour) has in
             record {
@@ -412,7 +410,7 @@ deliver_spread setting before row number step net known spread =
             subst (λ xs. Spread setting (now ++ xs)) (sym items)
             (said_spread setting before row number step t told net f
             (to_switch_alone t told f)
-            (subst (λ xs. Has setting now xs) items (delivery_have setting before row number step))
+            (said_have setting before here t number told f)
             (known_kept setting here (item.Delivered number) tt known) spread have)
 
     by_message : (o : Option Message) → message_of before number ≡ o
@@ -432,16 +430,8 @@ step_spread : (setting : Setting) (before : List Item) (row : ℕ) (step : Step)
 step_spread setting before row (Packet s header) net = λ known have.
     still_spread setting _ _
     (packet_works setting IsStill (work_is_still setting) (next_packet before) s header _ tt) have
-step_spread setting before row (Hop packet) net = λ known have.
-    still_spread setting _ _ (work_still setting _ _ (hop_work setting packet _)) have
-step_spread setting before row (Lose packet) net = λ known have.
-    still_spread setting _ _ (work_still setting _ _ (lose_work setting packet _)) have
 step_spread setting before row (Deliver number) net =
     deliver_spread setting before row number (Deliver number) net
-step_spread setting before row (Forget message) net = λ known have.
-    still_spread setting _ _ (work_still setting _ _ (forget_work setting message _)) have
-step_spread setting before row (Expire s at) net = λ known have.
-    still_spread setting _ _ (work_still setting _ _ (expire_work setting s at _)) have
 step_spread setting before row (Update file) net = λ known have.
     still_spread setting _ _
     (update_has IsStill control_is_still setting file _ (λ version. tt)) have
@@ -457,6 +447,8 @@ step_spread setting before row (Confirm s) net = λ known have.
     still_spread setting _ _ (control_still _ _ (confirm_control setting s _)) have
 step_spread setting before row (Resend s) net = λ known have.
     still_spread setting _ _ (resends_any IsStill (λ now n message. tt) setting s _ tt) have
+step_spread setting before row step net = λ known have.
+    still_spread setting _ _ (work_still setting _ _ (step_work setting before step _ tt)) have
 
 piece_spread : (setting : Setting) (before : List Item) (row : ℕ) (step : Step)
     → IsNet setting.net → IsKnown before → Spread setting before

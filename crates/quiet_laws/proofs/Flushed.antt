@@ -52,7 +52,7 @@ none_waits journal none = by_next (next_waiting journal) none
 pub flushed_quiet : (setting : Setting) (events : List Event) (journal : List Item)
     → EndsFinished setting events journal → IsQuiet setting journal
 flushed_quiet setting events journal ends =
-    finished_behind.answered setting (events ++ Flush ∷ []) journal ends.answered (record {
+    finished_behind.ends.answered setting (events ++ Flush ∷ []) journal ends.answered (record {
       waiting = none_waits journal
           (subst (λ j. next_delivery j ≡ None) (sym ends.answered.written)
           (flush_ends setting 1 events [] ends.answered.steps ends.answered.allowed));

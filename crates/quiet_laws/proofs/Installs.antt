@@ -19,7 +19,7 @@ use Rattle.update_machine.specs.Laws.{ControllerKeeps}
 use Rattle.update_machine.specs.Marks.{current_mark, hello_boot, is_over, known_boot, raises_known, said_to_controller}
 use Rattle.update_machine.specs.Messages.{sends}
 use Rattle.update_machine.specs.Moves.{put}
-use Rattle.update_machine.specs.Pieces.{confirm_items, deliver_items, nothing, piece, step_items, update_items}
+use Rattle.update_machine.specs.Pieces.{confirm_items, deliver_items, piece, step_items, update_items}
 use Rattle.update_machine.specs.Setting.{Setting, switches_of}
 use Rattle.update_machine.specs.Settling.{install_for, installs_to, installs_to_all, settling, to_switch, versions_from_current}
 use Rattle.update_machine.specs.Versions.{tables_at, version_count}
@@ -27,7 +27,7 @@ use Rattle.update_machine.specs.Links.{message_of}
 use Rattle.update_machine.proofs.CallerLemmas.{start_laws}
 use Rattle.version_laws.specs.ItemCauses.{HasItemCause}
 use Rattle.version_laws.proofs.Boots.{hello_sent}
-use Rattle.version_laws.proofs.Commands.{settling_settles}
+use Rattle.version_laws.proofs.Commands.{grows, settling_settles}
 use Rattle.version_laws.proofs.ControllerBlocks.{settling_have}
 use Rattle.version_laws.proofs.Facts.{AreKept, Both, fact_on, have_both}
 use Rattle.version_laws.proofs.Grown.{count_more, current_more, known_more, message_more, over_more}
@@ -39,7 +39,7 @@ use Rattle.version_laws.specs.Steps.{asks_controller}
 use Rattle.version_laws.proofs.Ends.{told_is}
 use Rattle.version_laws.proofs.Leaves.{leaves_keep}
 use Rattle.version_laws.proofs.Others.{ReopensAlone, installs_reopen, others_keep, sends_leave}
-use Rattle.version_laws.proofs.Settles.{grows, in_two}
+use Rattle.version_laws.proofs.Settles.{in_two}
 use Rattle.quiet_laws.proofs.Lists.{in_filter, in_map, in_range}
 use Rattle.quiet_laws.proofs.Plain.{IsPlain, settling_plain}
 use Rattle.quiet_laws.proofs.Sendings.{IsSent, sends_all, sent_on}
@@ -341,13 +341,6 @@ delivery_told setting before number body now sent =
       | Some message ↦ received_items setting before number message now
     ]) sent
 
-row_installs : (setting : Setting) (last : ℕ) (before : List Item) (row : ℕ) (step : Step)
-    → HaveInstalls setting (λ s. ⊥) last before
-    → HaveInstalls setting (λ s. ⊥) last (before ++ item.Row row step ∷ [])
-row_installs setting last before row step have =
-    let next : Item = item.Row row step in
-    installs_on setting (λ s. ⊥) last before next (record { first = tt; second = tt }) have
-
 deliver_installs : (setting : Setting) (before : List Item) (row number : ℕ)
     → IsTrue (is_message_to_controller before number)
     → let here = before ++ item.Row row (Deliver number) ∷ [] in
@@ -462,19 +455,39 @@ all_installs setting last now is have = record {
     kept have = installs_same setting (λ s. ⊥) last now (installs_to_all setting now)
         keeps.known (λ s none. sym (keeps.over s) ∙ none) (omega (arith, keeps.current)) have
 
-update_installs : (setting : Setting) (file : ℕ) (here : List Item)
-    → HaveInstalls setting (λ s. ⊥) (version_count here) here
-    → let after = here ++ update_items setting file here in
-    HaveInstalls setting (λ s. ⊥) (version_count after) after
+-- tables of all versions that are there
+abbrev pub AllInstalled : Setting → List Item → Type 0
+AllInstalled setting journal = HaveInstalls setting (λ s. ⊥) (version_count journal) journal
+
+-- items that leave the count of the versions, and the switches that aren't over
+counted_on : (setting : Setting) (before : List Item) (next : Item)
+    → Both (HasItemCause setting) IsPlain before next
+    → version_count (before ++ next ∷ []) ≡ version_count before
+    → AllInstalled setting before → AllInstalled setting (before ++ next ∷ [])
+counted_on setting before next both same have =
+    subst (λ m. HaveInstalls setting (λ s. ⊥) m (before ++ next ∷ [])) (sym same)
+    (installs_on setting (λ s. ⊥) (version_count before) before next both have)
+
+-- and settling behind a version that may be new
+settled_installs : (setting : Setting) (last : ℕ) (now : List Item) → last ≡ version_count now
+    → HaveInstalls setting (λ s. ⊥) last now → AllInstalled setting (now ++ settling setting now)
+settled_installs setting last now same have =
+    subst (λ m. HaveInstalls setting (λ s. ⊥) m (now ++ settling setting now))
+    (same ∙ sym (settling_count setting now))
+    (settling_installs setting (λ s. ⊥) last now have)
+
+update_installs : (setting : Setting) (file : ℕ) (here : List Item) → AllInstalled setting here
+    → AllInstalled setting (here ++ update_items setting file here)
 update_installs setting file here have =
-    update_cases (λ j. HaveInstalls setting (λ s. ⊥) (version_count j) j) setting file here
-    (λ code.
-    let refused : Item = item.Refused file code in
-    subst (λ m. HaveInstalls setting (λ s. ⊥) m (here ++ refused ∷ []))
-    (sym (count_more here refused))
-    (installs_on setting (λ s. ⊥) (version_count here) here refused
-    (record { first = tt; second = tt }) have))
-    ended
+    update_cases (AllInstalled setting) setting file here
+    (λ code. counted_on setting here (item.Refused file code) (record { first = tt; second = tt })
+    (count_more here (item.Refused file code)) have)
+    (settled_installs setting (version_count here + 1) (now ++ installs_to_all setting now)
+    (more ∙ sym (all_keep setting now).count)
+    (all_installs setting (version_count here) now more
+    (installs_same setting (λ s. ⊥) (version_count here) here (next ∷ [])
+    (λ s. known_more here next s) (λ s none. sym (over_more here next s) ∙ none)
+    (omega (arith, current_more here next)) have)))
   where
     next : Item
     next = item.Submitted file (version_count here + 1)
@@ -482,69 +495,34 @@ update_installs setting file here have =
     now : List Item
     now = here ++ next ∷ []
 
-    sent : List Item
-    sent = now ++ installs_to_all setting now
-
     more : version_count here + 1 ≡ version_count now
     more = sym (count_more here next)
 
-    submitted : HaveInstalls setting (λ s. ⊥) (version_count here) now
-    submitted = installs_same setting (λ s. ⊥) (version_count here) here (next ∷ [])
-        (λ s. known_more here next s) (λ s none. sym (over_more here next s) ∙ none)
-        (omega (arith, current_more here next)) have
-
-    ended : HaveInstalls setting (λ s. ⊥) (version_count (sent ++ settling setting sent))
-        (sent ++ settling setting sent)
-    ended = subst (λ m. HaveInstalls setting (λ s. ⊥) m (sent ++ settling setting sent))
-        (more ∙ sym (all_keep setting now).count ∙ sym (settling_count setting sent))
-        (settling_installs setting (λ s. ⊥) (version_count here + 1) sent
-        (all_installs setting (version_count here) now more submitted))
-
-confirm_installs : (setting : Setting) (s : ℕ) (here : List Item)
-    → HaveInstalls setting (λ t. ⊥) (version_count here) here
-    → let after = here ++ confirm_items setting s here in
-    HaveInstalls setting (λ t. ⊥) (version_count after) after
+confirm_installs : (setting : Setting) (s : ℕ) (here : List Item) → AllInstalled setting here
+    → AllInstalled setting (here ++ confirm_items setting s here)
 confirm_installs setting s here have =
-    confirm_cases (λ j. HaveInstalls setting (λ t. ⊥) (version_count j) j) setting s here
-    (subst (λ m. HaveInstalls setting (λ t. ⊥) m (here ++ nothing))
-    (sym (count_more here item.Nothing))
-    (installs_on setting (λ t. ⊥) (version_count here) here item.Nothing
-    (record { first = tt; second = tt }) have))
-    ended
-  where
-    next : Item
-    next = item.OverNow s
-
-    now : List Item
-    now = here ++ next ∷ []
-
-    over : HaveInstalls setting (λ t. ⊥) (version_count here) now
-    over = installs_same setting (λ t. ⊥) (version_count here) here (next ∷ [])
-        (λ t. known_more here next t) (λ t none. plain_over here next tt t none)
-        (omega (arith, current_more here next)) have
-
-    ended : let after = now ++ settling setting now in
-        HaveInstalls setting (λ t. ⊥) (version_count after) after
-    ended = subst (λ m. HaveInstalls setting (λ t. ⊥) m (now ++ settling setting now))
-        (sym (settling_count setting now ∙ count_more here next))
-        (settling_installs setting (λ t. ⊥) (version_count here) now over)
+    let next : Item = item.OverNow s in
+    confirm_cases (AllInstalled setting) setting s here
+    (counted_on setting here item.Nothing (record { first = tt; second = tt })
+    (count_more here item.Nothing) have)
+    (settled_installs setting (version_count here) (here ++ next ∷ []) (sym (count_more here next))
+    (installs_same setting (λ t. ⊥) (version_count here) here (next ∷ [])
+    (λ t. known_more here next t) (λ t none. plain_over here next tt t none)
+    (omega (arith, current_more here next)) have))
 
 -- ---- steps
 
 told_installs : (setting : Setting) (before : List Item) (row : ℕ) (step : Step)
     → IsTrue (asks_controller before step) → let here = before ++ item.Row row step ∷ [] in
-    HaveInstalls setting (λ s. ⊥) (version_count here) here
-    → let after = here ++ step_items setting before step here in
-    HaveInstalls setting (λ s. ⊥) (version_count after) after
+    AllInstalled setting here → AllInstalled setting (here ++ step_items setting before step here)
 told_installs setting before row (Deliver number) is = λ have.
     let here : List Item = before ++ item.Row row (Deliver number) ∷ [] in
-    let same : version_count here ≡ version_count before =
-    count_more before (item.Row row (Deliver number)) in
     subst (λ m. HaveInstalls setting (λ s. ⊥) m
     (here ++ deliver_items setting before number here))
     (sym (deliver_count setting before row number is))
     (deliver_installs setting before row number is
-    (subst (λ m. HaveInstalls setting (λ s. ⊥) m here) same have))
+    (subst (λ m. HaveInstalls setting (λ s. ⊥) m here)
+    (count_more before (item.Row row (Deliver number))) have))
 told_installs setting before row (Update file) is =
     update_installs setting file (before ++ item.Row row (Update file) ∷ [])
 told_installs setting before row (Confirm s) is =
@@ -552,10 +530,8 @@ told_installs setting before row (Confirm s) is =
 told_installs setting before row step is = absurd cc
 
 other_installs : (setting : Setting) (before : List Item) (row : ℕ) (step : Step)
-    → IsFalse (asks_controller before step)
-    → HaveInstalls setting (λ s. ⊥) (version_count before) before
-    → let after = before ++ piece setting before row step in
-    HaveInstalls setting (λ s. ⊥) (version_count after) after
+    → IsFalse (asks_controller before step) → AllInstalled setting before
+    → AllInstalled setting (before ++ piece setting before row step)
 other_installs setting before row step is have =
     let keeps = others_keep setting before row step is in
     subst (λ m. HaveInstalls setting (λ s. ⊥) m (before ++ piece setting before row step))
@@ -565,9 +541,7 @@ other_installs setting before row step is have =
     (omega (arith, keeps.current)) have)
 
 pub piece_installs : (setting : Setting) (before : List Item) (row : ℕ) (step : Step)
-    → HaveInstalls setting (λ s. ⊥) (version_count before) before
-    → let after = before ++ piece setting before row step in
-    HaveInstalls setting (λ s. ⊥) (version_count after) after
+    → AllInstalled setting before → AllInstalled setting (before ++ piece setting before row step)
 unfolding piece
 piece_installs setting before row step have = by_kind (asks_controller before step) refl
   where
@@ -577,22 +551,18 @@ piece_installs setting before row step have = by_kind (asks_controller before st
     here : List Item
     here = before ++ next ∷ []
 
-    begun : HaveInstalls setting (λ s. ⊥) (version_count here) here
-    begun = subst (λ m. HaveInstalls setting (λ s. ⊥) m here) (sym (count_more before next))
-        (row_installs setting (version_count before) before row step have)
-
-    by_kind : (b : Bool) → asks_controller before step ≡ b
-        → let after = before ++ put (next ∷ []) (step_items setting before step) before in
-        HaveInstalls setting (λ s. ⊥) (version_count after) after
+    by_kind : (b : Bool) → asks_controller before step ≡ b → AllInstalled setting
+        (before ++ put (next ∷ []) (step_items setting before step) before)
     by_kind false e = other_installs setting before row step e have
     by_kind true e =
-        subst (λ j. HaveInstalls setting (λ s. ⊥) (version_count j) j)
+        subst (AllInstalled setting)
         (append_assoc before (next ∷ []) (step_items setting before step here))
-        (told_installs setting before row step e begun)
+        (told_installs setting before row step e
+        (counted_on setting before next (record { first = tt; second = tt })
+        (count_more before next) have))
 
 -- each switch begins with the first version
-pub installs_at_first : (setting : Setting)
-    → HaveInstalls setting (λ s. ⊥) (version_count []) []
+pub installs_at_first : (setting : Setting) → AllInstalled setting []
 installs_at_first setting = record {
   each = λ s version there none above below.
       inr (inl (

@@ -20,11 +20,11 @@ use Rattle.update_machine.specs.Setting.{Setting}
 use Rattle.update_machine.specs.Settling.{settling}
 use Rattle.update_machine.proofs.CallerLemmas.{PiecesHave, have_first, message_keeps}
 use Rattle.version_laws.proofs.Commands.{Control, IsControl, confirm_control, controller_control, settling_control, update_has}
-use Rattle.version_laws.proofs.Crashes.{crash_changes, link_change}
+use Rattle.version_laws.proofs.Crashes.{crash_changes}
 use Rattle.version_laws.proofs.Delivered.{delivery_has}
 use Rattle.version_laws.proofs.Facts.{have_weaker}
 use Rattle.version_laws.proofs.Sent.{resends_any, sends_any}
-use Rattle.version_laws.proofs.Traffic.{Change, IsChange, IsTraffic, hop_traffic, links_change, packet_has}
+use Rattle.version_laws.proofs.Traffic.{Change, link_change, IsChange, IsTraffic, links_change, packet_has, step_traffic}
 
 abbrev pub IsPlain : List Item → Item → Type 0
 IsPlain before (item.Delivered number) = ⊥
@@ -170,7 +170,8 @@ pub step_plain : (setting : Setting) (before : List Item) (step : Step) (here : 
 step_plain setting before (Packet s header) here is =
     packet_has setting IsPlain (traffic_is setting) (next_packet before) s header _ tt
 step_plain setting before (Hop packet) here is =
-    have_weaker (IsTraffic setting) IsPlain (traffic_is setting) _ _ (hop_traffic setting packet _)
+    have_weaker (IsTraffic setting) IsPlain (traffic_is setting) _ _
+    (step_traffic setting before (Hop packet) _ tt)
 step_plain setting before (Deliver message) here is = absurd cc
 step_plain setting before (Restart s) here is = absurd cc
 step_plain setting before step here is =

@@ -201,13 +201,13 @@ news_spread setting journal net spread newest tells s neighbour origin a linked 
 
 newest_stepped : (setting : Setting) (steps : List StepOfRow)
     → OwnAreNewest setting (after_steps setting [] steps)
-newest_stepped = (behind_both OwnAreNewest own_newest).stepped
+newest_stepped = (behind_both OwnAreNewest own_newest).ends.stepped
 
 pub news_at_ends : HoldsAtEnds (λ setting journal. IsNet setting.net → NewsSpreads setting journal)
 news_at_ends = at_ends (λ setting journal. IsNet setting.net → NewsSpreads setting journal)
     (λ setting steps net.
     news_spread setting (after_steps setting [] steps) net (spread_at_ends setting steps net)
-    (newest_stepped setting steps) ((behind_both TellsOwn caused_tells).stepped setting steps))
+    (newest_stepped setting steps) ((behind_both TellsOwn caused_tells).ends.stepped setting steps))
 
 order_at_first : InOrder []
 order_at_first = record {

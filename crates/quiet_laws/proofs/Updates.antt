@@ -35,7 +35,7 @@ use Rattle.version_laws.proofs.Ends.{settled_at_ends}
 use Rattle.quiet_laws.specs.Updated.{IsUpdated}
 use Rattle.quiet_laws.proofs.Answered.{HaveSpoken, piece_spoken, spoken_at_first}
 use Rattle.quiet_laws.proofs.Downs.{AreRecorded, caused_recorded}
-use Rattle.quiet_laws.proofs.Installs.{HaveInstalls, installs_at_first, piece_installs}
+use Rattle.quiet_laws.proofs.Installs.{AllInstalled, installs_at_first, piece_installs}
 use Rattle.quiet_laws.proofs.Lists.{IsIn, all_in, each_of_in, in_filter_map, in_range, in_right, of_filter, of_range}
 use Rattle.quiet_laws.proofs.Received.{WasHeard, heard_of, told_of}
 use Rattle.quiet_laws.proofs.Sendings.{AreTraced, IsInOrder, IsSent, caused_traced, pieces_in_order}
@@ -92,14 +92,14 @@ pub record AreReady (setting : Setting) (journal : List Item) : Type 0 where
   pub bounds : MarksAreBounded setting journal
   pub settled : AreSettled setting journal
   pub spoken : HaveSpoken journal
-  pub installs : HaveInstalls setting (λ s. ⊥) (version_count journal) journal
+  pub installs : AllInstalled setting journal
   pub stamps : HaveStamps setting journal
 
 -- the causes, and what steps keep
 record Standing (setting : Setting) (journal : List Item) : Type 0 where
   causes : HaveCauses (IsInOrder setting) [] journal
   spoken : HaveSpoken journal
-  installs : HaveInstalls setting (λ s. ⊥) (version_count journal) journal
+  installs : AllInstalled setting journal
   stamps : HaveStamps setting journal
 
 items_caused : (setting : Setting) (journal : List Item) → HaveCauses (IsInOrder setting) [] journal

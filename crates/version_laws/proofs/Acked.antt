@@ -1,5 +1,5 @@
 -- A member acknowledged each version from the one at which it was opened to the current one.
-use Rattle.std.proofs.Common.{ℕ, ◌≡◌, ◌≤◌, ◌<◌, ◌==◌, true, if◌then◌else◌, Some, List, [], ◌∷◌, ◌++◌, length, refl, ap, sym, subst, ◌∙◌, arith, inl, inr, append_assoc}
+use Rattle.std.proofs.Common.{ℕ, ◌≡◌, ◌||◌, ◌≤◌, ◌<◌, ◌==◌, true, if◌then◌else◌, Some, List, [], ◌∷◌, ◌++◌, length, refl, ap, sym, subst, ◌∙◌, arith, inl, inr, append_assoc}
 use Rattle.std.specs.Prelude.{IsTrue, nat_eq, unwrap_or}
 use Rattle.std.specs.List.{list_any}
 use Rattle.std.proofs.lemmas.Bool.{cases_lt}
@@ -16,21 +16,16 @@ use Rattle.version_laws.proofs.Told.{tells, told_by, told_by_more}
 use Rattle.version_laws.proofs.Members.{LeavesMember, MemberFact, member_was, open_was}
 use Rattle.version_laws.proofs.Told.{each_in_range, each_of_all}
 
-any_more : (v : ℕ) (xs ys : List ℕ) → IsTrue (list_any (nat_eq v) xs)
-    → IsTrue (list_any (nat_eq v) (xs ++ ys))
-any_more v xs ys any =
-    let here : list_any (nat_eq v) xs ≡ true = any in
-    rw (list_any-append (nat_eq v) xs ys, here) refl
-
--- what was acknowledged in the known boot stays so while that boot is the known one
-pub acked_grows : (before : List Item) (next : Item) (s v : ℕ)
+-- what is acknowledged in a known boot that stays: what was, and what the item tells
+pub acked_more : (before : List Item) (next : Item) (s v : ℕ)
     → known_boot (before ++ next ∷ []) s ≡ known_boot before s
-    → IsTrue (has_acked before s v) → IsTrue (has_acked (before ++ next ∷ []) s v)
+    → has_acked (before ++ next ∷ []) s v ≡ (has_acked before s v
+    || list_any (nat_eq v) (tells (installed_in s (known_boot before s)) before next))
 unfolding has_acked
-acked_grows before next s v known acked =
+acked_more before next s v known =
     rw (known, told_by_more (installed_in s (known_boot before s)) before next)
     (ap (list_any (nat_eq v)) (sym (append_assoc first told new))
-    ∙ any_more v (first ++ told) new acked)
+    ∙ list_any-append (nat_eq v) (first ++ told) new)
   where
     first : List ℕ
     first = if known_boot before s == 1 then 1 ∷ [] else []
@@ -40,6 +35,12 @@ acked_grows before next s v known acked =
 
     new : List ℕ
     new = tells (installed_in s (known_boot before s)) before next
+
+acked_grows : (before : List Item) (next : Item) (s v : ℕ)
+    → known_boot (before ++ next ∷ []) s ≡ known_boot before s
+    → IsTrue (has_acked before s v) → IsTrue (has_acked (before ++ next ∷ []) s v)
+acked_grows before next s v known acked =
+    let was : has_acked before s v ≡ true = acked in rw (acked_more before next s v known, was) refl
 
 -- a member of the network acknowledged what is current
 pub record IsAcked (setting : Setting) (journal : List Item) (s : ℕ) : Type 0 where

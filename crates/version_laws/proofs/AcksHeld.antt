@@ -5,12 +5,11 @@ use Rattle.std.specs.List.{list_any}
 use Rattle.std.proofs.lemmas.Bool.{eqb-true}
 use Rattle.journal.specs.declared.item.Item.{Item}
 use Rattle.update_machine.specs.Boots.{boot_of, heard, is_up}
-use Rattle.update_machine.specs.Causes.{HaveCauses}
 use Rattle.update_machine.specs.Marks.{has_acked, installed_in, known_boot}
 use Rattle.update_machine.specs.Setting.{Setting}
 use Rattle.update_machine.specs.Versions.{installs}
 use Rattle.version_laws.specs.ItemCauses.{HasItemCause}
-use Rattle.version_laws.proofs.Facts.{AreKept, fact_on}
+use Rattle.version_laws.proofs.Facts.{AreKept, FromCauses, from_causes}
 use Rattle.version_laws.proofs.Openings.{IsKnown, known_at_first, known_kept}
 use Rattle.version_laws.specs.Heard.{HasTables, AcksHold}
 use Rattle.version_laws.proofs.Acks.{AreTrue, of_stamps, of_tables, true_at_first, true_on}
@@ -36,10 +35,8 @@ told_at_first = record {
   stamps = true_at_first of_stamps;
 }
 
-pub caused_told : (setting : Setting) (journal : List Item)
-    → HaveCauses (HasItemCause setting) [] journal → IsTold journal
-caused_told setting journal have =
-    fact_on (HasItemCause setting) IsTold (told_kept setting) [] journal have told_at_first
+pub caused_told : FromCauses (λ setting. IsTold)
+caused_told = from_causes (λ setting. IsTold) told_kept (λ setting. told_at_first)
 
 -- what it is known to have acknowledged, it has
 acked_is : (journal : List Item) (s version : ℕ) → AreTrue of_tables journal
@@ -79,6 +76,5 @@ acks_hold journal told s = record {
   acked = λ version up known acked. acked_is journal s version told.tables up known acked;
 }
 
-pub acks_held : (setting : Setting) (journal : List Item)
-    → HaveCauses (HasItemCause setting) [] journal → (s : ℕ) → AcksHold journal s
+pub acks_held : FromCauses (λ setting journal. (s : ℕ) → AcksHold journal s)
 acks_held setting journal have = acks_hold journal (caused_told setting journal have)

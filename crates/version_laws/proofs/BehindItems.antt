@@ -8,39 +8,7 @@ use Rattle.update_machine.proofs.CallerLemmas.{PiecesHave, have_take}
 use Rattle.version_laws.specs.Always.{HoldsAtEnds, HoldsBehindItems}
 use Rattle.version_laws.proofs.Facts.{steps_have}
 
--- a fact that holds where items have causes that each piece has, holds behind each item
-pub behind_items : (Holds : Setting → List Item → Type 0)
-    (cause : Setting → List Item → Item → Type 0) →
-    ((setting : Setting) → PiecesHave (cause setting) setting)
-    → ((setting : Setting) (journal : List Item) → HaveCauses (cause setting) [] journal
-    → Holds setting journal)
-    → HoldsBehindItems Holds
-behind_items Holds cause pieces caused = record {
-  items = some_items;
-  stepped = stepped;
-  answered = λ setting events journal answers.
-      subst (Holds setting) (sym answers.written) (stepped setting answers.steps);
-  begun = λ setting events journal begins. subst (Holds setting)
-      (sym (begins.written ∙ ap (take begins.length) begins.answers.written))
-      (some_items setting begins.answers.steps begins.length);
-}
-  where
-    all_have : (setting : Setting) (steps : List StepOfRow)
-        → HaveCauses (cause setting) [] (after_steps setting [] steps)
-    all_have setting steps =
-        steps_have (cause setting) setting (pieces setting) [] steps tt
-
-    stepped : (setting : Setting) (steps : List StepOfRow)
-        → Holds setting (after_steps setting [] steps)
-    stepped setting steps =
-        caused setting (after_steps setting [] steps) (all_have setting steps)
-
-    some_items : (setting : Setting) (steps : List StepOfRow) (n : ℕ)
-        → Holds setting (take n (after_steps setting [] steps))
-    some_items setting steps n =
-        caused setting (take n (after_steps setting [] steps))
-        (have_take (cause setting) [] (after_steps setting [] steps) n (all_have setting steps))
-
+-- what holds behind any steps holds in answers to schedules
 pub at_ends : (Holds : Setting → List Item → Type 0)
     → ((setting : Setting) (steps : List StepOfRow)
     → Holds setting (after_steps setting [] steps))
@@ -52,3 +20,31 @@ at_ends Holds stepped = record {
   so_far = λ setting events journal answers.
       subst (Holds setting) (sym answers.written) (stepped setting answers.steps);
 }
+
+-- a fact that holds where items have causes that each piece has, holds behind each item
+pub behind_items : (Holds : Setting → List Item → Type 0)
+    (cause : Setting → List Item → Item → Type 0) →
+    ((setting : Setting) → PiecesHave (cause setting) setting)
+    → ((setting : Setting) (journal : List Item) → HaveCauses (cause setting) [] journal
+    → Holds setting journal)
+    → HoldsBehindItems Holds
+behind_items Holds cause pieces caused = record {
+  items = some_items;
+  ends = at_ends Holds
+      (λ setting steps.
+      caused setting (after_steps setting [] steps) (all_have setting steps));
+  begun = λ setting events journal begins. subst (Holds setting)
+      (sym (begins.written ∙ ap (take begins.length) begins.answers.written))
+      (some_items setting begins.answers.steps begins.length);
+}
+  where
+    all_have : (setting : Setting) (steps : List StepOfRow)
+        → HaveCauses (cause setting) [] (after_steps setting [] steps)
+    all_have setting steps =
+        steps_have (cause setting) setting (pieces setting) [] steps tt
+
+    some_items : (setting : Setting) (steps : List StepOfRow) (n : ℕ)
+        → Holds setting (take n (after_steps setting [] steps))
+    some_items setting steps n =
+        caused setting (take n (after_steps setting [] steps))
+        (have_take (cause setting) [] (after_steps setting [] steps) n (all_have setting steps))

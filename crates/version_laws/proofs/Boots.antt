@@ -1,6 +1,7 @@
 -- Items that have their causes keep what is known of boots.
-use Rattle.std.proofs.Common.{ℕ, ◌≡◌, ◌≤◌, ◌==◌, ◌⊎◌, Bool, true, false, Option, Some, None, List, [], ◌∷◌, ◌++◌, refl, ap, subst, ◌∙◌, arith, inl, inr}
-use Rattle.std.specs.Prelude.{option_and_then}
+use Rattle.std.proofs.Common.{ℕ, ◌≡◌, ◌<◌, ◌≤◌, ◌==◌, ◌⊎◌, Bool, true, false, Option, Some, None, List, [], ◌∷◌, ◌++◌, refl, ap, subst, ◌∙◌, arith, inl, inr}
+use Rattle.std.specs.Prelude.{IsTrue, nat_lt, option_and_then}
+use Rattle.std.specs.Option.{option_map_or}
 use Rattle.std.proofs.lemmas.Bool.{eqb-true}
 use Rattle.std.proofs.lemmas.Bool.Decides.{nat_tests}
 use Rattle.std.proofs.lemmas.Option.{IfSome_then}
@@ -14,7 +15,7 @@ use Rattle.ctrl_msg.specs.declared.message.Receiver.TheVariants as receiver
 use Rattle.journal.specs.declared.item.Item.{Item}
 use Rattle.journal.specs.declared.item.Item.TheVariants as item
 use Rattle.update_machine.specs.Boots.{boot_of}
-use Rattle.update_machine.specs.Marks.{hello_boot, known_boot, said_to_controller}
+use Rattle.update_machine.specs.Marks.{hello_boot, known_boot, raises_known, said_to_controller}
 use Rattle.update_machine.specs.Quiet.{speaker}
 use Rattle.update_machine.specs.Setting.{Setting}
 use Rattle.update_machine.specs.Links.{message_of}
@@ -47,6 +48,18 @@ pub known_rises : (before : List Item) (item : Item) (s : ℕ)
     → known_boot before s ≤ known_boot (before ++ item ∷ []) s
 known_rises before item s = rw (known_more before item s)
     (raised_up (known_boot before s) (hello_told s before item))
+
+-- a greater hello raises it
+pub hello_above : (before : List Item) (s number : ℕ) → IsTrue (raises_known before s number)
+    → known_boot before s < known_boot (before ++ item.Delivered number ∷ []) s
+hello_above before s number raises = rw (known_more before (item.Delivered number) s)
+    (by_hello (option_and_then (hello_boot s) (said_to_controller before number)) raises)
+  where
+    by_hello : (hello : Option ℕ)
+        → IsTrue (option_map_or (λ boot. nat_lt (known_boot before s) boot) hello false)
+        → known_boot before s < raised (known_boot before s) hello
+    by_hello None above = absurd cc
+    by_hello (Some boot) above = grind (arith, nat_tests)
 
 pub boot_rises : (setting : Setting) (before : List Item) (item : Item) (s : ℕ)
     → HasItemCause setting before item → boot_of before s ≤ boot_of (before ++ item ∷ []) s

@@ -6,7 +6,6 @@ use Rattle.switch_table.specs.Tables.{tables_of}
 use Rattle.switch_table.specs.declared.tables.Tables.{Tables}
 use Rattle.journal.specs.declared.item.Item.{Item}
 use Rattle.journal.specs.declared.item.Item.TheVariants as item
-use Rattle.update_machine.specs.Causes.{HaveCauses}
 use Rattle.update_machine.specs.Marks.{current_mark}
 use Rattle.update_machine.specs.Numbers.{VersionsAreNumbered}
 use Rattle.update_machine.specs.Setting.{Setting}
@@ -15,10 +14,23 @@ use Rattle.update_machine.specs.Versions.{version_count}
 use Rattle.update_machine.proofs.CallerLemmas.{numbered_at_first, plan_kept, start_laws}
 use Rattle.version_laws.specs.ItemCauses.{HasItemCause, IsRightInstall}
 use Rattle.version_laws.proofs.Boots.{by_number}
-use Rattle.version_laws.proofs.Facts.{AreKept, fact_on}
+use Rattle.version_laws.proofs.Facts.{AreKept, FromCauses, NeverFalls, from_causes}
 use Rattle.version_laws.proofs.Grown.{count_more, current_more}
 use Rattle.version_laws.proofs.Versions.{numbered_kept}
 use Rattle.version_laws.specs.Heard.{ArePlanned, InstallsArePlanned}
+
+-- ---- what never falls
+
+pub current_rises : NeverFalls current_mark
+current_rises setting before (item.Current version) cause =
+    let rises = cause.rises in rw (current_more before (item.Current version)) (omega arith)
+current_rises setting before next cause = rw (current_more before next) (omega arith)
+
+pub count_rises : (before : List Item) (next : Item)
+    → version_count before ≤ version_count (before ++ next ∷ [])
+count_rises before (item.Submitted file version) =
+    rw (count_more before (item.Submitted file version)) (omega arith)
+count_rises before next = rw (count_more before next) (omega arith)
 
 -- ---- current
 
@@ -36,15 +48,9 @@ there_kept setting before (item.Current version) cause is =
       first = rw (current_more before next) (omega (arith, is.first));
       there = rw (current_more before next, count_more before next) (omega arith);
     }
-there_kept setting before (item.Submitted file version) cause is =
-    let next : Item = item.Submitted file version in
-    record {
-      first = rw (current_more before next) is.first;
-      there = rw (current_more before next, count_more before next) (omega (arith, is.there));
-    }
 there_kept setting before next cause is = record {
   first = rw (current_more before next) is.first;
-  there = rw (current_more before next, count_more before next) is.there;
+  there = rw (current_more before next) (omega (arith, is.there, count_rises before next));
 }
 
 pub there_at_first : IsThere []
@@ -52,20 +58,6 @@ there_at_first = record {
   first = omega (arith, start_laws.current);
   there = omega (arith, start_laws.current, start_laws.count);
 }
-
--- a mark never falls, nor does the count
-pub current_rises : (setting : Setting) (before : List Item) (next : Item)
-    → HasItemCause setting before next
-    → current_mark before ≤ current_mark (before ++ next ∷ [])
-current_rises setting before (item.Current version) cause =
-    let rises = cause.rises in rw (current_more before (item.Current version)) (omega arith)
-current_rises setting before next cause = rw (current_more before next) (omega arith)
-
-pub count_rises : (before : List Item) (next : Item)
-    → version_count before ≤ version_count (before ++ next ∷ [])
-count_rises before (item.Submitted file version) =
-    rw (count_more before (item.Submitted file version)) (omega arith)
-count_rises before next = rw (count_more before next) (omega arith)
 
 -- ---- tables
 
@@ -124,12 +116,8 @@ planned_at_first setting = record {
       rw (start_laws.message n).message at is in absurd cc;
 }
 
-pub caused_planned : (setting : Setting) (journal : List Item)
-    → HaveCauses (HasItemCause setting) [] journal → IsPlannedSoFar setting journal
-caused_planned setting journal have =
-    fact_on (HasItemCause setting) (IsPlannedSoFar setting) (planned_kept setting) [] journal have
-    (planned_at_first setting)
+pub caused_planned : FromCauses IsPlannedSoFar
+caused_planned = from_causes IsPlannedSoFar planned_kept planned_at_first
 
-pub installs_planned : (setting : Setting) (journal : List Item)
-    → HaveCauses (HasItemCause setting) [] journal → InstallsArePlanned setting journal
+pub installs_planned : FromCauses InstallsArePlanned
 installs_planned setting journal have = (caused_planned setting journal have).installs

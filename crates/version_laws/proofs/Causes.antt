@@ -1,45 +1,44 @@
 -- Each piece of a step of the network names what is there, as far as its items alone tell.
-use Rattle.std.proofs.Common.{ℕ, ◌≡◌, ◌+◌, ◌<◌, ◌≤◌, ◌⊎◌, ◌&&◌, Bool, true, false, Some, List, [], ◌∷◌, ◌++◌, length, map, refl, ap, ◌∙◌, arith, inl, inr}
-use Rattle.std.specs.Prelude.{⊤, IsTrue, not, filter, option_and_then}
+use Rattle.std.proofs.Common.{ℕ, ◌≡◌, ◌<◌, ◌≤◌, ◌⊎◌, Bool, true, false, Some, List, [], ◌∷◌, ◌++◌, length, map, refl, ◌∙◌, arith, inl, inr}
+use Rattle.std.specs.Prelude.{⊤, IsTrue, not, filter}
 use Rattle.std.specs.List.{AllByRecursion, flat_map}
 use Rattle.std.proofs.lemmas.Bool.Decides.{nat_tests}
 use Rattle.ctrl_msg.specs.declared.message.Body.{Body}
 use Rattle.ctrl_msg.specs.declared.message.Body.TheVariants.{Install, OpenAt, Stamp, Collect, CacheRule, Advertise, Hello, Installed, Stamped}
 use Rattle.ctrl_msg.specs.declared.message.Message.{Message}
 use Rattle.ctrl_msg.specs.declared.message.Receiver.{Receiver}
-use Rattle.ctrl_msg.specs.Kinds.{to_controller}
 use Rattle.ctrl_msg.specs.declared.message.Receiver.TheVariants as receiver
-use Rattle.failover.specs.declared.advert.Advert.{Advert}
 use Rattle.switch_table.specs.declared.tables.Tables.{Tables}
 use Rattle.journal.specs.declared.item.Item.{Item}
 use Rattle.journal.specs.declared.item.Item.TheVariants as item
 use Rattle.steps.specs.declared.step.Step.{Step}
-use Rattle.steps.specs.declared.step.Step.TheVariants.{Packet, Hop, Lose, Deliver, Forget, Expire, Update, LinkDown, LinkUp, Crash, Restart, Confirm, Resend}
+use Rattle.steps.specs.declared.step.Step.TheVariants.{Packet, Deliver, Update, Crash, Restart, Confirm, Resend}
 use Rattle.update_machine.specs.Adverts.{held_adverts}
 use Rattle.update_machine.specs.Boots.{is_up}
 use Rattle.update_machine.specs.Causes.{HaveCauses}
-use Rattle.update_machine.specs.Deliveries.{advert_to, after_hello, controller_items, is_new_boot, link_changes, passed_on, switch_items, switches_in}
+use Rattle.update_machine.specs.Deliveries.{advert_to, switch_items, switches_in}
 use Rattle.update_machine.specs.LinkMasks.{near}
-use Rattle.update_machine.specs.Marks.{current_mark, has_acked, hello_boot, is_joining, is_member, is_over, known_boot, members, retired_mark, said_to_controller}
+use Rattle.update_machine.specs.Marks.{has_acked, is_over, known_boot, raises_known}
 use Rattle.update_machine.specs.Messages.{sends, sent_from}
-use Rattle.update_machine.specs.Moves.{put}
 use Rattle.update_machine.specs.Packets.{next_packet}
 use Rattle.update_machine.specs.Pieces.{confirm_items, deliver_items, hello_of, piece, resend_items, resent_by_switch, restart_items, step_items, update_items}
 use Rattle.update_machine.specs.Setting.{Setting, switches_of}
-use Rattle.update_machine.specs.Settling.{collect_for, current_items, install_for, installs_to, installs_to_all, open_for, open_items, opening, resent_by_controller, resent_to_member, retired_items, settling, stamp_for, submitted_items, to_switch, versions_from_current}
+use Rattle.update_machine.specs.Settling.{install_for, installs_to, installs_to_all, resent_by_controller, resent_to_member, settling, submitted_items, to_switch, versions_from_current}
 use Rattle.update_machine.specs.Versions.{is_version, version_count}
 use Rattle.update_machine.specs.Links.{message_of}
 use Rattle.update_machine.proofs.CallerLemmas.{have_first, have_in_turn}
-use Rattle.version_laws.proofs.Boots.{known_rises}
-use Rattle.version_laws.proofs.Crashes.{crash_has, link_traffic}
-use Rattle.version_laws.proofs.Delivered.{controller_has, deliver_has, delivery_has}
-use Rattle.version_laws.proofs.Facts.{AreKept, fact_on, have_weaker}
-use Rattle.version_laws.proofs.Grown.{known_more, message_more, raised}
+use Rattle.version_laws.proofs.Boots.{hello_above}
+use Rattle.version_laws.proofs.Commands.{grows, settling_settles}
+use Rattle.version_laws.proofs.Crashes.{crash_has}
+use Rattle.version_laws.proofs.Delivered.{row_delivers}
+use Rattle.version_laws.proofs.Facts.{have_weaker}
+use Rattle.version_laws.proofs.Grown.{known_more, message_more}
 use Rattle.version_laws.proofs.Reached.{NamesOwn, OwnPiecesHave}
 use Rattle.version_laws.proofs.Resent.{each_by_controller, each_to_member, later_versions, resent_has}
-use Rattle.version_laws.proofs.Sends.{each_kept, each_map, sends_kept}
-use Rattle.version_laws.proofs.SwitchBlocks.{hello_said, said_parts}
-use Rattle.version_laws.proofs.Traffic.{IsAdvert, IsAdvertTo, IsBetween, IsIngress, IsTraffic, Traffic, adverts_to, each_told, expire_traffic, forget_traffic, hop_traffic, links_traffic, lose_traffic, masked_there, packet_has, passed_traffic, switches_there}
+use Rattle.version_laws.proofs.Sends.{each_map, each_of_network, sends_kept}
+use Rattle.version_laws.proofs.Settling.{SettlingHas, parts_have, settling_has}
+use Rattle.version_laws.proofs.SwitchBlocks.{said_parts}
+use Rattle.version_laws.proofs.Traffic.{IsAdvert, IsAdvertTo, IsIngress, IsTraffic, Traffic, adverts_to, between_cases, each_told, links_traffic, masked_there, packet_has, passed_traffic, step_traffic}
 use Rattle.version_laws.proofs.Greatest.{known_first}
 use Rattle.version_laws.proofs.Told.{each_weaker}
 
@@ -91,16 +90,12 @@ Name setting journal items = HaveCauses (NamesRightly setting) journal items
 
 -- ---- traffic
 
-between_names : (setting : Setting) (before : List Item) (to : Receiver) (body : Body)
-    → IsBetween setting before to body → SaysThere setting before to body
-between_names setting before (receiver.Switch s) (CacheRule version word rule action) is = is
-between_names setting before (receiver.Switch s) (Advertise advert) is = is
-between_names setting before to body is = absurd is
-
 traffic_names : (setting : Setting) (before : List Item) (next : Item)
     → IsTraffic setting before next → NamesRightly setting before next
 traffic_names setting before (item.Sent number message) is =
-    between_names setting before message.to message.body is
+    between_cases setting before (SaysThere setting before)
+    (λ s version word rule action there ingress. (there, ingress)) (λ s advert there. there)
+    message.to message.body is
 traffic_names setting before (item.Entered packet s header) is = absurd is
 traffic_names setting before next is = tt
 
@@ -108,16 +103,6 @@ traffic_name : (setting : Setting) (journal items : List Item) → Traffic setti
     → Name setting journal items
 traffic_name setting =
     have_weaker (IsTraffic setting) (NamesRightly setting) (traffic_names setting)
-
-links_name : (setting : Setting) (before journal : List Item)
-    → Name setting journal (link_changes setting before journal)
-links_name setting before journal =
-    traffic_name setting journal _ (links_traffic setting before journal)
-
-passed_name : (setting : Setting) (journal : List Item) (s : ℕ) (advert : Advert)
-    → Name setting journal (sends journal (passed_on setting journal s advert))
-passed_name setting journal s advert =
-    traffic_name setting journal _ (passed_traffic setting journal s advert)
 
 -- ---- messages one after another
 
@@ -164,21 +149,6 @@ sends_name setting =
 
 -- ---- messages to switches of the network
 
--- those of a list, or those that pass a test
-known_all : (setting : Setting) (journal : List Item) (switches : List ℕ)
-    → AllByRecursion (λ s. s < length setting.net.switches) switches
-    → AllByRecursion (IsKnownSwitch setting journal) switches
-known_all setting journal switches there =
-    each_weaker (λ s. s < length setting.net.switches) (IsKnownSwitch setting journal)
-    (λ s there. inl there) switches there
-
-known_passing : (setting : Setting) (journal : List Item) (test : ℕ → Bool)
-    → AllByRecursion (IsKnownSwitch setting journal) (filter test (switches_of setting))
-known_passing setting journal test =
-    known_all setting journal (filter test (switches_of setting))
-    (each_kept (λ s. s < length setting.net.switches) test (switches_of setting)
-    (switches_there setting))
-
 installs_own : (setting : Setting) (journal : List Item) (s : ℕ) (versions : List ℕ)
     → IsKnownSwitch setting journal s → AllByRecursion (IsOwn setting journal)
     (map (λ version. install_for setting journal version s) versions)
@@ -188,65 +158,20 @@ installs_own setting journal s (version ∷ versions) known =
 
 -- ---- settling
 
-raise_name : (setting : Setting) (journal : List Item) (version : ℕ) → Name setting journal
-    (put (item.Current version ∷ [])
-    (λ raised. sends raised (map (stamp_for journal version) (members setting journal))) journal)
-raise_name setting journal version =
-    let raised : List Item = journal ++ item.Current version ∷ [] in
-    have_first (NamesRightly setting) (item.Current version)
-    (λ raised. sends raised (map (stamp_for journal version) (members setting journal))) journal tt
-    (sends_name setting raised (map (stamp_for journal version) (members setting journal))
-    (each_map (IsOwn setting raised) (stamp_for journal version) (members setting journal)
-    (known_passing setting raised (is_member journal))))
-
-current_name : (setting : Setting) (journal : List Item)
-    → Name setting journal (current_items setting journal)
-unfolding current_items
-current_name setting journal = grind (arith, raise_name)
-
-open_name : (setting : Setting) (journal : List Item)
-    → Name setting journal (open_items setting journal)
-unfolding open_items
-open_name setting journal =
-    sends_name setting journal
-    (map (open_for journal (current_mark journal)) (opening setting journal))
-    (each_map (IsOwn setting journal) (open_for journal (current_mark journal))
-    (opening setting journal)
-    (known_passing setting journal
-    (λ s. is_joining journal s && has_acked journal s (current_mark journal))))
-
-collects_own : (setting : Setting) (base journal : List Item) (version : ℕ) (switches : List ℕ)
-    → 1 ≤ version → AllByRecursion (IsKnownSwitch setting journal) switches
-    → AllByRecursion (IsOwn setting journal) (map (collect_for base version) switches)
-collects_own setting base journal version [] above known = tt
-collects_own setting base journal version (s ∷ switches) above known =
-    ((above, known.0), collects_own setting base journal version switches above known.1)
-
-retire_name : (setting : Setting) (journal : List Item) (version : ℕ)
-    → retired_mark journal < version → Name setting journal
-    (put (item.Retired version ∷ [])
-    (λ raised. sends raised (map (collect_for journal version) (members setting journal))) journal)
-retire_name setting journal version rises =
-    let raised : List Item = journal ++ item.Retired version ∷ [] in
-    have_first (NamesRightly setting) (item.Retired version)
-    (λ raised. sends raised (map (collect_for journal version) (members setting journal))) journal
-    tt
-    (sends_name setting raised (map (collect_for journal version) (members setting journal))
-    (collects_own setting journal raised version (members setting journal) (omega (arith, rises))
-    (known_passing setting raised (is_member journal))))
-
-retired_name : (setting : Setting) (journal : List Item)
-    → Name setting journal (retired_items setting journal)
-unfolding retired_items
-retired_name setting journal = grind (arith, nat_tests, retire_name)
+settling_own : (setting : Setting) → SettlingHas (NamesRightly setting) (IsOwn setting) setting
+settling_own setting = record {
+  sends = sends_name setting;
+  rises = λ journal rises. record { may = tt; told = λ s there to member. inl there };
+  opens = λ journal s there joins. inl there;
+  retires = λ journal rises.
+      record { may = tt; told = λ s there to member. (grind (arith, nat_tests), inl there) };
+}
 
 settling_name : (setting : Setting) (journal : List Item)
     → Name setting journal (settling setting journal)
-unfolding settling
-settling_name setting journal =
-    have_in_turn (NamesRightly setting)
-    (current_items setting ∷ open_items setting ∷ retired_items setting ∷ [])
-    (current_name setting, (open_name setting, (retired_name setting, tt))) journal
+settling_name setting =
+    settling_has (NamesRightly setting) setting
+    (parts_have (NamesRightly setting) (IsOwn setting) setting (settling_own setting))
 
 -- ---- tables
 
@@ -264,7 +189,8 @@ all_installs_name setting journal =
     sends_name setting journal _
     (each_map (IsOwn setting journal) (install_for setting journal (version_count journal))
     (filter (λ s. not (is_over journal s)) (switches_of setting))
-    (known_passing setting journal (λ s. not (is_over journal s))))
+    (each_of_network (IsKnownSwitch setting journal) setting (λ s. not (is_over journal s))
+    (λ s there is. inl there)))
 
 submitted_name : (setting : Setting) (journal : List Item)
     → Name setting journal (submitted_items setting journal)
@@ -280,78 +206,39 @@ unfolding switch_items sent_from
 switch_name setting before now s (Install boot tables) answers =
     (record { tables = tables; own = refl; answers = answers }, tt)
 switch_name setting before now s (Stamp boot version) answers = (answers, tt)
-switch_name setting before now s (OpenAt boot version) answers = grind (arith, links_name)
-switch_name setting before now s (Advertise advert) answers = grind (arith, passed_name)
+switch_name setting before now s (OpenAt boot version) answers = grind (arith, traffic_name, links_traffic)
+switch_name setting before now s (Advertise advert) answers = grind (arith, traffic_name, passed_traffic)
 switch_name setting before now s _ answers = tt
 
 -- ---- at the controller
 
--- a hello that raised the known boot made it another one than the first
-abbrev HelloIsKnown : List Item → List Item → Body → Type 0
-HelloIsKnown before now (Hello s boot) =
-    IsTrue (is_new_boot before s boot) → 1 < known_boot now s
-HelloIsKnown before now _ = ⊤
-
-hello_name : (setting : Setting) (before now : List Item) (body : Body)
-    → HelloIsKnown before now body → (settled : List Item)
-    → ((s : ℕ) → 1 < known_boot now s → 1 < known_boot settled s)
-    → Name setting settled (after_hello setting before body settled)
-hello_name setting before now (Hello s boot) known settled stays =
-    let begun : IsTrue (is_new_boot before s boot)
-    → Name setting settled (installs_to setting s settled) =
-    λ new. installs_name setting s settled (inr (stays s (known new))) in
-    grind arith
-hello_name setting before now _ known settled stays = tt
-
--- the known boot never falls
-known_stays : (s : ℕ) → AreKept (λ before next. ⊤) (λ journal. 1 < known_boot journal s)
-known_stays s before next any above = omega (arith, above, known_rises before next s)
-
-all_any : (before items : List Item) → HaveCauses (λ before next. ⊤) before items
-all_any before [] = tt
-all_any before (next ∷ items) = (tt, all_any (before ++ next ∷ []) items)
-
-controller_name : (setting : Setting) (before now : List Item) (body : Body)
-    → HelloIsKnown before now body → Name setting now (controller_items setting before body now)
-controller_name setting before now body known =
-    controller_has (NamesRightly setting) setting before now body (settling_name setting now)
-    (hello_name setting before now body known (now ++ settling setting now)
-    (λ s above. fact_on (λ before next. ⊤) (λ journal. 1 < known_boot journal s) (known_stays s) now
-    (settling setting now) (all_any now (settling setting now)) above))
-
--- ---- a delivery
-
-hello_known : (before : List Item) (row number : ℕ) (step : Step) (body : Body)
-    → message_of before number ≡ Some (to_controller body)
-    → HelloIsKnown before ((before ++ item.Row row step ∷ []) ++ item.Delivered number ∷ []) body
-hello_known before row number step (Hello s boot) sent =
-    λ new.
-    let here = before ++ item.Row row step ∷ [] in
-    let hello : option_and_then (hello_boot s) (said_to_controller here number) ≡ Some boot =
-    hello_said before row number s boot step sent in
-    let knows : known_boot (here ++ item.Delivered number ∷ []) s
-    ≡ raised (known_boot here s) (Some boot) =
-    known_more here (item.Delivered number) s ∙ ap (raised (known_boot here s)) hello in
-    let rises : known_boot before s < boot = grind (arith, nat_tests) in
-    omega (arith, knows, rises, known_first before s)
-hello_known before row number step _ sent = tt
+-- a known boot that is raised is another one than the first, and stays so
+raised_known : (setting : Setting) (here : List Item) (s number : ℕ)
+    → IsTrue (raises_known here s number)
+    → let now = here ++ item.Delivered number ∷ [] in 1 < known_boot (now ++ settling setting now) s
+raised_known setting here s number raises =
+    let now : List Item = here ++ item.Delivered number ∷ [] in
+    omega (
+      arith,
+      (grows now (settling setting now) (settling_settles setting now)).known s,
+      known_first here s,
+      hello_above here s number raises,
+    )
 
 deliver_name : (setting : Setting) (before : List Item) (row number : ℕ) (step : Step)
     → let here = before ++ item.Row row step ∷ [] in
     Name setting here (deliver_items setting before number here)
 deliver_name setting before row number step =
     let here : List Item = before ++ item.Row row step ∷ [] in
-    let now : List Item = here ++ item.Delivered number ∷ [] in
-    deliver_has (NamesRightly setting) setting before number here tt tt
-    (delivery_has (Name setting now) setting before number now tt
-    (λ body sent. controller_name setting before now body
-    (hello_known before row number step body sent))
-    (λ s body said. switch_name setting before now s body (record {
+    row_delivers (NamesRightly setting) setting before row number step tt tt
+    (settling_name setting _)
+    (λ s raises. installs_name setting s _ (inr (raised_known setting here s number raises)))
+    (λ s body said. switch_name setting before _ s body (record {
       number = number;
       sent = message_more here (item.Delivered number) number
           ∙ message_more before (item.Row row step) number
           ∙ (said_parts before s number body said).sent;
-    })))
+    }))
 
 -- ---- links and switches
 
@@ -436,26 +323,16 @@ step_name : (setting : Setting) (before : List Item) (row : ℕ) (step : Step)
 step_name setting before row (Packet s header) own =
     packet_has setting (NamesRightly setting) (traffic_names setting) (next_packet before) s header
     _ own.0
-step_name setting before row (Hop packet) own =
-    traffic_name setting _ _ (hop_traffic setting packet _)
-step_name setting before row (Lose packet) own =
-    traffic_name setting _ _ (lose_traffic setting packet _)
 step_name setting before row (Deliver message) own =
     deliver_name setting before row message (Deliver message)
-step_name setting before row (Forget message) own =
-    traffic_name setting _ _ (forget_traffic setting message _)
-step_name setting before row (Expire s at) own =
-    traffic_name setting _ _ (expire_traffic setting s at _)
 step_name setting before row (Update file) own = update_name setting file _
-step_name setting before row (LinkDown one two) own =
-    traffic_name setting _ _ (link_traffic setting before one two false _)
-step_name setting before row (LinkUp one two) own =
-    traffic_name setting _ _ (link_traffic setting before one two true _)
 step_name setting before row (Crash s) own =
     crash_has setting (NamesRightly setting) (traffic_names setting) before s _ (λ up. tt)
 step_name setting before row (Restart s) own = restart_name setting s _ own
 step_name setting before row (Confirm s) own = confirm_name setting s _
 step_name setting before row (Resend s) own = resend_name setting s _ own
+step_name setting before row step own =
+    traffic_name setting _ _ (step_traffic setting before step _ tt)
 
 pub pieces_name : (setting : Setting) → OwnPiecesHave (NamesRightly setting) setting
 unfolding piece

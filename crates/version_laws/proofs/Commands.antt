@@ -1,6 +1,6 @@
 -- What the controller writes: versions, marks, and commands to switches.
-use Rattle.std.proofs.Common.{ℕ, ◌+◌, Option, Some, None, List, [], ◌∷◌, map, arith}
-use Rattle.std.specs.Prelude.{⊤}
+use Rattle.std.proofs.Common.{ℕ, ◌≡◌, ◌+◌, ◌++◌, ◌∙◌, refl, Option, Some, None, List, [], ◌∷◌, map, arith}
+use Rattle.std.specs.Prelude.{⊤, IsTrue, is_some}
 use Rattle.std.specs.List.{AllByRecursion}
 use Rattle.ctrl_msg.specs.declared.message.Body.{Body}
 use Rattle.ctrl_msg.specs.declared.message.Body.TheVariants.{Install, OpenAt, Stamp, Collect, Hello}
@@ -9,15 +9,19 @@ use Rattle.journal.specs.declared.item.Item.{Item}
 use Rattle.journal.specs.declared.item.Item.TheVariants as item
 use Rattle.update_machine.specs.Causes.{HaveCauses}
 use Rattle.update_machine.specs.Deliveries.{after_hello, controller_items}
+use Rattle.update_machine.specs.Marks.{controller_heard, has_acked, is_member, is_over, known_boot, opened_at}
 use Rattle.update_machine.specs.Messages.{sends}
 use Rattle.update_machine.specs.Moves.{put}
 use Rattle.update_machine.specs.Pieces.{confirm_items, update_code, update_items}
 use Rattle.update_machine.specs.Setting.{Setting}
-use Rattle.update_machine.specs.Settling.{current_items, install_for, installs_to, installs_to_all, open_items, retired_items, settling, submitted_items}
+use Rattle.update_machine.specs.Settling.{install_for, installs_to, installs_to_all, settling, submitted_items}
 use Rattle.update_machine.specs.Versions.{version_count}
 use Rattle.update_machine.proofs.CallerLemmas.{have_first, have_in_turn}
-use Rattle.version_laws.proofs.Facts.{have_weaker}
-use Rattle.version_laws.proofs.Sends.{each, each_map}
+use Rattle.version_laws.proofs.Facts.{fact_on, have_weaker}
+use Rattle.version_laws.proofs.Grown.{count_more, known_more, over_more, told_more}
+use Rattle.version_laws.proofs.Openings.{member_on, still_opened}
+use Rattle.version_laws.proofs.Sends.{acked_same, each, each_map}
+use Rattle.version_laws.proofs.Settling.{PartsHave, parts_have, settling_has}
 use Rattle.version_laws.proofs.Sent.{sends_each}
 
 -- what the controller tells switches
@@ -47,33 +51,87 @@ IsOfSettling before (item.Retired version) = ⊤
 IsOfSettling before (item.Sent number message) = IsCommand message.body
 IsOfSettling before _ = ⊥
 
-sends_settle : (journal : List Item) (messages : List Message) → AreCommands messages
-    → HaveCauses IsOfSettling journal (sends journal messages)
-sends_settle =
-    sends_each IsOfSettling (λ message. IsCommand message.body) (λ before n message is. is)
-
-pub current_settles : (setting : Setting) (journal : List Item)
-    → HaveCauses IsOfSettling journal (current_items setting journal)
-unfolding current_items
-current_settles setting journal = grind (arith, have_first, sends_settle, each_command)
-
-pub open_settles : (setting : Setting) (journal : List Item)
-    → HaveCauses IsOfSettling journal (open_items setting journal)
-unfolding open_items
-open_settles setting journal = sends_settle journal _ (each_command _ (λ s. tt) _)
-
-pub retired_settles : (setting : Setting) (journal : List Item)
-    → HaveCauses IsOfSettling journal (retired_items setting journal)
-unfolding retired_items
-retired_settles setting journal = grind (arith, have_first, sends_settle, each_command)
+pub parts_settle : (setting : Setting) → PartsHave IsOfSettling setting
+parts_settle setting =
+    parts_have IsOfSettling (λ journal message. IsCommand message.body) setting (record {
+      sends = sends_each IsOfSettling (λ message. IsCommand message.body)
+          (λ before n message is. is);
+      rises = λ journal rises. record { may = tt; told = λ s there to member. tt };
+      opens = λ journal s there joins. tt;
+      retires = λ journal rises. record { may = tt; told = λ s there to member. tt };
+    })
 
 pub settling_settles : (setting : Setting) (journal : List Item)
     → HaveCauses IsOfSettling journal (settling setting journal)
-unfolding settling
-settling_settles setting journal =
-    have_in_turn IsOfSettling
-    (current_items setting ∷ open_items setting ∷ retired_items setting ∷ [])
-    (current_settles setting, (open_settles setting, (retired_settles setting, tt))) journal
+settling_settles setting = settling_has IsOfSettling setting (parts_settle setting)
+
+-- ---- what settling leaves, and what grows
+
+pub record Grows (before after : List Item) : Type 0 where
+  pub count : version_count after ≡ version_count before
+  pub acked : (s v : ℕ) → has_acked after s v ≡ has_acked before s v
+  pub known : (s : ℕ) → known_boot after s ≡ known_boot before s
+  pub over : (s : ℕ) → is_over after s ≡ is_over before s
+  pub opened : (s : ℕ) → IsTrue (is_some (opened_at before s))
+      → IsTrue (is_some (opened_at after s))
+  pub member : (s : ℕ) → IsTrue (is_member before s) → IsTrue (is_member after s)
+
+grows_by : (before : List Item) (next : Item)
+    → version_count (before ++ next ∷ []) ≡ version_count before
+    → controller_heard (before ++ next ∷ []) ≡ controller_heard before
+    → ((s : ℕ) → known_boot (before ++ next ∷ []) s ≡ known_boot before s)
+    → ((s : ℕ) → is_over (before ++ next ∷ []) s ≡ is_over before s)
+    → Grows before (before ++ next ∷ [])
+grows_by before next count heard known over = record {
+  count = count;
+  acked = λ s v. acked_same (before ++ next ∷ []) before s v heard;
+  known = known;
+  over = over;
+  opened = λ s. still_opened before next s (known s);
+  member = λ s member. member_on before next s (known s) (over s) member;
+}
+
+grows_one : (before : List Item) (next : Item) → IsOfSettling before next
+    → Grows before (before ++ next ∷ [])
+grows_one before (item.Current version) of =
+    let next : Item = item.Current version in
+    grows_by before next (count_more before next) (told_more before next) (known_more before next)
+    (over_more before next)
+grows_one before (item.Retired version) of =
+    let next : Item = item.Retired version in
+    grows_by before next (count_more before next) (told_more before next) (known_more before next)
+    (over_more before next)
+grows_one before (item.Sent n message) of =
+    let next : Item = item.Sent n message in
+    grows_by before next (count_more before next) (told_more before next) (known_more before next)
+    (over_more before next)
+grows_one before _ of = absurd of
+
+pub grows : (before items : List Item) → HaveCauses IsOfSettling before items
+    → Grows before (before ++ items)
+grows before items have = fact_on IsOfSettling (Grows before)
+    (λ now next of so_far. grows_on before now (now ++ next ∷ []) so_far (grows_one now next of))
+    before items have itself
+  where
+    itself : Grows before before
+    itself = record {
+      count = refl;
+      acked = λ s v. refl;
+      known = λ s. refl;
+      over = λ s. refl;
+      opened = λ s opened. opened;
+      member = λ s member. member;
+    }
+
+    grows_on : (one two three : List Item) → Grows one two → Grows two three → Grows one three
+    grows_on one two three first later = record {
+      count = later.count ∙ first.count;
+      acked = λ s v. later.acked s v ∙ first.acked s v;
+      known = λ s. later.known s ∙ first.known s;
+      over = λ s. later.over s ∙ first.over s;
+      opened = λ s opened. later.opened s (first.opened s opened);
+      member = λ s member. later.member s (first.member s member);
+    }
 
 -- ---- all that the controller writes, but for a version that is submitted
 

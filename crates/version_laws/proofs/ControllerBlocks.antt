@@ -1,25 +1,22 @@
 -- What the controller writes has its causes.
-use Rattle.std.proofs.Common.{ℕ, ◌≡◌, ◌+◌, ◌-◌, ◌<◌, ◌≤◌, ◌&&◌, Bool, true, false, not, zero, suc, None, List, [], ◌∷◌, ◌++◌, length, map, refl, ap, sym, ◌∙◌, arith, inl, inr}
+use Rattle.std.proofs.Common.{ℕ, ◌≡◌, ◌+◌, ◌-◌, ◌<◌, ◌≤◌, ◌&&◌, Bool, true, false, not, zero, suc, None, List, [], ◌∷◌, length, refl, ap, sym, ◌∙◌, arith, inl, inr}
 use Rattle.std.specs.Prelude.{IsTrue, IsFalse, cond, take_while}
 use Rattle.std.specs.List.{range_with_len}
 use Rattle.std.proofs.lemmas.Bool.{cases_eq}
 use Rattle.std.proofs.lemmas.Bool.Decides.{nat_tests}
 use Rattle.std.proofs.lemmas.List.Sums.{take_while-cons}
-use Rattle.ctrl_msg.specs.declared.message.Message.{Message}
 use Rattle.journal.specs.declared.item.Item.{Item}
 use Rattle.journal.specs.declared.item.Item.TheVariants as item
-use Rattle.update_machine.specs.Marks.{MayRise, all_acked, current_mark, has_acked, is_joining, is_member, is_over, known_boot, members, next_current, next_retired, opened_at, retired_mark}
-use Rattle.update_machine.specs.Messages.{sends}
-use Rattle.update_machine.specs.Moves.{put}
+use Rattle.update_machine.specs.Marks.{MayRise, all_acked, current_mark, has_acked, is_joining, is_member, is_over, next_current, next_retired, opened_at}
 use Rattle.update_machine.specs.Setting.{Setting, switches_of}
-use Rattle.update_machine.specs.Settling.{collect_for, current_items, install_for, installs_to, installs_to_all, open_for, open_items, opening, retired_items, settling, stamp_for, submitted_items, versions_from_current}
+use Rattle.update_machine.specs.Settling.{install_for, installs_to, installs_to_all, settling, submitted_items, versions_from_current}
 use Rattle.update_machine.specs.Versions.{version_count}
-use Rattle.update_machine.proofs.CallerLemmas.{have_first, have_in_turn}
-use Rattle.version_laws.specs.ItemCauses.{HasItemCause, IsForKnown, RetiresRightly}
+use Rattle.update_machine.proofs.CallerLemmas.{have_in_turn}
+use Rattle.version_laws.specs.ItemCauses.{HasItemCause}
 use Rattle.version_laws.proofs.Facts.{Has}
-use Rattle.version_laws.proofs.Grown.{current_more, known_more, over_more, retired_more}
+use Rattle.version_laws.proofs.Grown.{current_more, retired_more}
+use Rattle.version_laws.proofs.Settling.{SettlingHas, parts_have, settling_has}
 use Rattle.version_laws.proofs.Sends.{IsRight, each_filter, each_map, each_range, sends_have}
-use Rattle.version_laws.proofs.Openings.{member_on, member_parts}
 
 -- ---- how far current may rise
 
@@ -70,98 +67,43 @@ may_rise setting journal rises =
 
 -- ---- settling
 
--- a member stays one while a mark rises, in the boot that was known, and is told of it
-rise_has : (setting : Setting) (journal : List Item) (next : Item) (message : ℕ → Message)
-    → ((s : ℕ) → known_boot (journal ++ next ∷ []) s ≡ known_boot journal s)
-    → ((s : ℕ) → is_over (journal ++ next ∷ []) s ≡ is_over journal s)
-    → ((s : ℕ) → IsForKnown (journal ++ next ∷ []) s (known_boot journal s)
-    → IsTrue (is_member (journal ++ next ∷ []) s)
-    → IsRight setting (journal ++ next ∷ []) (message s))
-    → HasItemCause setting journal next → Has setting journal
-    (put (next ∷ []) (λ raised. sends raised (map message (members setting journal))) journal)
-rise_has setting journal next message known over right may =
-    let raised : List Item = journal ++ next ∷ [] in
-    have_first (HasItemCause setting) next
-    (λ raised. sends raised (map message (members setting journal))) journal may
-    (sends_have setting raised _
-    (each_map (IsRight setting raised) message (members setting journal)
-    (each_filter (λ s. IsRight setting raised (message s)) (is_member journal)
-    (λ s member.
-    let stays : IsTrue (is_member raised s) = member_on journal next s (known s) (over s) member in
-    right s (record { known = sym (known s); not_over = (member_parts raised s stays).0 }) stays)
-    (switches_of setting))))
-
-raise_has : (setting : Setting) (journal : List Item) (version : ℕ)
-    → MayRise setting journal version → Has setting journal
-    (put (item.Current version ∷ [])
-    (λ raised. sends raised (map (stamp_for journal version) (members setting journal))) journal)
-raise_has setting journal version =
-    rise_has setting journal (item.Current version) (stamp_for journal version)
-    (known_more journal (item.Current version)) (over_more journal (item.Current version))
-    (λ s to member. record {
-      to = to;
-      member = member;
-      current = sym (current_more journal (item.Current version));
-    })
-
-current_have : (setting : Setting) (journal : List Item)
-    → Has setting journal (current_items setting journal)
-unfolding current_items
-current_have setting journal = grind (arith, nat_tests, raise_has, may_rise)
-
 -- a joining switch isn't over, and wasn't opened in its known boot
 joining_parts : (journal : List Item) (s : ℕ) (more : Bool) → IsTrue (is_joining journal s && more)
     → IsFalse (is_over journal s) × (opened_at journal s ≡ None) × IsTrue more
 unfolding is_member
 joining_parts journal s more joining = grind arith
 
-open_have : (setting : Setting) (journal : List Item)
-    → Has setting journal (open_items setting journal)
-unfolding open_items
-open_have setting journal =
-    sends_have setting journal
-    (map (open_for journal (current_mark journal)) (opening setting journal))
-    (each_map (IsRight setting journal) (open_for journal (current_mark journal))
-    (opening setting journal)
-    (each_filter (λ s. IsRight setting journal (open_for journal (current_mark journal) s))
-    (λ s. is_joining journal s && has_acked journal s (current_mark journal))
-    (λ s joins.
-    let parts = joining_parts journal s (has_acked journal s (current_mark journal)) joins in
-    record {
-      to = record { known = refl; not_over = parts.0 };
-      opens = inl (record { closed = parts.1; current = refl; acked = parts.2 });
-    }) (switches_of setting)))
-
-retire_has : (setting : Setting) (journal : List Item) (version : ℕ)
-    → RetiresRightly setting journal version → Has setting journal
-    (put (item.Retired version ∷ [])
-    (λ raised. sends raised (map (collect_for journal version) (members setting journal))) journal)
-retire_has setting journal version =
-    rise_has setting journal (item.Retired version) (collect_for journal version)
-    (known_more journal (item.Retired version)) (over_more journal (item.Retired version))
-    (λ s to member. record {
-      to = to;
-      member = member;
-      retired = sym (retired_more journal (item.Retired version));
-    })
-
-may_retire : (setting : Setting) (journal : List Item)
-    → retired_mark journal < next_retired setting journal
-    → RetiresRightly setting journal (next_retired setting journal)
-may_retire setting journal rises = record { rises = rises; least = refl }
-
-retired_have : (setting : Setting) (journal : List Item)
-    → Has setting journal (retired_items setting journal)
-unfolding retired_items
-retired_have setting journal = grind (arith, nat_tests, retire_has, may_retire)
+settling_right : (setting : Setting)
+    → SettlingHas (HasItemCause setting) (IsRight setting) setting
+settling_right setting = record {
+  sends = sends_have setting;
+  rises = λ journal rises.
+      let next : Item = item.Current (next_current setting journal) in
+      record {
+        may = may_rise setting journal (grind (arith, nat_tests));
+        told = λ s there to member.
+            record { to = to; member = member; current = sym (current_more journal next) };
+      };
+  opens = λ journal s there joins.
+      let parts = joining_parts journal s (has_acked journal s (current_mark journal)) joins in
+      record {
+        to = record { known = refl; not_over = parts.0 };
+        opens = inl (record { closed = parts.1; current = refl; acked = parts.2 });
+      };
+  retires = λ journal rises.
+      let next : Item = item.Retired (next_retired setting journal) in
+      record {
+        may = record { rises = grind (arith, nat_tests); least = refl };
+        told = λ s there to member.
+            record { to = to; member = member; retired = sym (retired_more journal next) };
+      };
+}
 
 pub settling_have : (setting : Setting) (journal : List Item)
     → Has setting journal (settling setting journal)
-unfolding settling
-settling_have setting journal =
-    have_in_turn (HasItemCause setting)
-    (current_items setting ∷ open_items setting ∷ retired_items setting ∷ [])
-    (current_have setting, (open_have setting, (retired_have setting, tt))) journal
+settling_have setting =
+    settling_has (HasItemCause setting) setting
+    (parts_have (HasItemCause setting) (IsRight setting) setting (settling_right setting))
 
 -- ---- tables
 

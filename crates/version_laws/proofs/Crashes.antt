@@ -1,17 +1,17 @@
--- Links that change, switches that crash, and the packets that are lost with them.
-use Rattle.std.proofs.Common.{ℕ, ◌≡◌, Bool, true, false, List, [], ◌∷◌, ◌++◌, map, refl, ap, sym, ◌∙◌, append_assoc, append-nil, arith}
+-- Switches that crash, and the packets that are lost with them.
+use Rattle.std.proofs.Common.{ℕ, ◌≡◌, Bool, true, false, List, [], ◌∷◌, ◌++◌, map, refl, ap, sym, ◌∙◌, append_assoc, append-nil}
 use Rattle.journal.specs.declared.item.Item.{Item}
 use Rattle.journal.specs.declared.item.Item.TheVariants as item
 use Rattle.update_machine.specs.Boots.{is_up}
 use Rattle.update_machine.specs.Causes.{HaveCauses}
 use Rattle.update_machine.specs.Deliveries.{link_changes}
 use Rattle.update_machine.specs.Moves.{put}
-use Rattle.update_machine.specs.Pieces.{crash_items, link_items, nothing}
+use Rattle.update_machine.specs.Pieces.{crash_items, nothing}
 use Rattle.update_machine.specs.Setting.{Setting}
 use Rattle.update_machine.specs.Travels.{packets_at}
-use Rattle.update_machine.proofs.CallerLemmas.{have_first, have_put}
+use Rattle.update_machine.proofs.CallerLemmas.{have_put}
 use Rattle.version_laws.proofs.Facts.{have_weaker}
-use Rattle.version_laws.proofs.Traffic.{Change, IsChange, IsTraffic, Traffic, change_traffic, links_change}
+use Rattle.version_laws.proofs.Traffic.{IsChange, IsTraffic, change_traffic, links_change}
 
 -- ---- packets that are lost
 
@@ -31,19 +31,6 @@ losts_keep says same [] journal = ap says (append-nil journal)
 losts_keep says same (i ∷ packets) journal =
     ap says (sym (append_assoc journal (item.Lost i ∷ []) (map item.Lost packets)))
     ∙ losts_keep says same packets (journal ++ item.Lost i ∷ []) ∙ same journal i
-
--- ---- links
-
-pub link_change : (setting : Setting) (before : List Item) (one two : ℕ) (up : Bool)
-    (journal : List Item) → Change setting journal (link_items setting before one two up journal)
-unfolding link_items
-link_change setting before one two up journal = grind (arith, have_first, links_change)
-
-pub link_traffic : (setting : Setting) (before : List Item) (one two : ℕ) (up : Bool)
-    (journal : List Item) → Traffic setting journal (link_items setting before one two up journal)
-link_traffic setting before one two up journal =
-    have_weaker (IsChange setting) (IsTraffic setting) (change_traffic setting) journal _
-    (link_change setting before one two up journal)
 
 -- ---- switches
 

@@ -1,5 +1,5 @@
 -- Causes of items and facts of journals: what each item keeps, a journal has.
-use Rattle.std.proofs.Common.{List, [], ◌∷◌, ◌++◌, append-nil, append_assoc, sym, subst}
+use Rattle.std.proofs.Common.{ℕ, ◌≤◌, List, [], ◌∷◌, ◌++◌, append-nil, append_assoc, sym, subst}
 use Rattle.journal.specs.declared.item.Item.{Item}
 use Rattle.update_machine.specs.Causes.{HaveCauses}
 use Rattle.update_machine.specs.Setting.{Setting}
@@ -53,6 +53,23 @@ fact_on cause fact kept before [] have known = subst fact (sym (append-nil befor
 fact_on cause fact kept before (item ∷ items) have known =
     subst fact (append_assoc before (item ∷ []) items)
     (fact_on cause fact kept (before ++ item ∷ []) items have.1 (kept before item have.0 known))
+
+-- facts that hold where all items have their causes
+abbrev pub FromCauses : (Setting → List Item → Type 0) → Type 0
+FromCauses Holds = (setting : Setting) (journal : List Item)
+    → HaveCauses (HasItemCause setting) [] journal → Holds setting journal
+
+-- so does what holds at first, where each item with its cause keeps it
+pub from_causes : (Holds : Setting → List Item → Type 0)
+    → ((setting : Setting) → AreKept (HasItemCause setting) (Holds setting))
+    → ((setting : Setting) → Holds setting []) → FromCauses Holds
+from_causes Holds kept first setting journal have =
+    fact_on (HasItemCause setting) (Holds setting) (kept setting) [] journal have (first setting)
+
+-- numbers that no item with its cause makes fall
+abbrev pub NeverFalls : (List Item → ℕ) → Type 0
+NeverFalls number = (setting : Setting) (before : List Item) (next : Item)
+    → HasItemCause setting before next → number before ≤ number (before ++ next ∷ [])
 
 -- a cause, and a fact of the journal before the item
 pub record Behind (cause : List Item → Item → Type 0) (fact : List Item → Type 0)

@@ -5,6 +5,7 @@ pub mod Versions
 pub mod Boots
 pub mod Openings
 pub mod Sends
+mod Settling
 pub mod Traffic
 pub mod ControllerBlocks
 pub mod Delivered

@@ -11,7 +11,7 @@ use Rattle.update_machine.specs.Causes.{HaveCauses}
 use Rattle.update_machine.specs.Marks.{open_version}
 use Rattle.update_machine.specs.Setting.{Setting}
 use Rattle.version_laws.specs.ItemCauses.{HasItemCause, IsRightMessage, IsRightOpening, IsRightStamp}
-use Rattle.version_laws.proofs.Facts.{AreKept, Behind, fact_on, with_fact}
+use Rattle.version_laws.proofs.Facts.{AreKept, Behind, FromCauses, from_causes, with_fact}
 use Rattle.version_laws.proofs.Openings.{member_of}
 use Rattle.version_laws.specs.Acknowledged.{IsAckedFirst, IsLetStamp, LetsStamp, MembersAcknowledged}
 use Rattle.version_laws.specs.Bounds.{MarksAreBounded}
@@ -53,15 +53,12 @@ marked_at_first setting = record {
   collects = collects_at_first;
 }
 
-caused_marked : (setting : Setting) (journal : List Item)
-    → HaveCauses (HasItemCause setting) [] journal → AreMarked setting journal
-caused_marked setting journal have = fact_on (HasItemCause setting) (AreMarked setting)
-    (marked_kept setting) [] journal have (marked_at_first setting)
+caused_marked : FromCauses AreMarked
+caused_marked = from_causes AreMarked marked_kept marked_at_first
 
 -- ---- members
 
-pub acknowledged : (setting : Setting) (journal : List Item)
-    → HaveCauses (HasItemCause setting) [] journal → MembersAcknowledged setting journal
+pub acknowledged : FromCauses MembersAcknowledged
 acknowledged setting journal have =
     let are = caused_marked setting journal have in
     record {
@@ -73,8 +70,7 @@ acknowledged setting journal have =
 
 -- ---- marks
 
-pub bounded : (setting : Setting) (journal : List Item)
-    → HaveCauses (HasItemCause setting) [] journal → MarksAreBounded setting journal
+pub bounded : FromCauses MarksAreBounded
 bounded setting journal have =
     let are = caused_marked setting journal have in
     record {
@@ -146,9 +142,7 @@ items_let setting before [] have = tt
 items_let setting before (next ∷ items) have =
     (item_let setting before next have.0, items_let setting (before ++ next ∷ []) items have.1)
 
-pub acked_first : (setting : Setting) (journal : List Item)
-    → HaveCauses (HasItemCause setting) [] journal
-    → HaveCauses (IsAckedFirst setting) [] journal
+pub acked_first : FromCauses (λ setting. HaveCauses (IsAckedFirst setting) [])
 acked_first setting journal have =
     items_let setting [] journal
     (with_fact (HasItemCause setting) (AreMarked setting) (marked_kept setting) [] journal have

@@ -8,7 +8,6 @@ use Rattle.ctrl_msg.specs.declared.message.Body.TheVariants.{OpenAt}
 use Rattle.journal.specs.declared.item.Item.{Item}
 use Rattle.journal.specs.declared.item.Item.TheVariants as item
 use Rattle.update_machine.specs.Boots.{boot_of, is_up}
-use Rattle.update_machine.specs.Causes.{HaveCauses}
 use Rattle.update_machine.specs.Marks.{controller_heard, first_number, hello_boot, is_member, is_over, known_boot, open_sent, opened_at, said_to_controller}
 use Rattle.update_machine.specs.Setting.{Setting}
 use Rattle.update_machine.specs.Settling.{to_switch}
@@ -17,7 +16,7 @@ use Rattle.update_machine.proofs.CallerLemmas.{start_laws}
 use Rattle.version_laws.specs.BootLaws.{BootsAreKnown, OpensAtOneVersion, ServingIsKnown}
 use Rattle.version_laws.specs.ItemCauses.{HasItemCause, IsRightOpening}
 use Rattle.version_laws.proofs.Boots.{boots_at_first, boots_on, by_number, told_past}
-use Rattle.version_laws.proofs.Facts.{AreKept, fact_on}
+use Rattle.version_laws.proofs.Facts.{AreKept, FromCauses, from_causes}
 use Rattle.version_laws.proofs.Grown.{boot_more, known_more, opened_at_more, opened_in, opened_is, opened_more, over_more, raised, serving_more, up_more}
 
 -- ---- members
@@ -303,10 +302,8 @@ known_at_first = record {
   };
 }
 
-pub caused_known : (setting : Setting) (journal : List Item)
-    → HaveCauses (HasItemCause setting) [] journal → IsKnown journal
-caused_known setting journal have =
-    fact_on (HasItemCause setting) IsKnown (known_kept setting) [] journal have known_at_first
+pub caused_known : FromCauses (λ setting. IsKnown)
+caused_known = from_causes (λ setting. IsKnown) known_kept (λ setting. known_at_first)
 
 pub serving_known : (journal : List Item) → IsKnown journal → ServingIsKnown journal
 serving_known journal known = record {

@@ -3,7 +3,7 @@ use Rattle.std.proofs.Common.{ℕ, ◌≡◌, ◌+◌, true, false, List, [], �
 use Rattle.std.specs.Prelude.{IsFalse, filter, not}
 use Rattle.std.specs.List.{AllByRecursion}
 use Rattle.ctrl_msg.specs.declared.message.Body.{Body}
-use Rattle.ctrl_msg.specs.declared.message.Body.TheVariants.{Install, OpenAt, Stamp, CacheRule, Advertise}
+use Rattle.ctrl_msg.specs.declared.message.Body.TheVariants.{Install, OpenAt, Stamp, Advertise}
 use Rattle.ctrl_msg.specs.declared.message.Message.{Message}
 use Rattle.ctrl_msg.specs.declared.message.Receiver.{Receiver}
 use Rattle.ctrl_msg.specs.declared.message.Receiver.TheVariants as receiver
@@ -11,7 +11,7 @@ use Rattle.failover.specs.declared.advert.Advert.{Advert}
 use Rattle.journal.specs.declared.item.Item.{Item}
 use Rattle.journal.specs.declared.item.Item.TheVariants as item
 use Rattle.steps.specs.declared.step.Step.{Step}
-use Rattle.steps.specs.declared.step.Step.TheVariants.{Packet, Hop, Lose, Deliver, Forget, Expire, Update, LinkDown, LinkUp, Crash, Restart, Confirm, Resend}
+use Rattle.steps.specs.declared.step.Step.TheVariants.{Packet, Deliver, Update, Crash, Restart, Confirm, Resend}
 use Rattle.update_machine.specs.Adverts.{held_adverts}
 use Rattle.update_machine.specs.Causes.{HaveCauses}
 use Rattle.update_machine.specs.Concerns.{is_message_to_controller}
@@ -25,15 +25,15 @@ use Rattle.update_machine.specs.Pieces.{deliver_items, piece, resend_items, rest
 use Rattle.update_machine.specs.Setting.{Setting}
 use Rattle.update_machine.specs.Settling.{install_for, unacked, versions_from_current}
 use Rattle.update_machine.proofs.CallerLemmas.{have_first}
-use Rattle.version_laws.proofs.Crashes.{crash_has, link_traffic}
-use Rattle.version_laws.proofs.Delivered.{deliver_has, delivery_has}
+use Rattle.version_laws.proofs.Crashes.{crash_has}
+use Rattle.version_laws.proofs.Delivered.{deliver_has}
 use Rattle.version_laws.proofs.Facts.{have_weaker}
 use Rattle.version_laws.proofs.Grown.{known_more, message_more}
 use Rattle.version_laws.proofs.Resent.{each_by_controller, each_to_member, later_versions, resent_has}
 use Rattle.version_laws.proofs.Sends.{each, each_flat_map, each_map}
 use Rattle.version_laws.proofs.Sent.{each_by_switch}
 use Rattle.version_laws.proofs.Openings.{member_parts, still_opened}
-use Rattle.version_laws.proofs.Traffic.{IsBetween, IsTraffic, Traffic, expire_traffic, forget_traffic, hop_traffic, links_traffic, lose_traffic, packet_has, passed_traffic}
+use Rattle.version_laws.proofs.Traffic.{IsTraffic, Traffic, between_cases, links_traffic, packet_has, passed_traffic, step_traffic}
 use Rattle.version_laws.specs.Steps.{asks_controller}
 use Rattle.version_laws.proofs.Leaves.{LeavesController, OpensNone, leaves_keep}
 
@@ -42,16 +42,12 @@ Leave journal items = HaveCauses LeavesController journal items
 
 -- ---- traffic
 
-between_opens_none : (setting : Setting) (before : List Item) (to : Receiver) (body : Body)
-    → IsBetween setting before to body → OpensNone before to body
-between_opens_none setting before (receiver.Switch s) (CacheRule version word rule action) is = tt
-between_opens_none setting before (receiver.Switch s) (Advertise advert) is = tt
-between_opens_none setting before to body is = absurd is
-
 traffic_leaves : (setting : Setting) (before : List Item) (next : Item)
     → IsTraffic setting before next → LeavesController before next
 traffic_leaves setting before (item.Sent number message) is =
-    between_opens_none setting before message.to message.body is
+    between_cases setting before (OpensNone before)
+    (λ s version word rule action there ingress. tt) (λ s advert there. tt) message.to message.body
+    is
 traffic_leaves setting before (item.Delivered number) is = absurd is
 traffic_leaves setting before (item.OverNow s) is = absurd is
 traffic_leaves setting before (item.Submitted file version) is = absurd is
@@ -125,13 +121,10 @@ deliver_leaves : (setting : Setting) (before : List Item) (row number : ℕ) (st
     → let here = before ++ item.Row row step ∷ [] in
     Leave here (deliver_items setting before number here)
 deliver_leaves setting before row number step none =
-    let here : List Item = before ++ item.Row row step ∷ [] in
-    let now : List Item = here ++ item.Delivered number ∷ [] in
-    deliver_has LeavesController setting before number here tt
+    deliver_has LeavesController setting before number _ tt
     (rw (message_more before (item.Row row step) number) none)
-    (delivery_has (Leave now) setting before number now tt
     (λ body sent. let clash : true ≡ false = rw sent at none in absurd cc)
-    (λ s body said. switch_leaves setting before s body now))
+    (λ s body said. switch_leaves setting before s body _)
 
 -- ---- a switch that begins a boot
 
@@ -181,26 +174,16 @@ step_leaves : (setting : Setting) (before : List Item) (row : ℕ) (step : Step)
     Leave here (step_items setting before step here)
 step_leaves setting before row (Packet s header) none =
     packet_has setting LeavesController (traffic_leaves setting) (next_packet before) s header _ tt
-step_leaves setting before row (Hop packet) none =
-    traffic_leave setting _ _ (hop_traffic setting packet _)
-step_leaves setting before row (Lose packet) none =
-    traffic_leave setting _ _ (lose_traffic setting packet _)
 step_leaves setting before row (Deliver message) none =
     deliver_leaves setting before row message (Deliver message) none
-step_leaves setting before row (Forget message) none =
-    traffic_leave setting _ _ (forget_traffic setting message _)
-step_leaves setting before row (Expire s at) none =
-    traffic_leave setting _ _ (expire_traffic setting s at _)
 step_leaves setting before row (Update file) none = absurd cc
-step_leaves setting before row (LinkDown one two) none =
-    traffic_leave setting _ _ (link_traffic setting before one two false _)
-step_leaves setting before row (LinkUp one two) none =
-    traffic_leave setting _ _ (link_traffic setting before one two true _)
 step_leaves setting before row (Crash s) none =
     crash_has setting LeavesController (traffic_leaves setting) before s _ (λ up. tt)
 step_leaves setting before row (Restart s) none = restart_leaves s _
 step_leaves setting before row (Confirm s) none = absurd cc
 step_leaves setting before row (Resend s) none = resend_leaves setting s _
+step_leaves setting before row step none =
+    traffic_leave setting _ _ (step_traffic setting before step _ tt)
 
 pub others_keep : (setting : Setting) (journal : List Item) (row : ℕ) (step : Step)
     → IsFalse (asks_controller journal step)

@@ -1,5 +1,5 @@
 -- Each piece has its causes, whatever its step, and so has the journal of any steps.
-use Rattle.std.proofs.Common.{sym, subst, ℕ, ◌≡◌, ◌+◌, ◌==◌, true, false, Option, Some, None, List, [], ◌∷◌, ◌++◌, refl, arith, ◌∙◌}
+use Rattle.std.proofs.Common.{ℕ, ◌≡◌, ◌+◌, ◌==◌, true, Option, Some, None, List, [], ◌∷◌, ◌++◌, refl, arith, ◌∙◌}
 use Rattle.std.specs.Prelude.{Result, Ok, Err}
 use Rattle.std.proofs.lemmas.Bool.{eq-eqb}
 use Rattle.std.proofs.lemmas.Bool.Decides.{nat_tests}
@@ -9,34 +9,25 @@ use Rattle.policy_rules.specs.Placed.{NoPlan, TooManyLeaves}
 use Rattle.journal.specs.declared.item.Item.{Item}
 use Rattle.journal.specs.declared.item.Item.TheVariants as item
 use Rattle.steps.specs.declared.step.Step.{Step}
-use Rattle.steps.specs.declared.step.Step.TheVariants.{Packet, Hop, Lose, Deliver, Forget, Expire, Update, LinkDown, LinkUp, Crash, Restart, Confirm, Resend}
-use Rattle.update_machine.specs.Answers.{StepOfRow, after_steps}
+use Rattle.steps.specs.declared.step.Step.TheVariants.{Packet, Deliver, Update, Crash, Restart, Confirm, Resend}
 use Rattle.update_machine.specs.Boots.{is_up}
-use Rattle.update_machine.specs.Causes.{HaveCauses}
 use Rattle.update_machine.specs.Messages.{sends}
 use Rattle.update_machine.specs.Packets.{next_packet}
-use Rattle.update_machine.specs.Pieces.{confirm_items, deliver_items, hello_of, marks_code, piece, plan_code, restart_items, step_items, update_code, update_items}
+use Rattle.update_machine.specs.Pieces.{confirm_items, hello_of, marks_code, piece, plan_code, restart_items, step_items, update_code, update_items}
 use Rattle.update_machine.specs.Setting.{Setting, plan_of_file, policy_of_file}
 use Rattle.update_machine.specs.Versions.{version_count}
-use Rattle.update_machine.proofs.CallerLemmas.{PiecesHave, begun_has, have_first}
+use Rattle.update_machine.proofs.CallerLemmas.{PiecesHave, have_first}
 use Rattle.version_laws.specs.Always.{HoldsAlways}
 use Rattle.version_laws.specs.ItemCauses.{HasItemCause, SubmitsRightly}
+use Rattle.version_laws.proofs.BehindItems.{behind_items}
 use Rattle.version_laws.proofs.ControllerBlocks.{settling_have, submitted_have}
-use Rattle.version_laws.proofs.Delivered.{deliver_has}
-use Rattle.version_laws.proofs.Facts.{Has, steps_have}
+use Rattle.version_laws.proofs.Facts.{FromCauses, Has}
 use Rattle.version_laws.proofs.Grown.{up_more}
 use Rattle.version_laws.proofs.Sends.{sends_have}
-use Rattle.version_laws.proofs.SwitchBlocks.{delivery_have}
-use Rattle.version_laws.proofs.Traffic.{expire_traffic, forget_traffic, hop_traffic, lose_traffic, packet_has, traffic_has, traffic_right}
+use Rattle.version_laws.proofs.SwitchBlocks.{deliver_have}
+use Rattle.version_laws.proofs.Traffic.{packet_has, step_traffic, traffic_has, traffic_right}
 use Rattle.version_laws.proofs.Resends.{resend_have}
-use Rattle.version_laws.proofs.Crashes.{crash_has, link_traffic}
-
-deliver_have : (setting : Setting) (before : List Item) (row number : ℕ) (step : Step)
-    → let here = before ++ item.Row row step ∷ [] in
-    Has setting here (deliver_items setting before number here)
-deliver_have setting before row number step =
-    deliver_has (HasItemCause setting) setting before number (before ++ item.Row row step ∷ []) tt
-    tt (delivery_have setting before row number step)
+use Rattle.version_laws.proofs.Crashes.{crash_has}
 
 -- a policy that isn't refused is there and has a plan, and neither limit is met
 may_submit : (setting : Setting) (file : ℕ) (journal : List Item)
@@ -97,26 +88,17 @@ step_have : (setting : Setting) (before : List Item) (row : ℕ) (step : Step)
 step_have setting before row (Packet s header) =
     packet_has setting (HasItemCause setting) (traffic_right setting) (next_packet before) s
     header _ tt
-step_have setting before row (Hop packet) =
-    traffic_has setting _ _ (hop_traffic setting packet _)
-step_have setting before row (Lose packet) = traffic_has setting _ _ (lose_traffic setting packet _)
 step_have setting before row (Deliver message) =
     deliver_have setting before row message (Deliver message)
-step_have setting before row (Forget message) =
-    traffic_has setting _ _ (forget_traffic setting message _)
-step_have setting before row (Expire s at) =
-    traffic_has setting _ _ (expire_traffic setting s at _)
 step_have setting before row (Update file) = update_have setting file _
-step_have setting before row (LinkDown one two) =
-    traffic_has setting _ _ (link_traffic setting before one two false _)
-step_have setting before row (LinkUp one two) =
-    traffic_has setting _ _ (link_traffic setting before one two true _)
 step_have setting before row (Crash s) =
     crash_has setting (HasItemCause setting) (traffic_right setting) before s _
     (λ up. up_more before (item.Row row (Crash s)) s ∙ up)
 step_have setting before row (Restart s) = restart_have setting s _
 step_have setting before row (Confirm s) = confirm_have setting s _
 step_have setting before row (Resend s) = resend_have setting s _
+step_have setting before row step =
+    traffic_has setting _ _ (step_traffic setting before step _ tt)
 
 pub pieces_have : (setting : Setting) → PiecesHave (HasItemCause setting) setting
 unfolding piece
@@ -125,21 +107,8 @@ pieces_have setting journal row step =
     tt (step_have setting journal row step)
 
 -- so a fact that holds where items have their causes always holds
-pub always : (Holds : Setting → List Item → Type 0) →
-    ((setting : Setting) (journal : List Item) → HaveCauses (HasItemCause setting) [] journal
-    → Holds setting journal) →
-    HoldsAlways Holds
+pub always : (Holds : Setting → List Item → Type 0) → FromCauses Holds → HoldsAlways Holds
 always Holds caused = record {
   caused = caused;
-  stepped = λ setting steps. caused setting (after_steps setting [] steps) (stepped setting steps);
-  answered = λ setting events journal answers. caused setting journal
-      (subst (HaveCauses (HasItemCause setting) []) (sym answers.written)
-      (stepped setting answers.steps));
-  begun = λ setting events journal begins. caused setting journal
-      (begun_has (HasItemCause setting) setting (pieces_have setting) events journal begins);
+  behind = behind_items Holds HasItemCause pieces_have caused;
 }
-  where
-    stepped : (setting : Setting) (steps : List StepOfRow)
-        → HaveCauses (HasItemCause setting) [] (after_steps setting [] steps)
-    stepped setting steps =
-        steps_have (HasItemCause setting) setting (pieces_have setting) [] steps tt

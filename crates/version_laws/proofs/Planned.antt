@@ -13,7 +13,6 @@ use Rattle.switch_table.specs.declared.tables.Tables.{Tables}
 use Rattle.journal.specs.declared.item.Item.{Item}
 use Rattle.journal.specs.declared.item.Item.TheVariants as item
 use Rattle.update_machine.specs.Boots.{heard, is_in_first_boot}
-use Rattle.update_machine.specs.Causes.{HaveCauses}
 use Rattle.update_machine.specs.Marks.{most_live, most_versions, retired_mark}
 use Rattle.update_machine.specs.Numbers.{VersionsAreNumbered}
 use Rattle.update_machine.specs.Setting.{Setting, plan_of_file}
@@ -22,7 +21,7 @@ use Rattle.update_machine.specs.Versions.{collects, holds_version, installs, tab
 use Rattle.update_machine.specs.Links.{message_of}
 use Rattle.update_machine.proofs.CallerLemmas.{file_append, file_kept, plan_kept, start_laws}
 use Rattle.version_laws.specs.ItemCauses.{HasItemCause}
-use Rattle.version_laws.proofs.Facts.{AreKept, fact_on}
+use Rattle.version_laws.proofs.Facts.{AreKept, FromCauses, from_causes}
 use Rattle.version_laws.proofs.Grown.{count_more, retired_more}
 use Rattle.version_laws.specs.Heard.{ArePlanned}
 use Rattle.version_laws.proofs.Bounded.{IsPlannedSoFar, count_rises, planned_at_first, planned_kept}
@@ -203,14 +202,10 @@ all_at_first setting = record {
   heard = λ s. subst (AllByRecursion (BringsTables setting [] s)) (sym (start_laws.heard s)) tt;
 }
 
-pub caused_planned : (setting : Setting) (journal : List Item)
-    → HaveCauses (HasItemCause setting) [] journal → IsPlanned setting journal
-caused_planned setting journal have =
-    fact_on (HasItemCause setting) (IsPlanned setting) (all_kept setting) [] journal have
-    (all_at_first setting)
+pub caused_planned : FromCauses IsPlanned
+caused_planned = from_causes IsPlanned all_kept all_at_first
 
-pub versions_planned : (setting : Setting) (journal : List Item)
-    → HaveCauses (HasItemCause setting) [] journal → VersionsArePlanned setting journal
+pub versions_planned : FromCauses VersionsArePlanned
 versions_planned setting journal have =
     let is = caused_planned setting journal have in
     record {
@@ -277,8 +272,7 @@ held_there setting journal s version is holds =
     by_heard false e has =
         first (eqb-true version 1 (left (version == 1) (is_in_first_boot journal s) has))
 
-pub tables_planned : (setting : Setting) (journal : List Item)
-    → HaveCauses (HasItemCause setting) [] journal → TablesArePlanned setting journal
+pub tables_planned : FromCauses TablesArePlanned
 tables_planned setting journal have =
     let is = caused_planned setting journal have in
     record {

@@ -12,6 +12,7 @@ use Rattle.update_machine.specs.Settling.{to_switch}
 use Rattle.update_machine.proofs.CallerLemmas.{start_laws}
 use Rattle.version_laws.specs.ItemCauses.{HasItemCause, IsFirstOpening, RetiresRightly}
 use Rattle.version_laws.proofs.Boots.{by_number}
+use Rattle.version_laws.proofs.Facts.{NeverFalls}
 use Rattle.version_laws.proofs.Grown.{retired_more}
 use Rattle.version_laws.proofs.Current.{StampsAreCurrent}
 use Rattle.version_laws.proofs.Greatest.{acked_stamp_opened, acked_stamp_rises, least_below}
@@ -119,9 +120,7 @@ CollectsRetired journal = (s boot version n : ℕ)
     → message_of journal n ≡ Some (to_switch s (Collect boot version))
     → version ≤ retired_mark journal
 
-pub retired_rises : (setting : Setting) (before : List Item) (next : Item)
-    → HasItemCause setting before next
-    → retired_mark before ≤ retired_mark (before ++ next ∷ [])
+pub retired_rises : NeverFalls retired_mark
 retired_rises setting before (item.Retired version) cause =
     let rises = cause.rises in rw (retired_more before (item.Retired version)) (omega arith)
 retired_rises setting before next cause = rw (retired_more before next) (omega arith)

@@ -1,16 +1,16 @@
 -- Where the current mark rises; the retired one is never above what the members' acknowledged
 -- stamps allow.
-use Rattle.std.proofs.Common.{ℕ, ◌≡◌, ◌+◌, ◌≤◌, Bool, true, false, if◌then◌else◌, List, [], ◌∷◌, length, map, min, refl, arith}
-use Rattle.std.specs.Prelude.{IsTrue, filter, fold, unwrap_or}
+use Rattle.std.proofs.Common.{ℕ, ◌+◌, ◌≤◌, List, [], ◌∷◌, map, min, arith}
+use Rattle.std.specs.Prelude.{fold, unwrap_or}
 use Rattle.std.specs.List.{AllByRecursion}
 use Rattle.journal.specs.declared.item.Item.{Item}
 use Rattle.journal.specs.declared.item.Item.TheVariants as item
 use Rattle.update_machine.specs.Causes.{HaveCauses}
 use Rattle.update_machine.specs.Marks.{acked_stamp, current_mark, is_member, least, members, next_retired, retired_mark}
-use Rattle.update_machine.specs.Setting.{Setting, switches_of}
+use Rattle.update_machine.specs.Setting.{Setting}
 use Rattle.version_laws.specs.ItemCauses.{HasItemCause}
-use Rattle.version_laws.proofs.Facts.{have_weaker}
-use Rattle.version_laws.proofs.Sends.{each_map, each_range}
+use Rattle.version_laws.proofs.Facts.{FromCauses, have_weaker}
+use Rattle.version_laws.proofs.Sends.{each_map, each_of_network}
 use Rattle.version_laws.proofs.Marks.{bounded}
 use Rattle.version_laws.specs.Rises.{RisesRightly}
 
@@ -27,30 +27,15 @@ least_above bound other [] above all = above
 least_above bound other (x ∷ xs) above all = fold_above bound x xs all.0 all.1
 
 -- what holds of each that passes a test holds of all that do
-each_passing : (P : ℕ → Type 0) (test : ℕ → Bool) (xs : List ℕ)
-    → AllByRecursion (λ x. IsTrue (test x) → P x) xs → AllByRecursion P (filter test xs)
-each_passing P test [] all = tt
-each_passing P test (x ∷ xs) all = by_test (test x) refl (each_passing P test xs all.1)
-  where
-    by_test : (b : Bool) → test x ≡ b → AllByRecursion P (filter test xs)
-        → AllByRecursion P (if b then x ∷ filter test xs else filter test xs)
-    by_test true e rest = (all.0 e, rest)
-    by_test false e rest = rest
-
-pub behind : (setting : Setting) (journal : List Item)
-    → HaveCauses (HasItemCause setting) [] journal
-    → retired_mark journal ≤ next_retired setting journal
+pub behind : FromCauses (λ setting journal. retired_mark journal ≤ next_retired setting journal)
 unfolding next_retired
 behind setting journal have =
     let are = bounded setting journal have in
     let above = least_above (retired_mark journal + 1) (current_mark journal)
     (map (acked_stamp journal) (members setting journal)) (omega (arith, are.retired))
     (each_map (λ x. retired_mark journal + 1 ≤ x) (acked_stamp journal) (members setting journal)
-    (each_passing (λ s. retired_mark journal + 1 ≤ acked_stamp journal s) (is_member journal)
-    (switches_of setting)
-    (each_range
-    (λ s. IsTrue (is_member journal s) → retired_mark journal + 1 ≤ acked_stamp journal s) 0 (length setting.net.switches)
-    (λ s above below member. omega (arith, are.stamped s (omega (arith, below)) member))))) in
+    (each_of_network (λ s. retired_mark journal + 1 ≤ acked_stamp journal s) setting
+    (is_member journal) (λ s there member. omega (arith, are.stamped s there member)))) in
     omega (arith, above)
 
 -- ---- rises of current
@@ -60,8 +45,6 @@ rises_one : (setting : Setting) (before : List Item) (next : Item)
 rises_one setting before (item.Current version) cause = cause
 rises_one setting before _ cause = tt
 
-pub rises_rightly : (setting : Setting) (journal : List Item)
-    → HaveCauses (HasItemCause setting) [] journal
-    → HaveCauses (RisesRightly setting) [] journal
+pub rises_rightly : FromCauses (λ setting. HaveCauses (RisesRightly setting) [])
 rises_rightly setting journal have =
     have_weaker (HasItemCause setting) (RisesRightly setting) (rises_one setting) [] journal have

@@ -1,6 +1,6 @@
 -- Messages that are sent one after another: each has its cause behind those before it.
-use Rattle.std.proofs.Common.{ℕ, ◌≡◌, ◌+◌, ◌<◌, ◌≤◌, Bool, true, false, zero, suc, ◌⊎◌, if◌then◌else◌, Option, Some, None, List, [], ◌∷◌, ◌++◌, refl, ap, sym, ◌∙◌, arith, inl, inr, map, subst}
-use Rattle.std.specs.Prelude.{IsTrue, filter}
+use Rattle.std.proofs.Common.{ℕ, ◌≡◌, ◌+◌, ◌<◌, ◌≤◌, Bool, true, false, zero, suc, ◌⊎◌, if◌then◌else◌, Option, Some, None, List, [], length, ◌∷◌, ◌++◌, refl, ap, sym, ◌∙◌, arith, inl, inr, map, subst}
+use Rattle.std.specs.Prelude.{⊤, IsTrue, filter}
 use Rattle.std.specs.Option.{option_or}
 use Rattle.std.specs.List.{AllByRecursion, flat_map, range_with_len}
 use Rattle.ctrl_msg.specs.declared.message.Body.{Body}
@@ -15,7 +15,7 @@ use Rattle.update_machine.specs.Causes.{HaveCauses}
 use Rattle.update_machine.specs.Laws.{SwitchKeeps}
 use Rattle.update_machine.specs.Marks.{controller_heard, has_acked, is_member, known_boot, first_number, open_sent, opened_at}
 use Rattle.update_machine.specs.Messages.{next_message, sends, sent_from}
-use Rattle.update_machine.specs.Setting.{Setting}
+use Rattle.update_machine.specs.Setting.{Setting, switches_of}
 use Rattle.update_machine.specs.Versions.{tables_at}
 use Rattle.update_machine.proofs.CallerLemmas.{policies_keep, switch_keeps}
 use Rattle.version_laws.specs.ItemCauses.{HasItemCause, IsFirstOpening, IsForKnown, IsPresentIn, IsRightFrom, IsRightMessage, IsRightOpening, IsRightTo}
@@ -49,27 +49,27 @@ pub each : {X : Type 0} (P : X → Type 0) → ((x : X) → P x) → (xs : List 
 each P all [] = tt
 each P all (x ∷ xs) = (all x, each P all xs)
 
--- what passes a test has what follows from it
-pub each_filter : {X : Type 0} (P : X → Type 0) (test : X → Bool)
-    → ((x : X) → IsTrue (test x) → P x) → (xs : List X) → AllByRecursion P (filter test xs)
-each_filter P test all [] = tt
-each_filter P test all (x ∷ xs) = by_test (test x) refl (each_filter P test all xs)
+-- what passes a test has what follows from it and from what all have
+each_passing : {X : Type 0} (Q P : X → Type 0) (test : X → Bool)
+    → ((x : X) → Q x → IsTrue (test x) → P x) → (xs : List X) → AllByRecursion Q xs
+    → AllByRecursion P (filter test xs)
+each_passing Q P test so [] all = tt
+each_passing Q P test so (x ∷ xs) all =
+    by_test (test x) refl (each_passing Q P test so xs all.1)
   where
     by_test : (b : Bool) → test x ≡ b → AllByRecursion P (filter test xs)
         → AllByRecursion P (if b then x ∷ filter test xs else filter test xs)
-    by_test true e rest = (all x e, rest)
+    by_test true e rest = (so x all.0 e, rest)
     by_test false e rest = rest
 
--- and it has what all have
+pub each_filter : {X : Type 0} (P : X → Type 0) (test : X → Bool)
+    → ((x : X) → IsTrue (test x) → P x) → (xs : List X) → AllByRecursion P (filter test xs)
+each_filter P test so xs =
+    each_passing (λ x. ⊤) P test (λ x any. so x) xs (each (λ x. ⊤) (λ x. tt) xs)
+
 pub each_kept : {X : Type 0} (P : X → Type 0) (test : X → Bool) (xs : List X)
     → AllByRecursion P xs → AllByRecursion P (filter test xs)
-each_kept P test [] all = tt
-each_kept P test (x ∷ xs) all = by_test (test x) (each_kept P test xs all.1)
-  where
-    by_test : (b : Bool) → AllByRecursion P (filter test xs)
-        → AllByRecursion P (if b then x ∷ filter test xs else filter test xs)
-    by_test true rest = (all.0, rest)
-    by_test false rest = rest
+each_kept P test = each_passing P P test (λ x all is. all)
 
 -- numbers of a range
 pub each_range : (P : ℕ → Type 0) (low n : ℕ)
@@ -79,6 +79,20 @@ each_range P low (suc n) all = (
   all low (omega arith) (omega arith),
   each_range P (low + 1) n (λ x above below. all x (omega (arith, above)) (omega (arith, below))),
 )
+
+-- the switches of the network, and those that pass a test
+pub switches_there : (setting : Setting)
+    → AllByRecursion (λ s. s < length setting.net.switches) (switches_of setting)
+switches_there setting =
+    each_range (λ s. s < length setting.net.switches) 0 (length setting.net.switches)
+    (λ s above below. omega (arith, below))
+
+pub each_of_network : (P : ℕ → Type 0) (setting : Setting) (test : ℕ → Bool)
+    → ((s : ℕ) → s < length setting.net.switches → IsTrue (test s) → P s)
+    → AllByRecursion P (filter test (switches_of setting))
+each_of_network P setting test so =
+    each_passing (λ s. s < length setting.net.switches) P test so (switches_of setting)
+    (switches_there setting)
 
 -- ---- messages that are told as the first of them is sent, each of which stays so behind others
 

@@ -9,7 +9,6 @@ use Rattle.ctrl_msg.specs.declared.message.Body.{Body}
 use Rattle.ctrl_msg.specs.declared.message.Body.TheVariants.{Collect}
 use Rattle.journal.specs.declared.item.Item.{Item}
 use Rattle.update_machine.specs.Boots.{boot_of, heard, is_in_first_boot, is_up}
-use Rattle.update_machine.specs.Causes.{HaveCauses}
 use Rattle.update_machine.specs.Marks.{acked_stamp, current_mark, retired_mark}
 use Rattle.update_machine.specs.Setting.{Setting}
 use Rattle.update_machine.specs.Settling.{to_switch}
@@ -18,7 +17,7 @@ use Rattle.update_machine.specs.Links.{message_of}
 use Rattle.update_machine.proofs.CallerLemmas.{start_laws}
 use Rattle.version_laws.specs.BootLaws.{ServingIsKnown}
 use Rattle.version_laws.specs.ItemCauses.{HasItemCause}
-use Rattle.version_laws.proofs.Facts.{AreKept, Behind, fact_on, with_fact}
+use Rattle.version_laws.proofs.Facts.{AreKept, Behind, FromCauses, fact_on, with_fact}
 use Rattle.version_laws.proofs.Openings.{caused_known, serving_known}
 use Rattle.version_laws.specs.Acknowledged.{MembersAcknowledged}
 use Rattle.version_laws.specs.Bounds.{MarksAreBounded}
@@ -64,8 +63,7 @@ drops_at_first : DropsRetired []
 drops_at_first s =
     subst (AllByRecursion (DropsUpTo (retired_mark []))) (sym (start_laws.heard s)) tt
 
-caused_drops : (setting : Setting) (journal : List Item)
-    → HaveCauses (HasItemCause setting) [] journal → DropsRetired journal
+caused_drops : FromCauses (λ setting. DropsRetired)
 caused_drops setting journal have =
     fact_on (Behind (HasItemCause setting) CollectsRetired) DropsRetired (drops_kept setting) []
     journal
@@ -129,8 +127,7 @@ tables_held journal s version up has kept =
 
 -- ---- switches that serve
 
-pub serving_hold : (setting : Setting) (journal : List Item)
-    → HaveCauses (HasItemCause setting) [] journal → ServingHold setting journal
+pub serving_hold : FromCauses ServingHold
 serving_hold setting journal have s there serving = record {
   stamp = holds (stamp_of journal s) (omega arith) current;
   held = λ version below. elim (cases_lt version (stamp_of journal s)) [

@@ -9,89 +9,33 @@ use Rattle.std.proofs.lemmas.List.Sums.{take_while-cons}
 use Rattle.ctrl_msg.specs.declared.message.Message.{Message}
 use Rattle.journal.specs.declared.item.Item.{Item}
 use Rattle.journal.specs.declared.item.Item.TheVariants as item
-use Rattle.update_machine.specs.Causes.{HaveCauses}
 use Rattle.update_machine.specs.Laws.{ControllerKeeps}
-use Rattle.update_machine.specs.Marks.{AreSettled, acked_stamp, all_acked, controller_heard, current_mark, first_number, has_acked, is_joining, is_member, is_over, known_boot, least, members, next_current, next_retired, open_sent, opened_at, retired_mark}
+use Rattle.update_machine.specs.Marks.{AreSettled, acked_stamp, all_acked, current_mark, first_number, has_acked, is_joining, is_member, is_over, known_boot, least, members, next_current, next_retired, open_sent, opened_at, retired_mark}
 use Rattle.update_machine.specs.Messages.{next_message, sends, sent_from}
-use Rattle.update_machine.specs.Moves.{in_turn, put}
+use Rattle.update_machine.specs.Moves.{in_turn}
 use Rattle.update_machine.specs.Setting.{Setting, switches_of}
 use Rattle.update_machine.specs.Settling.{collect_for, current_items, open_for, open_items, opening, retired_items, settling, stamp_for}
 use Rattle.update_machine.specs.Versions.{version_count}
-use Rattle.version_laws.proofs.Commands.{IsCommand, IsOfSettling, current_settles, each_command, open_settles, retired_settles}
-use Rattle.version_laws.proofs.Facts.{AreKept, fact_on}
-use Rattle.version_laws.proofs.Grown.{count_more, current_more, known_more, opened_at_more, over_more, retired_more, told_more}
-use Rattle.version_laws.proofs.Sends.{acked_same, each_range, sent_kept}
-use Rattle.version_laws.proofs.Openings.{member_of, member_on, own_opening, still_opened}
+use Rattle.version_laws.proofs.Commands.{Grows, IsCommand, IsOfSettling, each_command, grows, parts_settle}
+use Rattle.version_laws.proofs.Grown.{current_more, known_more, opened_at_more, over_more, retired_more, told_more}
+use Rattle.version_laws.proofs.Sends.{each_range, sent_kept}
+use Rattle.version_laws.proofs.Openings.{member_of, own_opening}
 pub use Rattle.version_laws.proofs.StepCases.{in_two}
+use Rattle.version_laws.proofs.StepCases.{rise_cases}
 use Rattle.version_laws.proofs.Members.{opened_same}
 use Rattle.version_laws.proofs.Told.{each_in_range}
 use Rattle.version_laws.proofs.Leaves.{leaves_keep, member_same, stamp_same}
 use Rattle.version_laws.proofs.Others.{ReopensAlone, sends_leave}
 
--- ---- what settling leaves, and what grows
-
-pub record Grows (before after : List Item) : Type 0 where
-  pub count : version_count after ≡ version_count before
-  pub acked : (s v : ℕ) → has_acked after s v ≡ has_acked before s v
-  pub over : (s : ℕ) → is_over after s ≡ is_over before s
-  pub member : (s : ℕ) → IsTrue (is_member before s) → IsTrue (is_member after s)
-
-grows_by : (before : List Item) (next : Item)
-    → version_count (before ++ next ∷ []) ≡ version_count before
-    → controller_heard (before ++ next ∷ []) ≡ controller_heard before
-    → ((s : ℕ) → known_boot (before ++ next ∷ []) s ≡ known_boot before s)
-    → ((s : ℕ) → is_over (before ++ next ∷ []) s ≡ is_over before s)
-    → Grows before (before ++ next ∷ [])
-grows_by before next count heard known over = record {
-  count = count;
-  acked = λ s v. acked_same (before ++ next ∷ []) before s v heard;
-  over = over;
-  member = λ s member. member_on before next s (known s) (over s) member;
-}
-
-grows_one : (before : List Item) (next : Item) → IsOfSettling before next
-    → Grows before (before ++ next ∷ [])
-grows_one before (item.Current version) of =
-    let next : Item = item.Current version in
-    grows_by before next (count_more before next) (told_more before next) (known_more before next)
-    (over_more before next)
-grows_one before (item.Retired version) of =
-    let next : Item = item.Retired version in
-    grows_by before next (count_more before next) (told_more before next) (known_more before next)
-    (over_more before next)
-grows_one before (item.Sent n message) of =
-    let next : Item = item.Sent n message in
-    grows_by before next (count_more before next) (told_more before next) (known_more before next)
-    (over_more before next)
-grows_one before _ of = absurd of
-
-pub grows : (before items : List Item) → HaveCauses IsOfSettling before items
-    → Grows before (before ++ items)
-grows before items have = fact_on IsOfSettling (Grows before)
-    (λ now next of so_far. grows_on before now (now ++ next ∷ []) so_far (grows_one now next of))
-    before items have itself
-  where
-    itself : Grows before before
-    itself = record {
-      count = refl;
-      acked = λ s v. refl;
-      over = λ s. refl;
-      member = λ s member. member;
-    }
-
-    grows_on : (one two three : List Item) → Grows one two → Grows two three → Grows one three
-    grows_on one two three first later = record {
-      count = later.count ∙ first.count;
-      acked = λ s v. later.acked s v ∙ first.acked s v;
-      over = λ s. later.over s ∙ first.over s;
-      member = λ s member. later.member s (first.member s member);
-    }
+-- ---- where nothing grows
 
 keeps_grow : (before after : List Item) → ControllerKeeps before after → Grows before after
 keeps_grow before after keeps = record {
   count = keeps.count;
   acked = keeps.acked;
+  known = keeps.known;
   over = keeps.over;
+  opened = λ s opened. rw (keeps.opened s) opened;
   member = λ s member. keeps.member s ∙ member;
 }
 
@@ -238,22 +182,7 @@ marks_sent (message ∷ messages) journal n =
           ∙ retired_more journal (item.Sent n message);
     }
 
--- a switch that was opened stays so
-opened_stays : (journal items : List Item) (s : ℕ) → HaveCauses IsOfSettling journal items
-    → IsTrue (is_some (opened_at journal s)) → IsTrue (is_some (opened_at (journal ++ items) s))
-opened_stays journal items s have opened =
-    fact_on IsOfSettling (λ now. IsTrue (is_some (opened_at now s))) kept journal items have opened
-  where
-    kept : AreKept IsOfSettling (λ now. IsTrue (is_some (opened_at now s)))
-    kept before (item.Current version) of is =
-        still_opened before (item.Current version) s (known_more before (item.Current version) s) is
-    kept before (item.Retired version) of is =
-        still_opened before (item.Retired version) s (known_more before (item.Retired version) s) is
-    kept before (item.Sent n message) of is =
-        still_opened before (item.Sent n message) s (known_more before (item.Sent n message) s) is
-    kept before _ of is = absurd of
-
--- so all that are told to open are opened
+-- all that are told to open are opened
 or_some : (o : Option ℕ) (version : ℕ) → IsTrue (is_some (option_or o (Some version)))
 or_some None version = refl
 or_some (Some w) version = refl
@@ -280,11 +209,11 @@ all_opened (t ∷ switches) base journal n version same =
     subst
     (λ now. AllByRecursion (λ s. IsTrue (is_some (opened_at now s))) (t ∷ switches))
     (append_assoc journal (next ∷ []) rest) (
-      opened_stays (journal ++ next ∷ []) rest t
+      (grows (journal ++ next ∷ []) rest
           (sent_kept IsOfSettling (λ before message. IsCommand message.body)
           (λ before m message is. is) (λ before m message other new is. is) messages
           (journal ++ next ∷ []) (n + 1)
-          (each_command (open_for base version) (λ s. tt) switches))
+          (each_command (open_for base version) (λ s. tt) switches))).opened t
           (opens_now base journal t n version (same t)),
       all_opened switches base (journal ++ next ∷ []) (n + 1) version
           (λ s. known_more journal next s ∙ same s),
@@ -335,35 +264,20 @@ current_is : (setting : Setting) (journal : List Item)
     → current_mark (journal ++ current_items setting journal) ≡ next_current setting journal
 unfolding current_items
 current_is setting journal =
-    by_test (nat_lt (current_mark journal) (next_current setting journal)) refl
-  where
-    version : ℕ
-    version = next_current setting journal
-
-    stamps : List Message
-    stamps = map (stamp_for journal version) (members setting journal)
-
-    by_test : (b : Bool) → nat_lt (current_mark journal) version ≡ b
-        → current_mark (journal ++ elim b [
-          | false ↦ []
-          | true ↦ put (item.Current version ∷ []) (λ raised. sends raised stamps) journal
-        ]) ≡ version
-    by_test false e =
-        let above = next_above setting journal in
-        ap current_mark (append-nil journal) ∙ grind (arith, nat_tests)
-    by_test true e =
-        let raised : List Item = journal ++ item.Current version ∷ [] in
-        ap current_mark (sym (append_assoc journal (item.Current version ∷ [])
-        (sends raised stamps)))
-        ∙ (marks_sent stamps raised (next_message raised)).current
-        ∙ current_more journal (item.Current version)
+    let version : ℕ = next_current setting journal in
+    let raised : List Item = journal ++ item.Current version ∷ [] in
+    rise_cases (λ now. current_mark now ≡ version) setting journal (item.Current version)
+    (stamp_for journal version) (nat_lt (current_mark journal) version)
+    (λ e. let above = next_above setting journal in grind (arith, nat_tests))
+    ((marks_sent _ raised (next_message raised)).current
+    ∙ current_more journal (item.Current version))
 
 current_waits : (setting : Setting) (journal : List Item)
     → current_mark journal ≤ version_count journal
     → Waits setting (journal ++ current_items setting journal)
 current_waits setting journal there =
     let after : List Item = journal ++ current_items setting journal in
-    let more = grows journal (current_items setting journal) (current_settles setting journal) in
+    let more = grows journal (current_items setting journal) ((parts_settle setting).rises journal) in
     let now : current_mark after ≡ next_current setting journal = current_is setting journal in
     elim (next_waits setting journal there) [
       | inl last ↦ inl (now ∙ last ∙ sym more.count)
@@ -398,7 +312,7 @@ none_joins setting journal s there joins =
     after = journal ++ open_items setting journal
 
     more : Grows journal after
-    more = grows journal (open_items setting journal) (open_settles setting journal)
+    more = grows journal (open_items setting journal) ((parts_settle setting).opens journal)
 
     joined : IsTrue (is_joining journal s)
     joined = joining_was journal after s more joins
@@ -482,34 +396,12 @@ retired_is : (setting : Setting) (journal : List Item)
     × (retired_mark after ≡ next_retired setting after)
 unfolding retired_items
 retired_is setting journal =
-    by_test (nat_lt (retired_mark journal) (next_retired setting journal)) refl
-  where
-    version : ℕ
-    version = next_retired setting journal
-
-    collects : List Message
-    collects = map (collect_for journal version) (members setting journal)
-
-    by_test : (b : Bool) → nat_lt (retired_mark journal) version ≡ b
-        → let after = journal ++ elim b [
-          | false ↦ []
-          | true ↦ put (item.Retired version ∷ []) (λ raised. sends raised collects) journal
-        ] in
-        retired_mark after ≤ next_retired setting after
-        → (current_mark after ≡ current_mark journal)
-        × (retired_mark after ≡ next_retired setting after)
-    by_test false e =
-        subst (λ now. retired_mark now ≤ next_retired setting now
-        → (current_mark now ≡ current_mark journal)
-        × (retired_mark now ≡ next_retired setting now)) (sym (append-nil journal))
-        (λ behind. (refl, grind (arith, nat_tests)))
-    by_test true e =
-        let retired : List Item = journal ++ item.Retired version ∷ [] in
-        subst (λ now. retired_mark now ≤ next_retired setting now
-        → (current_mark now ≡ current_mark journal)
-        × (retired_mark now ≡ next_retired setting now))
-        (append_assoc journal (item.Retired version ∷ []) (sends retired collects))
-        (λ behind. retires setting journal version refl)
+    let version : ℕ = next_retired setting journal in
+    rise_cases (λ now. retired_mark now ≤ next_retired setting now
+    → (current_mark now ≡ current_mark journal) × (retired_mark now ≡ next_retired setting now))
+    setting journal (item.Retired version) (collect_for journal version)
+    (nat_lt (retired_mark journal) version) (λ e behind. (refl, grind (arith, nat_tests)))
+    (λ behind. retires setting journal version refl)
 
 -- ---- together
 
@@ -541,10 +433,10 @@ settles setting journal there =
     three = two ++ retired_items setting two
 
     opens : Grows one two
-    opens = grows one (open_items setting one) (open_settles setting one)
+    opens = grows one (open_items setting one) ((parts_settle setting).opens one)
 
     ends : Grows two three
-    ends = grows two (retired_items setting two) (retired_settles setting two)
+    ends = grows two (retired_items setting two) ((parts_settle setting).retires two)
 
     settled : retired_mark three ≤ next_retired setting three → AreSettled setting three
     settled behind =

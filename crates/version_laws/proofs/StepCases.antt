@@ -1,9 +1,11 @@
 -- What holds behind the items of a step, by what the step comes to.
-use Rattle.std.proofs.Common.{ℕ, ◌≡◌, ◌+◌, Bool, true, false, Option, Some, None, List, [], ◌∷◌, ◌++◌, refl, ap, sym, subst, ◌∙◌, append_assoc, append-nil}
+use Rattle.std.proofs.Common.{map, ℕ, ◌≡◌, ◌+◌, Bool, true, false, Option, Some, None, List, [], ◌∷◌, ◌++◌, refl, ap, sym, subst, ◌∙◌, append_assoc, append-nil}
+use Rattle.ctrl_msg.specs.declared.message.Message.{Message}
 use Rattle.journal.specs.declared.item.Item.{Item}
 use Rattle.journal.specs.declared.item.Item.TheVariants as item
 use Rattle.update_machine.specs.Boots.{boot_of, is_up}
 use Rattle.update_machine.specs.Deliveries.{delivery_items}
+use Rattle.update_machine.specs.Marks.{members}
 use Rattle.update_machine.specs.Messages.{is_deliverable, sends}
 use Rattle.update_machine.specs.Moves.{in_turn, put}
 use Rattle.update_machine.specs.Pieces.{confirm_items, deliver_items, hello_of, nothing, restart_items, update_code, update_items}
@@ -18,6 +20,23 @@ in_two a b journal =
     let one : List Item = journal ++ a journal in
     sym (append_assoc journal (a journal) (in_turn (b ∷ []) one))
     ∙ ap (λ items. one ++ items) (append-nil (b one))
+
+-- no mark rises, or it does and the members are told
+pub rise_cases : (F : List Item → Type 0) (setting : Setting) (journal : List Item) (next : Item)
+    (message : ℕ → Message) (rises : Bool) → (rises ≡ false → F journal)
+    → (let raised = journal ++ next ∷ [] in
+    F (raised ++ sends raised (map message (members setting journal))))
+    → F (journal ++ elim rises [
+      | false ↦ []
+      | true ↦ put (next ∷ []) (λ raised. sends raised (map message (members setting journal)))
+          journal
+    ])
+rise_cases F setting journal next message false none risen =
+    subst F (sym (append-nil journal)) (none refl)
+rise_cases F setting journal next message true none risen =
+    subst F
+    (append_assoc journal (next ∷ [])
+    (sends (journal ++ next ∷ []) (map message (members setting journal)))) risen
 
 -- nothing happens, or the message is delivered
 pub deliver_cases : (F : List Item → Type 0) (setting : Setting) (before : List Item) (number : ℕ)

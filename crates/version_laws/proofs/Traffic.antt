@@ -19,6 +19,8 @@ use Rattle.policy_rules.specs.declared.packet.How.TheVariants as how
 use Rattle.five_tuple.specs.declared.header.Header.{Header}
 use Rattle.journal.specs.declared.item.Item.{Item}
 use Rattle.journal.specs.declared.item.Item.TheVariants as item
+use Rattle.steps.specs.declared.step.Step.{Step}
+use Rattle.steps.specs.declared.step.Step.TheVariants.{Hop, Lose, Forget, Expire, LinkDown, LinkUp}
 use Rattle.update_machine.specs.Adverts.{held_adverts, own_advert, route_from}
 use Rattle.update_machine.specs.Links.{serves}
 use Rattle.update_machine.specs.Caches.{lookup_at}
@@ -28,7 +30,7 @@ use Rattle.update_machine.specs.LinkMasks.{near}
 use Rattle.update_machine.specs.Messages.{sends, sent_from}
 use Rattle.update_machine.specs.Moves.{put, AuthorityRule, arrive_by, arrive_items, authority_items, cache_items, end_items, found_items, go_on, header_at, leg_items, lookup_items, move_items, reroute_by, reroute_items, route_for, stuck_on, takes_route, authority_rule, cache_rule, first_place, in_turn}
 use Rattle.update_machine.specs.Travels.{leg_of, ingress_of, is_at}
-use Rattle.update_machine.specs.Pieces.{expire_items, forget_items, hop_items, lose_items, packet_items}
+use Rattle.update_machine.specs.Pieces.{expire_items, forget_items, hop_items, link_items, lose_items, packet_items, step_items}
 use Rattle.update_machine.specs.Setting.{Setting, switches_of, policy_of_file}
 use Rattle.update_machine.specs.Ways.{found_down, targets_of}
 use Rattle.update_machine.proofs.CallerLemmas.{have_first, have_in_turn, have_put, version_kept}
@@ -40,7 +42,7 @@ use Rattle.switch_table.specs.Tables.{part_of}
 use Rattle.update_machine.specs.Versions.{holds_version, is_version, stamp_of, placed_in, file_of, plan_at}
 use Rattle.version_laws.specs.ItemCauses.{HasItemCause, IsRightMessage}
 use Rattle.version_laws.proofs.Facts.{Has, have_weaker}
-use Rattle.version_laws.proofs.Sends.{each_flat_map, each_map, each_append, each_kept, each_range}
+use Rattle.version_laws.proofs.Sends.{each_flat_map, each_map, each_append, each_of_network}
 use Rattle.version_laws.proofs.Sent.{sends_each}
 
 -- the switch where some packet came in
@@ -53,6 +55,16 @@ abbrev pub IsRuleTo : List Item → Receiver → Body → Type 0
 IsRuleTo before (receiver.Switch s) (CacheRule version word rule action) =
     IsTrue (is_version before version) × IsIngress before s
 IsRuleTo before to body = ⊥
+
+-- what such rules have
+pub rule_cases : (before : List Item) (P : Receiver → Body → Type 0)
+    → ((s version : ℕ) (word : _) (rule : Option ℕ) (action : Action)
+    → IsTrue (is_version before version) → IsIngress before s
+    → P (receiver.Switch s) (CacheRule version word rule action))
+    → (to : Receiver) (body : Body) → IsRuleTo before to body → P to body
+rule_cases before P rules (receiver.Switch s) (CacheRule version word rule action) is =
+    rules s version word rule action is.0 is.1
+rule_cases before P rules to body is = absurd is
 
 -- the switch knows no route without the links that the packet found down
 pub record KnowsNoRoute (setting : Setting) (before : List Item) (i s : ℕ) (leg : Leg)
@@ -97,17 +109,25 @@ IsTraffic setting before next = IsWork setting before next
 abbrev pub Traffic : Setting → List Item → List Item → Type 0
 Traffic setting journal items = HaveCauses (IsTraffic setting) journal items
 
--- of such items nothing is asked
-between_right : (setting : Setting) (before : List Item) (to : Receiver) (body : Body)
-    → IsBetween setting before to body → IsRightMessage setting before to body
-between_right setting before (receiver.Switch s) (CacheRule version word rule action) is = tt
-between_right setting before (receiver.Switch s) (Advertise advert) is = tt
-between_right setting before to body is = absurd is
+-- what rules have and adverts
+pub between_cases : (setting : Setting) (before : List Item) (P : Receiver → Body → Type 0)
+    → ((s version : ℕ) (word : _) (rule : Option ℕ) (action : Action)
+    → IsTrue (is_version before version) → IsIngress before s
+    → P (receiver.Switch s) (CacheRule version word rule action))
+    → ((s : ℕ) (advert : Advert) → s < length setting.net.switches
+    → P (receiver.Switch s) (Advertise advert))
+    → (to : Receiver) (body : Body) → IsBetween setting before to body → P to body
+between_cases setting before P rules adverts (receiver.Switch s) (Advertise advert) is =
+    adverts s advert is
+between_cases setting before P rules adverts to body is = rule_cases before P rules to body is
 
+-- of such items nothing is asked
 pub traffic_right : (setting : Setting) (before : List Item) (next : Item)
     → IsTraffic setting before next → HasItemCause setting before next
 traffic_right setting before (item.Sent number message) is =
-    between_right setting before message.to message.body is
+    between_cases setting before (IsRightMessage setting before)
+    (λ s version word rule action there ingress. tt) (λ s advert there. tt) message.to message.body
+    is
 traffic_right setting before (item.Entered packet s header) is = absurd is
 traffic_right setting before (item.Down s) is = absurd is
 traffic_right setting before (item.Booted s boot) is = absurd is
@@ -124,22 +144,13 @@ traffic_has setting =
     have_weaker (IsTraffic setting) (HasItemCause setting) (traffic_right setting)
 
 -- work is traffic
-rule_between : (setting : Setting) (before : List Item) (to : Receiver) (body : Body)
-    → IsRuleTo before to body → IsBetween setting before to body
-rule_between setting before (receiver.Switch s) (CacheRule version word rule action) is = is
-rule_between setting before to body is = absurd is
-
 work_is_traffic : (setting : Setting) (before : List Item) (next : Item)
     → IsWork setting before next → IsTraffic setting before next
 work_is_traffic setting before (item.Sent number message) is =
-    rule_between setting before message.to message.body is
+    rule_cases before (IsBetween setting before)
+    (λ s version word rule action there ingress. (there, ingress)) message.to message.body is
 work_is_traffic setting before (item.LinkIs one two up) is = absurd is
 work_is_traffic setting before next is = is
-
-traffic_of : (setting : Setting) (journal items : List Item) → Work setting journal items
-    → Traffic setting journal items
-traffic_of setting =
-    have_weaker (IsWork setting) (IsTraffic setting) (work_is_traffic setting)
 
 -- ---- packets
 
@@ -285,10 +296,6 @@ arrive_work : (setting : Setting) (i s : ℕ) (journal : List Item)
 unfolding arrive_items
 arrive_work setting i s journal = arrive_by_work setting i s (leg_of journal i) journal
 
-go_on_work : (setting : Setting) (i s : ℕ) (journal : List Item)
-    → Work setting journal (go_on setting i s journal)
-go_on_work setting i s journal = grind (arith, arrive_work)
-
 reroute_by_work : (setting : Setting) (i s : ℕ) (leg : Option Leg) (journal : List Item)
     → Work setting journal (reroute_by setting i s leg journal)
 reroute_by_work setting i s None journal = tt
@@ -303,7 +310,7 @@ reroute_by_work setting i s (Some leg) journal =
     by_route None e = (record { found = refl; none = e }, tt)
     by_route (Some route) e =
         have_first (IsWork setting) (item.Rerouted i route) (go_on setting i s) journal tt
-        (go_on_work setting i s (journal ++ item.Rerouted i route ∷ []))
+        (grind (arith, arrive_work))
 
 reroute_work : (setting : Setting) (i s : ℕ) (journal : List Item)
     → Work setting journal (reroute_items setting i s journal)
@@ -350,40 +357,22 @@ pub hop_work : (setting : Setting) (i : ℕ) (journal : List Item)
 unfolding hop_items
 hop_work setting i journal = grind (arith, move_work)
 
-pub lose_work : (setting : Setting) (i : ℕ) (journal : List Item)
+lose_work : (setting : Setting) (i : ℕ) (journal : List Item)
     → Work setting journal (lose_items i journal)
 unfolding lose_items
 lose_work setting i journal = grind arith
 
-pub hop_traffic : (setting : Setting) (i : ℕ) (journal : List Item)
-    → Traffic setting journal (hop_items setting i journal)
-hop_traffic setting i journal = traffic_of setting journal _ (hop_work setting i journal)
-
-pub lose_traffic : (setting : Setting) (i : ℕ) (journal : List Item)
-    → Traffic setting journal (lose_items i journal)
-lose_traffic setting i journal = traffic_of setting journal _ (lose_work setting i journal)
-
 -- ---- caches and messages
 
-pub forget_work : (setting : Setting) (number : ℕ) (journal : List Item)
+forget_work : (setting : Setting) (number : ℕ) (journal : List Item)
     → Work setting journal (forget_items number journal)
 unfolding forget_items
 forget_work setting number journal = grind arith
 
-pub expire_work : (setting : Setting) (s at : ℕ) (journal : List Item)
+expire_work : (setting : Setting) (s at : ℕ) (journal : List Item)
     → Work setting journal (expire_items setting s at journal)
 unfolding expire_items
 expire_work setting s at journal = grind arith
-
-pub forget_traffic : (setting : Setting) (number : ℕ) (journal : List Item)
-    → Traffic setting journal (forget_items number journal)
-forget_traffic setting number journal =
-    traffic_of setting journal _ (forget_work setting number journal)
-
-pub expire_traffic : (setting : Setting) (s at : ℕ) (journal : List Item)
-    → Traffic setting journal (expire_items setting s at journal)
-expire_traffic setting s at journal =
-    traffic_of setting journal _ (expire_work setting s at journal)
 
 -- ---- adverts
 
@@ -425,18 +414,11 @@ pub adverts_to : (setting : Setting) (s : ℕ) → s < length setting.net.switch
 adverts_to setting s there [] = tt
 adverts_to setting s there (advert ∷ adverts) = (there, adverts_to setting s there adverts)
 
--- the switches of the network, and those of a mask
-pub switches_there : (setting : Setting)
-    → AllByRecursion (λ s. s < length setting.net.switches) (switches_of setting)
-switches_there setting =
-    each_range (λ s. s < length setting.net.switches) 0 (length setting.net.switches)
-    (λ s above below. omega (arith, below))
-
+-- the switches of a mask are of the network
 pub masked_there : (setting : Setting) (mask : ℕ)
     → AllByRecursion (λ s. s < length setting.net.switches) (switches_in setting mask)
 masked_there setting mask =
-    each_kept (λ s. s < length setting.net.switches) (has mask) (switches_of setting)
-    (switches_there setting)
+    each_of_network (λ s. s < length setting.net.switches) setting (has mask) (λ s there is. there)
 
 -- what is told to each of some switches of the network
 pub each_told : (setting : Setting) (told : ℕ → List Message)
@@ -472,11 +454,20 @@ links_change setting before journal =
     (masked_there setting (near setting journal s)))
     (filter (has_changed setting before journal) (switches_of setting)))
 
+pub link_change : (setting : Setting) (before : List Item) (one two : ℕ) (up : Bool)
+    (journal : List Item) → Change setting journal (link_items setting before one two up journal)
+unfolding link_items
+link_change setting before one two up journal = grind (arith, have_first, links_change)
+
+pub changes_traffic : (setting : Setting) (journal items : List Item)
+    → Change setting journal items → Traffic setting journal items
+changes_traffic setting =
+    have_weaker (IsChange setting) (IsTraffic setting) (change_traffic setting)
+
 pub links_traffic : (setting : Setting) (before journal : List Item)
     → Traffic setting journal (link_changes setting before journal)
 links_traffic setting before journal =
-    have_weaker (IsChange setting) (IsTraffic setting) (change_traffic setting) journal _
-    (links_change setting before journal)
+    changes_traffic setting journal _ (links_change setting before journal)
 
 pub links_have : (setting : Setting) (before journal : List Item)
     → Has setting journal (link_changes setting before journal)
@@ -492,3 +483,37 @@ passed_traffic setting journal s advert =
     (passed_on setting journal s advert)
     (each_map (IsAdvert setting) (λ neighbour. advert_to neighbour advert)
     (switches_in setting (near setting journal s)) (masked_there setting (near setting journal s)))
+
+-- ---- steps
+
+-- the steps that write work alone
+abbrev pub IsWorkStep : Step → Type 0
+IsWorkStep (Hop packet) = ⊤
+IsWorkStep (Lose packet) = ⊤
+IsWorkStep (Forget message) = ⊤
+IsWorkStep (Expire s place) = ⊤
+IsWorkStep _ = ⊥
+
+pub step_work : (setting : Setting) (before : List Item) (step : Step) (here : List Item)
+    → IsWorkStep step → Work setting here (step_items setting before step here)
+step_work setting before (Hop packet) here is = hop_work setting packet here
+step_work setting before (Lose packet) here is = lose_work setting packet here
+step_work setting before (Forget message) here is = forget_work setting message here
+step_work setting before (Expire s place) here is = expire_work setting s place here
+step_work setting before step here is = absurd is
+
+-- and those that change links too
+abbrev pub IsTrafficStep : Step → Type 0
+IsTrafficStep (LinkDown one two) = ⊤
+IsTrafficStep (LinkUp one two) = ⊤
+IsTrafficStep step = IsWorkStep step
+
+pub step_traffic : (setting : Setting) (before : List Item) (step : Step) (here : List Item)
+    → IsTrafficStep step → Traffic setting here (step_items setting before step here)
+step_traffic setting before (LinkDown one two) here is =
+    changes_traffic setting here _ (link_change setting before one two false here)
+step_traffic setting before (LinkUp one two) here is =
+    changes_traffic setting here _ (link_change setting before one two true here)
+step_traffic setting before step here is =
+    have_weaker (IsWork setting) (IsTraffic setting) (work_is_traffic setting) here _
+    (step_work setting before step here is)

@@ -1,5 +1,5 @@
 -- Steps that aren't of packets bring no packet on and tell no cache rule.
-use Rattle.std.proofs.Common.{ℕ, ◌≡◌, ◌⊎◌, Bool, true, false, Option, Some, List, [], ◌∷◌, ◌++◌, map, min, max, inl, inr, arith}
+use Rattle.std.proofs.Common.{ℕ, ◌≡◌, ◌⊎◌, Bool, true, false, Option, Some, List, [], ◌∷◌, map, min, max, inl, inr, arith}
 use Rattle.std.specs.Prelude.{⊤, filter}
 use Rattle.std.specs.List.{AllByRecursion}
 use Rattle.ctrl_msg.specs.declared.message.Body.{Body}
@@ -20,7 +20,7 @@ use Rattle.update_machine.specs.Setting.{Setting, switches_of}
 use Rattle.update_machine.specs.Settling.{install_for, unacked, versions_from_current}
 use Rattle.update_machine.proofs.CallerLemmas.{have_first}
 use Rattle.version_laws.proofs.Commands.{Control, IsCommand, IsControl, controller_control, update_has}
-use Rattle.version_laws.proofs.Delivered.{deliver_has, delivery_has}
+use Rattle.version_laws.proofs.Delivered.{deliver_has}
 use Rattle.version_laws.proofs.Facts.{have_weaker}
 use Rattle.version_laws.proofs.Resent.{each_by_controller, each_to_member, later_versions, resent_has}
 use Rattle.version_laws.proofs.Sends.{each, each_flat_map, each_map}
@@ -213,11 +213,9 @@ switch_aside setting before s _ journal = tt
 pub deliver_aside : (setting : Setting) (before : List Item) (number : ℕ) (journal : List Item)
     → AreAside journal (deliver_items setting before number journal)
 deliver_aside setting before number journal =
-    let now : List Item = journal ++ item.Delivered number ∷ [] in
     deliver_has IsAside setting before number journal tt tt
-    (delivery_has (AreAside now) setting before number now tt
-    (λ body sent. control_aside now _ (controller_control setting before body now))
-    (λ s body said. switch_aside setting before s body now))
+    (λ body sent. control_aside _ _ (controller_control setting before body _))
+    (λ s body said. switch_aside setting before s body _)
 
 -- ---- sending again
 

@@ -29,7 +29,7 @@ use Rattle.version_laws.proofs.Reached.{NamesOwn, behind_piece}
 use Rattle.version_laws.proofs.Openings.{caused_known, serving_known}
 use Rattle.advert_laws.proofs.LinkCauses.{HasLinkCause}
 use Rattle.advert_laws.proofs.Stepping.{pieces_caused}
-use Rattle.version_laws.proofs.Traffic.{IsTraffic, Traffic, hop_traffic, lose_traffic, packet_has}
+use Rattle.version_laws.proofs.Traffic.{IsTraffic, Traffic, packet_has, step_traffic}
 use Rattle.way_laws.specs.Rest.{AreResting, AreServed, IsMoving}
 use Rattle.way_laws.specs.Stages.{stage_of}
 use Rattle.way_laws.specs.WayCauses.{WayCause}
@@ -321,8 +321,8 @@ step_served setting before row step settled = by_kind step
         up_served (Packet s header)
         (packet_has setting (λ js next. NotDown next) (traffic_up setting) (next_packet before) s
         header _ tt)
-    by_kind (Hop i) = traffic_served (Hop i) (hop_traffic setting i _)
-    by_kind (Lose i) = traffic_served (Lose i) (lose_traffic setting i _)
+    by_kind (Hop i) = traffic_served (Hop i) (step_traffic setting before (Hop i) _ tt)
+    by_kind (Lose i) = traffic_served (Lose i) (step_traffic setting before (Lose i) _ tt)
     by_kind (Deliver number) = aside_served (Deliver number) (deliver_aside setting before number _)
     by_kind (Forget number) = aside_served (Forget number) (forget_aside number _)
     by_kind (Expire s place) = aside_served (Expire s place) (expire_aside setting s place _)

@@ -59,17 +59,17 @@ pub together : Laws
 together laws = record {
   reached = λ setting journal reached is. whole laws setting journal
       (subst (HaveCauses (HasItemCause setting) []) (sym reached.written)
-      (laws.causes.stepped setting reached.steps))
+      (laws.causes.behind.ends.stepped setting reached.steps))
       (laws.rules.reached setting journal reached is)
       (laws.packets.reached setting journal reached is);
   answered = λ setting events journal own answers is. whole laws setting journal
-      (laws.causes.answered setting events journal answers)
+      (laws.causes.behind.ends.answered setting events journal answers)
       (laws.rules.answered setting events journal own answers is)
       (laws.packets.answered setting events journal own answers is);
   so_far = λ setting events journal own answers is.
       let begins = begins_itself setting events journal answers in
       whole laws setting journal
-      (laws.causes.begun setting events journal begins)
+      (laws.causes.behind.ends.so_far setting events journal answers)
       (laws.rules.begun setting events journal own begins is)
       (laws.packets.so_far setting events journal own answers is);
 }

@@ -1,5 +1,5 @@
 -- What the controller hears changes what is known of the switch that speaks, and of no other one.
-use Rattle.std.proofs.Common.{ℕ, ◌≡◌, ◌≢◌, ◌-◌, ◌^◌, ◌<◌, ◌≤◌, ◌==◌, ◌&&◌, max, Bool, true, false, not, if◌then◌else◌, Option, Some, None, List, [], ◌∷◌, ◌++◌, length, refl, ap, sym, subst, ◌∙◌, arith, inl, inr, append_assoc}
+use Rattle.std.proofs.Common.{ℕ, ◌≡◌, ◌≢◌, ◌-◌, ◌^◌, ◌<◌, ◌≤◌, ◌==◌, ◌&&◌, max, Bool, true, false, not, if◌then◌else◌, Option, Some, None, List, [], ◌∷◌, ◌++◌, length, refl, ap, sym, subst, ◌∙◌, arith, inl, inr}
 use Rattle.std.specs.Prelude.{◌||◌, IsTrue, IsFalse, bit_or, fold, nat_eq, nat_lt, option_and_then, option_to_list, unwrap_or}
 use Rattle.std.specs.List.{list_any}
 use Rattle.std.specs.Option.{option_map_or, option_or}
@@ -7,7 +7,6 @@ use Rattle.std.proofs.lemmas.Bool.{cases_eq, eq-eqb, ne_eqb}
 use Rattle.std.proofs.lemmas.Bool.Decides.{nat_tests}
 use Rattle.std.proofs.Math.Bool.{and-true, or-false}
 use Rattle.std.proofs.lemmas.Nat.Bits.{bit_at-zero}
-use Rattle.std.proofs.lemmas.List.Folds.{list_any-append}
 use Rattle.std.proofs.lemmas.List.Sums.{fold-append}
 use Rattle.ctrl_msg.specs.declared.message.Body.{Body}
 use Rattle.ctrl_msg.specs.declared.message.Body.TheVariants.{Hello, Installed, Stamped}
@@ -20,6 +19,7 @@ use Rattle.update_machine.specs.Setting.{Setting}
 use Rattle.version_laws.specs.ItemCauses.{HasItemCause}
 use Rattle.version_laws.proofs.Facts.{fact_on}
 use Rattle.version_laws.proofs.Grown.{count_more, current_more, known_more, opened_in, opened_is, opened_more, over_more, raised, retired_more, told_more}
+use Rattle.version_laws.proofs.Acked.{acked_more}
 use Rattle.version_laws.proofs.Current.{StampsAreCurrent, current_at_first, current_kept}
 use Rattle.version_laws.proofs.Greatest.{known_first}
 use Rattle.version_laws.proofs.Members.{opened_same}
@@ -66,22 +66,10 @@ acked_told : (here : List Item) (n t v : ℕ) (body : Body) → said_to_controll
     → machine.has_acked (here ++ delivered n ∷ []) t v
     ≡ (machine.has_acked here t v
     || list_any (nat_eq v) (option_to_list (installed_in t (known_boot here t) body)))
-unfolding machine.has_acked
 acked_told here n t v body said known =
-    rw (known, told_by_more (installed_in t (known_boot here t)) here (delivered n))
-    (ap (list_any (nat_eq v)) (sym (append_assoc first told new))
-    ∙ list_any-append (nat_eq v) (first ++ told) new
-    ∙ ap (λ xs. list_any (nat_eq v) (first ++ told) || list_any (nat_eq v) xs)
-    (tells_said (installed_in t (known_boot here t)) here n body said))
-  where
-    first : List ℕ
-    first = if known_boot here t == 1 then 1 ∷ [] else []
-
-    told : List ℕ
-    told = told_by (installed_in t (known_boot here t)) here
-
-    new : List ℕ
-    new = tells (installed_in t (known_boot here t)) here (delivered n)
+    acked_more here (delivered n) t v known
+    ∙ ap (λ xs. machine.has_acked here t v || list_any (nat_eq v) xs)
+    (tells_said (installed_in t (known_boot here t)) here n body said)
 
 -- and the acknowledged stamp
 stamp_told : (here : List Item) (n t : ℕ) (body : Body) → said_to_controller here n ≡ Some body

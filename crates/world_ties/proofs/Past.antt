@@ -5,14 +5,13 @@ use Rattle.ctrl_msg.specs.declared.message.Body.TheVariants.{Installed}
 use Rattle.ctrl_msg.specs.Kinds.{to_controller}
 use Rattle.journal.specs.declared.item.Item.{Item}
 use Rattle.journal.specs.declared.item.Item.TheVariants as item
-use Rattle.update_machine.specs.Causes.{HaveCauses}
 use Rattle.update_machine.specs.Marks.{controller_heard, installed_in, known_boot, said_to_controller}
 use Rattle.update_machine.specs.Setting.{Setting}
 use Rattle.update_machine.specs.Links.{message_of}
 use Rattle.update_machine.proofs.CallerLemmas.{start_laws}
 use Rattle.version_laws.specs.ItemCauses.{HasItemCause}
 use Rattle.version_laws.proofs.Boots.{by_number, known_rises}
-use Rattle.version_laws.proofs.Facts.{AreKept, fact_on}
+use Rattle.version_laws.proofs.Facts.{AreKept, FromCauses, from_causes}
 use Rattle.version_laws.proofs.Openings.{IsKnown, known_at_first, known_kept}
 use Rattle.version_laws.proofs.HeardTables.{HeardAreKnown, heard_known}
 use Rattle.version_laws.proofs.Acks.{installed_is}
@@ -89,7 +88,5 @@ past_at_first = record {
   told = λ s boot later. refl;
 }
 
-pub acks_past : (setting : Setting) (journal : List Item)
-    → HaveCauses (HasItemCause setting) [] journal → AcksArePast journal
-acks_past setting journal have =
-    fact_on (HasItemCause setting) AcksArePast (past_kept setting) [] journal have past_at_first
+pub acks_past : FromCauses (λ setting. AcksArePast)
+acks_past = from_causes (λ setting. AcksArePast) past_kept (λ setting. past_at_first)

@@ -49,15 +49,15 @@ module _ (setting : Setting) (journal : List Item) (is : IsSetting setting)
 
   adverts : AdvertsAreOfSwitches setting journal
   adverts = subst (AdvertsAreOfSwitches setting) (sym reached.written)
-      ((behind_both _ of_switches).stepped setting reached.steps is.net)
+      ((behind_both _ of_switches).ends.stepped setting reached.steps is.net)
 
   versions : VersionsArePlanned setting journal
   versions = subst (VersionsArePlanned setting) (sym reached.written)
-      ((always _ versions_planned).stepped setting reached.steps)
+      ((always _ versions_planned).behind.ends.stepped setting reached.steps)
 
   planned : TablesArePlanned setting journal
   planned = subst (TablesArePlanned setting) (sym reached.written)
-      ((always _ tables_planned).stepped setting reached.steps)
+      ((always _ tables_planned).behind.ends.stepped setting reached.steps)
 
   installed : (n s boot : ℕ) (t : Tables)
       → message_of journal n ≡ Some (to_switch s (Install boot t)) → AreShort t × AreSmall t
