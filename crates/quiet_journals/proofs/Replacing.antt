@@ -126,51 +126,17 @@ body_means (Install boot tables) (Install of other) agree says =
     let same : boot ≡ of = eqb-true boot of parts.0 in
     let its : tables ≡ other = agree boot of tables other refl refl (eqb-true _ _ parts.1) in
     inl cc
-body_means (OpenAt boot version) (OpenAt of other) agree says =
-    let parts = and_parts _ _ says in
-    let same : boot ≡ of = eqb-true boot of parts.0 in
-    let its : version ≡ other = eqb-true version other parts.1 in
-    inl cc
-body_means (Stamp boot version) (Stamp of other) agree says =
-    let parts = and_parts _ _ says in
-    let same : boot ≡ of = eqb-true boot of parts.0 in
-    elim (up_to other version parts.1) [
-      | inl its ↦ inl cc
-      | inr less ↦ inr (rw (parts.0, less) refl)
-    ]
-body_means (Collect boot version) (Collect of other) agree says =
-    let parts = and_parts _ _ says in
-    let same : boot ≡ of = eqb-true boot of parts.0 in
-    elim (up_to other version parts.1) [
-      | inl its ↦ inl cc
-      | inr less ↦ inr (rw (parts.0, less) refl)
-    ]
+body_means (OpenAt boot version) (OpenAt of other) agree says = grind (arith, nat_tests)
+body_means (Stamp boot version) (Stamp of other) agree says = grind (arith, nat_tests)
+body_means (Collect boot version) (Collect of other) agree says = grind (arith, nat_tests)
 body_means (Advertise one) (Advertise other) agree says =
     elim (advert_means one other (is_same one other) refl says) [
       | inl same ↦ inl (ap Advertise same)
       | inr newer ↦ inr newer
     ]
-body_means (Hello s boot) (Hello t of) agree says =
-    let parts = and_parts _ _ says in
-    let who : s ≡ t = eqb-true s t parts.0 in
-    let same : boot ≡ of = eqb-true boot of parts.1 in
-    inl cc
-body_means (Installed s boot version) (Installed t of other) agree says =
-    let parts = and_parts _ _ says in
-    let first = and_parts _ _ parts.0 in
-    let who : s ≡ t = eqb-true s t first.0 in
-    let same : boot ≡ of = eqb-true boot of first.1 in
-    let its : version ≡ other = eqb-true version other parts.1 in
-    inl cc
-body_means (Stamped s boot version) (Stamped t of other) agree says =
-    let parts = and_parts _ _ says in
-    let first = and_parts _ _ parts.0 in
-    let who : s ≡ t = eqb-true s t first.0 in
-    let same : boot ≡ of = eqb-true boot of first.1 in
-    elim (up_to other version parts.1) [
-      | inl its ↦ inl cc
-      | inr less ↦ inr (rw (first.0, first.1, less) refl)
-    ]
+body_means (Hello s boot) (Hello t of) agree says = grind (arith, nat_tests)
+body_means (Installed s boot version) (Installed t of other) agree says = grind (arith, nat_tests)
+body_means (Stamped s boot version) (Stamped t of other) agree says = grind (arith, nat_tests)
 body_means later earlier agree says = absurd cc
 
 pub receiver_means : (later earlier : Receiver) → is_same_receiver later earlier ≡ true
