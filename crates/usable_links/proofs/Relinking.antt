@@ -6,7 +6,7 @@ use Rattle.std.specs.List.{flat_map, range_with_len}
 use Rattle.std.specs.Option.{option_map_or}
 use Rattle.std.proofs.lemmas.Bool.{cases_lt}
 use Rattle.std.proofs.lemmas.Nat.{and_le_l}
-use Rattle.std.proofs.lemmas.Grind.{flat_map-append}
+use Rattle.std.proofs.lemmas.Grind.{common_steps, flat_map-append}
 use Rattle.std.proofs.lemmas.List.{map-append}
 use Rattle.std.proofs.lemmas.List.Elements.{filter_map-append}
 use Rattle.std.proofs.lemmas.Option.{slice_get-get_or}
@@ -59,6 +59,8 @@ held_step switch other n =
     by_one None e = rw e refl
     by_one (Some advert) e = rw e refl
 
+pub ruleset held_steps = (common_steps, held_none, held_step)
+
 pub held_all : (switch : SwitchValue) (other : ℕ)
     → held_below switch other 64 ≡ map (advert_to other) (all_held switch)
 unfolding held_below switches
@@ -86,6 +88,8 @@ near_step tell near n =
     by_test : (b : Bool) → flat_map tell (cond b (n ∷ []) []) ≡ (if b then tell n else [])
     by_test true = append-nil (tell n)
     by_test false = refl
+
+pub ruleset near_steps = (common_steps, near_none, near_step)
 
 -- what it tells the neighbours below n of its links
 abbrev pub told_below : SwitchValue → Advert → ℕ → ℕ → ℕ → List Message

@@ -15,6 +15,7 @@ use switch_core::Switch;
 ///
 /// # Errors
 /// Want of memory alone.
+#[tactic(auto, using(crate::proofs::Relinking::near_steps))]
 pub fn told_again(
     alloc: Global,
     switch: &Switch,

@@ -72,6 +72,7 @@ pub fn relink(
 }
 
 // The switch had these usable links, and has these now.
+#[tactic(auto, using(crate::proofs::Relinking::near_steps))]
 fn relink_one(
     messages: &mut Vec<Message>,
     switch: &mut Switch,
@@ -136,6 +137,7 @@ fn tell(
 ///
 /// # Errors
 /// Want of memory alone.
+#[tactic(auto, using(crate::proofs::Relinking::held_steps))]
 pub fn tell_all(messages: &mut Vec<Message>, switch: &Switch, other: u32) -> Result<(), AllocError>
     ensures { OnOk result (messages.new.items
         ≡ messages.old.items ++ map (advert_to other) (all_held switch.now)) }

@@ -1,30 +1,9 @@
-use Rattle.std.proofs.Common.{◌≡◌, ◌++◌, ap, sym, ◌∙◌, append_assoc, append-nil, arith, true, ◌==◌, ne_eqb}
+use Rattle.std.proofs.Common.{◌≡◌, ◌++◌, ap, sym, ◌∙◌, arith, true, ◌==◌, ne_eqb}
 use Rattle.std.specs.Prelude.{not, ◌&&◌}
-use Rattle.masks.specs.Masks.{has}
 use Rattle.switch_core.specs.Life.{near_changed, next_advert}
-use Rattle.usable_links.proofs.Relinking.{near_none, near_step, told_all, told_below}
-use Rattle.usable_links.specs.Linking.{changes, told_near, told_to}
+use Rattle.usable_links.proofs.Relinking.{told_all, told_below}
+use Rattle.usable_links.specs.Linking.{changes}
 use Rattle.usable_links.proofs.links.relink_one.Goals as goal
-
-pub loop-other-init : goal.loop-other-init
-loop-other-init c = sym (append-nil c.args.messages.now.items)
-    ∙ ap (λ more. c.args.messages.now.items ++ more)
-    (sym (near_none (λ other. told_to c.near_changed-own.new.self c.near_changed-own.result
-    (has c.args.had other) other) c.args.near))
-
-pub loop-other-preserved : goal.loop-other-preserved
-loop-other-preserved c =
-    let switch = c.near_changed-own.new.self in
-    let own = c.near_changed-own.result in
-    let had = c.args.had in
-    let near = c.args.near in
-    let other = c.loop-other.other in
-    c.in_ok-tell_near.ensures
-    ∙ ap (λ so. so ++ told_near switch own had near other) c.loop-other.invariant
-    ∙ append_assoc c.args.messages.now.items (told_below switch own had near other)
-    (told_near switch own had near other)
-    ∙ ap (λ more. c.args.messages.now.items ++ more) (sym (near_step
-    (λ next. told_to switch own (has had next) next) near other))
 
 pub returns-clause-told : goal.returns-clause-told
 returns-clause-told c =
