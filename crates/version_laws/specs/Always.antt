@@ -34,6 +34,10 @@ pub record HoldsAlways (Holds : Setting → List Item → Type 0) : Type 0 where
       HaveCauses (HasItemCause setting) [] journal → Holds setting journal
   pub behind : HoldsBehindItems Holds
 
+-- events of a schedule of the network, with the policies that are there
+abbrev pub AreEvents : Setting → List Event → Type 0
+AreEvents setting events = All (IsEvent setting.net (length setting.policies)) events
+
 -- it holds behind any steps of the network, and behind any first items of what they wrote, which may
 -- end within a step; in each answer to events of it, and in each beginning of one
 pub record HoldsReached (Holds : Setting → List Item → Type 0) : Type 0 where
@@ -42,8 +46,6 @@ pub record HoldsReached (Holds : Setting → List Item → Type 0) : Type 0 wher
   pub within : (setting : Setting) (journal rest : List Item)
       → IsReached setting (journal ++ rest) → Holds setting journal
   pub answered : (setting : Setting) (events : List Event) (journal : List Item)
-      → All (IsEvent setting.net (length setting.policies)) events
-      → Answers setting events journal → Holds setting journal
+      → AreEvents setting events → Answers setting events journal → Holds setting journal
   pub begun : (setting : Setting) (events : List Event) (journal : List Item)
-      → All (IsEvent setting.net (length setting.policies)) events
-      → BeginsAnswer setting events journal → Holds setting journal
+      → AreEvents setting events → BeginsAnswer setting events journal → Holds setting journal

@@ -1,9 +1,8 @@
 -- Each list of events has a play: all their steps, or those before the first that would begin full.
-use Rattle.std.proofs.Common.{ℕ, suc, ◌+◌, ◌<◌, ◌≤◌, ◌⊎◌, inl, inr, Option, Some, None, List, [], ◌∷◌, ◌++◌, length, refl, sym, subst, append_assoc, arith}
+use Rattle.std.proofs.Common.{ℕ, suc, ◌+◌, ◌<◌, ◌≤◌, ◌⊎◌, inl, inr, Option, Some, None, List, [], ◌∷◌, ◌++◌, refl, sym, subst, append_assoc, arith}
 use Rattle.std.specs.Prelude.{All, get_or}
 use Rattle.std.proofs.lemmas.Bool.{cases_lt}
 use Rattle.journal.specs.declared.item.Item.{Item}
-use Rattle.steps.specs.Steps.{IsEvent}
 use Rattle.steps.specs.declared.step.Event.{Event}
 use Rattle.steps.specs.declared.step.Event.TheVariants.{One, Flush, Drain}
 use Rattle.steps.specs.declared.step.Step.{Step}
@@ -13,6 +12,7 @@ use Rattle.update_machine.specs.Messages.{next_message}
 use Rattle.update_machine.specs.Pieces.{piece}
 use Rattle.update_machine.specs.Setting.{Setting, IsSetting}
 use Rattle.update_machine.proofs.CallerLemmas.{IsEventOf, after_append, event_steps_are, rooms_append}
+use Rattle.version_laws.specs.Always.{AreEvents}
 use Rattle.version_laws.proofs.Reached.{NamesOwn, has_nexts, own_event}
 use Rattle.way_laws.specs.Stops.{GoesOrStops}
 use Rattle.way_laws.proofs.Draining.{drain_ends}
@@ -184,7 +184,7 @@ events_go setting row (event ∷ events) before is own ready =
 -- ---- plays
 
 pub has_play : (setting : Setting) (events : List Event) → IsSetting setting
-    → All (IsEvent setting.net (length setting.policies)) events → HasPlay setting events
+    → AreEvents setting events → HasPlay setting events
 has_play setting events is own =
     by (events_go setting 1 events [] is
     (λ k d within. own_event setting (get_or events k d) (own k d within))
