@@ -20,7 +20,8 @@ use Rattle.version_laws.proofs.Crashes.{losts_keep}
 use Rattle.version_laws.proofs.Grown.{serving_more}
 use Rattle.version_laws.proofs.Picked.{any_picked}
 use Rattle.way_laws.specs.Rest.{AreServed, IsServed}
-use Rattle.way_laws.proofs.Served.{AreNumbered, standing_more, stays_served, still_serves, travels_more}
+use Rattle.way_laws.proofs.PacketBlocks.{standing_more, travels_more}
+use Rattle.way_laws.proofs.Served.{AreNumbered, stays_served, still_serves}
 
 -- ---- what is sent leaves packets as they are
 

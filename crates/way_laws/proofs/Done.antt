@@ -22,21 +22,18 @@ use Rattle.update_machine.specs.Setting.{Setting}
 use Rattle.update_machine.specs.Versions.{stamp_of}
 use Rattle.update_machine.specs.Travels.{leg_of, tells_travelling, travels}
 use Rattle.update_machine.specs.Ways.{next_switch, owner}
-use Rattle.update_machine.proofs.CallerLemmas.{folded_append, last_told_append}
+use Rattle.update_machine.proofs.CallerLemmas.{folded_append}
 use Rattle.way_laws.specs.Rest.{IsMoving}
 use Rattle.way_laws.specs.Stages.{OnWay, tells_stage}
-use Rattle.way_laws.proofs.PacketBlocks.{own, stage_more, stage_stays}
+use Rattle.way_laws.proofs.PacketBlocks.{ended, own, stage_more, stage_stays, travels_more}
 
 -- ---- one item
 
 -- an item with which the switch is done with the packet
 ends_done : (journal : List Item) (next : Item) (i : ℕ) → tells_travelling i next ≡ Some false
     → IsMoving (journal ++ next ∷ []) i
-unfolding travels
 ends_done journal next i ends travelling =
-    let clash : true ≡ false =
-    sym travelling
-    ∙ rw (last_told_append (tells_travelling i) journal (next ∷ []), ends) refl in
+    let over : travels (journal ++ next ∷ []) i ≡ false = ended journal next i ends in
     absurd cc
 
 moves_done : (journal : List Item) (next : Item) (i : ℕ) → tells_stage i next ≡ Some OnWay
@@ -46,11 +43,9 @@ moves_done journal next i moves travelling = stage_more journal next i OnWay mov
 -- one that says nothing of it
 pub silent_done : (journal : List Item) (next : Item) (i : ℕ) → tells_travelling i next ≡ None
     → tells_stage i next ≡ None → IsMoving journal i → IsMoving (journal ++ next ∷ []) i
-unfolding travels
 silent_done journal next i travels_on stays done travelling =
     stage_stays journal next i stays
-    ∙ done (rw (last_told_append (tells_travelling i) journal (next ∷ []), travels_on)
-    at travelling)
+    ∙ done (rw (travels_more journal next i, travels_on) at travelling)
 
 none_done : (journal : List Item) (i : ℕ) → IsMoving journal i → IsMoving (journal ++ []) i
 none_done journal i done = subst (λ js. IsMoving js i) (sym (append-nil journal)) done

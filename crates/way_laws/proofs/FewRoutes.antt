@@ -34,7 +34,7 @@ use Rattle.way_laws.proofs.Here.{IsHere, decision_in, here_of, leg_in, next_in, 
 use Rattle.way_laws.proofs.Kept.{Knows, seeking_after}
 use Rattle.way_laws.proofs.Rests.{IsWayItem, Past, switches_of_all}
 use Rattle.way_laws.proofs.Strong.{strongly_caused}
-use Rattle.way_laws.proofs.Served.{stage_next}
+use Rattle.way_laws.proofs.PacketBlocks.{stage_next}
 use Rattle.way_laws.specs.Routes.{finding_count, is_finding, most_routes}
 use Rattle.way_laws.proofs.Links.{FindsOne, few_unfound, finds_one, unfound}
 use Rattle.way_laws.proofs.Counts.{count_more, one_more}

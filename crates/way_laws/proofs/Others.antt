@@ -1,5 +1,5 @@
 -- What a step leaves of packets that it isn't about: they are on their way as before.
-use Rattle.std.proofs.Common.{ℕ, ◌≡◌, ◌+◌, ◌==◌, Bool, true, false, Option, Some, None, List, [], ◌∷◌, ◌++◌, map, refl, sym, ◌∙◌, arith, inl, inr, ◌⊎◌}
+use Rattle.std.proofs.Common.{ℕ, ◌≡◌, ◌+◌, ◌==◌, Bool, true, false, Option, Some, None, List, [], ◌∷◌, ◌++◌, map, refl, ◌∙◌, arith, inl, inr, ◌⊎◌}
 use Rattle.std.specs.Prelude.{⊤, if◌then◌else◌}
 use Rattle.std.proofs.lemmas.Bool.{ne_eqb}
 use Rattle.five_tuple.specs.declared.header.Header.{Header}
@@ -18,12 +18,12 @@ use Rattle.update_machine.specs.Moves.{AuthorityRule, arrive_items, authority_it
 use Rattle.update_machine.specs.Travels.{packets_at, tells_travelling, travels}
 use Rattle.update_machine.specs.Pieces.{crash_items, hop_items, lose_items, nothing, packet_items}
 use Rattle.update_machine.specs.Setting.{Setting}
-use Rattle.update_machine.proofs.CallerLemmas.{have_append, have_put, last_told_append}
+use Rattle.update_machine.proofs.CallerLemmas.{have_append, have_put}
 use Rattle.version_laws.proofs.Facts.{AreKept, fact_on, have_weaker}
 use Rattle.way_laws.specs.Rest.{IsMoving}
 use Rattle.way_laws.specs.Stages.{CameIn, tells_stage}
 use Rattle.way_laws.proofs.OtherBlocks.{AreAside, IsAside, changes_aside}
-use Rattle.way_laws.proofs.PacketBlocks.{stage_stays}
+use Rattle.way_laws.proofs.PacketBlocks.{ended, stage_stays, travels_more}
 
 -- ---- items that say nothing of where a packet is about
 
@@ -82,15 +82,12 @@ comes_in i (item.Stuck packet switch cause leg down) spares = ends_or_not (packe
 comes_in i _ spares = inl refl
 
 pub spared_on : (i : ℕ) → AreKept (Spares i) (λ journal. IsMoving journal i)
-unfolding travels
 spared_on i before next spares done travelling = elim (comes_in i next spares.0) [
   | inl none ↦
       stage_stays before next i spares.0
-      ∙ done (rw (last_told_append (tells_travelling i) before (next ∷ []), none) at travelling)
+      ∙ done (rw (travels_more before next i, none) at travelling)
   | inr ends ↦
-      let clash : true ≡ false =
-      sym travelling ∙ rw (last_told_append (tells_travelling i) before (next ∷ []), ends) refl in
-      absurd cc
+      let over : travels (before ++ next ∷ []) i ≡ false = ended before next i ends in absurd cc
 ]
 
 pub spared : (i : ℕ) (before items : List Item) → HaveCauses (Spares i) before items

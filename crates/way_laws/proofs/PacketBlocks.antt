@@ -1,5 +1,6 @@
 -- The blocks of a packet's items have their causes, whatever journal they stand behind.
 use Rattle.std.proofs.Common.{rules, ℕ, ◌≡◌, ◌==◌, Bool, true, false, Option, Some, None, List, [], ◌∷◌, ◌++◌, refl, ap, sym, subst, ◌∙◌, append-nil, inl, inr, ◌⊎◌}
+use Rattle.std.specs.Option.{option_or}
 use Rattle.std.specs.Prelude.{IsTrue, option_map, slice_get, unwrap_or}
 use Rattle.std.proofs.lemmas.Bool.{eq-eqb}
 use Rattle.ctrl_msg.specs.declared.message.Message.{Message}
@@ -31,6 +32,7 @@ use Rattle.update_machine.specs.Versions.{holds_version, stamp_of, plan_at}
 use Rattle.update_machine.specs.Travels.{ingress_of, is_at, leg_of, tells_travelling, travels}
 use Rattle.update_machine.specs.Ways.{changes_hops, found_down, next_switch, owner, route_in, route_place, targets_of, tells_route}
 use Rattle.update_machine.proofs.CallerLemmas.{folded_append, have_append, have_first, last_told_append, lookup_stays, near_stays, policies_keep, switch_keeps}
+use Rattle.version_laws.proofs.Grown.{last_more, serving_more}
 use Rattle.way_laws.specs.Stages.{Stage, Blocked, CameIn, Judged, OnWay, stage_of, tells_stage}
 use Rattle.way_laws.specs.Rest.{AreResting, IsServed}
 use Rattle.way_laws.specs.WayCauses.{Arrives, AuthorityFinds, IsAt, IsLookedUp, IsOfRow, ReachesAuthority, TakesLeg, WayCause}
@@ -44,26 +46,42 @@ own i = eq-eqb i i refl
 
 -- ---- what stays behind one more item
 
+pub travels_more : (before : List Item) (next : Item) (i : ℕ)
+    → travels (before ++ next ∷ []) i ≡ unwrap_or (tells_travelling i next) (travels before i)
+unfolding travels
+travels_more before next i = last_more (tells_travelling i) before next false
+
+-- an item with which it ends
+pub ended : (before : List Item) (next : Item) (i : ℕ) → tells_travelling i next ≡ Some false
+    → travels (before ++ next ∷ []) i ≡ false
+ended before next i ends = rw (travels_more before next i, ends) refl
+
+pub standing_more : (before : List Item) (next : Item) (i : ℕ)
+    → standing (before ++ next ∷ []) i ≡ option_or (tells_standing i next) (standing before i)
+unfolding standing
+standing_more before next i = last_told_append (tells_standing i) before (next ∷ [])
+
+pub stage_next : (before : List Item) (next : Item) (i : ℕ)
+    → stage_of (before ++ next ∷ []) i ≡ option_or (tells_stage i next) (stage_of before i)
+unfolding stage_of
+stage_next before next i = last_told_append (tells_stage i) before (next ∷ [])
+
 pub stage_more : (before : List Item) (next : Item) (i : ℕ) (stage : Stage)
     → tells_stage i next ≡ Some stage → stage_of (before ++ next ∷ []) i ≡ Some stage
-unfolding stage_of
-stage_more before next i stage tells = rw (last_told_append (tells_stage i) before (next ∷ []), tells) refl
+stage_more before next i stage tells = rw (stage_next before next i, tells) refl
 
 pub stage_stays : (before : List Item) (next : Item) (i : ℕ) → tells_stage i next ≡ None
     → stage_of (before ++ next ∷ []) i ≡ stage_of before i
-unfolding stage_of
-stage_stays before next i tells = rw (last_told_append (tells_stage i) before (next ∷ []), tells) refl
+stage_stays before next i tells = rw (stage_next before next i, tells) refl
 
 -- an item that leaves a packet where it is
 pub still : (before : List Item) (next : Item) (i s : ℕ) → tells_travelling i next ≡ None
     → tells_standing i next ≡ None → tells_serving s next ≡ None → IsAt before i s
     → IsAt (before ++ next ∷ []) i s
-unfolding travels standing serves
 still before next i s travelling stands serving at = record {
-  travelling = rw (last_told_append (tells_travelling i) before (next ∷ []), travelling)
-      at.travelling;
-  stands = rw (last_told_append (tells_standing i) before (next ∷ []), stands) at.stands;
-  serving = rw (last_told_append (tells_serving s) before (next ∷ []), serving) at.serving;
+  travelling = rw (travels_more before next i, travelling) at.travelling;
+  stands = rw (standing_more before next i, stands) at.stands;
+  serving = rw (serving_more before next s, serving) at.serving;
 }
 
 -- ---- legs
@@ -525,13 +543,12 @@ move_ways setting journal i s at moving = by_next (next_switch journal i) refl
 
 entered_at : (journal : List Item) (i s : ℕ) (header : Header) → IsTrue (serves journal s)
     → IsAt (journal ++ item.Entered i s header ∷ []) i s
-unfolding travels standing serves
 entered_at journal i s header serving =
     let entered : Item = item.Entered i s header in
     record {
-      travelling = rw (last_told_append (tells_travelling i) journal (entered ∷ []), own i) refl;
-      stands = rw (last_told_append (tells_standing i) journal (entered ∷ []), own i) refl;
-      serving = rw (last_told_append (tells_serving s) journal (entered ∷ [])) serving;
+      travelling = rw (travels_more journal entered i, own i) refl;
+      stands = rw (standing_more journal entered i, own i) refl;
+      serving = rw (serving_more journal entered s) serving;
     }
 
 pub packet_ways : (setting : Setting) (journal : List Item) (i s : ℕ) (header : Header)

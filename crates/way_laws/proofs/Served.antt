@@ -1,7 +1,7 @@
 -- Travelling packets stand at switches that serve, behind each item but those of a crash; and what
 -- else each item keeps of packets' numbers and legs.
 use Rattle.std.proofs.Common.{ℕ, ◌≡◌, ◌+◌, ◌<◌, ◌≤◌, ◌==◌, if◌then◌else◌, Bool, true, false, Some, None, List, [], ◌∷◌, ◌++◌, refl, ap, sym, subst, ◌∙◌, arith, inl, inr, ◌⊎◌}
-use Rattle.std.specs.Prelude.{⊤, IsTrue, IsFalse, unwrap_or}
+use Rattle.std.specs.Prelude.{⊤, IsTrue, IsFalse}
 use Rattle.std.specs.Option.{option_or}
 use Rattle.std.proofs.lemmas.Bool.{eqb-true}
 use Rattle.masks.specs.Masks.{has}
@@ -13,31 +13,22 @@ use Rattle.journal.specs.declared.item.Item.TheVariants as item
 use Rattle.update_machine.specs.Boots.{is_up}
 use Rattle.update_machine.specs.Folds.{count_of}
 use Rattle.update_machine.specs.Links.{serves, tells_serving}
-use Rattle.update_machine.specs.Packets.{is_packet, next_packet, standing, tells_standing}
+use Rattle.update_machine.specs.Packets.{is_packet, next_packet, tells_standing}
 use Rattle.update_machine.specs.Setting.{Setting}
 use Rattle.update_machine.specs.Travels.{changes_leg, exit_port, leg_of, tells_travelling, travels}
-use Rattle.update_machine.proofs.CallerLemmas.{count_of_append, folded_append, last_told_append}
+use Rattle.update_machine.proofs.CallerLemmas.{count_of_append, folded_append}
 use Rattle.version_laws.specs.BootLaws.{ServingIsKnown}
 use Rattle.version_laws.specs.ItemCauses.{HasItemCause}
 use Rattle.version_laws.proofs.Facts.{AreKept}
-use Rattle.version_laws.proofs.Grown.{last_more, serving_more}
+use Rattle.version_laws.proofs.Grown.{serving_more}
 use Rattle.advert_laws.proofs.NetLinks.{ends_serve}
 use Rattle.way_laws.specs.Rest.{AreServed, IsServed}
 use Rattle.way_laws.specs.Stages.{Blocked, CameIn, Judged, OnWay, Stage, stage_of, tells_stage}
 use Rattle.way_laws.specs.WayCauses.{WayCause}
 use Rattle.way_laws.proofs.Others.{ends_or_not}
+use Rattle.way_laws.proofs.PacketBlocks.{ended, stage_next, standing_more, travels_more}
 
 -- ---- what one more item makes of facts
-
-pub travels_more : (before : List Item) (next : Item) (i : ℕ)
-    → travels (before ++ next ∷ []) i ≡ unwrap_or (tells_travelling i next) (travels before i)
-unfolding travels
-travels_more before next i = last_more (tells_travelling i) before next false
-
-pub standing_more : (before : List Item) (next : Item) (i : ℕ)
-    → standing (before ++ next ∷ []) i ≡ option_or (tells_standing i next) (standing before i)
-unfolding standing
-standing_more before next i = last_told_append (tells_standing i) before (next ∷ [])
 
 pub packet_more : (before : List Item) (next : Item)
     → next_packet (before ++ next ∷ []) ≡ next_packet before + count_of is_packet (next ∷ [])
@@ -63,8 +54,7 @@ pub stays_served : (before : List Item) (next : Item) (i : ℕ) → tells_standi
     → (IsTrue (travels before i) → IsServed before i)
     → IsTrue (travels (before ++ next ∷ []) i) → IsServed (before ++ next ∷ []) i
 stays_served before next i stays (inr ends) on served travelling =
-    let clash : true ≡ false =
-    sym travelling ∙ travels_more before next i ∙ ap (λ o. unwrap_or o (travels before i)) ends in
+    let over : travels (before ++ next ∷ []) i ≡ false = ended before next i ends in
     absurd cc
 stays_served before next i stays (inl same) on served travelling =
     let here : IsServed before i =
@@ -202,8 +192,7 @@ number_stays : (before : List Item) (next : Item) (i : ℕ)
     → IsTrue (travels (before ++ next ∷ []) i)
     → (1 ≤ i) × (i < next_packet (before ++ next ∷ []))
 number_stays before next i (inr ends) numbered travelling =
-    let clash : true ≡ false =
-    sym travelling ∙ travels_more before next i ∙ ap (λ o. unwrap_or o (travels before i)) ends in
+    let over : travels (before ++ next ∷ []) i ≡ false = ended before next i ends in
     absurd cc
 number_stays before next i (inl same) numbered travelling =
     let there = numbered (rw (travels_more before next i, same) at travelling) in
@@ -254,11 +243,6 @@ leg_more : (before : List Item) (next : Item) (i : ℕ)
     → leg_of (before ++ next ∷ []) i ≡ changes_leg i before (leg_of before i) next
 unfolding leg_of
 leg_more before next i = folded_append (changes_leg i) None before (next ∷ [])
-
-pub stage_next : (before : List Item) (next : Item) (i : ℕ)
-    → stage_of (before ++ next ∷ []) i ≡ option_or (tells_stage i next) (stage_of before i)
-unfolding stage_of
-stage_next before next i = last_told_append (tells_stage i) before (next ∷ [])
 
 -- a packet has a leg behind an item: its own one where the item is of another packet
 leg_behind : (before : List Item) (next : Item) (packet i : ℕ) → HaveLegs before

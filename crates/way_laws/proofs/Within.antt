@@ -29,7 +29,7 @@ use Rattle.way_laws.proofs.Kept.{exiting_after, rerouted_after, seeking_after}
 use Rattle.way_laws.proofs.Rests.{IsWayItem, Past}
 use Rattle.way_laws.specs.Routes.{changes_on_route, hops_on_route}
 use Rattle.way_laws.proofs.FewRoutes.{taken_few}
-use Rattle.way_laws.proofs.Served.{stage_next}
+use Rattle.way_laws.proofs.PacketBlocks.{stage_next}
 use Rattle.way_laws.proofs.Counts.{count_more, one_more}
 use Rattle.way_laws.proofs.Asked.{changes_asked, is_asked, asked_more}
 
