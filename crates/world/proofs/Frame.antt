@@ -1,6 +1,6 @@
 -- What a kind of step owes to the frame that all of them share: its row stands behind the journal,
 -- and it writes the rest.
-use Rattle.std.proofs.Common.{ℕ, ◌≡◌, ◌+◌, List, [], ◌∷◌, ◌++◌, refl, sym, subst, ◌∙◌, arith}
+use Rattle.std.proofs.Common.{ℕ, ◌≡◌, ◌+◌, List, [], ◌∷◌, ◌++◌, refl, sym, subst, ◌∙◌, arith, rules}
 use Rattle.std.specs.Prelude.{Err, IsErr, Ok, OnErr, OnOk, Result}
 use Rattle.std.proofs.lemmas.Result.{on_err_weaker, on_ok_weaker}
 use Rattle.bag.specs.Posts.{Post}
@@ -95,8 +95,8 @@ piece_split : (setting : Setting) (before : List Item) (row : ℕ) (step : Step)
 unfolding piece
 piece_split setting before row step = refl
 
-module _ {T E : Type 0} (r : Result T E) (before : List Item) (row : ℕ) (step : Step)
-    (old new : Parts) (begins : BeginsStep before row step old) (keeps : KeepNet old new) where
+module _ {T E : Type 0} {r : Result T E} {before : List Item} {row : ℕ} {step : Step}
+    {old new : Parts} (begins : BeginsStep before row step old) (keeps : KeepNet old new) where
   -- the step writes these items behind its row
   pub goes : (items : List Item)
       → piece (setting_in old) before row step ≡ item.Row row step ∷ items
@@ -165,32 +165,22 @@ abbrev pub with_journal : Parts → List Item → Parts
 with_journal parts journal = record parts { log = record parts.log { journal = journal } }
 
 -- nothing happens: of all parts the journal alone changes, which says so
-pub goes_nothing : {T E : Type 0} (r : Result T E) (before : List Item) (row : ℕ) (step : Step)
-    (old : Parts) (journal : List Item) → BeginsStep before row step old → comes_in step ≡ 0
+pub goes_nothing : {T E : Type 0} {r : Result T E} {before : List Item} {row : ℕ} {step : Step}
+    {old : Parts} {journal : List Item} → BeginsStep before row step old → comes_in step ≡ 0
     → (piece (setting_in old) before row step ≡ item.Row row step ∷ item.Nothing ∷ [])
     × AreTiedTo old (grown before row step item.Nothing) old (control_in old)
     → OnOk r (journal ≡ old.log.journal ++ item.Nothing ∷ [])
     → OnErr r (journal ≡ old.log.journal)
     → Goes r before row step old (with_journal old journal)
-goes_nothing r before row step old journal begins none is pushed unchanged =
-    goes_one r before row step old (with_journal old journal) begins (net_stays refl refl)
-    item.Nothing old.log.bag (plane_stays refl refl refl) refl (omega (arith, none)) is pushed
-    unchanged
+goes_nothing {old} begins none is pushed unchanged =
+    goes_one begins (net_stays refl refl) item.Nothing old.log.bag (plane_stays refl refl refl) refl
+    (omega (arith, none)) is pushed unchanged
 
 -- ---- the row is written, and then the rest
 
 ready_behind : (before : List Item) (step : Step) (parts : Parts) (journal : List Item)
     → IsReadyForStep before step parts → IsReadyForStep before step (with_journal parts journal)
-ready_behind before step parts journal ready = record {
-  sound = record {
-    sound = ready.sound.sound;
-    owners = ready.sound.owners;
-  };
-  tied = ready.tied;
-  may = ready.may;
-  few = ready.few;
-  room = ready.room;
-}
+ready_behind before step parts journal ready = search rules
 
 module _ (row : ℕ) (step kind : Step) (old : Parts) (rowed : List Item)
     (ready : IsReadyForStep old.log.journal step old)
@@ -212,13 +202,4 @@ module _ (row : ℕ) (step kind : Step) (old : Parts) (rowed : List Item)
   played r new plays =
       let its : Goes r old.log.journal row kind (with_journal old rowed) new =
       plays old.log.journal row begins_kind in
-      subst (λ (k : Step). Goes r old.log.journal row k old new) (sym kind_is) (record {
-        net = record {
-          same_files = its.net.same_files;
-          same_ports = its.net.same_ports;
-        };
-        counted = its.counted;
-        written = its.written;
-        tied = its.tied;
-        part = its.part;
-      })
+      subst (λ (k : Step). Goes r old.log.journal row k old new) (sym kind_is) (search rules)

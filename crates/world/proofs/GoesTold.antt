@@ -1,5 +1,5 @@
 -- What a step owes to the frame that writes one item, and then what is sent and done upon it.
-use Rattle.std.proofs.Common.{ℕ, ◌≡◌, ◌+◌, List, [], ◌∷◌, ◌++◌, refl, ap, sym, subst, ◌∙◌, append_assoc, length}
+use Rattle.std.proofs.Common.{ℕ, ◌≡◌, ◌+◌, List, [], ◌∷◌, ◌++◌, refl, ap, sym, subst, ◌∙◌, append_assoc, length, rules}
 use Rattle.std.specs.Prelude.{IsErr, OnErr, OnOk, Result}
 use Rattle.std.proofs.lemmas.Result.{on_ok_weaker}
 use Rattle.bag.specs.Posts.{Post}
@@ -57,14 +57,15 @@ as_noted r begun number posts now given acts same written posted part =
     subst (AreNoted r begun number posts now) same
     (record { written = written; posted = posted; part = part })
 
-pub goes_told : {T E : Type 0} (r : Result T E) (before : List Item) (row : ℕ) (step : Step)
-    (old new : Parts) (first : Item) (tail : ℕ → List Item) (begun : List Item) (number : ℕ)
+pub goes_told : {T E : Type 0} {r : Result T E} {before : List Item} {row : ℕ} {step : Step}
+    {old new : Parts} (first : Item) (tail : ℕ → List Item) (begun : List Item) (number : ℕ)
     (posts more : List Post) → BeginsStep before row step old → KeepNet old new
     → Tells r before row step old new first tail begun number posts more
     → Goes r before row step old new
-goes_told r before row step old new first tail begun number posts more begins keeps tells =
+goes_told {r} {before} {row} {step} {old} {new} first tail begun number posts more begins keeps
+    tells =
     let items : List Item = tail (length old.log.bag + 1) in
-    goes r before row step old new begins keeps (first ∷ items) tells.piece_is
+    goes begins keeps (first ∷ items) tells.piece_is
     (on_ok_weaker r (λ grown. tells.counted) tells.written)
     (step_written r old.log.journal begun new.log.journal items (first ∷ items) first refl
     tells.pushed
@@ -81,13 +82,38 @@ goes_told r before row step old new first tail begun number posts more begins ke
     new.packets (record (control_in new) { posts = posts ++ more }))
     (sym tells.travelling) tied)) tells.posted tells.tied)
 
+-- where the controller's acts are what it writes then
+pub goes_acting : {T E : Type 0} {r : Result T E} {before : List Item} {row : ℕ} {step : Step}
+    {old new : Parts} (first : Item) (acts given : List Act) (begun : List Item)
+    → BeginsStep before row step old → KeepNet old new
+    → new.packets ≡ old.packets + comes_in step
+    → piece (setting_in old) before row step
+    ≡ item.Row row step ∷ first ∷ act_items (length old.log.bag + 1) acts
+    → begun ≡ old.log.journal ++ first ∷ [] → given ≡ acts
+    → new.log.travelling ≡ old.log.travelling
+    → OnOk r (new.log.journal ≡ begun ++ act_items (length old.log.bag + 1) given)
+    → OnOk r (new.log.bag ≡ old.log.bag ++ act_posts given)
+    → OnErr r (IsPart begun (act_items (length old.log.bag + 1) given) new.log.journal)
+    → AreTied (setting_in old)
+    (before ++ item.Row row step ∷ first ∷ act_items (length old.log.bag + 1) acts)
+    new.switches.items old.log.travelling new.packets
+    (record (control_in new) { posts = old.log.bag ++ act_posts acts })
+    → Goes r before row step old new
+goes_acting {r} {old} {new} first acts given begun begins keeps counted is pushed same travelling
+    written posted part tied =
+    let noted = as_noted r begun (length old.log.bag) old.log.bag new.log given acts same written
+    posted part in
+    let all = on_ok_weaker r (λ done. tied) noted.written in
+    goes_told first (λ k. act_items k acts) begun (length old.log.bag) old.log.bag (act_posts acts)
+    begins keeps (search rules)
+
 -- memory runs out behind the first item
-pub first_goes : {T E : Type 0} (r : Result T E) (before : List Item) (row : ℕ) (step : Step)
-    (old new : Parts) (first : Item) (rest : List Item) → BeginsStep before row step old
+pub first_goes : {T E : Type 0} {r : Result T E} {before : List Item} {row : ℕ} {step : Step}
+    {old new : Parts} (first : Item) (rest : List Item) → BeginsStep before row step old
     → KeepNet old new
     → piece (setting_in old) before row step ≡ item.Row row step ∷ first ∷ rest
     → IsErr r → new.log.journal ≡ old.log.journal ++ first ∷ [] → Goes r before row step old new
-first_goes r before row step old new first rest begins keeps is failed pushed = record {
+first_goes {r} {before} {row} {step} first rest begins keeps is failed pushed = record {
   net = keeps;
   counted = none_ok _ r failed;
   written = none_ok _ r failed;

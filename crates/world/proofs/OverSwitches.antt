@@ -1,5 +1,5 @@
 -- The switches over the parts of a world, on which a step was begun.
-use Rattle.std.proofs.Common.{ℕ, ◌<◌, ◌≤◌, length}
+use Rattle.std.proofs.Common.{ℕ, ◌<◌, ◌≤◌, length, vec_len, arith}
 use Rattle.steps.specs.Steps.{HasSwitch}
 use Rattle.steps.specs.declared.step.Step.{Step}
 use Rattle.world.specs.Parts.{HasBegun, control_in, setting_in}
@@ -7,19 +7,25 @@ use Rattle.world.specs.declared.parts.Parts.{Parts}
 use Rattle.world_ties.proofs.Switches.{few_switches, switch_known, switch_there}
 
 -- a switch that the step names is there
-pub switch_in : {step : Step} (self : Parts) (s : ℕ) → HasBegun step self
+pub switch_in : {step : Step} {self : Parts} (s : ℕ) → HasBegun step self
     → HasSwitch self.files.net s → s < length self.switches.items
-switch_in self s begun own = switch_there (control_in self) (setting_in self) begun.before
+switch_in {self} s begun own = switch_there (control_in self) (setting_in self) begun.before
     self.switches.items self.log.travelling self.packets s begun.begins.ready.tied own
 
+pub place_in : {step : Step} {self : Parts} (s : ℕ) → HasBegun step self
+    → HasSwitch self.files.net s → s < vec_len self.switches
+place_in {self} s begun own =
+    let there = switch_in s begun own in
+    omega (arith, there, self.switches.ok.0)
+
 -- and the controller knows it
-pub known_in : {step : Step} (self : Parts) (s : ℕ) → HasBegun step self
+pub known_in : {step : Step} {self : Parts} (s : ℕ) → HasBegun step self
     → HasSwitch self.files.net s → s < length self.controller.marks.switches
-known_in self s begun own = switch_known (control_in self) (setting_in self) begun.before
+known_in {self} s begun own = switch_known (control_in self) (setting_in self) begun.before
     self.switches.items self.log.travelling self.packets s begun.begins.ready.tied own
 
 -- each has a place in a mask
-pub few_in : {step : Step} (self : Parts) → HasBegun step self
+pub few_in : {step : Step} {self : Parts} → HasBegun step self
     → length self.switches.items ≤ 64
-few_in self begun = few_switches (control_in self) (setting_in self) begun.before
+few_in {self} begun = few_switches (control_in self) (setting_in self) begun.before
     self.switches.items self.log.travelling self.packets begun.begins.ready.tied

@@ -12,36 +12,28 @@ use Rattle.usable_links.specs.Linking.{all_told, near_all}
 use Rattle.world.specs.Parts.{control_in, setting_in}
 use Rattle.world_ties.specs.Tied.{AreTied}
 use Rattle.travelling.specs.Travelling.{WithoutAt, numbers_at}
-use Rattle.world_log.specs.Sending.{MaySend}
 use Rattle.world_log.specs.Writing.{IsPart}
 use Rattle.world_ties.proofs.Crashed.{crash_may, crash_next, crash_piece, crash_tied, same_switch, stays_down}
 use Rattle.world.proofs.Frame.{goes, goes_nothing, net_stays, none_ok, nothing_goes}
 use Rattle.world.proofs.GoesTold.{same_control}
-use Rattle.world.proofs.OverSwitches.{few_in, switch_in}
+use Rattle.world.proofs.OverSwitches.{few_in, place_in, switch_in}
 use Rattle.world_log.proofs.Writing.{by_error, part_of_first, part_of_rest, step_part, step_written, three_ok}
 use Rattle.world.proofs.parts.Parts.crash.Goals as goal
 use Rattle.world.proofs.parts.Parts.crash.Goals.{After-index_mut}
 
 pub index-requires : goal.index-requires
-index-requires c =
-    let self = c.args.self.now in
-    let there = switch_in self c.args.switch c.requires c.requires.begins.ready.may in
-    omega (arith, there, self.switches.ok.0)
+index-requires c = place_in c.args.switch c.requires c.requires.begins.ready.may
 
 pub index_mut-requires : goal.index_mut-requires
-index_mut-requires c =
-    let self = c.args.self.now in
-    let there = switch_in self c.args.switch c.requires c.requires.begins.ready.may in
-    omega (arith, there, self.switches.ok.0)
+index_mut-requires c = place_in c.args.switch c.requires c.requires.begins.ready.may
 
 -- ---- it is down
 
 pub returns-then-not-is_up : goal.returns-then-not-is_up
 returns-then-not-is_up c = λ before row begins.
     let self = c.args.self.now in
-    goes_nothing c.push.result before row (Crash c.args.switch) self c.push.new.self begins refl
-    (stays_down (control_in self) (setting_in self) before self.switches.items
-    self.log.travelling self.packets row c.args.switch c.index.result.now begins.ready.tied
+    goes_nothing begins refl
+    (stays_down _ _ _ _ _ _ row c.args.switch c.index.result.now begins.ready.tied
     begins.ready.may c.index.ensures (sym c.is_up.ensures ∙ c.if-not-is_up.true))
     c.push.ensures.pushed c.push.ensures.unchanged
 
@@ -52,13 +44,13 @@ was_up c =
     let self = c.args.self.now in
     ap (λ (w : SwitchValue). w.is_up) (same_switch self.switches.items c.args.switch
     c.index_mut.result.now c.index.result.now
-    (switch_in self c.args.switch c.requires c.requires.begins.ready.may)
+    (switch_in c.args.switch c.requires c.requires.begins.ready.may)
     c.index_mut.ensures.value c.index.ensures)
     ∙ sym c.is_up.ensures ∙ c.if-not-is_up.false
 
 pub returns-in_err-push : goal.returns-in_err-push
 returns-in_err-push c = λ before row begins.
-    nothing_goes c.from_residual.result before row (Crash c.args.switch) c.args.self.now _ begins
+    nothing_goes begins
     (net_stays refl refl) c.from_residual.ensures.0 c.in_err-push.ensures.unchanged
 
 pub returns-in_err-lose_at : goal.returns-in_err-lose_at
@@ -67,16 +59,15 @@ returns-in_err-lose_at c = λ before row begins.
     let s = c.args.switch in
     let own = c.index_mut.result.now in
     let changed = c.crash.new.self in
-    let within = switch_in self s c.requires begins.ready.may in
+    let within = switch_in s c.requires begins.ready.may in
     let others = set self.switches.items s changed in
     let messages : List Message = all_told self.near (near_all self.links others) others in
     let sends = sent_from (length self.log.bag + 1) messages in
     let losses = map item.Lost (numbers_at self.log.travelling s) in
     let r = c.from_residual-in_err-lose_at.result in
     let failed = c.from_residual-in_err-lose_at.ensures.0 in
-    goes r before row (Crash s) self _ begins (net_stays refl refl) (item.Down s ∷ losses ++ sends)
-    (crash_piece (control_in self) (setting_in self) before self.switches.items
-    self.log.travelling self.packets row s own changed begins.ready.tied begins.ready.may within
+    goes begins (net_stays refl refl) (item.Down s ∷ losses ++ sends)
+    (crash_piece _ _ _ _ _ _ row s own changed begins.ready.tied begins.ready.may within
     c.index_mut.ensures.value c.crash.ensures
     (was_up (goal.at.returns-in_err-lose_at c).After-index_mut))
     (none_ok _ r failed) (none_ok _ r failed)
@@ -94,32 +85,22 @@ change_links-requires-clause-many c =
     omega (
       arith,
       length-set self.switches.items c.args.switch c.crash.new.self,
-      few_in self c.requires,
+      few_in c.requires,
     )
 
 pub change_links-requires-clause-next : goal.change_links-requires-clause-next
 change_links-requires-clause-next c =
-    let self = c.args.self.now in
-    let s = c.args.switch in
     let ready = c.requires.begins.ready in
-    let within = switch_in self s c.requires ready.may in
-    crash_next (control_in self) (setting_in self) c.requires.before self.switches.items
-    self.log.travelling self.packets c.requires.row s c.index_mut.result.now c.crash.new.self
-    ready.tied ready.may within c.index_mut.ensures.value c.crash.ensures
-    (was_up (goal.at.change_links-requires-clause-next c).After-index_mut) ready.room
+    crash_next _ _ _ _ _ _ c.requires.row c.args.switch c.index_mut.result.now c.crash.new.self
+    ready.tied ready.may (switch_in c.args.switch c.requires ready.may) c.index_mut.ensures.value
+    c.crash.ensures (was_up (goal.at.change_links-requires-clause-next c).After-index_mut) ready.room
 
 pub change_links-requires-clause-may : goal.change_links-requires-clause-may
 change_links-requires-clause-may c =
-    let self = c.args.self.now in
-    let s = c.args.switch in
     let ready = c.requires.begins.ready in
-    let within = switch_in self s c.requires ready.may in
-    let others = set self.switches.items s c.crash.new.self in
-    subst (λ bag. MaySend bag (all_told self.near (near_all self.links others) others))
-    (sym c.lose_at.ensures.unsent)
-    (crash_may (control_in self) (setting_in self) c.requires.before self.switches.items
-    self.log.travelling self.packets c.requires.row s c.index_mut.result.now c.crash.new.self
-    ready.tied ready.may within c.index_mut.ensures.value c.crash.ensures
+    rw c.lose_at.ensures.unsent (crash_may _ _ _ _ _ _ c.requires.row c.args.switch
+    c.index_mut.result.now c.crash.new.self ready.tied ready.may
+    (switch_in c.args.switch c.requires ready.may) c.index_mut.ensures.value c.crash.ensures
     (was_up (goal.at.change_links-requires-clause-may c).After-index_mut) ready.room)
 
 pub returns : goal.returns
@@ -131,7 +112,7 @@ returns c = λ before row begins.
     let ready = begins.ready in
     let own = c.index_mut.result.now in
     let changed = c.crash.new.self in
-    let within = switch_in self s c.requires ready.may in
+    let within = switch_in s c.requires ready.may in
     let is_up = was_up (goal.at.returns c).After-index_mut in
     let others = set self.switches.items s changed in
     let messages : List Message = all_told self.near (near_all self.links others) others in
@@ -140,11 +121,10 @@ returns c = λ before row begins.
     let rest = c.change_links.ensures.rest in
     let down = c.push-2.new.self in
     let behind = c.lose_at.new.self in
-    goes r before row (Crash s) self new begins
+    goes begins
     (net_stays rest.files rest.ports)
     (item.Down s ∷ losses ++ sends)
-    (crash_piece (control_in self) (setting_in self) before self.switches.items
-    self.log.travelling self.packets row s own changed ready.tied ready.may within
+    (crash_piece _ _ _ _ _ _ row s own changed ready.tied ready.may within
     c.index_mut.ensures.value c.crash.ensures is_up)
     (on_ok_weaker r (λ done. omega (arith, rest.packets)) c.change_links.ensures.written)
     (step_written r self.log.journal down new.log.journal (losses ++ sends)
@@ -171,8 +151,7 @@ returns c = λ before row begins.
     (subst (λ control. AreTied (setting_in self) all new.switches.items new.log.travelling
     self.packets control) (same_control (control_in self) new posts
     (near_all self.links others) rest.controller rest.links near_is)
-    (crash_tied (control_in self) (setting_in self) before self.switches.items
-    self.log.travelling self.packets row s own changed ready.tied ready.may within
+    (crash_tied _ _ _ _ _ _ row s own changed ready.tied ready.may within
     c.index_mut.ensures.value c.crash.ensures is_up new.switches.items new.log.travelling are
     (subst (WithoutAt self.log.travelling s) (sym rest.travelling)
     c.in_ok-lose_at.ensures.lost)))))

@@ -33,15 +33,14 @@ use Rattle.world.proofs.parts.Parts.deliver.Goals.{In-Switch}
 
 pub returns-in_err-get : goal.returns-in_err-get
 returns-in_err-get c = λ before row begins.
-    nothing_goes c.from_residual.result before row (Deliver c.args.number) c.args.self.now _ begins
+    nothing_goes begins
     (net_stays refl refl) c.from_residual.ensures.0 refl
 
 pub returns-in-None : goal.returns-in-None
 returns-in-None c = λ before row begins.
     let self = c.args.self.now in
-    goes_nothing c.push.result before row (Deliver c.args.number) self c.push.new.self begins refl
-    (undelivered (control_in self) (setting_in self) before self.switches.items
-    self.log.travelling self.packets row c.args.number begins.ready.tied begins.ready.may
+    goes_nothing begins refl
+    (undelivered _ _ _ _ _ _ row c.args.number begins.ready.tied begins.ready.may
     (sym c.in_ok-get.ensures.found ∙ ap is_some c.in-None.is))
     c.push.ensures.pushed c.push.ensures.unchanged
 
@@ -49,15 +48,13 @@ returns-in-None c = λ before row begins.
 
 pub returns-in_err-push : goal.returns-in_err-push
 returns-in_err-push c = λ before row begins.
-    nothing_goes c.from_residual-in_err-push.result before row (Deliver c.args.number)
-    c.args.self.now _ begins (net_stays refl refl) c.from_residual-in_err-push.ensures.0
+    nothing_goes begins (net_stays refl refl) c.from_residual-in_err-push.ensures.0
     c.in_err-push.ensures.unchanged
 
 pub tell_controller-requires-clause-there : goal.tell_controller-requires-clause-there
 tell_controller-requires-clause-there c =
     let self = c.args.self.now in
-    names_known (control_in self) (setting_in self) c.requires.before self.switches.items
-    self.log.travelling self.packets c.args.number c.in-Some.message c.requires.begins.ready.tied
+    names_known _ _ _ _ _ _ c.args.number c.in-Some.message c.requires.begins.ready.tied
     (found_there _ _ _ _ c.in-Some.is c.in_ok-get.ensures.message) c.in-Controller.is
 
 pub tell_controller-requires-clause-may : goal.tell_controller-requires-clause-may
@@ -66,8 +63,7 @@ tell_controller-requires-clause-may c = λ new settles.
     let ready = c.requires.begins.ready in
     subst (λ bag. MayNote bag (hearing c.in-Some.message.body self.controller.marks new))
     (sym c.deliver.ensures)
-    (control_may (control_in self) (setting_in self) c.requires.before self.switches.items
-    self.log.travelling self.packets c.requires.row c.args.number c.in-Some.message new ready.tied
+    (control_may _ _ _ _ _ _ c.requires.row c.args.number c.in-Some.message new ready.tied
     ready.may (found_there _ _ _ _ c.in-Some.is c.in_ok-get.ensures.message) c.in-Controller.is settles ready.room)
 
 pub returns-in-Controller : goal.returns-in-Controller
@@ -79,11 +75,10 @@ returns-in-Controller c = λ before row begins.
     let acts = hearing message.body self.controller.marks new in
     let there = found_there _ _ _ _ c.in-Some.is c.in_ok-get.ensures.message in
     let ready = begins.ready in
-    goes_told c.tell_controller.result before row (Deliver n) self _ (item.Delivered n)
+    goes_told (item.Delivered n)
     (λ k. act_items k acts) c.push-2.new.self (length c.deliver.new.self)
     (with_delivered self.log.bag n) (act_posts acts) begins (net_stays refl refl) (record {
-      piece_is = control_piece (control_in self) (setting_in self) before self.switches.items
-          self.log.travelling self.packets row n message new ready.tied ready.may there
+      piece_is = control_piece _ _ _ _ _ _ row n message new ready.tied ready.may there
           c.in-Controller.is c.tell_controller.ensures.after;
       counted = none_in _;
       pushed = c.in_ok-push.ensures.pushed;
@@ -95,8 +90,7 @@ returns-in-Controller c = λ before row begins.
       posted = subst (λ bag. OnOk c.tell_controller.result
           (c.tell_controller.new.log.bag ≡ bag ++ act_posts acts)) c.deliver.ensures
           c.tell_controller.ensures.posted;
-      tied = on_ok_weaker c.tell_controller.result (λ done. control_tied (control_in self)
-          (setting_in self) before self.switches.items self.log.travelling self.packets row n
+      tied = on_ok_weaker c.tell_controller.result (λ done. control_tied _ _ _ _ _ _ row n
           message new ready.tied ready.may there c.in-Controller.is
           c.tell_controller.ensures.after) c.tell_controller.ensures.written;
     })
@@ -107,8 +101,7 @@ hears : (c : In-Switch) → (c.in-Switch.switch < length c.args.self.now.switche
     × (c.in-Switch.switch < 64) × IsSoundBody c.in-Some.message.body
 hears c =
     let self = c.args.self.now in
-    hear_ready (control_in self) (setting_in self) c.requires.before self.switches.items
-    self.log.travelling self.packets c.args.number c.in-Switch.switch c.in-Some.message
+    hear_ready _ _ _ _ _ _ c.args.number c.in-Switch.switch c.in-Some.message
     c.requires.begins.ready.tied
     (found_there _ _ _ _ c.in-Some.is c.in_ok-get.ensures.message) c.in-Switch.is
 
@@ -129,10 +122,9 @@ hear-requires c =
 pub returns-in_err-heard : goal.returns-in_err-heard
 returns-in_err-heard c = λ before row begins.
     let self = c.args.self.now in
-    first_goes c.from_residual-in_err-heard.result before row (Deliver c.args.number) self _
+    first_goes
     (item.Delivered c.args.number) _ begins (net_stays refl refl)
-    (first_piece (control_in self) (setting_in self) before self.switches.items
-    self.log.travelling self.packets row c.args.number c.in-Some.message begins.ready.tied
+    (first_piece _ _ _ _ _ _ row c.args.number c.in-Some.message begins.ready.tied
     (found_there _ _ _ _ c.in-Some.is c.in_ok-get.ensures.message)) c.from_residual-in_err-heard.ensures.0
     c.in_ok-push.ensures.pushed
 
@@ -147,13 +139,11 @@ send_all-requires c =
     subst (MaySend c.deliver.new.self) (sym (c.items.ensures ∙ c.in_ok-heard.ensures.replies))
     (subst (λ bag. MaySend bag (replies c.index_mut.result.now
     (get_or self.near c.in-Switch.switch 0) c.in-Some.message.body)) (sym c.deliver.ensures)
-    (shut_may (control_in self) (setting_in self) c.requires.before self.switches.items
-    self.log.travelling self.packets c.requires.row c.args.number c.in-Switch.switch
+    (shut_may _ _ _ _ _ _ c.requires.row c.args.number c.in-Switch.switch
     c.in-Some.message c.index_mut.result.now c.hear.new.self
     (get_or self.near c.in-Switch.switch 0) ready.tied ready.may there c.in-Switch.is within.0
     c.index_mut.ensures.value
-    (usable_here (control_in self) (setting_in self) c.requires.before self.switches.items
-    self.log.travelling self.packets c.in-Switch.switch ready.tied within.1)
+    (usable_here _ _ _ _ _ _ c.in-Switch.switch ready.tied within.1)
     c.in_ok-heard.ensures.after (sym c.in_ok-heard.ensures.opened ∙ c.in-None-opened.is)
     ready.room))
 
@@ -168,16 +158,14 @@ returns-in-None-opened c = λ before row begins.
     let own = c.index_mut.result.now in
     let near = get_or self.near s 0 in
     let within = hears (goal.at.returns-in-None-opened c).In-Switch in
-    let usable = usable_here (control_in self) (setting_in self) before self.switches.items
-    self.log.travelling self.packets s ready.tied within.1 in
+    let usable = usable_here _ _ _ _ _ _ s ready.tied within.1 in
     let shut = sym c.in_ok-heard.ensures.opened ∙ c.in-None-opened.is in
     let messages : List Message = replies own near message.body in
     let are : c.items.result.now ≡ messages = c.items.ensures ∙ c.in_ok-heard.ensures.replies in
-    goes_told c.send_all.result before row (Deliver n) self _ (item.Delivered n)
+    goes_told (item.Delivered n)
     (λ k. sent_from k messages) c.push-2.new.self (length c.deliver.new.self)
     (with_delivered self.log.bag n) (map posted messages) begins (net_stays refl refl) (record {
-      piece_is = shut_piece (control_in self) (setting_in self) before self.switches.items
-          self.log.travelling self.packets row n s message own c.hear.new.self near ready.tied
+      piece_is = shut_piece _ _ _ _ _ _ row n s message own c.hear.new.self near ready.tied
           ready.may there c.in-Switch.is within.0 c.index_mut.ensures.value usable
           c.in_ok-heard.ensures.after shut;
       counted = none_in _;
@@ -196,8 +184,7 @@ returns-in-None-opened c = λ before row begins.
           (subst (λ bag. OnOk c.send_all.result
           (c.send_all.new.self.bag ≡ bag ++ map posted c.items.result.now)) c.deliver.ensures
           c.send_all.ensures.posted);
-      tied = on_ok_weaker c.send_all.result (λ done. shut_tied (control_in self)
-          (setting_in self) before self.switches.items self.log.travelling self.packets row n s
+      tied = on_ok_weaker c.send_all.result (λ done. shut_tied _ _ _ _ _ _ row n s
           message own c.hear.new.self near ready.tied ready.may there c.in-Switch.is within.0
           c.index_mut.ensures.value usable c.in_ok-heard.ensures.after shut)
           c.send_all.ensures.written;
@@ -208,10 +195,8 @@ returns-in-None-opened c = λ before row begins.
 pub returns-in_err-push-in-Some-opened : goal.returns-in_err-push-in-Some-opened
 returns-in_err-push-in-Some-opened c = λ before row begins.
     let self = c.args.self.now in
-    first_goes c.from_residual-in_err-push-in-Some-opened.result before row
-    (Deliver c.args.number) self _ (item.Delivered c.args.number) _ begins (net_stays refl refl)
-    (first_piece (control_in self) (setting_in self) before self.switches.items
-    self.log.travelling self.packets row c.args.number c.in-Some.message begins.ready.tied
+    first_goes (item.Delivered c.args.number) _ begins (net_stays refl refl)
+    (first_piece _ _ _ _ _ _ row c.args.number c.in-Some.message begins.ready.tied
     (found_there _ _ _ _ c.in-Some.is c.in_ok-get.ensures.message))
     c.from_residual-in_err-push-in-Some-opened.ensures.0
     (c.in_err-push-in-Some-opened.ensures.unchanged ∙ c.in_ok-push.ensures.pushed)
@@ -222,34 +207,27 @@ change_links-requires-clause-many c =
     omega (
       arith,
       length-set self.switches.items c.in-Switch.switch c.hear.new.self,
-      few_in self c.requires,
+      few_in c.requires,
     )
 
 pub change_links-requires-clause-next : goal.change_links-requires-clause-next
 change_links-requires-clause-next c =
-    let self = c.args.self.now in
     let ready = c.requires.begins.ready in
-    let there = found_there _ _ _ _ c.in-Some.is c.in_ok-get.ensures.message in
     let within = hears (goal.at.change_links-requires-clause-next c).In-Switch in
-    opening_next (control_in self) (setting_in self) c.requires.before self.switches.items
-    self.log.travelling self.packets c.requires.row c.args.number c.in-Switch.switch
+    opening_next _ _ _ _ _ _ c.requires.row c.args.number c.in-Switch.switch
     c.in-Some-opened.version c.in-Some.message c.index_mut.result.now c.hear.new.self ready.tied
-    ready.may there c.in-Switch.is within.0 c.index_mut.ensures.value c.in_ok-heard.ensures.after
+    ready.may (found_there _ _ _ _ c.in-Some.is c.in_ok-get.ensures.message) c.in-Switch.is within.0
+    c.index_mut.ensures.value c.in_ok-heard.ensures.after
     (sym c.in_ok-heard.ensures.opened ∙ c.in-Some-opened.is) ready.room
 
 pub change_links-requires-clause-may : goal.change_links-requires-clause-may
 change_links-requires-clause-may c =
-    let self = c.args.self.now in
     let ready = c.requires.begins.ready in
-    let there = found_there _ _ _ _ c.in-Some.is c.in_ok-get.ensures.message in
     let within = hears (goal.at.change_links-requires-clause-may c).In-Switch in
-    let others = set self.switches.items c.in-Switch.switch c.hear.new.self in
-    subst (λ bag. MaySend bag (all_told self.near (near_all self.links others) others))
-    (sym c.deliver.ensures)
-    (opening_may (control_in self) (setting_in self) c.requires.before self.switches.items
-    self.log.travelling self.packets c.requires.row c.args.number c.in-Switch.switch
+    rw c.deliver.ensures (opening_may _ _ _ _ _ _ c.requires.row c.args.number c.in-Switch.switch
     c.in-Some-opened.version c.in-Some.message c.index_mut.result.now c.hear.new.self ready.tied
-    ready.may there c.in-Switch.is within.0 c.index_mut.ensures.value c.in_ok-heard.ensures.after
+    ready.may (found_there _ _ _ _ c.in-Some.is c.in_ok-get.ensures.message) c.in-Switch.is within.0
+    c.index_mut.ensures.value c.in_ok-heard.ensures.after
     (sym c.in_ok-heard.ensures.opened ∙ c.in-Some-opened.is) ready.room)
 
 pub returns : goal.returns
@@ -270,12 +248,11 @@ returns c = λ before row begins.
     let rest = c.change_links.ensures.rest in
     let behind = c.push-in-Some-opened.new.self in
     let sends = sent_from (length c.deliver.new.self + 1) messages in
-    goes_told c.change_links.result before row (Deliver n) self new (item.Delivered n)
+    goes_told (item.Delivered n)
     (λ k. item.Opened s stamp ∷ sent_from k messages) c.push-2.new.self
     (length c.deliver.new.self) (with_delivered self.log.bag n) (map posted messages) begins
     (net_stays rest.files rest.ports) (record {
-      piece_is = opening_piece (control_in self) (setting_in self) before self.switches.items
-          self.log.travelling self.packets row n s stamp message own c.hear.new.self ready.tied
+      piece_is = opening_piece _ _ _ _ _ _ row n s stamp message own c.hear.new.self ready.tied
           ready.may there c.in-Switch.is within.0 c.index_mut.ensures.value
           c.in_ok-heard.ensures.after opens;
       counted = omega (arith, rest.packets);
@@ -301,8 +278,7 @@ returns c = λ before row begins.
           (subst (λ control. AreTied (setting_in self) all new.switches.items self.log.travelling
           self.packets control) (same_control (control_in self) new posts
           (near_all self.links others) rest.controller rest.links near_is)
-          (opening_tied (control_in self) (setting_in self) before self.switches.items
-          self.log.travelling self.packets row n s stamp message own c.hear.new.self ready.tied
+          (opening_tied _ _ _ _ _ _ row n s stamp message own c.hear.new.self ready.tied
           ready.may there c.in-Switch.is within.0 c.index_mut.ensures.value
           c.in_ok-heard.ensures.after opens new.switches.items are)))
           c.change_links.ensures.near c.change_links.ensures.switches;

@@ -1,25 +1,19 @@
-use Rattle.std.proofs.Common.{Some, None, refl, sym, ◌∙◌, arith}
+use Rattle.std.proofs.Common.{Some, None, refl, sym, ◌∙◌}
 use Rattle.journal.specs.declared.item.Item.TheVariants as item
-use Rattle.steps.specs.declared.step.Step.TheVariants.{Expire}
-use Rattle.world.specs.Parts.{control_in, setting_in}
 use Rattle.world_ties.proofs.Expiring.{expired_tied}
 use Rattle.world.proofs.Frame.{goes_one, net_stays, none_in, plane_stays}
-use Rattle.world.proofs.OverSwitches.{switch_in}
+use Rattle.world.proofs.OverSwitches.{place_in}
 use Rattle.world.proofs.parts.Parts.expire.Goals as goal
 
 pub index_mut-requires : goal.index_mut-requires
-index_mut-requires c =
-    let self = c.args.self.now in
-    let there = switch_in self c.args.switch c.requires c.requires.begins.ready.may.0 in
-    omega (arith, there, self.switches.ok.0)
+index_mut-requires c = place_in c.args.switch c.requires c.requires.begins.ready.may.0
 
 pub returns-in-None : goal.returns-in-None
 returns-in-None c = λ before row begins.
     let self = c.args.self.now in
-    goes_one c.push.result before row (Expire c.args.switch c.args.place) self _ begins
+    goes_one begins
     (net_stays refl refl) item.Nothing self.log.bag (plane_stays refl refl refl) refl (none_in _)
-    (expired_tied (control_in self) (setting_in self) before self.switches.items
-    self.log.travelling self.packets row c.args.switch c.args.place c.index_mut.result.now
+    (expired_tied _ _ _ _ _ _ row c.args.switch c.args.place c.index_mut.result.now
     c.expire.new.self None begins.ready.tied begins.ready.may c.index_mut.ensures.value
     c.expire.ensures.after (sym c.in-None.is ∙ c.expire.ensures.message))
     c.push.ensures.pushed c.push.ensures.unchanged
@@ -27,11 +21,10 @@ returns-in-None c = λ before row begins.
 pub returns-in-Some : goal.returns-in-Some
 returns-in-Some c = λ before row begins.
     let self = c.args.self.now in
-    goes_one c.push-in-Some.result before row (Expire c.args.switch c.args.place) self _ begins
+    goes_one begins
     (net_stays refl refl) (item.Expired c.args.switch c.args.place c.in-Some.message) self.log.bag (plane_stays refl refl refl) refl
     (none_in _)
-    (expired_tied (control_in self) (setting_in self) before self.switches.items
-    self.log.travelling self.packets row c.args.switch c.args.place c.index_mut.result.now
+    (expired_tied _ _ _ _ _ _ row c.args.switch c.args.place c.index_mut.result.now
     c.expire.new.self (Some c.in-Some.message) begins.ready.tied begins.ready.may
     c.index_mut.ensures.value c.expire.ensures.after (sym c.in-Some.is ∙ c.expire.ensures.message))
     c.push-in-Some.ensures.pushed c.push-in-Some.ensures.unchanged

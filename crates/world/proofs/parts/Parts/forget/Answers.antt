@@ -1,8 +1,6 @@
 use Rattle.std.proofs.Common.{refl, sym, ◌∙◌}
 use Rattle.journal.specs.declared.item.Item.TheVariants as item
-use Rattle.steps.specs.declared.step.Step.TheVariants.{Forget}
 use Rattle.bag.specs.Posts.{with_forgotten}
-use Rattle.world.specs.Parts.{control_in, setting_in}
 use Rattle.world_ties.proofs.Delivering.{forgotten_tied, unforgotten}
 use Rattle.world.proofs.Frame.{goes_nothing, goes_one, net_stays, none_in, plane_stays}
 use Rattle.world.proofs.parts.Parts.forget.Goals as goal
@@ -10,19 +8,17 @@ use Rattle.world.proofs.parts.Parts.forget.Goals as goal
 pub returns-then-not-may_be_delivered : goal.returns-then-not-may_be_delivered
 returns-then-not-may_be_delivered c = λ before row begins.
     let self = c.args.self.now in
-    goes_nothing c.push.result before row (Forget c.args.number) self c.push.new.self begins refl
-    (unforgotten (control_in self) (setting_in self) before self.switches.items
-    self.log.travelling self.packets row c.args.number begins.ready.tied begins.ready.may
+    goes_nothing begins refl
+    (unforgotten _ _ _ _ _ _ row c.args.number begins.ready.tied begins.ready.may
     (sym c.may_be_delivered.ensures ∙ c.if-not-may_be_delivered.true))
     c.push.ensures.pushed c.push.ensures.unchanged
 
 pub returns : goal.returns
 returns c = λ before row begins.
     let self = c.args.self.now in
-    goes_one c.push-2.result before row (Forget c.args.number) self _ begins (net_stays refl refl)
+    goes_one begins (net_stays refl refl)
     (item.Forgotten c.args.number) (with_forgotten self.log.bag c.args.number) (plane_stays refl refl refl) c.forget.ensures
     (none_in _)
-    (forgotten_tied (control_in self) (setting_in self) before self.switches.items
-    self.log.travelling self.packets row c.args.number begins.ready.tied begins.ready.may
+    (forgotten_tied _ _ _ _ _ _ row c.args.number begins.ready.tied begins.ready.may
     (sym c.may_be_delivered.ensures ∙ c.if-not-may_be_delivered.false))
     c.push-2.ensures.pushed c.push-2.ensures.unchanged

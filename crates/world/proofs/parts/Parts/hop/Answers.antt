@@ -3,8 +3,6 @@ use Rattle.std.proofs.Common.{◌≡◌, ◌<◌, refl, ap, sym, subst, ◌∙�
 use Rattle.std.specs.Option.{option_copied}
 use Rattle.std.specs.Prelude.{IsSomeAnd, is_some, slice_index}
 use Rattle.std.proofs.lemmas.Result.{on_ok_weaker}
-use Rattle.steps.specs.declared.step.Step.TheVariants.{Hop}
-use Rattle.world.specs.Parts.{control_in, setting_in}
 use Rattle.switch_core.specs.Answering.{IsAtAuthority}
 use Rattle.switch_core.specs.Moving.{hopped}
 use Rattle.switch_core.specs.declared.answers.HopEnd.TheVariants.{Arrive}
@@ -20,9 +18,8 @@ use Rattle.world.proofs.parts.Parts.hop.Goals as goal
 pub returns-in-None : goal.returns-in-None
 returns-in-None c = λ before row begins.
     let self = c.args.self.now in
-    goes_nothing c.push.result before row (Hop c.args.packet) self c.push.new.self begins refl
-    (hop_left (control_in self) (setting_in self) before self.switches.items self.log.travelling
-    self.packets row c.args.packet begins.ready.tied begins.ready.may
+    goes_nothing begins refl
+    (hop_left _ _ _ _ _ _ row c.args.packet begins.ready.tied begins.ready.may
     (ap is_some (sym c.look.ensures ∙ ap option_copied c.in-None.is)))
     c.push.ensures.pushed c.push.ensures.unchanged
 
@@ -32,8 +29,7 @@ pub index_mut-requires : goal.index_mut-requires
 index_mut-requires c =
     let self = c.args.self.now in
     let there : c.here.result < length self.switches.items =
-    within_here (control_in self) (setting_in self) c.requires.before self.switches.items
-    self.log.travelling self.packets c.args.packet c.in-Some.kept.now c.here.result
+    within_here _ _ _ _ _ _ c.args.packet c.in-Some.kept.now c.here.result
     c.requires.begins.ready.tied (sym c.look.ensures ∙ ap option_copied c.in-Some.is) c.here.ensures.here in
     omega (arith, there)
 
@@ -42,14 +38,12 @@ hop_kept-requires c =
     let self = c.args.self.now in
     let its = sym c.look.ensures ∙ ap option_copied c.in-Some.is in
     let ready = c.requires.begins.ready in
-    let can = can_ask (control_in self) (setting_in self) c.requires.before self.switches.items
-    self.log.travelling self.packets c.args.packet c.in-Some.kept.now c.here.result
+    let can = can_ask _ _ _ _ _ _ c.args.packet c.in-Some.kept.now c.here.result
     c.index_mut.result.now self.ports ready.tied ready.sound.owners its c.here.ensures.here
     c.index_mut.ensures.value in
     record {
       known = subst (λ o. IsSomeAnd o (λ t. t.tunnel.packet ≡ c.args.packet)) (sym its)
-          (number_of_packet (control_in self) (setting_in self) c.requires.before
-          self.switches.items self.log.travelling self.packets c.args.packet c.in-Some.kept.now
+          (number_of_packet _ _ _ _ _ _ c.args.packet c.in-Some.kept.now
           c.requires.begins.ready.tied its);
       serving = can.serving;
       stamped = can.stamped;
@@ -57,8 +51,7 @@ hop_kept-requires c =
           → IsAtAuthority c.index_mut.result.now t.tunnel.header t.tunnel.leg) _ c.in-Some.kept.now
           (sym its) can.authority;
       ingress = of_kept (λ t. t.tunnel.ingress < 64) _ c.in-Some.kept.now (sym its)
-          (ingress_below (control_in self) (setting_in self) c.requires.before
-          self.switches.items self.log.travelling self.packets c.args.packet c.in-Some.kept.now
+          (ingress_below _ _ _ _ _ _ c.args.packet c.in-Some.kept.now
           ready.tied its);
       few = omega (arith, c.requires.begins.ready.room);
     }
@@ -70,7 +63,7 @@ returns c = λ before row begins.
     let self = c.args.self.now in
     let its = sym c.look.ensures ∙ ap option_copied c.in-Some.is in
     let hops = c.hop_kept.ensures c.in-Some.kept.now its in
-    goes_quiet c.hop_kept.result before row (Hop c.args.packet) self _ begins
+    goes_quiet begins
     (net_stays refl refl) _ (plane_stays refl refl refl)
     (hop_is self before row c.args.packet c.in-Some.kept.now c.here.result
     c.index_mut.result.now begins.ready its c.here.ensures.here c.index_mut.ensures.value)

@@ -1,6 +1,5 @@
 use Rattle.std.proofs.Common.{refl, sym, ◌∙◌}
 use Rattle.journal.specs.declared.item.Item.TheVariants as item
-use Rattle.steps.specs.declared.step.Step.TheVariants.{Lose}
 use Rattle.world.specs.Parts.{control_in, setting_in}
 use Rattle.world.proofs.Frame.{goes_one, net_stays, none_in, plane_stays}
 use Rattle.world_ties.proofs.Losing.{lost, not_lost}
@@ -9,7 +8,7 @@ use Rattle.world.proofs.parts.Parts.lose.Goals as goal
 pub returns-then-not-remove : goal.returns-then-not-remove
 returns-then-not-remove c = λ before row begins.
     let self = c.args.self.now in
-    goes_one c.push.result before row (Lose c.args.packet) self _ begins (net_stays refl refl) item.Nothing
+    goes_one begins (net_stays refl refl) item.Nothing
     self.log.bag (plane_stays refl refl refl) refl (none_in _)
     (not_lost (control_in self) (setting_in self) before self.switches.items self.log.travelling
     c.remove.new.self self.packets row c.args.packet begins.ready.tied begins.ready.may
@@ -19,7 +18,7 @@ returns-then-not-remove c = λ before row begins.
 pub returns : goal.returns
 returns c = λ before row begins.
     let self = c.args.self.now in
-    goes_one c.push-2.result before row (Lose c.args.packet) self _ begins (net_stays refl refl)
+    goes_one begins (net_stays refl refl)
     (item.Lost c.args.packet) self.log.bag (plane_stays refl refl refl) refl (none_in _)
     (lost (control_in self) (setting_in self) before self.switches.items self.log.travelling
     c.remove.new.self self.packets row c.args.packet begins.ready.tied begins.ready.may

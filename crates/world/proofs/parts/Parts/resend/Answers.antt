@@ -10,7 +10,7 @@ use Rattle.world.specs.Parts.{control_in, setting_in}
 use Rattle.world_log.specs.Sending.{MayNote, act_items, act_posts}
 use Rattle.world.proofs.Frame.{goes_nothing, goes_quiet, net_stays, none_in, nothing_goes, plane_stays}
 use Rattle.world.proofs.GoesTold.{as_noted}
-use Rattle.world.proofs.OverSwitches.{few_in, known_in, switch_in}
+use Rattle.world.proofs.OverSwitches.{few_in, known_in, place_in, switch_in}
 use Rattle.world_ties.proofs.SentAgain.{acts_same, again_may, again_piece, again_tied, sent_tied, silent}
 use Rattle.world.proofs.parts.Parts.resend.Goals as goal
 use Rattle.world.proofs.parts.Parts.resend.Goals.{After-are_none}
@@ -20,32 +20,28 @@ use Rattle.world.proofs.parts.Parts.resend.Goals.{After-are_none}
 pub bounds-self-here : goal.bounds-self-here
 bounds-self-here c =
     let self = c.args.self.now in
-    let there = switch_in self c.args.switch c.requires c.requires.begins.ready.may in
-    omega (arith, there, few_in self c.requires)
+    let there = switch_in c.args.switch c.requires c.requires.begins.ready.may in
+    omega (arith, there, few_in c.requires)
 
 pub index-requires : goal.index-requires
 index-requires c =
-    let self = c.args.self.now in
-    let there = switch_in self c.args.switch c.requires c.requires.begins.ready.may in
-    omega (arith, there, self.switches.ok.0)
+    place_in c.args.switch c.requires c.requires.begins.ready.may
 
 pub told_again-requires : goal.told_again-requires
 told_again-requires c =
-    omega (arith, few_in c.args.self.now c.requires, c.args.self.now.switches.ok.0)
+    omega (arith, few_in c.requires, c.args.self.now.switches.ok.0)
 
 pub resend-requires : goal.resend-requires
 resend-requires c =
-    known_in c.args.self.now c.args.switch c.requires c.requires.begins.ready.may
+    known_in c.args.switch c.requires c.requires.begins.ready.may
 
 pub returns-in_err-told : goal.returns-in_err-told
 returns-in_err-told c = λ before row begins.
-    nothing_goes c.from_residual.result before row (Resend c.args.switch) c.args.self.now _
-    begins (net_stays refl refl) c.from_residual.ensures.0 refl
+    nothing_goes begins (net_stays refl refl) c.from_residual.ensures.0 refl
 
 pub returns-in_err-sends : goal.returns-in_err-sends
 returns-in_err-sends c = λ before row begins.
-    nothing_goes c.from_residual-in_err-sends.result before row (Resend c.args.switch)
-    c.args.self.now _ begins (net_stays refl refl) c.from_residual-in_err-sends.ensures.0 refl
+    nothing_goes begins (net_stays refl refl) c.from_residual-in_err-sends.ensures.0 refl
 
 -- what the switch and the controller have to say, as acts
 said : (c : After-are_none)
@@ -67,9 +63,8 @@ returns-then-are_none c = λ before row begins.
     let self = c.args.self.now in
     let s = c.args.switch in
     let are = said (goal.at.returns-then-are_none c).After-are_none in
-    goes_nothing c.push.result before row (Resend s) self c.push.new.self begins refl
-    (silent (control_in self) (setting_in self) before self.switches.items
-    self.log.travelling self.packets row s c.index.result.now begins.ready.tied begins.ready.may
+    goes_nothing begins refl
+    (silent _ _ _ _ _ _ row s c.index.result.now begins.ready.tied begins.ready.may
     c.index.ensures (subst (λ (acts : List Act). (length acts == 0) ≡ true) are
     (sym c.are_none.ensures ∙ c.if-are_none.true)))
     c.push.ensures.pushed c.push.ensures.unchanged
@@ -78,7 +73,7 @@ returns-then-are_none c = λ before row begins.
 
 pub overflow_cast-count : goal.overflow_cast-count
 overflow_cast-count c =
-    omega (arith, few_in c.args.self.now c.requires, c.args.self.now.switches.ok.0)
+    omega (arith, few_in c.requires, c.args.self.now.switches.ok.0)
 
 pub send_and_note-requires : goal.send_and_note-requires
 send_and_note-requires c =
@@ -87,8 +82,7 @@ send_and_note-requires c =
     let own = c.index.result.now in
     let are = said (goal.at.send_and_note-requires c).After-are_none in
     subst (MayNote self.log.bag) (sym are)
-    (again_may (control_in self) (setting_in self) c.requires.before self.switches.items
-    self.log.travelling self.packets c.requires.row c.args.switch own ready.tied ready.may
+    (again_may _ _ _ _ _ _ c.requires.row c.args.switch own ready.tied ready.may
     c.index.ensures
     (subst (λ (acts : List Act). (length acts == 0) ≡ false) are
     (sym c.are_none.ensures ∙ c.if-are_none.false)) ready.room)
@@ -98,25 +92,22 @@ returns c = λ before row begins.
     let self = c.args.self.now in
     let s = c.args.switch in
     let ready = begins.ready in
-    let own = c.index.result.now in
     let are = said (goal.at.returns c).After-are_none in
     let some = subst (λ (acts : List Act). (length acts == 0) ≡ false) are
     (sym c.are_none.ensures ∙ c.if-are_none.false) in
     let acts : List Act = map Post (told_again s (length self.switches.items)
-    (get_or self.near s 0) own) ++ resending self.controller s in
+    (get_or self.near s 0) c.index.result.now) ++ resending self.controller s in
     let r = c.send_and_note.result in
     let noted = as_noted r self.log.journal (length self.log.bag) self.log.bag
     c.send_and_note.new.self _ acts are c.send_and_note.ensures.written
     c.send_and_note.ensures.posted c.send_and_note.ensures.part in
-    goes_quiet r before row (Resend s) self _ begins (net_stays refl refl)
+    goes_quiet begins (net_stays refl refl)
     (act_items (length self.log.bag + 1) acts) (plane_stays refl refl refl)
-    (again_piece (control_in self) (setting_in self) before self.switches.items
-    self.log.travelling self.packets row s own ready.tied ready.may c.index.ensures some)
+    (again_piece _ _ _ _ _ _ row s _ ready.tied ready.may c.index.ensures some)
     (on_ok_weaker r (λ done. none_in _) noted.written) noted.written noted.part
     (on_ok_weaker r (λ post. sent_tied (setting_in self) (before ++ item.Row row (Resend s)
     ∷ act_items (length self.log.bag + 1) acts) self.switches.items self.log.travelling
     c.send_and_note.new.self.travelling self.packets (control_in self)
     (self.log.bag ++ act_posts acts) c.send_and_note.new.self.bag post
-    c.send_and_note.ensures.travelling (again_tied (control_in self) (setting_in self) before
-    self.switches.items self.log.travelling self.packets row s own ready.tied ready.may
+    c.send_and_note.ensures.travelling (again_tied _ _ _ _ _ _ row s _ ready.tied ready.may
     c.index.ensures some)) noted.posted)

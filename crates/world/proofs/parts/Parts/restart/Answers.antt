@@ -6,42 +6,31 @@ use Rattle.ctrl_msg.specs.declared.message.Body.TheVariants.{Hello}
 use Rattle.ctrl_msg.specs.Kinds.{to_controller}
 use Rattle.frame_laws.specs.Feeding.{HasShortSpelling}
 use Rattle.journal.specs.declared.item.Item.TheVariants as item
-use Rattle.steps.specs.declared.step.Step.TheVariants.{Restart}
 use Rattle.switch_core.specs.State.{SwitchValue}
-use Rattle.world.specs.Parts.{control_in, setting_in}
 use Rattle.world_ties.proofs.Sendable.{hello_spelled}
 use Rattle.world_ties.proofs.Booting.{boot_next, boot_piece, boot_tied, up_already}
 use Rattle.world.proofs.Frame.{goes_nothing, net_stays, none_in, nothing_goes}
 use Rattle.world.proofs.GoesTold.{goes_told}
-use Rattle.world.proofs.OverSwitches.{few_in, switch_in}
+use Rattle.world.proofs.OverSwitches.{few_in, place_in, switch_in}
 use Rattle.world_log.proofs.Writing.{part_none}
 use Rattle.world.proofs.parts.Parts.restart.Goals as goal
 use Rattle.world.proofs.parts.Parts.restart.Goals.{After-index_mut}
 
 pub index-requires : goal.index-requires
-index-requires c =
-    let self = c.args.self.now in
-    let there = switch_in self c.args.switch c.requires c.requires.begins.ready.may in
-    omega (arith, there, self.switches.ok.0)
+index-requires c = place_in c.args.switch c.requires c.requires.begins.ready.may
+
+pub index_mut-requires : goal.index_mut-requires
+index_mut-requires c = place_in c.args.switch c.requires c.requires.begins.ready.may
 
 -- ---- it is up
 
 pub returns-then-is_up : goal.returns-then-is_up
 returns-then-is_up c = λ before row begins.
-    let self = c.args.self.now in
-    goes_nothing c.push.result before row (Restart c.args.switch) self c.push.new.self begins refl
-    (up_already (control_in self) (setting_in self) before self.switches.items
-    self.log.travelling self.packets row c.args.switch c.index.result.now begins.ready.tied begins.ready.may
-    c.index.ensures (sym c.is_up.ensures ∙ c.if-is_up.true))
-    c.push.ensures.pushed c.push.ensures.unchanged
+    goes_nothing begins refl (up_already _ _ _ _ _ _ row c.args.switch _ begins.ready.tied
+    begins.ready.may c.index.ensures (sym c.is_up.ensures ∙ c.if-is_up.true)) c.push.ensures.pushed
+    c.push.ensures.unchanged
 
 -- ---- it is down
-
-pub index_mut-requires : goal.index_mut-requires
-index_mut-requires c =
-    let self = c.args.self.now in
-    let there = switch_in self c.args.switch c.requires c.requires.begins.ready.may in
-    omega (arith, there, self.switches.ok.0)
 
 is_down : (c : After-index_mut) → c.index_mut.result.now.is_up ≡ false
 is_down c =
@@ -49,7 +38,7 @@ is_down c =
     let own = c.index_mut.result.now in
     let same : own ≡ c.index.result.now = c.index_mut.ensures.value
     ∙ get_or_default self.switches.items c.args.switch own c.index.result.now
-    (switch_in self c.args.switch c.requires c.requires.begins.ready.may)
+    (switch_in c.args.switch c.requires c.requires.begins.ready.may)
     ∙ sym c.index.ensures in
     ap (λ (w : SwitchValue). w.is_up) same ∙ sym c.is_up.ensures ∙ c.if-is_up.false
 
@@ -60,22 +49,20 @@ restart-boot-requires c =
     let ready = c.requires.begins.ready in
     let own = c.index_mut.result.now in
     let down = is_down (goal.at.restart-boot-requires c).After-index_mut in
-    let can = boot_next (control_in self) (setting_in self) c.requires.before
-    self.switches.items self.log.travelling self.packets c.requires.row s own ready.tied ready.may
+    let can = boot_next _ _ _ _ _ _ c.requires.row s own ready.tied ready.may
     c.index_mut.ensures.value down ready.room in
     record { down = can.down; boot = can.boot }
 
 pub returns-in_err-push : goal.returns-in_err-push
 returns-in_err-push c = λ before row begins.
-    nothing_goes c.from_residual.result before row (Restart c.args.switch) c.args.self.now _
-    begins (net_stays refl refl) c.from_residual.ensures.0 c.in_err-push.ensures.unchanged
+    nothing_goes begins (net_stays refl refl) c.from_residual.ensures.0 c.in_err-push.ensures.unchanged
 
 pub send-requires : goal.send-requires
 send-requires c =
     let self = c.args.self.now in
     let ready = c.requires.begins.ready in
-    let there = switch_in self c.args.switch c.requires ready.may in
-    let below : c.args.switch < 64 = omega (arith, there, few_in self c.requires) in
+    let there = switch_in c.args.switch c.requires ready.may in
+    let below : c.args.switch < 64 = omega (arith, there, few_in c.requires) in
     record {
       spelling = subst HasShortSpelling (sym c.hello.ensures)
           (hello_spelled c.args.switch c.restart-boot.result below);
@@ -99,11 +86,10 @@ returns c = λ before row begins.
     ≡ begun ++ item.Sent (length self.log.bag + 1) hello ∷ []) =
     subst (λ message. OnOk c.send.result (c.send.new.self.journal
     ≡ begun ++ item.Sent (length self.log.bag + 1) message ∷ [])) said c.send.ensures.written in
-    goes_told c.send.result before row (Restart s) self _ (item.Booted s boot)
+    goes_told (item.Booted s boot)
     (λ k. item.Sent k hello ∷ []) begun (length self.log.bag) self.log.bag (posted hello ∷ [])
     begins (net_stays refl refl) (record {
-      piece_is = boot_piece (control_in self) (setting_in self) before self.switches.items
-          self.log.travelling self.packets row s own ready.tied ready.may
+      piece_is = boot_piece _ _ _ _ _ _ row s own ready.tied ready.may
           c.index_mut.ensures.value down;
       counted = none_in _;
       pushed = subst (λ b. begun ≡ self.log.journal ++ item.Booted s b ∷ []) told
@@ -116,8 +102,7 @@ returns c = λ before row begins.
           c.send.ensures.unwritten;
       posted = subst (λ message. OnOk c.send.result (c.send.new.self.bag
           ≡ self.log.bag ++ posted message ∷ [])) said c.send.ensures.posted;
-      tied = on_ok_weaker c.send.result (λ done. boot_tied (control_in self) (setting_in self)
-          before self.switches.items self.log.travelling self.packets row s own ready.tied
+      tied = on_ok_weaker c.send.result (λ done. boot_tied _ _ _ _ _ _ row s own ready.tied
           ready.may c.index_mut.ensures.value c.restart-boot.new.self down
           c.restart-boot.ensures.after) written;
     })

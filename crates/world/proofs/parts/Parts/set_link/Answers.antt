@@ -26,8 +26,7 @@ none_come one two false = refl
 -- both ends are switches
 ends : (self : Parts) (one two : ℕ) (up : Bool) (begun : HasBegun (link_step up one two) self)
     → (one < 64) × (two < 64)
-ends self one two up begun = ends_below (control_in self) (setting_in self) begun.before
-    self.switches.items self.log.travelling self.packets begun.row one two up
+ends self one two up begun = ends_below _ _ _ _ _ _ begun.row one two up
     begun.begins.ready.tied begun.begins.ready.may
 
 pub bounds-self-one : goal.bounds-self-one
@@ -54,10 +53,9 @@ returns-then-has-up c = λ before row begins.
     let one = c.args.one in
     let two = c.args.two in
     let up = c.args.up in
-    goes_nothing c.push.result before row (link_step up one two) self c.push.new.self begins
+    goes_nothing begins
     (none_come one two up)
-    (same_tied (control_in self) (setting_in self) before self.switches.items
-    self.log.travelling self.packets row one two up begins.ready.tied begins.ready.may
+    (same_tied _ _ _ _ _ _ row one two up begins.ready.tied begins.ready.may
     (ap (λ b. beq b up) (sym c.has.ensures.has) ∙ c.if-has-up.true))
     c.push.ensures.pushed c.push.ensures.unchanged
 
@@ -65,26 +63,23 @@ returns-then-has-up c = λ before row begins.
 
 pub returns-in_err-push : goal.returns-in_err-push
 returns-in_err-push c = λ before row begins.
-    nothing_goes c.from_residual.result before row (link_step c.args.up c.args.one c.args.two)
-    c.args.self.now _ begins (net_stays refl refl) c.from_residual.ensures.0
+    nothing_goes begins (net_stays refl refl) c.from_residual.ensures.0
     c.in_err-push.ensures.unchanged
 
 pub change_links-requires-clause-many : goal.change_links-requires-clause-many
-change_links-requires-clause-many c = few_in c.args.self.now c.requires
+change_links-requires-clause-many c = few_in c.requires
 
 pub change_links-requires-clause-next : goal.change_links-requires-clause-next
 change_links-requires-clause-next c =
     let self = c.args.self.now in
     let ready = c.requires.begins.ready in
-    numbers_left (control_in self) (setting_in self) c.requires.before self.switches.items
-    self.log.travelling self.packets ready.tied ready.room
+    numbers_left _ _ _ _ _ _ ready.tied ready.room
 
 pub change_links-requires-clause-may : goal.change_links-requires-clause-may
 change_links-requires-clause-may c =
     let self = c.args.self.now in
     let ready = c.requires.begins.ready in
-    set_may (control_in self) (setting_in self) c.requires.before self.switches.items
-    self.log.travelling self.packets c.requires.row c.args.one c.args.two c.args.up ready.tied
+    set_may _ _ _ _ _ _ c.requires.row c.args.one c.args.two c.args.up ready.tied
     ready.may c.set_ends.new.links
     (ap (λ b. beq b c.args.up) (sym c.has.ensures.has) ∙ c.if-has-up.false) c.set_ends.ensures.set
     c.set_ends.ensures.fits ready.room
@@ -103,12 +98,11 @@ returns c = λ before row begins.
     let messages : List Message = all_told self.near near self.switches.items in
     let told : Item = item.LinkIs (min one two) (max one two) up in
     let rest = c.change_links.ensures.rest in
-    goes_told c.change_links.result before row (link_step up one two) self new told
+    goes_told told
     (λ k. sent_from k messages) c.push-2.new.self (length self.log.bag) self.log.bag
     (map posted messages) begins
     (net_stays rest.files rest.ports) (record {
-      piece_is = set_piece (control_in self) (setting_in self) before self.switches.items
-          self.log.travelling self.packets row one two up ready.tied ready.may links other
+      piece_is = set_piece _ _ _ _ _ _ row one two up ready.tied ready.may links other
           c.set_ends.ensures.set c.set_ends.ensures.fits;
       counted = omega (arith, rest.packets, none_come one two up);
       pushed = c.in_ok-push.ensures.pushed
@@ -128,8 +122,7 @@ returns c = λ before row begins.
           (subst (λ control. AreTied (setting_in self) all new.switches.items self.log.travelling
           self.packets control) (same_control (record (control_in self) { links = links }) new
           posts near rest.controller rest.links near_is)
-          (set_tied (control_in self) (setting_in self) before self.switches.items
-          self.log.travelling self.packets row one two up ready.tied ready.may links other
+          (set_tied _ _ _ _ _ _ row one two up ready.tied ready.may links other
           c.set_ends.ensures.set c.set_ends.ensures.fits new.switches.items are)))
           c.change_links.ensures.near c.change_links.ensures.switches;
     })
