@@ -1,7 +1,6 @@
 -- A packet that moves on, or is stuck, in the table of those on their way.
 use Rattle.std.proofs.Common.{ℕ, ◌≡◌, ◌<◌, ◌==◌, Bool, true, false, if◌then◌else◌, Option, Some, None, ◌++◌, refl, ap, sym, subst, ◌∙◌, length}
 use Rattle.std.specs.Prelude.{IsSomeAnd, option_map}
-use Rattle.journal.specs.declared.item.Item.{Item}
 use Rattle.net_file.specs.declared.ports.Ports.{Ports}
 use Rattle.switch_core.specs.Answering.{IsAtAuthority}
 use Rattle.switch_core.specs.Moving.{Moved, link_found_down, hopped}

@@ -1,8 +1,10 @@
-use Rattle.std.proofs.Common.{OnOk, ap, sym, subst, length, map, length-append, ◌+◌, ◌++◌, arith}
+use Rattle.std.proofs.Common.{◌≡◌, ◌∙◌, List, OnOk, ap, sym, subst, length, map, length-append, ◌+◌, ◌++◌, arith}
 use Rattle.std.proofs.lemmas.List.{length-map}
 use Rattle.std.proofs.lemmas.Result.{on_err_weaker, on_ok_weaker}
 use Rattle.bag.specs.Posts.{posted}
+use Rattle.controller.specs.declared.sends.Act.{Act}
 use Rattle.controller.specs.declared.sends.Act.TheVariants.{Post}
+use Rattle.ctrl_msg.specs.declared.message.Message.{Message}
 use Rattle.world_log.specs.Sending.{act_posts}
 use Rattle.world_log.specs.Writing.{IsPart}
 use Rattle.world_log.proofs.Sends.{AreDone, done_both, first_part, later_part, later_spelled, messages_spelled, posts_append, posts_as_acts, sent_as_acts, sent_done}
@@ -24,18 +26,20 @@ done c = both_ok c.note_acts.result
     c.args.acts.now (sent c) _ _)
     c.note_acts.ensures.written c.note_acts.ensures.posted
 
+-- what both post
+counted : (messages : List Message) (acts : List Act) → length (act_posts (map Post messages ++ acts))
+    ≡ length messages + length (act_posts acts)
+counted messages acts =
+    ap length (posts_append (map Post messages) acts)
+    ∙ length-append (act_posts (map Post messages)) (act_posts acts)
+    ∙ ap (λ n. n + length (act_posts acts)) (ap length (posts_as_acts messages)
+    ∙ length-map messages posted)
+
 pub send_all-requires : goal.send_all-requires
 send_all-requires c =
     let messages = c.args.messages.now in
     record {
-      few = omega (
-        arith,
-        c.requires.few,
-        ap length (posts_append (map Post messages) c.args.acts.now),
-        length-append (act_posts (map Post messages)) (act_posts c.args.acts.now),
-        ap length (posts_as_acts messages),
-        length-map messages posted,
-      );
+      few = omega (arith, c.requires.few, counted messages c.args.acts.now);
       spelled = messages_spelled messages c.args.acts.now c.requires.spelled;
     }
 
@@ -48,9 +52,8 @@ note_acts-requires c =
         c.requires.few,
         ap length c.in_ok-send_all.ensures.posted,
         length-append c.args.self.now.bag (map posted messages),
-        ap length (posts_append (map Post messages) c.args.acts.now),
-        length-append (act_posts (map Post messages)) (act_posts c.args.acts.now),
-        ap length (posts_as_acts messages),
+        length-map messages posted,
+        counted messages c.args.acts.now,
       );
       spelled = later_spelled (map Post messages) c.args.acts.now c.requires.spelled;
     }
