@@ -26,7 +26,7 @@ pub fn alone(alloc: Global, frame: &[u8]) -> Result<Message, AllocError>
 {
     match decode(alloc, &frame[HEADER_LEN..]) {
         Ok(message) => Ok(message),
-        Err(WireError::Malformed) => unreachable!(),
+        Err(WireError::Refused(_)) => unreachable!(),
         Err(WireError::NoMemory) => Err(AllocError),
     }
 }
@@ -45,7 +45,7 @@ fn feed(
 {
     match assembler.feed(alloc, frame) {
         Ok(answer) => Ok(answer),
-        Err(WireError::Malformed) => unreachable!(),
+        Err(WireError::Refused(_)) => unreachable!(),
         Err(WireError::NoMemory) => Err(AllocError),
     }
 }
@@ -105,7 +105,7 @@ fn front_of(alloc: Global, front: &[u8]) -> Result<(Receiver, u32), AllocError>
 {
     match decode_front(alloc, front) {
         Ok(read) => Ok(read),
-        Err(WireError::Malformed) => unreachable!(),
+        Err(WireError::Refused(_)) => unreachable!(),
         Err(WireError::NoMemory) => Err(AllocError),
     }
 }

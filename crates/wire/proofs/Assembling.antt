@@ -1,5 +1,5 @@
 -- Frames of one count at rising places: when they are all there, and which message they are of.
-use Rattle.std.proofs.Common.{◌≡◌, ℕ, zero, suc, ◌+◌, ◌-◌, ◌*◌, ◌≤◌, List, [], ◌∷◌, ◌++◌, length, length-drop, take, drop, map, Result, Err, refl, sym, ap, subst, ◌∙◌, arith}
+use Rattle.std.proofs.Common.{◌≡◌, ℕ, zero, suc, ◌+◌, ◌-◌, ◌*◌, ◌≤◌, List, [], ◌∷◌, ◌++◌, length, length-drop, take, drop, map, refl, sym, ap, subst, ◌∙◌, arith}
 use Rattle.std.specs.List.{flat_map}
 use Rattle.std.specs.Int.{div_ceil}
 use Rattle.std.proofs.Math.Nat.{zero-mul}
@@ -9,10 +9,12 @@ use Rattle.std.proofs.lemmas.List.{take-append-drop, length-map, take_all}
 use Rattle.ctrl_msg.specs.declared.message.Message.{Message}
 use Rattle.wire.specs.Messages.{message, IsSpelling}
 use Rattle.wire.specs.Frames.{frame, frames_from, frames_of, pieces, piece_of, place_in_frame, slices, cut, head_len, most_of_piece, AreFrames}
-use Rattle.wire.specs.declared.error.WireError.{WireError}
-use Rattle.wire.specs.declared.error.WireError.TheVariants.{Malformed, NoMemory}
 use Rattle.wire.specs.Assembly.{AreRising, AreNone}
 use Rattle.wire.proofs.Framing.{pieces_of_frames}
+use Rattle.failure.specs.Refusals.{IfRefused}
+use Rattle.failure.specs.declared.error.Failure.{Failure}
+use Rattle.wire.specs.declared.error.Malformed.{Malformed}
+use Rattle.failure.proofs.CallerLemmas.{IfRefused-weaker}
 use Rattle.wire.proofs.Decoding.{one_message}
 
 -- ---- the pieces of a spelling are all of it
@@ -93,13 +95,11 @@ none_by m bytes fs joined spelled not_cut other are =
     let are_of : AreFrames m fs = subst (λ n. AreFrames n fs) same are in
     not_cut (their_pieces m fs are_of ∙ ap (λ bytes. cut (head_len m.body bytes) bytes) (sym spelled.spelled))
 
-abbrev refusal : WireError → Result Message WireError
-refusal error = Err error
-
 -- frames whose pieces spell no message are those of none
-pub none_spelled : (fs : List (List ℕ)) (bytes : List ℕ) (error : WireError) → bytes ≡ flat_map piece_of fs
-    → (refusal error ≡ Err Malformed → (m : Message) → IsSpelling m bytes → ⊥)
-    → AreNone fs (length fs) error
-none_spelled fs bytes Malformed are none =
-    (refl, λ m frames. none refl m (subst (IsSpelling m) (sym are) (spelled_by m fs frames)))
-none_spelled fs bytes NoMemory are none = tt
+pub none_spelled : (fs : List (List ℕ)) (bytes : List ℕ) (error : Failure Malformed) → bytes ≡ flat_map piece_of fs
+    → IfRefused (λ _. (m : Message) → IsSpelling m bytes → ⊥) error
+    → IfRefused (λ _. AreNone fs (length fs)) error
+none_spelled fs bytes error are =
+    IfRefused-weaker (λ _. (m : Message) → IsSpelling m bytes → ⊥) (λ _. AreNone fs (length fs))
+    (λ _ none. (refl, λ m frames. none m (subst (IsSpelling m) (sym are) (spelled_by m fs frames))))
+    error

@@ -1,11 +1,13 @@
 -- The bytes that a message spells are its one spelling.
 use Rattle.std.proofs.Common.{◌≡◌, ℕ, cond, eqb, List, [], ◌++◌, length, Some, None, Result, Ok, Err, refl, sym, ap, subst, ◌∙◌}
-use Rattle.std.specs.Prelude.{IfOk, IsErrOf}
+use Rattle.std.specs.Prelude.{IfOk, IfErr}
 use Rattle.std.proofs.lemmas.Bool.{eqb-true}
 use Rattle.std.proofs.lemmas.List.{append-nil, nil_from_length}
 use Rattle.ctrl_msg.specs.declared.message.Message.{Message}
-use Rattle.wire.specs.declared.error.WireError.{WireError}
-use Rattle.wire.specs.declared.error.WireError.TheVariants.{Malformed, NoMemory}
+use Rattle.failure.specs.Refusals.{IfRefused}
+use Rattle.failure.specs.declared.error.Failure.{Failure}
+use Rattle.wire.specs.declared.error.Malformed.{Malformed}
+use Rattle.failure.proofs.CallerLemmas.{IfRefused-weaker}
 use Rattle.wire.specs.Messages.{message, whole, IsSpelling}
 use Rattle.wire.specs.Reading.{Gives}
 use Rattle.wire.proofs.Laws.{AreBytes, then_some, passed, some_is}
@@ -38,18 +40,18 @@ one_message bytes a b ha hb =
     ap (λ (p : Message × List ℕ). p.0)
     (some_is (a, []) (b, []) (sym (whole_again bytes a ha) ∙ whole_again bytes b hb))
 
-pub found : (r : Result Message WireError) (bytes rest : List ℕ) → AreBytes bytes → Gives (λ m. m) (whole bytes) r rest → IfOk r (λ m. IsSpelling m bytes)
+pub found : (r : Result Message (Failure Malformed)) (bytes rest : List ℕ) → AreBytes bytes → Gives (λ m. m) (whole bytes) r rest → IfOk r (λ m. IsSpelling m bytes)
 found (Ok m) bytes rest are h = whole_takes bytes m rest are h
 found (Err error) bytes rest are h = tt
 
-pub only : (r : Result Message WireError) (bytes rest : List ℕ) → AreBytes bytes → Gives (λ m. m) (whole bytes) r rest
+pub only : (r : Result Message (Failure Malformed)) (bytes rest : List ℕ) → AreBytes bytes → Gives (λ m. m) (whole bytes) r rest
     → IfOk r (λ m. (other : Message) → IsSpelling other bytes → other ≡ m)
 only (Ok m) bytes rest are h = λ other spelled. one_message bytes other m spelled (whole_takes bytes m rest are h)
 only (Err error) bytes rest are h = tt
 
-pub malformed : (r : Result Message WireError) (bytes rest : List ℕ) → Gives (λ m. m) (whole bytes) r rest
-    → IsErrOf r Malformed → (m : Message) → IsSpelling m bytes → ⊥
-malformed (Ok m) bytes rest h is_malformed = λ other spelled. absurd (cc is_malformed)
-malformed (Err Malformed) bytes rest h is_malformed = λ other spelled.
-    none_is_not (other, []) (sym h ∙ whole_again bytes other spelled)
-malformed (Err NoMemory) bytes rest h is_malformed = absurd (cc is_malformed)
+pub malformed : (r : Result Message (Failure Malformed)) (bytes rest : List ℕ) → Gives (λ m. m) (whole bytes) r rest
+    → IfErr r (IfRefused (λ _. (m : Message) → IsSpelling m bytes → ⊥))
+malformed (Ok m) bytes rest h = tt
+malformed (Err error) bytes rest h =
+    IfRefused-weaker (λ _. whole bytes ≡ None) (λ _. (m : Message) → IsSpelling m bytes → ⊥)
+    (λ _ none m spelled. none_is_not (m, []) (sym none ∙ whole_again bytes m spelled)) error h

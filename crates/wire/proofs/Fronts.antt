@@ -1,11 +1,13 @@
 -- What stands before the tables in an installation is read as it is spelled.
 use Rattle.std.proofs.Common.{◌≡◌, ℕ, Bool, true, false, cond, eqb, List, [], ◌++◌, length, Option, Some, None, Result, Ok, Err, refl, sym, ap, subst, ◌∙◌}
-use Rattle.std.specs.Prelude.{IfOk, IsErrOf}
+use Rattle.std.specs.Prelude.{IfOk, IfErr}
 use Rattle.std.proofs.lemmas.Bool.{eqb-true}
 use Rattle.std.proofs.lemmas.List.{append-nil, nil_from_length}
 use Rattle.ctrl_msg.specs.declared.message.Receiver.{Receiver}
-use Rattle.wire.specs.declared.error.WireError.{WireError}
-use Rattle.wire.specs.declared.error.WireError.TheVariants.{Malformed, NoMemory}
+use Rattle.failure.specs.Refusals.{IfRefused}
+use Rattle.failure.specs.declared.error.Failure.{Failure}
+use Rattle.wire.specs.declared.error.Malformed.{Malformed}
+use Rattle.failure.proofs.CallerLemmas.{IfRefused-weaker}
 use Rattle.wire.specs.Messages.{IsFront, front, read_front, spelled_front}
 use Rattle.wire.specs.Reading.{Gives}
 use Rattle.wire.proofs.Decoding.{none_is_not}
@@ -46,14 +48,16 @@ one_front bytes a b i j first second =
     ap (λ (p : (Receiver × ℕ) × List ℕ). p.0)
     (some_is ((a, i), []) ((b, j), []) (sym (front_again bytes a i first) ∙ front_again bytes b j second))
 
-pub front_found : (r : Result (Receiver × ℕ) WireError) (bytes rest : List ℕ) → AreBytes bytes
+pub front_found : (r : Result (Receiver × ℕ) (Failure Malformed)) (bytes rest : List ℕ) → AreBytes bytes
     → Gives (λ f. f) (read_front bytes) r rest → IfOk r (λ f. IsFront f.0 f.1 bytes)
 front_found (Ok f) bytes rest are gives = front_takes bytes f rest are gives
 front_found (Err error) bytes rest are gives = tt
 
-pub no_front : (r : Result (Receiver × ℕ) WireError) (bytes rest : List ℕ) → Gives (λ f. f) (read_front bytes) r rest
-    → IsErrOf r Malformed → (to : Receiver) (boot : ℕ) → IsFront to boot bytes → ⊥
-no_front (Ok f) bytes rest gives is_malformed = λ to boot is. absurd (cc is_malformed)
-no_front (Err Malformed) bytes rest gives is_malformed = λ to boot is.
-    none_is_not ((to, boot), []) (sym gives ∙ front_again bytes to boot is)
-no_front (Err NoMemory) bytes rest gives is_malformed = absurd (cc is_malformed)
+pub no_front : (r : Result (Receiver × ℕ) (Failure Malformed)) (bytes rest : List ℕ) → Gives (λ f. f) (read_front bytes) r rest
+    → IfErr r (IfRefused (λ _. (to : Receiver) (boot : ℕ) → IsFront to boot bytes → ⊥))
+no_front (Ok f) bytes rest gives = tt
+no_front (Err error) bytes rest gives =
+    IfRefused-weaker (λ _. read_front bytes ≡ None)
+    (λ _. (to : Receiver) (boot : ℕ) → IsFront to boot bytes → ⊥)
+    (λ _ none to boot is. none_is_not ((to, boot), []) (sym none ∙ front_again bytes to boot is))
+    error gives

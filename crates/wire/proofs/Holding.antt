@@ -6,10 +6,13 @@ use Rattle.std.proofs.lemmas.Bool.{cases_lt, cases_eq, lt-ltb, le-ltb, ltb-false
 use Rattle.std.proofs.lemmas.Bool.Decides.{nat_tests, eqb_tells}
 use Rattle.ctrl_msg.specs.declared.message.Message.{Message}
 use Rattle.wire.specs.declared.assembler.Spot.TheVariants.{Held, New}
-use Rattle.wire.specs.declared.error.WireError.{WireError}
-use Rattle.wire.specs.declared.error.WireError.TheVariants.{Malformed, NoMemory}
+use Rattle.failure.specs.Refusals.{IfRefused}
+use Rattle.failure.specs.declared.error.Failure.{Failure}
+use Rattle.failure.specs.declared.error.Failure.TheVariants.{Refused}
+use Rattle.wire.specs.declared.error.Malformed.{Malformed}
+use Rattle.failure.proofs.CallerLemmas.{IfRefused-weaker}
 use Rattle.wire.specs.Frames.{place_in_frame, count_in_frame, AreFrames}
-use Rattle.wire.specs.Assembly.{held_at, with_frame, AreAllHeld, AreRising, AreTogether, IsOfCount, IsRefusedFrame, too_short, too_long, past_the_count, another_count, another_frame, no_message, Agree, IsAssembled, IsFed, Joins, IsSpot}
+use Rattle.wire.specs.Assembly.{held_at, with_frame, AreAllHeld, AreRising, AreTogether, IsOfCount, IsRefusedFrame, too_short, too_long, past_the_count, another_count, another_frame, no_message, Agree, AreNone, IsAssembled, IsFed, Joins, IsSpot}
 use Rattle.wire.proofs.Laws.{AreBytes, some_is, passed}
 use Rattle.wire.proofs.Decoding.{none_is_not}
 use Rattle.wire.proofs.Framing.{frame_again}
@@ -313,11 +316,11 @@ not_refused held f joins whole (another_frame g at other) = other (joins.same g 
 not_refused held f joins whole (no_message all none) = whole all none
 
 -- want of memory, or a frame that is refused, changes nothing
-fed_err : (held : List (List ℕ)) (f : List ℕ) (after : List (List ℕ)) (error : WireError) → AreTogether held
-    → (error ≡ Malformed → IsRefusedFrame held f) → after ≡ held → IsFed held f after (Err error)
+fed_err : (held : List (List ℕ)) (f : List ℕ) (after : List (List ℕ)) (error : Failure Malformed)
+    → AreTogether held → IfRefused (λ _. IsRefusedFrame held f) error → after ≡ held → IsFed held f after (Err error)
 fed_err held f after error together refused unchanged = record {
   together = subst AreTogether (sym unchanged) together;
-  refused = λ e. refused cc;
+  refused = refused;
   taken = tt;
   is_held = tt;
   some = tt;
@@ -325,14 +328,14 @@ fed_err held f after error together refused unchanged = record {
   unchanged = unchanged;
 }
 
-pub fed : (held : List (List ℕ)) (f : List ℕ) (after : List (List ℕ)) (result : Result (Option Message) WireError)
+pub fed : (held : List (List ℕ)) (f : List ℕ) (after : List (List ℕ)) (result : Result (Option Message) (Failure Malformed))
     → AreTogether held → Joins held f → AreRising 0 (count_in_frame f) (with_frame held f) → IsAssembled (with_frame held f) (count_in_frame f) result
     → OnOk result (after ≡ with_frame held f) → OnErr result (after ≡ held) → IsFed held f after result
 fed held f after (Ok None) together joins rising answer is unchanged =
     let incomplete : AreAllHeld (with_frame held f) (count_in_frame f) → ⊥ = λ all. answer (held_all (count_in_frame f) (with_frame held f) rising all) in
     record {
       together = subst AreTogether (sym is) (rising_together (count_in_frame f) (with_frame held f) rising);
-      refused = λ e. absurd (cc e);
+      refused = tt;
       taken = not_refused held f joins (λ all none. incomplete all);
       is_held = is;
       some = (λ e. absurd (false_true e), λ all. absurd (incomplete (subst (λ fs. AreAllHeld fs (count_in_frame f)) is all)));
@@ -341,20 +344,21 @@ fed held f after (Ok None) together joins rising answer is unchanged =
     }
 fed held f after (Ok (Some m)) together joins rising answer is unchanged = record {
   together = subst AreTogether (sym is) (rising_together (count_in_frame f) (with_frame held f) rising);
-  refused = λ e. absurd (cc e);
+  refused = tt;
   taken = not_refused held f joins (λ all none. none m answer.1);
   is_held = is;
   some = (λ e. subst (λ fs. AreAllHeld fs (count_in_frame f)) (sym is) (all_held (count_in_frame f) (with_frame held f) rising answer.0), λ all. refl);
   message = subst (AreFrames m) (sym is) answer.1;
   unchanged = tt;
 }
-fed held f after (Err Malformed) together joins rising answer is unchanged =
-    fed_err held f after Malformed together
-    (λ e. no_message (all_held (count_in_frame f) (with_frame held f) rising answer.0) answer.1) unchanged
-fed held f after (Err NoMemory) together joins rising answer is unchanged =
-    fed_err held f after NoMemory together (λ e. absurd (cc e)) unchanged
+fed held f after (Err error) together joins rising answer is unchanged =
+    fed_err held f after error together
+    (IfRefused-weaker (λ _. AreNone (with_frame held f) (count_in_frame f))
+    (λ _. IsRefusedFrame held f)
+    (λ _ none. no_message (all_held (count_in_frame f) (with_frame held f) rising none.0) none.1)
+    error answer) unchanged
 
-pub fed_held : (held : List (List ℕ)) (f : List ℕ) (result : Result (Option Message) WireError)
+pub fed_held : (held : List (List ℕ)) (f : List ℕ) (result : Result (Option Message) (Failure Malformed))
     → AreTogether held → IsSpot held f Held → IsAssembled held (count_in_frame f) result → IsFed held f held result
 fed_held held f result together spot answer =
     fed held f held result together spot.0
@@ -362,7 +366,7 @@ fed_held held f result together spot answer =
     (subst (λ fs. IsAssembled fs (count_in_frame f) result) (sym spot.1) answer)
     (on_ok result (sym spot.1)) (on_err result refl)
 
-pub fed_new : (held : List (List ℕ)) (f : List ℕ) (index : ℕ) (after : List (List ℕ)) (result : Result (Option Message) WireError)
+pub fed_new : (held : List (List ℕ)) (f : List ℕ) (index : ℕ) (after : List (List ℕ)) (result : Result (Option Message) (Failure Malformed))
     → AreTogether held → IsSpot held f (New index) → IsAssembled (insert held index f) (count_in_frame f) result
     → OnOk result (after ≡ insert held index f) → OnErr result (after ≡ held) → IsFed held f after result
 fed_new held f index after result together spot answer is unchanged =
@@ -371,5 +375,6 @@ fed_new held f index after result together spot answer is unchanged =
     (subst (λ fs. IsAssembled fs (count_in_frame f) result) (sym spot.2) answer)
     (subst (λ fs. OnOk result (after ≡ fs)) (sym spot.2) is) unchanged
 
-pub fed_refused : (held : List (List ℕ)) (f : List ℕ) → AreTogether held → IsRefusedFrame held f → IsFed held f held (Err Malformed)
-fed_refused held f together refused = fed_err held f held Malformed together (λ e. refused) refl
+pub fed_refused : (held : List (List ℕ)) (f : List ℕ) → AreTogether held → IsRefusedFrame held f → IsFed held f held (Err (Refused (record {})))
+fed_refused held f together refused =
+    fed_err held f held (Refused (record {})) together refused refl

@@ -1,10 +1,11 @@
 -- Reading and writing items one after the other, as a loop does.
 use Rattle.std.proofs.Common.{◌≡◌, ℕ, suc, ◌-◌, ◌+◌, ◌≤◌, ◌<◌, List, [], ◌∷◌, ◌++◌, Option, Some, None, refl, sym, ap, ◌∙◌, append_assoc, arith}
 use Rattle.std.proofs.lemmas.List.{append-nil}
-use Rattle.wire.specs.declared.error.WireError.{WireError}
-use Rattle.wire.specs.declared.error.WireError.TheVariants.{Malformed, NoMemory}
+use Rattle.failure.specs.Refusals.{IfRefused}
+use Rattle.failure.specs.declared.error.Failure.{Failure}
+use Rattle.wire.specs.declared.error.Malformed.{Malformed}
+use Rattle.failure.proofs.CallerLemmas.{IfRefused-weaker}
 use Rattle.wire.specs.Format.{Format, then_read, read_items}
-use Rattle.wire.specs.Reading.{RefusesBytes}
 
 -- what was read before, and what is still read
 abbrev pub with_front : {A : Type 0} → List A → Option (List A × List ℕ) → Option (List A × List ℕ)
@@ -26,15 +27,14 @@ goes_on f front count i bytes x after total lt h so_far =
     rw (k, h) (regroup front x (read_items f (count - (i + 1)) after)) in
     sym one ∙ so_far
 
-pub stops : {A : Type 0} (f : Format A) (front : List A) (count i : ℕ) (bytes : List ℕ) (total : Option (List A × List ℕ)) (error : WireError)
-    → i < count → RefusesBytes error (f.read bytes)
-    → with_front front (read_items f (count - i) bytes) ≡ total → RefusesBytes error total
+pub stops : {A : Type 0} (f : Format A) (front : List A) (count i : ℕ) (bytes : List ℕ) (total : Option (List A × List ℕ)) (error : Failure Malformed)
+    → i < count → IfRefused (λ _. f.read bytes ≡ None) error
+    → with_front front (read_items f (count - i) bytes) ≡ total → IfRefused (λ _. total ≡ None) error
 unfolding read_items
-stops f front count i bytes total NoMemory lt h so_far = tt
-stops f front count i bytes total Malformed lt h so_far =
+stops f front count i bytes total error lt h so_far =
     let k : count - i ≡ suc (count - (i + 1)) = omega arith in
-    let one : with_front front (read_items f (count - i) bytes) ≡ None = rw (k, h) refl in
-    sym so_far ∙ one
+    IfRefused-weaker (λ _. f.read bytes ≡ None) (λ _. total ≡ None)
+    (λ _ none. rw (← so_far, k, none) refl) error h
 
 pub is_done : {A : Type 0} (f : Format A) (front : List A) (count i : ℕ) (bytes : List ℕ) (total : Option (List A × List ℕ))
     → count ≤ i → with_front front (read_items f (count - i) bytes) ≡ total → total ≡ Some (front, bytes)

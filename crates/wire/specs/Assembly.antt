@@ -1,11 +1,12 @@
 -- What an assembler of frames holds, and what it refuses.
-use Rattle.std.specs.Prelude.{◌≡◌, ◌≢◌, ℕ, ◌+◌, ◌<◌, ◌≤◌, nat_lt, ◌==◌, Bool, true, false, List, [], ◌∷◌, ◌++◌, length, filter, Option, Some, None, IsSome, IfSome, find, Result, Ok, Err, IsErrOf, IfOk, OnOk, OnErr, ◌↔◌}
+use Rattle.std.specs.Prelude.{◌≡◌, ◌≢◌, ℕ, ◌+◌, ◌<◌, ◌≤◌, nat_lt, ◌==◌, Bool, true, false, List, [], ◌∷◌, ◌++◌, length, filter, Option, Some, None, IsSome, IfSome, find, Result, Ok, Err, IfErr, IfOk, OnOk, OnErr, ◌↔◌}
 use Rattle.std.specs.List.{insert}
 use Rattle.ctrl_msg.specs.declared.message.Message.{Message}
 use Rattle.wire.specs.declared.assembler.Spot.{Spot}
 use Rattle.wire.specs.declared.assembler.Spot.TheVariants.{Refused, Held, New}
-use Rattle.wire.specs.declared.error.WireError.{WireError}
-use Rattle.wire.specs.declared.error.WireError.TheVariants.{Malformed, NoMemory}
+use Rattle.failure.specs.Refusals.{IfRefused}
+use Rattle.failure.specs.declared.error.Failure.{Failure}
+use Rattle.wire.specs.declared.error.Malformed.{Malformed}
 use Rattle.wire.specs.Frames.{AreFrames, place_in_frame, count_in_frame, piece_of, frame}
 
 -- the frame that is held at a place
@@ -54,21 +55,20 @@ AreTogether (f ∷ fs) = AreRising 0 (count_in_frame f) (f ∷ fs)
 
 -- ---- what an assembler answers
 
--- why frames answer an error: as many as their count are those of no message, or memory is out
-abbrev pub AreNone : List (List ℕ) → ℕ → WireError → Type 0
-AreNone fs count Malformed = (length fs ≡ count) × ((m : Message) → AreFrames m fs → ⊥)
-AreNone fs count NoMemory = Unit {0}
+-- as many frames as their count, and those of no message
+abbrev pub AreNone : List (List ℕ) → ℕ → Type 0
+AreNone fs count = (length fs ≡ count) × ((m : Message) → AreFrames m fs → ⊥)
 
 -- what frames answer that are all there
-abbrev pub IsWhole : List (List ℕ) → Result Message WireError → Type 0
+abbrev pub IsWhole : List (List ℕ) → Result Message (Failure Malformed) → Type 0
 IsWhole fs (Ok m) = AreFrames m fs
-IsWhole fs (Err error) = AreNone fs (length fs) error
+IsWhole fs (Err error) = IfRefused (λ _. AreNone fs (length fs)) error
 
 -- what the frames of a count answer
-abbrev pub IsAssembled : List (List ℕ) → ℕ → Result (Option Message) WireError → Type 0
+abbrev pub IsAssembled : List (List ℕ) → ℕ → Result (Option Message) (Failure Malformed) → Type 0
 IsAssembled fs count (Ok None) = length fs ≢ count
 IsAssembled fs count (Ok (Some m)) = (length fs ≡ count) × AreFrames m fs
-IsAssembled fs count (Err error) = AreNone fs count error
+IsAssembled fs count (Err error) = IfRefused (λ _. AreNone fs count) error
 
 -- the held frames are of this count, or one of them isn't
 abbrev pub Agree : List (List ℕ) → ℕ → Bool → Type 0
@@ -95,9 +95,9 @@ IsSpot held f (New index) =
 
 -- what taking in a frame answers, and leaves
 pub record IsFed (held : List (List ℕ)) (f : List ℕ) (after : List (List ℕ))
-    (result : Result (Option Message) WireError) : Type 0 where
+    (result : Result (Option Message) (Failure Malformed)) : Type 0 where
   pub together : AreTogether after
-  pub refused : IsErrOf result Malformed → IsRefusedFrame held f
+  pub refused : IfErr result (IfRefused (λ _. IsRefusedFrame held f))
   pub taken : OnOk result (IsRefusedFrame held f → ⊥)
   pub is_held : OnOk result (after ≡ with_frame held f)
   pub some : IfOk result (λ answer. IsSome answer ↔ AreAllHeld after (count_in_frame f))

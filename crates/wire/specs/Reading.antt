@@ -1,24 +1,20 @@
 -- What reading from bytes gives, and what writing leaves.
 use Rattle.std.specs.Prelude.{◌≡◌, ℕ, true, List, ◌++◌, Option, Some, None, Result, Ok, Err}
-use Rattle.wire.specs.declared.error.WireError.{WireError}
-use Rattle.wire.specs.declared.error.WireError.TheVariants.{Malformed, NoMemory}
+use Rattle.failure.specs.Refusals.{IfRefused}
+use Rattle.failure.specs.declared.error.Failure.{Failure}
+use Rattle.wire.specs.declared.error.Malformed.{Malformed}
 use Rattle.ctrl_msg.specs.declared.message.Body.{Body}
 use Rattle.wire.specs.Format.{Format}
 use Rattle.wire.specs.Messages.{fields_fit, spelled_fields}
 
--- without memory it may be anything
-abbrev pub RefusesBytes : {A : Type 0} → WireError → Option A → Type 0
-RefusesBytes Malformed read = read ≡ None
-RefusesBytes NoMemory read = Unit {0}
-
--- the answer, seen by view, and the bytes that are left are what was read
-abbrev pub Gives : {X A : Type 0} → (X → A) → Option (A × List ℕ) → Result X WireError → List ℕ
+-- the answer, seen by view, and the bytes that are left are what was read, unless memory ran out
+abbrev pub Gives : {X A : Type 0} → (X → A) → Option (A × List ℕ) → Result X (Failure Malformed) → List ℕ
     → Type 0
 Gives view read (Ok x) rest = read ≡ Some (view x, rest)
-Gives view read (Err error) rest = RefusesBytes error read
+Gives view read (Err error) rest = IfRefused (λ _. read ≡ None) error
 
 -- the answer and the bytes that are left are what the format reads
-abbrev pub Reads : {A : Type 0} → Format A → List ℕ → Result A WireError → List ℕ → Type 0
+abbrev pub Reads : {A : Type 0} → Format A → List ℕ → Result A (Failure Malformed) → List ℕ → Type 0
 Reads f bytes result rest = Gives (λ x. x) (f.read bytes) result rest
 
 -- the value has a spelling, which stands at the end of the new bytes

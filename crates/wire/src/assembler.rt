@@ -1,12 +1,12 @@
-ghost use Rattle.std.specs.Prelude.{◌≡◌, ◌<◌, ◌≤◌, ◌↔◌, [], length, IsSome, IfOk, IfSome, OnOk, OnErr, IsErrOf, nat_le};
+ghost use Rattle.std.specs.Prelude.{◌≡◌, ◌<◌, ◌≤◌, ◌↔◌, [], length, IsSome, IfOk, IfSome, OnOk, OnErr, IfErr, nat_le};
 ghost use Rattle.std.specs.Option.{option_copied};
 ghost use Rattle.std.specs.List.{insert, position, position_or_len};
-ghost use Rattle.wire.specs.declared.error.WireError.TheVariants.{Malformed};
+ghost use Rattle.failure.specs.Refusals.{IfRefused};
 ghost use Rattle.wire.specs.Frames.{AreFrames, count_in_frame, place_in_frame};
 ghost use Rattle.wire.specs.Assembly.{Agree, AreAllHeld, AreRising, AreTogether, IsAssembled, IsFed, IsRefusedFrame, IsSpot, held_at, with_frame};
 
 use crate::assembly::{are_same, message_of};
-use crate::error::WireError;
+use crate::error::{Malformed, WireError};
 use crate::frame::{Frame, HEADER_LEN, count_of, place_of};
 use crate::frames::MOST_OF_FRAME;
 use ctrl_msg::Message;
@@ -49,7 +49,7 @@ impl Assembler {
     /// held frame has another count, another frame is held at its place, or all frames are there
     /// and are those of no message. An error changes nothing.
     pub fn feed(&mut self, alloc: Global, frame: &[u8]) -> Result<Option<Message>, WireError>
-        ensures refused { IsErrOf result Malformed → IsRefusedFrame self.old frame.now }
+        ensures refused { IfErr result (IfRefused (λ _. IsRefusedFrame self.old frame.now)) }
         ensures taken { OnOk result (IsRefusedFrame self.old frame.now → ⊥) }
         ensures held { OnOk result (self.new ≡ with_frame self.old frame.now) }
         ensures some { IfOk result (λ answer.
@@ -66,7 +66,7 @@ fn feed(frames: &mut Vec<Frame>, alloc: Global, frame: &[u8]) -> Result<Option<M
     ensures { IsFed frames.old.items frame.now frames.new.items result }
 {
     match spot_of(frames, frame) {
-        Spot::Refused => Err(WireError::Malformed),
+        Spot::Refused => Err(WireError::Refused(Malformed)),
         Spot::Held => message_of(alloc, count_of(frame), frames),
         Spot::New(index) => hold(frames, alloc, index, frame),
     }

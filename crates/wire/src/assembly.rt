@@ -4,7 +4,7 @@ ghost use Rattle.wire.specs.Frames.{piece_of};
 ghost use Rattle.wire.specs.Assembly.{AreRising, IsAssembled, IsWhole};
 
 use crate::codec::decode;
-use crate::error::WireError;
+use crate::error::{Malformed, WireError};
 use crate::frame::Frame;
 use crate::frames::{cut, head_len};
 use ctrl_msg::Message;
@@ -54,7 +54,7 @@ fn decoded(alloc: Global, frames: &[Frame], bytes: &[u8]) -> Result<Message, Wir
     if are_pieces(frames, &parts) {
         Ok(message)
     } else {
-        Err(WireError::Malformed)
+        Err(WireError::Refused(Malformed))
     }
 }
 

@@ -1,12 +1,12 @@
-ghost use Rattle.std.specs.Prelude.{◌≡◌, ◌<◌, ◌++◌, true, OnOk, IfOk, IsErrOf};
+ghost use Rattle.std.specs.Prelude.{◌≡◌, ◌<◌, ◌++◌, true, OnOk, IfOk, IfErr};
 ghost use Rattle.ctrl_msg.specs.declared.message.Message.{Message};
-ghost use Rattle.wire.specs.declared.error.WireError.TheVariants.{Malformed};
+ghost use Rattle.failure.specs.Refusals.{IfRefused};
 ghost use Rattle.wire.specs.Fields as form;
 ghost use Rattle.wire.specs.Messages as kinds;
 ghost use Rattle.wire.specs.Messages.{AreShort, FieldsSuit, HasSpelling, IsSpelling, IsReceiver, cache_rule_of, kind_number, made, read_fields, whole};
 ghost use Rattle.wire.specs.Reading.{AppendsForm, AppendsFields, Gives, Reads};
 
-use crate::error::WireError;
+use crate::error::{Malformed, WireError};
 use crate::fields::{
     put_action, put_rule_name, put_switch, put_word, read_action, read_rule_name, read_switch,
     read_word,
@@ -27,7 +27,7 @@ pub(crate) fn read_receiver(reader: &mut Reader) -> Result<Receiver, WireError>
     match reader.n1()? {
         255 => Ok(Receiver::Controller),
         switch if switch < 64 => Ok(Receiver::Switch(u32::from(switch))),
-        _ => Err(WireError::Malformed),
+        _ => Err(WireError::Refused(Malformed)),
     }
 }
 
@@ -127,7 +127,7 @@ fn read_fields(kind: u8, reader: &mut Reader) -> Result<Body, WireError>
             boot,
             version,
         }),
-        _ => Err(WireError::Malformed),
+        _ => Err(WireError::Refused(Malformed)),
     }
 }
 
@@ -152,7 +152,7 @@ fn read_message(reader: &mut Reader) -> Result<Message, WireError>
     if for_controller == body.is_for_controller() {
         Ok(Message { to, body })
     } else {
-        Err(WireError::Malformed)
+        Err(WireError::Refused(Malformed))
     }
 }
 
@@ -163,7 +163,7 @@ fn whole(reader: &mut Reader) -> Result<Message, WireError>
     if reader.is_empty() {
         Ok(message)
     } else {
-        Err(WireError::Malformed)
+        Err(WireError::Refused(Malformed))
     }
 }
 
@@ -336,8 +336,8 @@ pub fn decode(alloc: Global, bytes: &[u8]) -> Result<Message, WireError>
     ensures found { IfOk result (λ message. IsSpelling message bytes.now) }
     ensures only { IfOk result (λ message.
         (other : Message) → IsSpelling other bytes.now → other ≡ message) }
-    ensures malformed { IsErrOf result Malformed →
-        (message : Message) → IsSpelling message bytes.now → ⊥ }
+    ensures malformed { IfErr result (IfRefused (λ _.
+        (message : Message) → IsSpelling message bytes.now → ⊥)) }
 {
     whole(&mut Reader::new(alloc, bytes))
 }

@@ -2,7 +2,7 @@ ghost use Rattle.std.specs.Prelude.{◌<◌, ◌≤◌, All, IfOk, OnOk};
 ghost use Rattle.wire.specs.Fields as form;
 ghost use Rattle.wire.specs.Reading.{AppendsForm, Reads};
 
-use crate::error::WireError;
+use crate::error::{Malformed, WireError};
 use crate::reader::Reader;
 use crate::writer::{put_n1, put_n4, put_n16};
 use policy_rules::{Action, Targets};
@@ -17,7 +17,7 @@ pub(crate) fn read_switch(reader: &mut Reader) -> Result<u32, WireError>
     if number < 64 {
         Ok(u32::from(number))
     } else {
-        Err(WireError::Malformed)
+        Err(WireError::Refused(Malformed))
     }
 }
 
@@ -37,7 +37,7 @@ pub(crate) fn read_word(reader: &mut Reader) -> Result<Word, WireError>
     let mask = reader.n16()?;
     match Word::new(value, mask) {
         Some(word) => Ok(word),
-        None => Err(WireError::Malformed),
+        None => Err(WireError::Refused(Malformed)),
     }
 }
 
@@ -56,7 +56,7 @@ pub(crate) fn read_rule_name(reader: &mut Reader) -> Result<Option<u32>, WireErr
     match reader.n1()? {
         0 => Ok(None),
         1 => Ok(Some(reader.n4()?)),
-        _ => Err(WireError::Malformed),
+        _ => Err(WireError::Refused(Malformed)),
     }
 }
 
@@ -80,7 +80,7 @@ pub(crate) fn read_action(reader: &mut Reader) -> Result<Action, WireError>
     match reader.n1()? {
         0 => Ok(Action::Drop),
         1 => Ok(Action::Out(reader.n4()?)),
-        _ => Err(WireError::Malformed),
+        _ => Err(WireError::Refused(Malformed)),
     }
 }
 
@@ -107,7 +107,7 @@ fn read_target_count(reader: &mut Reader) -> Result<usize, WireError>
     if 1 <= count && count <= 4 {
         Ok(usize::from(count))
     } else {
-        Err(WireError::Malformed)
+        Err(WireError::Refused(Malformed))
     }
 }
 
@@ -122,7 +122,7 @@ pub(crate) fn read_targets(reader: &mut Reader) -> Result<Targets, WireError>
     }
     match Targets::new(&switches[..count]) {
         Some(targets) => Ok(targets),
-        None => Err(WireError::Malformed),
+        None => Err(WireError::Refused(Malformed)),
     }
 }
 

@@ -1,12 +1,12 @@
 //! What stands before the tables in the spelling of an installation.
-ghost use Rattle.std.specs.Prelude.{◌≡◌, ◌++◌, ℕ, true, IfOk, IsErrOf, OnOk};
+ghost use Rattle.std.specs.Prelude.{◌≡◌, ◌++◌, ℕ, true, IfOk, IfErr, OnOk};
 ghost use Rattle.ctrl_msg.specs.declared.message.Receiver.{Receiver};
-ghost use Rattle.wire.specs.declared.error.WireError.TheVariants.{Malformed};
+ghost use Rattle.failure.specs.Refusals.{IfRefused};
 ghost use Rattle.wire.specs.Messages.{IsFront, IsReceiver, front, read_front, spelled_front};
 ghost use Rattle.wire.specs.Reading.{Gives};
 
 use crate::codec::{put_receiver, read_receiver};
-use crate::error::WireError;
+use crate::error::{Malformed, WireError};
 use crate::reader::Reader;
 use crate::writer::{put_n1, put_n4};
 use ctrl_msg::Receiver;
@@ -40,7 +40,7 @@ fn read(reader: &mut Reader) -> Result<(Receiver, u32), WireError>
     if kind == INSTALL && reader.is_empty() {
         Ok((to, boot))
     } else {
-        Err(WireError::Malformed)
+        Err(WireError::Refused(Malformed))
     }
 }
 
@@ -51,8 +51,8 @@ fn read(reader: &mut Reader) -> Result<(Receiver, u32), WireError>
 #[tactic(auto, using(crate::proofs::Fronts::front_found, crate::proofs::Fronts::no_front))]
 pub fn decode_front(alloc: Global, bytes: &[u8]) -> Result<(Receiver, u32), WireError>
     ensures found { IfOk result (λ front. IsFront front.0 front.1 bytes.now) }
-    ensures malformed { IsErrOf result Malformed →
-        (to : Receiver) (boot : ℕ) → IsFront to boot bytes.now → ⊥ }
+    ensures malformed { IfErr result (IfRefused (λ _.
+        (to : Receiver) (boot : ℕ) → IsFront to boot bytes.now → ⊥)) }
 {
     read(&mut Reader::new(alloc, bytes))
 }

@@ -32,6 +32,6 @@ mod writer;
 
 pub use assembler::Assembler;
 pub use codec::{append, decode, encode};
-pub use error::WireError;
+pub use error::{Malformed, WireError};
 pub use frames::{Frames, split};
 pub use front::{append_front, decode_front};

@@ -2,7 +2,7 @@ ghost use Rattle.std.specs.Prelude.{◌≡◌, ◌==◌, ◌<◌, ◌≤◌, dro
 ghost use Rattle.wire.specs.Reading.{Reads};
 ghost use Rattle.wire.specs.Fields.{n1, n4, n8, n16};
 
-use crate::error::WireError;
+use crate::error::{Malformed, WireError};
 use std::alloc::Global;
 use std::marker::Model;
 
@@ -53,7 +53,7 @@ impl<'a> Reader<'a> {
     pub fn n1(&mut self) -> Result<u8, WireError>
         ensures { Reads n1 self.old result self.new }
     {
-        let front = self.take(1).ok_or(WireError::Malformed)?;
+        let front = self.take(1).ok_or(WireError::Refused(Malformed))?;
         Ok(front[0])
     }
 
@@ -61,7 +61,7 @@ impl<'a> Reader<'a> {
     pub fn n4(&mut self) -> Result<u32, WireError>
         ensures { Reads n4 self.old result self.new }
     {
-        let front = self.take(4).ok_or(WireError::Malformed)?;
+        let front = self.take(4).ok_or(WireError::Refused(Malformed))?;
         Ok(u32::from_be_bytes([front[0], front[1], front[2], front[3]]))
     }
 
@@ -69,7 +69,7 @@ impl<'a> Reader<'a> {
     pub fn n8(&mut self) -> Result<u64, WireError>
         ensures { Reads n8 self.old result self.new }
     {
-        let front = self.take(8).ok_or(WireError::Malformed)?;
+        let front = self.take(8).ok_or(WireError::Refused(Malformed))?;
         Ok(u64::from_be_bytes([
             front[0], front[1], front[2], front[3], front[4], front[5], front[6], front[7],
         ]))

@@ -8,7 +8,7 @@ use std::test::*;
 use wire::{WireError, decode, encode};
 
 fn is_malformed(alloc: Global, bytes: &[u8]) -> bool {
-    matches!(decode(alloc, bytes), Err(WireError::Malformed))
+    matches!(decode(alloc, bytes), Err(WireError::Refused(_)))
 }
 
 #[test]

@@ -1,4 +1,4 @@
-use Rattle.std.proofs.Common.{Err, ap, sym, subst, arith}
+use Rattle.std.proofs.Common.{sym, subst, arith}
 use Rattle.wire.specs.Messages.{IsSpelling}
 use Rattle.frame_bag.proofs.ComingOut.{alone_are, long_alone, rest_is, spelled_alone}
 use Rattle.frame_bag.proofs.reading.alone.Goals as goal
@@ -11,7 +11,7 @@ slice_bounds-decode-start c = omega (arith, long_alone c.args.frame.now c.requir
 
 pub unreachable-requires : goal.unreachable-requires
 unreachable-requires c =
-    c.in-Err-Malformed.ensures.malformed (ap Err c.in-Err-Malformed.field-0-is) c.requires.0
+    (rw c.in-Err-Refused.field-0-is at c.in-Err-Refused.ensures.malformed) c.requires.0
     (subst (IsSpelling c.requires.0) (sym (rest_is c.args.frame.now)) (spelled_alone c.args.frame.now c.requires))
 
 pub returns-in-Ok : goal.returns-in-Ok

@@ -1,9 +1,9 @@
-use Rattle.std.proofs.Common.{◌≡◌, ◌<◌, length, take, refl, ◌∙◌, arith}
+use Rattle.std.proofs.Common.{◌≡◌, ◌<◌, None, length, take, refl, ◌∙◌, arith}
 use Rattle.std.proofs.lemmas.List.{take_more_set, length-set}
 use Rattle.std.proofs.lemmas.Result.{err_from_is_err_and}
+use Rattle.failure.specs.Refusals.{IfRefused}
 use Rattle.wire.specs.Fields.{switch, targets}
 use Rattle.wire.specs.Format.{read_items}
-use Rattle.wire.specs.Reading.{RefusesBytes}
 use Rattle.wire.proofs.Items.{goes_on, stops, is_done}
 use Rattle.wire.proofs.fields.read_targets.Goals as goal
 
@@ -12,7 +12,7 @@ unfolding targets
 returns-in_err-switches c =
     let p = err_from_is_err_and c.from_residual-in_err-switches.result c.from_residual-in_err-switches.ensures.1 in
     let read = read_items switch c.in_ok-count.count c.read_target_count.new.reader in
-    let refused : RefusesBytes c.in_err-switches.field-0.0 read =
+    let refused : IfRefused (λ _. read ≡ None) c.in_err-switches.field-0.0 =
     stops switch (take c.loop-place.place c.loop-place.switches) c.in_ok-count.count c.loop-place.place c.loop-place.reader
     read c.in_err-switches.field-0.0 c.loop-place-test.true c.in_err-switches.ensures c.loop-place.invariant.so_far in
     rw (p.1, p.2, c.in_ok-count.ensures.read) refused

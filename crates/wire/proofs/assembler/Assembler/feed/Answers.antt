@@ -1,12 +1,12 @@
 use Rattle.std.proofs.Common.{subst}
-use Rattle.std.specs.Prelude.{IsErrOf, OnOk}
-use Rattle.wire.specs.declared.error.WireError.TheVariants.{Malformed}
+use Rattle.std.specs.Prelude.{IfErr, OnOk}
+use Rattle.failure.specs.Refusals.{IfRefused}
 use Rattle.wire.specs.Assembly.{IsRefusedFrame}
 use Rattle.wire.proofs.assembler.Assembler.feed.Goals as goal
 
 pub returns-clause-refused : goal.returns-clause-refused
 returns-clause-refused c =
-    subst (λ held. IsErrOf c.feed.result Malformed → IsRefusedFrame held c.args.frame.now) c.self.view_is c.feed.ensures.refused
+    subst (λ held. IfErr c.feed.result (IfRefused (λ _. IsRefusedFrame held c.args.frame.now))) c.self.view_is c.feed.ensures.refused
 
 pub returns-clause-taken : goal.returns-clause-taken
 returns-clause-taken c =
