@@ -1,12 +1,11 @@
 -- What a controller is after a plan was submitted, or refused.
 use Rattle.std.specs.Prelude.{◌≡◌, ◌⊎◌, ◌+◌, [], ◌∷◌, ◌++◌}
 use Rattle.version_update.specs.Marks.{with_version}
-use Rattle.version_update.specs.declared.marks.SubmitError.{SubmitError as MarksError}
-use Rattle.version_update.specs.declared.marks.SubmitError.TheVariants as marks
+use Rattle.failure.specs.declared.error.Failure.{Failure}
+use Rattle.failure.specs.declared.error.Failure.TheVariants.{Refused, NoMemory}
+use Rattle.version_update.specs.declared.marks.SubmitError.{SubmitError}
 use Rattle.controller.specs.Plan.{PlanValue}
 use Rattle.controller.specs.Controller.{ControllerValue, SettlesWith}
-use Rattle.controller.specs.declared.submit_error.SubmitError.{SubmitError}
-use Rattle.controller.specs.declared.submit_error.SubmitError.TheVariants.{TooManyLive, TooManyVersions, NoMemory}
 
 -- the plan is that of one more version
 abbrev pub SubmitsPlan : ControllerValue → PlanValue → ControllerValue → Type 0
@@ -15,12 +14,6 @@ SubmitsPlan old plan new = SettlesWith (with_version old.marks)
 
 -- a refusal changes nothing; where memory ran out, either nothing changed, or the version stands
 -- and what it causes is lost
-abbrev pub IsLeft : ControllerValue → PlanValue → ControllerValue → SubmitError → Type 0
-IsLeft old plan new TooManyLive = new ≡ old
-IsLeft old plan new TooManyVersions = new ≡ old
+abbrev pub IsLeft : ControllerValue → PlanValue → ControllerValue → Failure SubmitError → Type 0
+IsLeft old plan new (Refused refusal) = new ≡ old
 IsLeft old plan new NoMemory = (new ≡ old) ⊎ SubmitsPlan old plan new
-
--- the refusal of the marks
-abbrev pub of_marks : MarksError → SubmitError
-of_marks marks.TooManyLive = TooManyLive
-of_marks marks.TooManyVersions = TooManyVersions

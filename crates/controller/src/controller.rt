@@ -6,23 +6,24 @@ ghost use Rattle.switch_table.specs.Tables.{AreSoundTables};
 ghost use Rattle.version_update.specs.Marks.{StaySettled, at_switch, record_of, with_version, MarksValue};
 ghost use Rattle.version_update.specs.Record.{is_member, is_over, after_over};
 ghost use Rattle.version_update.specs.Settling.{Settles};
+ghost use Rattle.version_update.specs.declared.marks.SubmitError.TheVariants.{TooManyLive, TooManyVersions};
 ghost use Rattle.version_update.specs.declared.record.Phase.TheVariants.{Joining, Member};
 ghost use Rattle.controller.specs.Controllers.{IsController, IsLeft, NamesBoth, NamesThere, SettlesWith, StaysController, SubmitsPlan, after_reply, boot_recorded, first_controller, hearing, install_act, kept_tables, marks_after, resending, resending_to, settling_acts, submitting, those};
-ghost use Rattle.controller.specs.declared.submit_error.SubmitError.TheVariants.{TooManyLive, TooManyVersions, NoMemory};
+ghost use Rattle.failure.specs.declared.error.Failure.TheVariants.{Refused, NoMemory};
 
 use crate::plan::Plan;
 use crate::replying::Reply;
 use crate::resending::{collect_again, install_missing, stamp_again};
 use crate::sends::{Act, Sends};
 use crate::settling::{settle, settled_sends};
-use crate::submit_error::SubmitError;
 use crate::version::Version;
 use ctrl_msg::{Body, SharedTables};
+use failure::Failure;
 use net_file::Net;
 use std::alloc::{AllocError, Global};
 use std::marker::Model;
 use switch_table::tables_laws;
-use version_update::{Marks, Phase, Settled, settling_laws};
+use version_update::{Marks, Phase, Settled, SubmitError, settling_laws};
 
 /// The controller of a network: what it knows of the switches, and the plan of each version that a
 /// later call can name. Version v is the v-th plan that was submitted; the first is that of
@@ -38,8 +39,7 @@ pub struct Controller {
 }
 
 impl Model for Controller {
-    ghost use Rattle.controller.specs.Controller.{ControllerValue, IsController};
-
+    
     ghost Value = { ControllerValue };
 
     ghost view = { λ c. record { marks = c.marks; plans = c.versions.items } };
@@ -108,19 +108,19 @@ impl Controller {
     /// # Errors
     /// `TooManyLive` exactly where 8 versions are not retired; otherwise `TooManyVersions` exactly
     /// where there are 64. Nothing changed then.
-    pub fn submit(&mut self, alloc: Global, plan: Plan) -> Result<Sends, SubmitError>
+    pub fn submit(&mut self, alloc: Global, plan: Plan) -> Result<Sends, Failure<SubmitError>>
         ensures after { OnOk result (SubmitsPlan self.old plan self.new) }
         ensures sends { IfOk result (λ sends.
             sends ≡ submitting self.old.marks plan self.new.marks) }
-        ensures live { (result ≡ Err TooManyLive)
+        ensures live { (result ≡ Err (Refused TooManyLive))
             ↔ (self.old.marks.count - self.old.marks.retired ≡ 8) }
-        ensures versions { (result ≡ Err TooManyVersions)
+        ensures versions { (result ≡ Err (Refused TooManyVersions))
             ↔ ((self.old.marks.count - self.old.marks.retired ≢ 8) × (self.old.marks.count ≡ 64)) }
         ensures refused { IfErr result (IsLeft self.old plan self.new) }
         ensures rule { StaysController self.old self.new }
     {
         if let Some(error) = self.marks.refusal() {
-            return Err(error.into());
+            return Err(Failure::Refused(error));
         }
         let sends = self.add(alloc, plan)?;
         Ok(sends)
@@ -290,8 +290,8 @@ fn add_version(marks: &mut Marks) -> Settled
 {
     match marks.submit() {
         Ok(settled) => settled,
-        Err(version_update::SubmitError::TooManyLive) => unreachable!(),
-        Err(version_update::SubmitError::TooManyVersions) => unreachable!(),
+        Err(SubmitError::TooManyLive) => unreachable!(),
+        Err(SubmitError::TooManyVersions) => unreachable!(),
     }
 }
 

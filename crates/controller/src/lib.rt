@@ -32,7 +32,6 @@ mod replying;
 mod resending;
 mod sends;
 mod settling;
-mod submit_error;
 mod tables;
 mod version;
 
@@ -41,5 +40,5 @@ pub use plan::Plan;
 pub use plan_error::PlanError;
 pub use planning::compile;
 pub use sends::{Act, Sends};
-pub use submit_error::SubmitError;
 pub use tables::tables_of;
+pub use version_update::SubmitError;

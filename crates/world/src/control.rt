@@ -8,6 +8,7 @@ ghost use Rattle.world.specs.Parts.{HasBegun, Plays};
 
 use crate::parts::Parts;
 use controller::{Act, SubmitError};
+use failure::Failure;
 use journal::{Item, Message};
 use policy_store::Compiled;
 use std::alloc::{AllocError, Global};
@@ -35,13 +36,13 @@ impl Parts {
                 self.log.journal.push(Item::Submitted { file, version })?;
                 self.log.note_acts(alloc, sends.items())
             }
-            Err(SubmitError::TooManyLive) => {
+            Err(Failure::Refused(SubmitError::TooManyLive)) => {
                 self.log.journal.push(Item::Refused { file, code: 16 })
             }
-            Err(SubmitError::TooManyVersions) => {
+            Err(Failure::Refused(SubmitError::TooManyVersions)) => {
                 self.log.journal.push(Item::Refused { file, code: 17 })
             }
-            Err(SubmitError::NoMemory) => Err(AllocError),
+            Err(Failure::NoMemory) => Err(AllocError),
         }
     }
 

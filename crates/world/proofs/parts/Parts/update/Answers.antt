@@ -1,6 +1,7 @@
 use Rattle.std.proofs.Common.{ℕ, ◌≡◌, ◌≢◌, ◌+◌, ◌-◌, ◌++◌, ◌∷◌, [], List, Err, get_or, refl, ap, sym, subst, ◌∙◌, rules}
 use Rattle.std.specs.Prelude.{OnErr, OnOk, Result}
 use Rattle.world_ties.specs.Controller.{IsPlanOfFile}
+use Rattle.failure.specs.declared.error.Failure.TheVariants.{Refused}
 use Rattle.controller.specs.Controller.{ControllerValue}
 use Rattle.controller.specs.Sends.{submitting}
 use Rattle.controller.specs.declared.sends.Act.{Act}
@@ -124,24 +125,26 @@ returns-in_ok-push-in-Ok c = λ before row begins.
 
 -- ---- the marks refuse it
 
-pub returns-in-Err-TooManyLive : goal.returns-in-Err-TooManyLive
-returns-in-Err-TooManyLive c = λ before row begins.
-    let said = c.in-Err-TooManyLive.ensures in
-    let is = c.in-Err-TooManyLive.field-0-is in
+pub returns-in-Err-Refused-TooManyLive : goal.returns-in-Err-Refused-TooManyLive
+returns-in-Err-Refused-TooManyLive c = λ before row begins.
+    let said = c.in-Err-Refused-TooManyLive.ensures in
+    let is = c.in-Err-Refused-TooManyLive.field-0-is in
+    let why = is ∙ ap Refused (rw is at c.in-Err-Refused-TooManyLive.field-0-0-is) in
     refused 16 begins c.in_ok-code.ensures.same (rw is at said.refused)
     (live_piece _ _ _ _ _ _ row c.args.file c.in-Planned.plan begins.ready.tied
-    (planned (goal.at.returns-in-Err-TooManyLive c).In-Planned) (said.live.0 (ap Err is)))
-    c.push-in-Err-TooManyLive.ensures.pushed c.push-in-Err-TooManyLive.ensures.unchanged
+    (planned (goal.at.returns-in-Err-Refused-TooManyLive c).In-Planned) (said.live.0 (ap Err why)))
+    c.push-in-Err-Refused-TooManyLive.ensures.pushed c.push-in-Err-Refused-TooManyLive.ensures.unchanged
 
-pub returns-in-Err-TooManyVersions : goal.returns-in-Err-TooManyVersions
-returns-in-Err-TooManyVersions c = λ before row begins.
-    let said = c.in-Err-TooManyVersions.ensures in
-    let is = c.in-Err-TooManyVersions.field-0-is in
-    let many = said.versions.0 (ap Err is) in
+pub returns-in-Err-Refused-TooManyVersions : goal.returns-in-Err-Refused-TooManyVersions
+returns-in-Err-Refused-TooManyVersions c = λ before row begins.
+    let said = c.in-Err-Refused-TooManyVersions.ensures in
+    let is = c.in-Err-Refused-TooManyVersions.field-0-is in
+    let why = is ∙ ap Refused (rw is at c.in-Err-Refused-TooManyVersions.field-0-0-is) in
+    let many = said.versions.0 (ap Err why) in
     refused 17 begins c.in_ok-code.ensures.same (rw is at said.refused)
     (versions_piece _ _ _ _ _ _ row c.args.file c.in-Planned.plan begins.ready.tied
-    (planned (goal.at.returns-in-Err-TooManyVersions c).In-Planned) many.0 many.1)
-    c.push-in-Err-TooManyVersions.ensures.pushed c.push-in-Err-TooManyVersions.ensures.unchanged
+    (planned (goal.at.returns-in-Err-Refused-TooManyVersions c).In-Planned) many.0 many.1)
+    c.push-in-Err-Refused-TooManyVersions.ensures.pushed c.push-in-Err-Refused-TooManyVersions.ensures.unchanged
 
 pub returns-in-Err-NoMemory : goal.returns-in-Err-NoMemory
 returns-in-Err-NoMemory c = λ before row begins.
