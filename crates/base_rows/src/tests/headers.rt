@@ -53,45 +53,38 @@ fn reads_addresses(rt: HostRuntime) {
     }
 }
 
-const PREFIXES: [(&str, Option<(u32, u32)>); 5] = [
-    ("any", Some((0, 0))),
-    ("10.1.2.3/8", Some((0x0a00_0000, 8))),
-    ("10.1.2.3", Some((0x0a01_0203, 32))),
-    ("10.1.2.3/33", None),
-    ("10.1.2.3/8/8", None),
+// Texts, each with the address and the length of the prefix that it names, and with the first and
+// the last port of the range.
+const PREFIXES_AND_RANGES: [(&str, Option<(u32, u32)>, Option<(u16, u16)>); 9] = [
+    ("any", Some((0, 0)), Some((0, 65535))),
+    ("10.1.2.3/8", Some((0x0a00_0000, 8)), None),
+    ("10.1.2.3", Some((0x0a01_0203, 32)), None),
+    ("10.1.2.3/33", None, None),
+    ("10.1.2.3/8/8", None, None),
+    ("80", None, Some((80, 80))),
+    ("70-80", None, Some((70, 80))),
+    ("80-70", None, None),
+    ("65536", None, None),
 ];
 
-// The address and the length of the prefix that the text names.
-fn prefix(text: &str) -> Option<(u32, u32)> {
-    let prefix = read_prefix(text.as_bytes())?;
-    Some((prefix.address, prefix.len))
-}
-
 #[test]
-fn reads_prefixes(rt: HostRuntime) {
-    for (text, want) in &PREFIXES {
-        assert!(rt; prefix(text) == *want, "{text}");
+fn reads_prefixes_and_ranges(rt: HostRuntime) {
+    for (text, prefix, range) in &PREFIXES_AND_RANGES {
+        let read = read_prefix(text.as_bytes()).map(|p| (p.address, p.len));
+        assert!(rt; read == *prefix, "{text}");
+        let read = read_range(text.as_bytes()).map(|r| (r.low, r.high));
+        assert!(rt; read == *range, "{text}");
     }
 }
 
-const RANGES: [(&str, Option<(u16, u16)>); 5] = [
-    ("any", Some((0, 65535))),
-    ("80", Some((80, 80))),
-    ("70-80", Some((70, 80))),
-    ("80-70", None),
-    ("65536", None),
-];
-
-// The first and the last port of the range that the text names.
-fn range(text: &str) -> Option<(u16, u16)> {
-    let range = read_range(text.as_bytes())?;
-    Some((range.low, range.high))
-}
-
-#[test]
-fn reads_ranges(rt: HostRuntime) {
-    for (text, want) in &RANGES {
-        assert!(rt; range(text) == *want, "{text}");
+// The fields of a packet from 10.1.1.1 to port 80 of 9.9.9.9 by this protocol.
+fn web_fields(proto: u8) -> Fields {
+    Fields {
+        src: 0x0a01_0101,
+        dst: 0x0909_0909,
+        sport: 5000,
+        dport: 80,
+        proto,
     }
 }
 
@@ -102,14 +95,7 @@ fn packet_from(src: &str) -> Option<Fields> {
 
 #[test]
 fn reads_packets(rt: HostRuntime) {
-    let fields = Fields {
-        src: 0x0a01_0101,
-        dst: 0x0909_0909,
-        sport: 5000,
-        dport: 80,
-        proto: 6,
-    };
-    assert!(rt; packet_from("10.1.1.1") == Some(fields));
+    assert!(rt; packet_from("10.1.1.1") == Some(web_fields(6)));
     assert!(rt; packet_from("any").is_none());
     assert!(rt; read_port(b"65535") == Some(u16::MAX));
 }
@@ -131,73 +117,47 @@ fn reads_protocols(rt: HostRuntime) {
     }
 }
 
-// Whether a prefix that is read from the text is printed so.
-fn prints_prefix(alloc: Global, text: &str, printed: &str) -> Result<bool, Fail> {
-    let prefix = read_prefix(text.as_bytes()).ok_or("prefix")?;
-    Ok(write_prefix(alloc, &prefix)?.as_slice() == printed.as_bytes())
+// What a text is read as.
+#[derive(Clone, Copy)]
+enum Kind {
+    Prefix,
+    Range,
+    Protocol,
 }
 
-const PRINTED_PREFIXES: [(&str, &str); 2] = [("0.0.0.0/0", "any"), ("10.1.2.3/8", "10.0.0.0/8")];
-
-#[test]
-fn writes_prefixes(rt: HostRuntime) -> Result<(), Fail> {
-    for (text, printed) in &PRINTED_PREFIXES {
-        assert!(rt; prints_prefix(rt.alloc(), text, printed)?, "{text}");
-    }
-    Ok(())
+// What is read from the text as this kind, printed.
+fn printed(alloc: Global, kind: Kind, text: &[u8]) -> Result<Vec<u8>, Fail> {
+    Ok(match kind {
+        Kind::Prefix => write_prefix(alloc, &read_prefix(text).ok_or("prefix")?)?,
+        Kind::Range => write_range(alloc, &read_range(text).ok_or("range")?)?,
+        Kind::Protocol => write_proto(alloc, &read_proto(text).ok_or("protocol")?)?,
+    })
 }
 
-// Whether a range that is read from the text is printed so.
-fn prints_range(alloc: Global, text: &str, printed: &str) -> Result<bool, Fail> {
-    let range = read_range(text.as_bytes()).ok_or("range")?;
-    Ok(write_range(alloc, &range)?.as_slice() == printed.as_bytes())
-}
-
-const PRINTED_RANGES: [(&str, &str); 3] = [
-    ("0-65535", "any"),
-    ("80-80", "80"),
-    ("0-65534", "0-65534"),
+const PRINTED: [(Kind, &str, &str); 9] = [
+    (Kind::Prefix, "0.0.0.0/0", "any"),
+    (Kind::Prefix, "10.1.2.3/8", "10.0.0.0/8"),
+    (Kind::Range, "0-65535", "any"),
+    (Kind::Range, "80-80", "80"),
+    (Kind::Range, "0-65534", "0-65534"),
+    (Kind::Protocol, "any", "any"),
+    (Kind::Protocol, "6", "tcp"),
+    (Kind::Protocol, "17", "udp"),
+    (Kind::Protocol, "1", "icmp"),
 ];
 
 #[test]
-fn writes_ranges(rt: HostRuntime) -> Result<(), Fail> {
-    for (text, printed) in &PRINTED_RANGES {
-        assert!(rt; prints_range(rt.alloc(), text, printed)?, "{text}");
-    }
-    Ok(())
-}
-
-// Whether a protocol that is read from the text is printed so.
-fn prints_protocol(alloc: Global, text: &str, printed: &str) -> Result<bool, Fail> {
-    let proto = read_proto(text.as_bytes()).ok_or("protocol")?;
-    Ok(write_proto(alloc, &proto)?.as_slice() == printed.as_bytes())
-}
-
-const PRINTED_PROTOCOLS: [(&str, &str); 4] = [
-    ("any", "any"),
-    ("6", "tcp"),
-    ("17", "udp"),
-    ("1", "icmp"),
-];
-
-#[test]
-fn writes_protocols(rt: HostRuntime) -> Result<(), Fail> {
-    for (text, printed) in &PRINTED_PROTOCOLS {
-        assert!(rt; prints_protocol(rt.alloc(), text, printed)?, "{text}");
+fn writes_fields(rt: HostRuntime) -> Result<(), Fail> {
+    for (kind, text, want) in &PRINTED {
+        let bytes = printed(rt.alloc(), *kind, text.as_bytes())?;
+        assert!(rt; bytes.as_slice() == want.as_bytes(), "{text}");
     }
     Ok(())
 }
 
 #[test]
 fn writes_packets(rt: HostRuntime) -> Result<(), Fail> {
-    let fields = Fields {
-        src: 0x0a01_0101,
-        dst: 0x0909_0909,
-        sport: 5000,
-        dport: 80,
-        proto: 47,
-    };
-    let printed = fields.to_string(rt.alloc())?;
+    let printed = web_fields(47).to_string(rt.alloc())?;
     assert!(rt; printed.as_str() == "10.1.1.1 9.9.9.9 5000 80 47");
     Ok(())
 }
