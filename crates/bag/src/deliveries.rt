@@ -1,3 +1,5 @@
+#![tactic(auto, using(crate::proofs::Waiting::changed_from))]
+
 ghost use Rattle.std.specs.Prelude.{◌≡◌, ◌<◌, ◌+◌, ◌-◌, ◌^◌, [], ◌∷◌, ◌++◌, List, length, IsTrue, OnOk, OnErr};
 ghost use Rattle.bag.specs.Deliveries.{delivered, forgotten, is_deliverable, may_be_delivered, next_waiting, waiting, waits, IsFirstWaiting};
 ghost use Rattle.bag.specs.Numbered.{with_changed};
@@ -112,7 +114,6 @@ impl Deliveries {
     }
 
     /// The message of this number was delivered, perhaps once more.
-    #[tactic(auto, using(crate::proofs::Waiting::changed_from))]
     pub fn deliver(&mut self, number: u32)
         requires { IsTrue (is_deliverable self.old number) }
         ensures { self.new ≡ with_changed delivered self.old number }
@@ -122,7 +123,6 @@ impl Deliveries {
     }
 
     /// The message of this number is never delivered again.
-    #[tactic(auto, using(crate::proofs::Waiting::changed_from))]
     pub fn forget(&mut self, number: u32)
         requires { IsTrue (is_deliverable self.old number) }
         ensures { self.new ≡ with_changed forgotten self.old number }

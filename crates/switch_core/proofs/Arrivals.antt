@@ -1,5 +1,5 @@
 -- What a switch answers as a packet comes in and as it arrives.
-use Rattle.std.proofs.Common.{ℕ, ◌≡◌, ◌∙◌, ◌↔◌, Bool, true, false, cond, Option, Some, None, is_some, unwrap_or, refl, ap, sym, subst}
+use Rattle.std.proofs.Common.{ℕ, ◌≡◌, ◌∙◌, ◌↔◌, Bool, true, false, cond, Option, Some, None, is_some, unwrap_or, refl, ap, subst}
 use Rattle.std.specs.Bool.{IsTrue, IsFalse}
 use Rattle.std.specs.Option.{IfSome, IsSomeAnd, option_map_or}
 use Rattle.policy_rules.specs.Placed.{is_in}
@@ -8,7 +8,7 @@ use Rattle.policy_rules.specs.declared.packet.Leg.TheVariants.{Seek, Exit}
 use Rattle.policy_rules.specs.declared.rules.Partition.{Partition}
 use Rattle.tunnel.specs.Tunnel.{TunnelValue}
 use Rattle.switch_table.specs.declared.tables.Tables.{Tables}
-use Rattle.switch_core.specs.AnswerLaws.{IsRightAnswer, IsArriving, IsDecidedIn, IsEntry, IsReady}
+use Rattle.switch_core.specs.AnswerLaws.{IsRightAnswer, IsArriving, IsDecidedIn, IsEntry}
 use Rattle.switch_core.specs.Answering.{IsAtAuthority, arrived, arrived_on, decided_in, entered, looked_up, packet_of}
 use Rattle.switch_core.specs.Deciding.{IsFirstHit, place_of_first, no_part, own_part, part_numbered}
 use Rattle.switch_core.specs.Ends.{Site}

@@ -1,5 +1,5 @@
 -- What a switch finds among its tables, and a partition of its own by the number.
-use Rattle.std.proofs.Common.{ℕ, suc, ◌≡◌, ◌≢◌, ◌∙◌, ◌-◌, ◌^◌, ◌<◌, ◌==◌, length, Bool, true, false, cond, Option, Some, None, IsSome, List, [], ◌∷◌, find, position, unwrap_or, slice_get, get_or, refl, ap, sym, subst, inl, inr, arith, All, AllPairs, Contains, eqb-true}
+use Rattle.std.proofs.Common.{ℕ, suc, ◌≡◌, ◌≢◌, ◌∙◌, ◌-◌, ◌==◌, Bool, true, false, cond, Option, Some, None, IsSome, List, [], ◌∷◌, find, position, unwrap_or, slice_get, get_or, refl, ap, sym, subst, inl, inr, arith, All, AllPairs, Contains, eqb-true}
 use Rattle.std.specs.Bool.{IsTrue}
 use Rattle.std.specs.Option.{IsSomeAnd, option_and_then, option_map_or}
 use Rattle.std.proofs.lemmas.Bool.{cases_lt}

@@ -14,7 +14,6 @@ use Rattle.policy_rules.specs.declared.packet.Cause.{Cause}
 use Rattle.policy_rules.specs.declared.packet.Leg.{Leg}
 use Rattle.policy_rules.specs.declared.packet.Leg.TheVariants.{Seek as SeekLeg}
 use Rattle.policy_rules.specs.declared.rules.Partition.{Partition}
-use Rattle.policy_rules.specs.declared.rules.Rule.{Rule}
 use Rattle.tunnel.specs.Tunnel.{TunnelValue}
 use Rattle.switch_table.proofs.TableLemmas.{find-there}
 use Rattle.switch_table.specs.Tables.{AreSoundTables}
@@ -22,9 +21,9 @@ use Rattle.switch_table.specs.declared.cache.CacheEntry.{CacheEntry}
 use Rattle.switch_table.specs.declared.search.Found.{Found}
 use Rattle.switch_table.specs.declared.search.Found.TheVariants.{Cached, Authority, Redirect}
 use Rattle.switch_table.specs.declared.tables.Tables.{Tables}
-use Rattle.switch_core.specs.AnswerLaws.{IsRightAnswer, IsDecidedIn, IsReady, OwnRule, lookup_by_stamp, route_known, setting_out}
+use Rattle.switch_core.specs.AnswerLaws.{IsRightAnswer, IsDecidedIn, IsReady, lookup_by_stamp, route_known, setting_out}
 use Rattle.switch_core.specs.Answering.{IsUncached, answer_by, decided_at, entered, incoming, looked_up, seek_by}
-use Rattle.switch_core.specs.Deciding.{IsFirstHit, IsFound, by_entry, by_rule, rule_for_cache, no_part, no_rule, own_part, part_numbered, rule_in}
+use Rattle.switch_core.specs.Deciding.{IsFirstHit, IsFound, by_entry, rule_for_cache, no_part, no_rule, own_part, part_numbered, rule_in}
 use Rattle.switch_core.specs.Ends.{Site, cause_of, next_of, set_out}
 use Rattle.switch_core.specs.State.{IsSwitch, SwitchValue, held_tables, holds_version, no_tables, serves, stamp_tables}
 use Rattle.switch_core.specs.declared.answers.Answer.{Answer}

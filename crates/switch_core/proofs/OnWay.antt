@@ -111,13 +111,7 @@ hop_turns s near t other way found some =
 -- a packet stays the same on another route, and with other links down
 same_but : (t : TunnelValue) (route : List ℕ) (place : ℕ) (down : List ℕ) →
     IsSamePacket t (record t { route = route; place = place; down = down })
-same_but t route place down = record {
-  packet = refl;
-  header = refl;
-  ingress = refl;
-  leg = refl;
-  targets = refl;
-}
+same_but t route place down = refl
 
 -- what holds of each move, and where a packet is stuck, holds of a hop
 each_hop : (s : SwitchValue) (near : ℕ) (t : TunnelValue) (P : Moved → Type 0) →
@@ -170,13 +164,7 @@ hop_same s near t =
     by_next : (on : TunnelValue) (after : Option ℕ) → IsSamePacket t on →
         IsSamePacket t (moved on after).tunnel
     by_next on None same = same
-    by_next on (Some after) same = record {
-      packet = same.packet;
-      header = same.header;
-      ingress = same.ingress;
-      leg = same.leg;
-      targets = same.targets;
-    }
+    by_next on (Some after) same = ap (λ (u : TunnelValue). (moved u (Some after)).tunnel) same
 
 -- ---- over usable links alone
 

@@ -86,11 +86,7 @@ kept : (s : SwitchValue) (is_open : Bool) (stamp collected : ℕ) (tables : List
       database = database;
     })
 kept s is_open stamp collected tables cache database stamped marked = record {
-  number = refl;
-  boot = refl;
-  is_up = refl;
-  seq = refl;
-  handled = refl;
+  rest = refl;
   stamp = stamped;
   collected = marked;
 }

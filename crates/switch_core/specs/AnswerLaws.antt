@@ -278,13 +278,10 @@ pub record DecisionLaws : Type 0 where
 
 -- ---- a packet on its way
 
--- what stays of a packet on its leg
-pub record IsSamePacket (before after : TunnelValue) : Type 0 where
-  pub packet : after.packet ≡ before.packet
-  pub header : after.header ≡ before.header
-  pub ingress : after.ingress ≡ before.ingress
-  pub leg : after.leg ≡ before.leg
-  pub targets : after.targets ≡ before.targets
+-- on its leg a packet may take another route, stand elsewhere on it, and find links down
+abbrev pub IsSamePacket : TunnelValue → TunnelValue → Type 0
+IsSamePacket before after =
+    after ≡ record before { route = after.route; place = after.place; down = after.down }
 
 -- the links that a packet found down, once it found the one to another switch down
 abbrev pub down_with : TunnelValue → ℕ → List ℕ

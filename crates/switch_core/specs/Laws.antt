@@ -14,13 +14,16 @@ use Rattle.switch_core.specs.Ends.{cause_of, is_seek, set_out}
 use Rattle.switch_core.specs.Hearing.{collected_to, with_message, informed, installed, obeys, raised_to}
 use Rattle.switch_core.specs.State.{HasOwnUpTo, SwitchValue, held_tables}
 
--- what a message leaves as it is, and that a stamp and a collect mark never fall within a boot
+-- what alone a message may change, and that a stamp and a collect mark never fall within a boot
 pub record IsHeard (before after : SwitchValue) : Type 0 where
-  pub number : after.number ≡ before.number
-  pub boot : after.boot ≡ before.boot
-  pub is_up : after.is_up ≡ before.is_up
-  pub seq : after.seq ≡ before.seq
-  pub handled : after.handled ≡ before.handled
+  pub rest : after ≡ record before {
+    is_open = after.is_open;
+    stamp = after.stamp;
+    collected = after.collected;
+    tables = after.tables;
+    cache = after.cache;
+    database = after.database;
+  }
   pub stamp : before.stamp ≤ after.stamp
   pub collected : before.collected ≤ after.collected
 

@@ -21,7 +21,7 @@ use Rattle.journal.specs.declared.item.Item.{Item}
 use Rattle.switch_core.specs.Answering.{CanLookUp, IsAtAuthority}
 use Rattle.switch_core.specs.Deciding.{own_part}
 use Rattle.switch_core.specs.Hearing.{IsSoundBody}
-use Rattle.switch_core.specs.State.{held_tables, holds_version, serves}
+use Rattle.switch_core.specs.State.{SwitchValue, held_tables, holds_version, serves}
 use Rattle.switch_core.proofs.SwitchLaws.{heard_keeps}
 use Rattle.switch_table.specs.Tables.{AreSoundTables, Placed, has_target, part_of, tables_of}
 use Rattle.switch_table.specs.declared.tables.Tables.{Tables}
@@ -172,7 +172,8 @@ asked_ties = record {
   near_changed = λ setting journal s fit there. record {
     now = fit.seqs s there;
     then = λ n body. subst (λ k. k < 2 ^ 32 - 1)
-        (sym (heard_keeps (switch_of setting journal s) n body).seq) (fit.seqs s there);
+        (sym (ap (λ (s : SwitchValue). s.seq) (heard_keeps (switch_of setting journal s) n body).rest))
+        (fit.seqs s there);
   };
   restart = λ setting journal s fit down. record { down = down; boot = fit.boots s };
   enter = looks_up;

@@ -226,16 +226,16 @@ opening_advert : (setting : Setting) (before : List Item) (row n s stamp : ℕ) 
 opening_advert setting before row n s stamp body changes =
     let now : List Item = before ++ opening row n s stamp in
     let switch : SwitchValue = switch_of setting before s in
-    let heard_so = heard_keeps switch n body in
+    let rest = (heard_keeps switch n body).rest in
     let boot : boot_of now s ≡ (with_message switch n body).boot =
-    same_boot before row n s stamp ∙ boot_shown setting before s ∙ sym heard_so.boot in
+    same_boot before row n s stamp ∙ boot_shown setting before s ∙ sym (ap (λ (s : SwitchValue). s.boot) rest) in
     let number : (with_message switch n body).number ≡ s =
-    heard_so.number ∙ number_shown setting before s in
+    ap (λ (s : SwitchValue). s.number) rest ∙ number_shown setting before s in
     let seq : own_seq setting now s ≡ (with_message switch n body).seq + 1 =
     opened_seq setting before row n s stamp
     ∙ ap (λ b. own_seq setting (delivering before row n []) s + one_if b) changes
     ∙ ap (λ k. k + 1) ((kept_until setting before row n).seq s ∙ seq_shown setting before s
-    ∙ sym heard_so.seq) in
+    ∙ sym (ap (λ (s : SwitchValue). s.seq) rest)) in
     advert_of setting now s ∙ rw (boot, seq, number) refl
 
 -- ---- what it sends

@@ -1,7 +1,3 @@
-use Rattle.std.proofs.Common.{◌≡◌, ◌∙◌, Some, ap, subst, sym}
-use Rattle.std.specs.Bool.{IsTrue}
-use Rattle.std.specs.Option.{IsSomeAnd, option_and_then}
-use Rattle.switch_core.specs.Deciding.{IsFirstHit, place_of_first, part_numbered}
 use Rattle.switch_core.proofs.Held.{IsOwnFirst, own_first, same_place}
 use Rattle.switch_core.proofs.kept.KeptTables.first_place.Goals as goal
 use Rattle.switch_core.proofs.kept.KeptTables.first_place.Goals.{After-first}
