@@ -69,8 +69,7 @@ action_lawful = as_type_lawful _ _ (λ o fits. port_back o) (λ a fits. action_b
 
 rule_lawful : IsLawful rule
 unfolding rule
-rule_lawful =
-    as_type_lawful _ _ (λ p fits. refl) (λ r fits. refl) (word_lawful ⊠ n4_lawful ⊠ rule_name_lawful ⊠ action_lawful)
+rule_lawful = as_type_lawful _ _ (λ p fits. refl) (λ r fits. refl) (word_lawful ⊠ n4_lawful ⊠ rule_name_lawful ⊠ action_lawful)
 
 target_count_lawful : IsLawful target_count
 unfolding target_count
@@ -86,8 +85,7 @@ region_lawful = as_type_lawful _ _ (λ p fits. refl) (λ row fits. refl) (word_l
 
 partition_lawful : IsLawful partition
 unfolding partition
-partition_lawful =
-    as_type_lawful _ _ (λ p fits. refl) (λ part fits. refl) (n4_lawful ⊠ word_lawful ⊠ list_lawful n4_lawful rule_lawful)
+partition_lawful = as_type_lawful _ _ (λ p fits. refl) (λ part fits. refl) (n4_lawful ⊠ word_lawful ⊠ list_lawful n4_lawful rule_lawful)
 
 tables_lawful : IsLawful tables
 unfolding tables
@@ -150,8 +148,7 @@ cache_rule_lawful = n4_lawful ⊠ word_lawful ⊠ rule_name_lawful ⊠ action_la
 
 advert_lawful : IsLawful advert
 unfolding advert
-advert_lawful =
-    as_type_lawful _ _ (λ p fits. refl) (λ a fits. refl) (switch_lawful ⊠ n4_lawful ⊠ n4_lawful ⊠ n8_lawful)
+advert_lawful = as_type_lawful _ _ (λ p fits. refl) (λ a fits. refl) (switch_lawful ⊠ n4_lawful ⊠ n4_lawful ⊠ n8_lawful)
 
 hello_lawful : IsLawful hello
 unfolding hello
@@ -263,5 +260,4 @@ body_lawful = record {
 
 pub message_lawful : IsLawful message
 unfolding message
-message_lawful =
-    as_type_lawful _ _ (λ p fits. refl) (λ m fits. refl) (such_that_lawful (λ p. suits p.0 p.1) (receiver_lawful ⊠ body_lawful))
+message_lawful = as_type_lawful _ _ (λ p fits. refl) (λ m fits. refl) (such_that_lawful (λ p. suits p.0 p.1) (receiver_lawful ⊠ body_lawful))

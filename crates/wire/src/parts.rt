@@ -1,7 +1,9 @@
+#![tactic(auto, unfolding(crate::specs::Fields::rule, crate::specs::Fields::region, crate::specs::Fields::partition, crate::specs::Fields::tables))]
+
 ghost use Rattle.std.specs.Prelude.{OnOk};
 ghost use Rattle.wire.specs.Reading.{AppendsForm, Reads};
 ghost use Rattle.wire.specs.Fields as form;
-ghost use Rattle.wire.specs.Messages.{AreShort};
+ghost use Rattle.wire.specs.Messages.{AreShort, AreSwitches, HasFewRules};
 
 use crate::error::WireError;
 use crate::fields::{
@@ -16,13 +18,10 @@ use std::alloc::AllocError;
 use switch_table::{PartRow, PartRows, Partitions, Tables};
 
 impl Part for Rule {
-    ghost use Rattle.wire.specs.Fields.{rule};
-
-    ghost format = { rule };
+    ghost format = { form.rule };
 
     ghost needs = { λ _. Unit {0} };
 
-    #[tactic(auto, unfolding(crate::specs::Fields::rule))]
     fn read(reader: &mut Reader) -> Result<Rule, WireError> {
         Ok(Rule {
             word: read_word(reader)?,
@@ -32,7 +31,6 @@ impl Part for Rule {
         })
     }
 
-    #[tactic(auto, unfolding(crate::specs::Fields::rule))]
     fn put(&self, out: &mut Vec<u8>) -> Result<(), AllocError> {
         put_word(out, &self.word)?;
         put_n4(out, self.rank)?;
@@ -42,14 +40,10 @@ impl Part for Rule {
 }
 
 impl Part for PartRow {
-    ghost use Rattle.wire.specs.Fields.{region};
-    ghost use Rattle.wire.specs.Messages.{AreSwitches};
-
-    ghost format = { region };
+    ghost format = { form.region };
 
     ghost needs = { AreSwitches };
 
-    #[tactic(auto, unfolding(crate::specs::Fields::region))]
     fn read(reader: &mut Reader) -> Result<PartRow, WireError> {
         Ok(PartRow {
             region: read_word(reader)?,
@@ -57,7 +51,6 @@ impl Part for PartRow {
         })
     }
 
-    #[tactic(auto, unfolding(crate::specs::Fields::region))]
     fn put(&self, out: &mut Vec<u8>) -> Result<(), AllocError> {
         put_word(out, &self.region)?;
         put_targets(out, &self.targets)
@@ -65,14 +58,10 @@ impl Part for PartRow {
 }
 
 impl Part for Partition {
-    ghost use Rattle.wire.specs.Fields.{partition};
-    ghost use Rattle.wire.specs.Messages.{HasFewRules};
-
-    ghost format = { partition };
+    ghost format = { form.partition };
 
     ghost needs = { HasFewRules };
 
-    #[tactic(auto, unfolding(crate::specs::Fields::partition))]
     fn read(reader: &mut Reader) -> Result<Partition, WireError> {
         Ok(Partition {
             number: reader.n4()?,
@@ -81,7 +70,6 @@ impl Part for Partition {
         })
     }
 
-    #[tactic(auto, unfolding(crate::specs::Fields::partition))]
     fn put(&self, out: &mut Vec<u8>) -> Result<(), AllocError> {
         put_n4(out, self.number)?;
         put_word(out, &self.region)?;
@@ -89,7 +77,6 @@ impl Part for Partition {
     }
 }
 
-#[tactic(auto, unfolding(crate::specs::Fields::tables))]
 pub(crate) fn read_tables(reader: &mut Reader) -> Result<Tables, WireError>
     ensures { Reads form.tables reader.old result reader.new }
 {
@@ -103,7 +90,6 @@ pub(crate) fn read_tables(reader: &mut Reader) -> Result<Tables, WireError>
     })
 }
 
-#[tactic(auto, unfolding(crate::specs::Fields::tables))]
 pub(crate) fn put_tables(out: &mut Vec<u8>, tables: &Tables) -> Result<(), AllocError>
     requires { AreShort tables.now }
     ensures { OnOk result (AppendsForm form.tables tables.now out.old.items out.new.items) }
