@@ -1,15 +1,13 @@
 #!/usr/bin/env python3
 """Lets each allocation of a command fail in turn: `bench/fail_alloc.py BIN [WORD..]`.
 
-Without words the commands are a load case, and a replay, a compile and a show of the day of the
-campus, whose files stand in crates/fault_rows/src/tests/campus.rt. The N-th call for memory fails, alone
-and then with all after it, for N from 1 to the calls of a run in which none fails. Each run must
-end with status 0 and the whole output, or with status 7 and a part of it from the front, not all;
-and its line of errors must be that of the status, or a part of it. Else this ends with 1. It needs
-a C compiler and Linux.
+Without words the commands are a load case, and a replay, a compile and a show of the day of a
+campus, examples/day. The N-th call for memory fails, alone and then with all after it, for N from 1
+to the calls of a run in which none fails. Each run must end with status 0 and the whole output, or
+with status 7 and a part of it from the front, not all; and its line of errors must be that of the
+status, or a part of it. Else this ends with 1. It needs a C compiler and Linux.
 """
 import os
-import re
 import subprocess
 import sys
 import tempfile
@@ -17,25 +15,15 @@ from collections import Counter
 from pathlib import Path
 
 HOME = Path(__file__).resolve().parent.parent
-FILES = {"day.csv": "DAY", "one.csv": "ONE", "two.csv": "TWO", "campus.toml": "CAMPUS"}
 COMMANDS = (
-    "replay day.csv one.csv two.csv --net campus.toml",
-    "replay day.csv one.csv two.csv --net campus.toml --quiet",
-    "compile one.csv --net campus.toml",
-    "show one.csv b --net campus.toml",
+    "replay schedule.csv policy.csv policy2.csv --net net.toml",
+    "replay schedule.csv policy.csv policy2.csv --net net.toml --quiet",
+    "compile policy.csv --net net.toml",
+    "show policy.csv b --net net.toml",
     "load 2",
 )
 LINES = {0: b"", 7: b"difane: no memory\n"}
 MODES = (("one alone", {}), ("it and all after it", {"FAIL_REST": "1"}))
-
-
-def write_campus(folder):
-    """Writes the files of the day, as the tests have them."""
-    source = (HOME / "crates/fault_rows/src/tests/campus.rt").read_text()
-    texts = dict(re.findall(r'pub const (\w+): &str = "(.*?)(?<!\\)";', source, re.S))
-    for name, constant in FILES.items():
-        text = re.sub(r"\\\n\s*", "", texts[constant])
-        (Path(folder) / name).write_text(text.replace("\\n", "\n").replace('\\"', '"'))
 
 
 def build(folder):
@@ -89,9 +77,8 @@ def main():
         if len(sys.argv) > 2:
             fail_each([program, *sys.argv[2:]], folder, None, preload)
         else:
-            write_campus(folder)
             for command in COMMANDS:
-                fail_each([program, *command.split()], folder, folder, preload)
+                fail_each([program, *command.split()], folder, HOME / "examples/day", preload)
 
 
 main()

@@ -1,5 +1,5 @@
 //! The day of a campus, at which reads and writes fail and whose files are cut short.
-use crate::tests::campus::{DAY_FILES, DAY_OUTPUT, DAY_WORDS};
+use crate::tests::campus::{DAY_FILES, DAY_WORDS};
 use shelf::{MemShelf, MemSink};
 use std::alloc::{AllocError, Global};
 use std::test::Fail;
@@ -10,7 +10,7 @@ use worked_rows::runs::{Recorded, calls, ended, recorded_over, shelf_with_fault}
 enum Fault<'a> {
     /// This read fails.
     Read(u64),
-    /// This write of the output fails.
+    /// This write of the output fails, or none at 0.
     Write(u64),
     /// The words are `replay` alone, and the line of errors isn't taken.
     Line,
@@ -110,12 +110,12 @@ const REFUSED: [(Fault<'static>, u8, &str); 9] = [
 ];
 
 /// Whether the run failed at a write: what it printed before that is a part of the day's output.
-fn was_cut_short(recorded: &Recorded) -> bool {
+fn was_cut_short(recorded: &Recorded, whole: &[u8]) -> bool {
     let ((status, out, errs), items) = recorded;
     *status == 5
         && *items > 0
-        && out.bytes().len() < DAY_OUTPUT.len()
-        && DAY_OUTPUT.as_bytes().starts_with(out.bytes())
+        && out.bytes().len() < whole.len()
+        && whole.starts_with(out.bytes())
         && errs.bytes() == b"difane: write fault\n".as_slice()
 }
 
@@ -126,13 +126,16 @@ fn answers_each_fault_of_a_day(rt: HostRuntime) -> Result<(), Fail> {
         let recorded = played(rt.alloc(), fault)?;
         assert!(rt; did_nothing(&recorded, *status, line), "{status} {line}");
     }
+    let ((status, whole, _), _) = played(rt.alloc(), &Fault::Write(0))?;
+    assert!(rt; status == 0);
     for write in 1..1_000 {
         let recorded = played(rt.alloc(), &Fault::Write(write))?;
-        if recorded.0.0 == 0 {
-            assert!(rt; write > 1 && ended(&recorded.0, 0, DAY_OUTPUT, ""));
+        let (status, out, errs) = &recorded.0;
+        if *status == 0 {
+            assert!(rt; write > 1 && out.bytes() == whole.bytes() && errs.bytes().is_empty());
             return Ok(());
         }
-        assert!(rt; was_cut_short(&recorded), "write {write}");
+        assert!(rt; was_cut_short(&recorded, whole.bytes()), "write {write}");
     }
     Err(Fail::from("each write fails"))
 }
