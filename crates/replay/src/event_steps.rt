@@ -1,16 +1,17 @@
 ghost use Rattle.std.specs.Prelude.{◌≡◌, ◌+◌, ◌≤◌, false, length, map, IsErrOf, OnErr, OnOk};
 ghost use Rattle.steps.specs.Steps.{IsEvent, max_events};
-ghost use Rattle.world.specs.declared.error.StepError.TheVariants.{Full};
+ghost use Rattle.world.specs.NoStep.{no_step};
 ghost use Rattle.replay.specs.Leavings.{KeepUp};
 ghost use Rattle.replay.specs.Playing.{BeginsEvent, Happens, StopsWithin, brought_in, next_step};
 ghost use Rattle.world.specs.State.{setting_at};
 
 use crate::noting::note_left;
+use failure::Failure;
 use meters::{Board, Meter};
 use std::alloc::Global;
 use steps::{Event, Step};
 use way_laws::{deliveries_rise, drains_end};
-use world::{StepError, World};
+use world::{Full, World};
 
 /// Takes all steps of an event of this row: the one that it names; for a drain a hop of the least
 /// packet that travels, until none travels; for a flush a delivery of the least message that waits,
@@ -26,7 +27,7 @@ pub fn take_steps<M: Meter>(
     board: &mut Board<M>,
     row: u32,
     event: &Event,
-) -> Result<(), StepError>
+) -> Result<(), Failure<Full>>
     requires able { world.old.is_spent ≡ false }
     requires few { world.old.packets ≤ max_events }
     requires may { IsEvent world.old.net (length world.old.policies) event.now }
@@ -36,13 +37,13 @@ pub fn take_steps<M: Meter>(
         ≡ world.old.packets + brought_in event.now) }
     ensures happens { OnOk result (Happens (setting_at world.old) row event.now world.old.journal
         world.new.journal) }
-    ensures stops { IsErrOf result Full → StopsWithin (setting_at world.old) row event.now
+    ensures stops { IsErrOf result no_step → StopsWithin (setting_at world.old) row event.now
         world.old.journal world.new.journal }
     ensures part { OnErr result (BeginsEvent (setting_at world.old) row event.now world.old.journal
         world.new.journal) }
     ensures kept { OnOk result (KeepUp world.old.journal world.new.journal
         (map M.seen board.old) (map M.seen board.new)) }
-    ensures kept_full { IsErrOf result Full → KeepUp world.old.journal world.new.journal
+    ensures kept_full { IsErrOf result no_step → KeepUp world.old.journal world.new.journal
         (map M.seen board.old) (map M.seen board.new) }
 {
     let mut is_begun = false;

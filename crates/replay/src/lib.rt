@@ -30,4 +30,4 @@ pub use net_file::Net;
 pub use playing::{Played, play, replay};
 pub use policy_rules::Policy;
 pub use steps::{Event, Step};
-pub use world::{PlanError, StepError, World};
+pub use world::{Full, PlanError, World};

@@ -12,13 +12,14 @@ ghost use Rattle.replay.specs.Playing.{IsPlanRefusal};
 
 use crate::error::ReplayError;
 use crate::event_steps::take_steps;
+use failure::Failure;
 use journal::Journal;
 use meters::{Board, Meter};
 use net_file::Net;
 use policy_rules::Policy;
 use std::alloc::{AllocError, Global};
 use steps::Event;
-use world::{StepError, World};
+use world::{Full, World};
 
 /// What a play leaves.
 #[derive(Drop)]
@@ -96,14 +97,14 @@ pub fn play<M: Meter>(
         row += 1;
         match take_steps(alloc, &mut world, &mut board, row, event) {
             Ok(()) => {}
-            Err(StepError::Full) => {
+            Err(Failure::Refused(Full)) => {
                 return Ok(Played {
                     journal: world.into_journal(),
                     meters: board.into_meters(),
                     full: Some(row),
                 });
             }
-            Err(StepError::NoMemory) => return Err(AllocError),
+            Err(Failure::NoMemory) => return Err(AllocError),
         }
     }
     Ok(Played {

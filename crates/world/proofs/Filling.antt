@@ -6,8 +6,10 @@ use Rattle.switch_core.specs.State.{SwitchValue}
 use Rattle.update_machine.specs.Full.{HasRoom, IsFull}
 use Rattle.update_machine.specs.Setting.{Setting}
 use Rattle.update_machine.specs.declared.full.TheConstants.{FULL_AT}
-use Rattle.world.specs.declared.error.StepError.{StepError}
-use Rattle.world.specs.declared.error.StepError.TheVariants.{Full, NoMemory}
+use Rattle.failure.specs.declared.error.Failure.{Failure}
+use Rattle.failure.specs.declared.error.Failure.TheVariants.{NoMemory}
+use Rattle.world.specs.NoStep.{no_step}
+use Rattle.world.specs.declared.error.Full.{Full}
 use Rattle.world_ties.specs.Tied.{AreTied, Control}
 use Rattle.travelling.specs.Travelling.{Travellers}
 
@@ -28,7 +30,7 @@ has_room control setting journal switches before count tied few =
     omega (arith, tied.bag.many, few)
 
 -- want of memory is another error
-pub not_full : {T : Type 0} (r : Result T StepError) → IsErrAnd r (λ e. e ≡ NoMemory)
-    → IsErrOf r Full → ⊥
+pub not_full : {T : Type 0} (r : Result T (Failure Full)) → IsErrAnd r (λ e. e ≡ NoMemory)
+    → IsErrOf r no_step → ⊥
 not_full (Ok x) none full = absurd cc
 not_full (Err e) none full = absurd cc

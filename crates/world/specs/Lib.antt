@@ -1,2 +1,3 @@
+pub mod NoStep
 pub mod State
 pub mod Parts

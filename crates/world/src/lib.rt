@@ -26,6 +26,6 @@ mod parts;
 mod world;
 
 pub use controller::PlanError;
-pub use error::StepError;
+pub use error::Full;
 pub use travelling::Traveller;
 pub use world::World;

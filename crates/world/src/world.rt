@@ -6,15 +6,20 @@ ghost use Rattle.policy_rules.specs.Policy.{IsPolicy};
 ghost use Rattle.update_machine.specs.Journals.{HasRoom, IsFull, NamesOwnPort, next_packet, next_travelling, next_waiting, piece, setting_of, travels};
 ghost use Rattle.steps.specs.Steps.{IsStep};
 ghost use Rattle.world.specs.declared.error.StepError.TheVariants.{Full, NoMemory};
+ghost use Rattle.update_machine.specs.Setting.{setting_of, NamesOwnPort};
+ghost use Rattle.update_machine.specs.Travels.{next_travelling, travels};
+ghost use Rattle.failure.specs.declared.error.Failure.TheVariants.{NoMemory};
+ghost use Rattle.world.specs.NoStep.{no_step};
 ghost use Rattle.world.specs.State.{IsBegun, IsTied, comes_in, setting_at};
 ghost use Rattle.travelling.specs.Travelling.{IsNextFrom, traveller};
 ghost use Rattle.world_log.specs.Writing.{IsPart};
 
 use crate::beginning::switches_of;
-use crate::error::StepError;
+use crate::error::Full;
 use crate::parts::Parts;
 use bag::Bag;
 use controller::{Controller, PlanError, compile};
+use failure::Failure;
 use journal::Journal;
 use net_file::Net;
 use policy_rules::Policy;
@@ -99,7 +104,7 @@ impl World {
     /// `Full` exactly where so many messages were sent that no step begins; nothing changes then.
     /// Otherwise want of memory alone: the journal has a part of the step's items then, and each
     /// further step is answered so at once, full or not, and changes nothing.
-    pub fn step(&mut self, alloc: Global, row: u32, step: &Step) -> Result<(), StepError>
+    pub fn step(&mut self, alloc: Global, row: u32, step: &Step) -> Result<(), Failure<Full>>
         requires may { HasRoom self.old.journal
             → IsStep self.old.net (length self.old.policies) step.now }
         requires few { next_packet self.old.journal ≤ 4_000_000_000 }
@@ -111,19 +116,19 @@ impl World {
         ensures part { OnErr result (IsPart self.old.journal
             (piece (setting_at self.old) self.old.journal row step.now) self.new.journal) }
         ensures room { OnOk result (HasRoom self.old.journal) }
-        ensures full { IsErrOf result Full → IsFull self.old.journal }
+        ensures full { IsErrOf result no_step → IsFull self.old.journal }
         ensures refused { self.old.is_spent ≡ false → IsFull self.old.journal
-            → IsErrOf result Full }
-        ensures unchanged { IsErrOf result Full → self.new ≡ self.old }
+            → IsErrOf result no_step }
+        ensures unchanged { IsErrOf result no_step → self.new ≡ self.old }
         ensures lost { IsErrOf result NoMemory → self.new.is_spent ≡ true }
         ensures spent { self.old.is_spent ≡ true
             → (IsErrOf result NoMemory) × (self.new ≡ self.old) }
     {
         if self.is_spent {
-            return Err(StepError::NoMemory);
+            return Err(Failure::NoMemory);
         }
         if self.parts.log.bag.sent() >= FULL_AT {
-            return Err(StepError::Full);
+            return Err(Failure::Refused(Full));
         }
         self.is_spent = true;
         self.parts.play(alloc, row, step)?;

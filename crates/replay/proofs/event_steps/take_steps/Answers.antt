@@ -2,7 +2,7 @@ use Rattle.std.proofs.Common.{◌-◌, ◌∙◌, ap, drop, Err, length, map, re
 use Rattle.steps.specs.Steps.{IsEvent}
 use Rattle.update_machine.specs.Setting.{Setting}
 use Rattle.world.specs.State.{WorldValue, setting_at}
-use Rattle.world.specs.declared.error.StepError.TheVariants.{Full}
+use Rattle.world.specs.NoStep.{no_step}
 use Rattle.replay.specs.Leavings.{KeepUp}
 use Rattle.replay.specs.Playing.{StopsWithin}
 use Rattle.replay.proofs.Asked.{asked, brought_all, none_yet}
@@ -92,7 +92,7 @@ returns-in_err-step-clause-part g c =
 
 pub returns-in_err-step-clause-stops : goal.returns-in_err-step-clause-stops
 returns-in_err-step-clause-stops g c = λ is.
-    let full = ap Err (same_error c.from_residual.result _ Full c.from_residual.ensures.1 is) in
+    let full = ap Err (same_error c.from_residual.result _ no_step c.from_residual.ensures.1 is) in
     subst (λ (world : WorldValue). StopsWithin (setting_at c.args.world.now) c.args.row
     c.args.event.now c.args.world.now.journal world.journal)
     (sym (c.in_err-step.ensures.unchanged full))
@@ -102,7 +102,7 @@ returns-in_err-step-clause-stops g c = λ is.
 
 pub returns-in_err-step-clause-kept_full : goal.returns-in_err-step-clause-kept_full
 returns-in_err-step-clause-kept_full g c = λ is.
-    let full = ap Err (same_error c.from_residual.result _ Full c.from_residual.ensures.1 is) in
+    let full = ap Err (same_error c.from_residual.result _ no_step c.from_residual.ensures.1 is) in
     subst (λ (world : WorldValue). KeepUp c.args.world.now.journal world.journal
     (map g.M.Meter.seen c.args.board.now) (map g.M.Meter.seen c.loop-next.board))
     (sym (c.in_err-step.ensures.unchanged full)) c.loop-next.invariant.kept

@@ -48,13 +48,13 @@ loop-event-preserved g c =
       kept = c.in-Ok.ensures.kept c.args.ports (map g.M.Meter.seen c.args.meters.items) so_far.kept;
     }
 
-pub returns-in-Err-Full-clause-play : goal.returns-in-Err-Full-clause-play
-returns-in-Err-Full-clause-play g c =
+pub returns-in-Err-Refused-clause-play : goal.returns-in-Err-Refused-clause-play
+returns-in-Err-Refused-clause-play g c =
     let setting = setting_at c.args.world in
     let so_far = c.loop-event.invariant in
     let row = c.loop-event.row + 1 in
     let after = c.take_steps.new.world.journal in
-    let stops = rw so_far.setting at c.in-Err-Full.ensures.stops (ap Err c.in-Err-Full.field-0-is)
+    let stops = rw so_far.setting at c.in-Err-Refused.ensures.stops (ap Err c.in-Err-Refused.field-0-is)
     in
     subst (λ played. IsPlay setting c.args.events.now played (Some row))
     (sym c.into_journal.ensures)
@@ -75,10 +75,10 @@ returns-clause-play g c =
     (subst (λ events. PlaysOn setting journal row events journal None) (sym none)
     (plays_no_more setting journal row))))
 
-pub returns-in-Err-Full-clause-kept : goal.returns-in-Err-Full-clause-kept
-returns-in-Err-Full-clause-kept g c =
+pub returns-in-Err-Refused-clause-kept : goal.returns-in-Err-Refused-clause-kept
+returns-in-Err-Refused-clause-kept g c =
     ap (map g.M.Meter.seen) c.into_meters.ensures
-    ∙ c.in-Err-Full.ensures.kept_full (ap Err c.in-Err-Full.field-0-is) c.args.ports
+    ∙ c.in-Err-Refused.ensures.kept_full (ap Err c.in-Err-Refused.field-0-is) c.args.ports
     (map g.M.Meter.seen c.args.meters.items) c.loop-event.invariant.kept
     ∙ ap (λ (journal : List Item). kept_meters c.args.ports (left_in journal)
     (map g.M.Meter.seen c.args.meters.items)) (sym c.into_journal.ensures)
