@@ -7,10 +7,7 @@ ghost use Rattle.policy_rules.specs.Policy.{IsPolicy};
 ghost use Rattle.schedule.specs.Reading.{AreSoundEvents};
 ghost use Rattle.shelf.specs.Sink.{Rose};
 ghost use Rattle.shelf.specs.Shelf.{IsAfterReads};
-ghost use Rattle.difane_cli.specs.Inputs.{RefusesInput, Stops, StopsContent, content_of, inputs_of, most_reads, policy_reads, read_policies, read_policy, read_schedule, schedule_in};
-ghost use Rattle.difane_cli.specs.Run.{IsReplayOf};
-ghost use Rattle.difane_cli.specs.Ending.{NeedsReadFault, status_of};
-ghost use Rattle.difane_cli.specs.Commands.{AreReadyToPlay, inputs_stated};
+ghost use Rattle.difane_cli.specs.Work.{AreReadyToPlay, IsReplayOf, NeedsReadFault, RefusesInput, Stops, StopsContent, content_of, inputs_of, inputs_stated, most_reads, policy_reads, read_policies, read_policy, read_schedule, schedule_in, status_of};
 ghost use Rattle.words.specs.Named.{HasPolicies, names_seen, replay_named};
 ghost use Rattle.words.specs.Commands.{Replay};
 

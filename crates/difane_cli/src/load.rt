@@ -1,7 +1,6 @@
 //! Load cases as a command takes them.
 ghost use Rattle.std.specs.Prelude.{◌≡◌, ◌≤◌, IfOk, IfErr, Ok};
-ghost use Rattle.difane_cli.specs.Commands.{AreReadyToPlay, inputs_stated};
-ghost use Rattle.difane_cli.specs.Inputs.{StopsContent, case_inputs, load_inputs};
+ghost use Rattle.difane_cli.specs.Work.{AreReadyToPlay, StopsContent, case_inputs, inputs_stated, load_inputs};
 ghost use Rattle.load_case.specs.Case.{load_case};
 
 use crate::inputs::PlayInputs;

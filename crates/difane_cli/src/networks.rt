@@ -5,10 +5,7 @@ ghost use Rattle.net_file.specs.Net.{IsNet};
 ghost use Rattle.shelf.specs.Sink.{Rose};
 ghost use Rattle.shelf.specs.Shelf.{IsAfterReads};
 ghost use Rattle.words.specs.Named.{net_named};
-ghost use Rattle.difane_cli.specs.Inputs.{Stops, StopsContent, StopsSwitch, net_stated, net_reads, read_net, switch_on};
-ghost use Rattle.difane_cli.specs.Prints.{IsSwitchOf};
-ghost use Rattle.difane_cli.specs.Ending.{NeedsReadFault, status_of};
-ghost use Rattle.difane_cli.specs.Tasks.{IsNetOf};
+ghost use Rattle.difane_cli.specs.Work.{IsNetOf, IsSwitchOf, NeedsReadFault, Stops, StopsContent, StopsSwitch, net_reads, net_stated, read_net, status_of, switch_on};
 
 use crate::inputs::{read_bytes, refused};
 use crate::policies::NO_SWITCH;

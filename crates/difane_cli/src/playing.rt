@@ -5,16 +5,9 @@ ghost use Rattle.net_file.specs.Net.{IsNet};
 ghost use Rattle.shelf.specs.Shelf.{Files};
 ghost use Rattle.shelf.specs.Sink.{Rose};
 ghost use Rattle.shelf.specs.SinkWrites.{IsAfterWrite};
-ghost use Rattle.difane_cli.specs.Inputs.{known_task};
-ghost use Rattle.difane_cli.specs.Commands.{AreReadyToPlay, inputs_stated};
-ghost use Rattle.difane_cli.specs.Laws.{AnswerLaws};
-ghost use Rattle.difane_cli.specs.Texts.{last_lines, play_text, replay_text};
-ghost use Rattle.difane_cli.specs.Run.{IsPlayOf, PlayOutcome, RanOut, is_made};
-ghost use Rattle.difane_cli.specs.Tasks.{Play};
-ghost use Rattle.difane_cli.specs.Ending.{IsAfterWork};
+ghost use Rattle.difane_cli.specs.Work.{AnswerLaws, AreReadyToPlay, IsAfterText, IsAfterWork, IsPlayOf, Play, PlayOutcome, RanOut, inputs_stated, is_made, known_task, last_lines, play_text, replay_text};
 ghost use Rattle.words.specs.Commands.{Command};
 ghost use Rattle.difane_cli.specs.declared.report.Report.TheVariants.{Summary};
-ghost use Rattle.difane_cli.specs.Prints.{IsAfterText};
 ghost use Rattle.load_text.specs.Summary.{counts_text};
 ghost use Rattle.difane_cli.specs.declared.status.Status.TheVariants as status;
 

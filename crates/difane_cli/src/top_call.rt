@@ -3,15 +3,11 @@ ghost use Rattle.std.specs.Prelude.{◌≡◌, ◌≢◌, ◌≤◌, ◌⊎◌, 
 ghost use Rattle.std.specs.Option.{ForSome};
 ghost use Rattle.shelf.specs.Sink.{Rose};
 ghost use Rattle.shelf.specs.Shelf.{IsAfterReads};
-ghost use Rattle.difane_cli.specs.Inputs.{IsAccepted, known_task, most_reads, Accounts};
-ghost use Rattle.difane_cli.specs.Run.{Outcome, RanOut, PlaysNothing};
-ghost use Rattle.difane_cli.specs.Writes.{TellsLine};
-ghost use Rattle.difane_cli.specs.Ending.{NeedsReadFault};
+ghost use Rattle.difane_cli.specs.Work.{Accounts, IsAccepted, NeedsReadFault, Outcome, PlaysNothing, RanOut, TellsLine, known_task, most_reads, status_line};
 ghost use Rattle.words.specs.Words.{command_of};
 ghost use Rattle.words.specs.Commands.{texts};
 ghost use Rattle.difane_cli.specs.declared.status.Status.TheVariants as status;
 ghost use Rattle.difane_cli.specs.declared.status.Status.TheVariants.{Ok as DoneStatus};
-ghost use Rattle.difane_cli.specs.Texts.{status_line};
 
 use crate::status::{Ended, Finished, Status, tell};
 use crate::task::{read_task, unplayed, work};

@@ -4,8 +4,7 @@ ghost use Rattle.net_file.specs.Net.{IsNet};
 ghost use Rattle.quiet_journals.specs.Plain.{IsPlain};
 ghost use Rattle.shelf.specs.SinkWrites.{IsAfterWrite};
 ghost use Rattle.update_machine.specs.Setting.{Setting};
-ghost use Rattle.difane_cli.specs.Texts.{quiet_line};
-ghost use Rattle.difane_cli.specs.Verdict.{IsWhetherQuiet, is_asked};
+ghost use Rattle.difane_cli.specs.Work.{IsWhetherQuiet, is_asked, quiet_line};
 
 use meters::Meter;
 use net_file::Net;
