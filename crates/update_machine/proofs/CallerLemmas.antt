@@ -1,25 +1,22 @@
 -- What proofs above cite.
-pub use Rattle.update_machine.proofs.FoldLemmas.{all_given_append, count_of_append, first_told_append, folded_append, folded_from_append, last_told_append}
-pub use Rattle.update_machine.proofs.Silent.{count_stays, fewer, folded_stays, given_stays, last_stays, stays}
+pub use Rattle.update_machine.proofs.FoldLemmas.{all_given_append, count_of_append, folded_append, last_told_append}
+pub use Rattle.update_machine.proofs.Silent.{fewer, stays}
 pub use Rattle.update_machine.proofs.SilentSwitches.{near_same, near_stays, switch_keeps}
 pub use Rattle.update_machine.proofs.SilentSteps.{calls_stay}
-pub use Rattle.update_machine.proofs.SilentLinks.{known_keeps, links_keep, lookup_stays, policies_keep, waited_stays}
+pub use Rattle.update_machine.proofs.SilentLinks.{known_keeps, links_keep, lookup_stays, policies_keep}
 pub use Rattle.update_machine.proofs.SilentMessages.{message_keeps, messages_keep, packets_keep, step_stays}
 pub use Rattle.update_machine.proofs.SilentPackets.{packet_keeps}
 pub use Rattle.update_machine.proofs.SilentController.{controller_keeps}
 pub use Rattle.update_machine.proofs.Policies.{file_append, file_kept, numbered_at_first, of_its_file, other_more, plan_kept, policy_kept, submitted_more, version_kept}
 pub use Rattle.update_machine.proofs.Start.{start_laws}
-pub use Rattle.update_machine.proofs.CauseLemmas.{BlocksHave, have_append, have_first, have_in_turn, have_put}
+pub use Rattle.update_machine.proofs.CauseLemmas.{have_append, have_first, have_in_turn, have_put}
 pub use Rattle.update_machine.proofs.AnswerCauses.{PiecesHave, begun_has, have_take, steps_have}
-pub use Rattle.update_machine.proofs.OneAnswer.{one_answer, one_list_of_steps}
-pub use Rattle.update_machine.proofs.Existence.{HasEnd, Nears, after_append, answer_exists, answer_goes_on, answered_where, loop_ends, none_answered}
+pub use Rattle.update_machine.proofs.Existence.{Nears, after_append, loop_ends}
 pub use Rattle.update_machine.proofs.NumberPieces.{piece_next}
-pub use Rattle.update_machine.proofs.Numbering.{begun_is_numbered}
 pub use Rattle.update_machine.proofs.Enclosed.{ends_within}
 pub use Rattle.update_machine.proofs.KnownLinks.{has_known_link, heard_by_origin, known_link_laws, known_places, unreached}
-pub use Rattle.update_machine.proofs.Beginnings.{one_by_steps}
 pub use Rattle.update_machine.proofs.WholeAnswers.{answers_so_far, begins_itself}
-pub use Rattle.update_machine.proofs.EventSteps.{AreOf, HasNexts, IsEventOf, all_first, are_both, event_steps_are, first_steps_are, firsts_are}
-pub use Rattle.update_machine.proofs.OnePlay.{full_by_count, one_play, rooms_append}
-pub use Rattle.update_machine.proofs.SomePlay.{first_front, play_exists, stop_begins, stop_so_far}
-pub use Rattle.update_machine.proofs.Claims.{link_found, link_not_found, near_usable, plan_is, usable_linked}
+pub use Rattle.update_machine.proofs.EventSteps.{AreOf, HasNexts, IsEventOf, all_first, event_steps_are, first_steps_are, firsts_are}
+pub use Rattle.update_machine.proofs.OnePlay.{rooms_append}
+pub use Rattle.update_machine.proofs.SomePlay.{stop_begins}
+pub use Rattle.update_machine.proofs.Claims.{link_not_found, near_usable, plan_is, usable_linked}
