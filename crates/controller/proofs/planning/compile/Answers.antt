@@ -1,8 +1,6 @@
 use Rattle.std.proofs.Common.{◌∙◌, ap}
-use Rattle.std.specs.List.{zip}
 use Rattle.std.proofs.lemmas.Result.{err_from_is_err_and}
 use Rattle.cut_tree.specs.Shape.{shape_of}
-use Rattle.partition.specs.Parts.{parts_of}
 use Rattle.partition.specs.Plan.{sizes_of}
 use Rattle.controller.proofs.PlanLemmas.{IsReady, placement_refused, plan_sound, planned_at, rules_refused, tree_refused}
 use Rattle.controller.proofs.planning.compile.Goals as goal
@@ -41,22 +39,15 @@ returns-in_err-targets-clause-refused c =
     let p = err_from_is_err_and c.from_residual-in_err-targets.result
     c.from_residual-in_err-targets.ensures.1 in
     let ready = ready_to_place (goal.at.returns-in_err-targets-clause-refused c).After-place in
-    rw (p.1, p.2)
-    (placement_refused c.args.policy.now c.args.net.now c.deref.result.now
-    (shape_of c.in_ok-tree.tree) c.deref-3.result.now c.deref-4.result.now
-    c.in_err-targets.field-0.0 ready c.in_err-targets.ensures.refused)
+    rw (p.1, p.2) (placement_refused _ _ _ _ _ _ c.in_err-targets.field-0.0 ready
+    c.in_err-targets.ensures.refused)
 
 pub new-requires-clause-sound : goal.new-requires-clause-sound
 new-requires-clause-sound c =
     let ready = ready_to_place (goal.at.new-requires-clause-sound c).After-place in
-    let planned = planned_at c.args.policy.now c.args.net.now c.deref.result.now
-    (shape_of c.in_ok-tree.tree) c.deref-3.result.now c.deref-4.result.now
-    c.in_ok-targets.targets.items ready c.in_ok-targets.ensures.value in
-    let sound = plan_sound c.args.policy.now c.args.net.now
-    (zip (parts_of (shape_of c.in_ok-tree.tree)) c.in_ok-targets.targets.items) c.requires
-    (c.plan_laws.ensures.holds c.args.policy.now c.args.net.now
-    (zip (parts_of (shape_of c.in_ok-tree.tree)) c.in_ok-targets.targets.items)
-    c.in_ok-rules.ensures.policy c.requires planned) in
+    let planned = planned_at _ _ _ _ _ _ _ ready c.in_ok-targets.ensures.value in
+    let sound = plan_sound _ _ _ c.requires
+    (c.plan_laws.ensures.holds _ _ _ c.in_ok-rules.ensures.policy c.requires planned) in
     rw (
       c.in_ok-policy.ensures.cases,
       c.deref-5.ensures.value,
@@ -67,12 +58,9 @@ new-requires-clause-sound c =
 pub returns-clause-plan : goal.returns-clause-plan
 returns-clause-plan c =
     let ready = ready_to_place (goal.at.returns-clause-plan c).After-place in
-    let planned = planned_at c.args.policy.now c.args.net.now c.deref.result.now
-    (shape_of c.in_ok-tree.tree) c.deref-3.result.now c.deref-4.result.now
-    c.in_ok-targets.targets.items ready c.in_ok-targets.ensures.value in
     rw (
       c.in_ok-plan.ensures.placed,
       c.deref-5.ensures.value,
       c.deref-6.ensures.value,
       c.in_ok-parts.ensures.parts,
-    ) planned
+    ) (planned_at _ _ _ _ _ _ _ ready c.in_ok-targets.ensures.value)
