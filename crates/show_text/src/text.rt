@@ -2,7 +2,7 @@ ghost use Rattle.std.specs.Prelude.{◌≡◌, ◌≤◌, ◌++◌, IfOk, OnOk, 
 ghost use Rattle.std.specs.List.{flat_map, enumerate_from};
 ghost use Rattle.net_file.specs.Net.{IsNet, name_of};
 ghost use Rattle.switch_table.specs.Tables.{tables_of};
-ghost use Rattle.show_text.specs.Text.{authority_text, compile_text, with_line_feed, own_lines, part_text, placed_lines, regions_text, row_line, table_text, targets_text};
+ghost use Rattle.show_text.specs.Text.{compile_text, with_line_feed, own_lines, part_text, placed_lines, row_line, table_text, targets_text};
 
 use crate::lines::{add_rules, push_part, push_region, push_targets};
 use controller::{Plan, tables_of};
@@ -49,6 +49,7 @@ pub fn table_text(alloc: Global, plan: &Plan, net: &Net, s: u32) -> Result<Vec<u
     text_of_tables(alloc, net, s, &tables)
 }
 
+#[tactic(auto, unfolding(crate::specs::Text::authority_text, crate::specs::Text::regions_text))]
 fn text_of_tables(alloc: Global, net: &Net, s: u32, tables: &Tables) -> Result<Vec<u8>, AllocError>
     requires { IsNet net.now }
     ensures { IfOk result (λ bytes. bytes.items ≡ table_text s tables.now net.now) }
@@ -57,8 +58,12 @@ fn text_of_tables(alloc: Global, net: &Net, s: u32, tables: &Tables) -> Result<V
     let mut entry = Line::new();
     set_switch(&mut entry, net, s, tables.version);
     text.extend_from_slice(entry.bytes())?;
-    add_authority(&mut text, &mut entry, tables.auth.items())?;
-    add_regions(&mut text, &mut entry, net, tables.parts.items())?;
+    let own = tables.auth.items();
+    add_count(&mut text, &mut entry, "authority ", own.len() as u64)?;
+    add_own(&mut text, &mut entry, own)?;
+    let rows = tables.parts.items();
+    add_count(&mut text, &mut entry, "partitions ", rows.len() as u64)?;
+    add_rows(&mut text, &mut entry, net, rows)?;
     Ok(text)
 }
 
@@ -126,33 +131,6 @@ fn add_placed(
         text.extend_from_slice(entry.bytes())?;
         add_rules(text, entry, part.rules.items())?;
     }
-    Ok(())
-}
-
-#[tactic(auto, unfolding(crate::specs::Text::authority_text))]
-fn add_authority(
-    text: &mut Vec<u8>,
-    entry: &mut Line,
-    parts: &[Partition],
-) -> Result<(), AllocError>
-    ensures { OnOk result (text.new.items ≡ text.old.items ++ authority_text parts.now) }
-{
-    add_count(text, entry, "authority ", parts.len() as u64)?;
-    add_own(text, entry, parts)
-}
-
-#[tactic(auto, unfolding(crate::specs::Text::regions_text))]
-fn add_regions(
-    text: &mut Vec<u8>,
-    entry: &mut Line,
-    net: &Net,
-    rows: &[PartRow],
-) -> Result<(), AllocError>
-    requires { IsNet net.now }
-    ensures { OnOk result (text.new.items ≡ text.old.items ++ regions_text net.now rows.now) }
-{
-    add_count(text, entry, "partitions ", rows.len() as u64)?;
-    add_rows(text, entry, net, rows)?;
     Ok(())
 }
 
