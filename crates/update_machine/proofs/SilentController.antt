@@ -49,23 +49,9 @@ submission_silent : Silent concerns_controller is_submission false
 submission_silent before (item.Submitted file version) apart = cc
 submission_silent before _ apart = refl
 
-told_stays : Stays concerns_controller controller_heard
-unfolding controller_heard
-told_stays = folded_stays changes_told [] concerns_controller told_silent
-
 known_stays : (s : ℕ) → Stays concerns_controller (λ js. known_boot js s)
-unfolding known_boot
-known_stays s before items none =
-    let told : controller_heard (before ++ items) ≡ controller_heard before =
-    told_stays before items none in
-    rw told refl
-
-over_stays : (s : ℕ) → Stays concerns_controller (λ js. is_over js s)
-unfolding is_over
-over_stays s = folded_stays (changes_over s) false concerns_controller (over_silent s)
-
-sent_stays : (s boot : ℕ) → Stays concerns_controller (all_given (open_sent s boot))
-sent_stays s boot = given_stays (open_sent s boot) concerns_controller (open_silent s boot)
+unfolding known_boot controller_heard
+known_stays s before items none = rw (folded_stays _ [] _ told_silent before items none) refl
 
 opened_stays : (s : ℕ) → Stays concerns_controller (λ js. opened_at js s)
 unfolding opened_at
@@ -74,62 +60,31 @@ opened_stays s before items none =
     known_stays s before items none in
     let sent : all_given (open_sent s (known_boot before s)) (before ++ items)
     ≡ all_given (open_sent s (known_boot before s)) before =
-    sent_stays s (known_boot before s) before items none in
+    given_stays _ _ (open_silent s (known_boot before s)) before items none in
     rw (known, sent) refl
-
-member_stays : (s : ℕ) → Stays concerns_controller (λ js. is_member js s)
-unfolding is_member
-member_stays s before items none =
-    let over : is_over (before ++ items) s ≡ is_over before s = over_stays s before items none in
-    let opened : opened_at (before ++ items) s ≡ opened_at before s =
-    opened_stays s before items none in
-    rw (over, opened) refl
-
-acked_stays : (s v : ℕ) → Stays concerns_controller (λ js. has_acked js s v)
-unfolding has_acked
-acked_stays s v before items none =
-    let known : known_boot (before ++ items) s ≡ known_boot before s =
-    known_stays s before items none in
-    let told : controller_heard (before ++ items) ≡ controller_heard before =
-    told_stays before items none in
-    rw (known, told) refl
-
-stamp_stays : (s : ℕ) → Stays concerns_controller (λ js. acked_stamp js s)
-unfolding acked_stamp
-stamp_stays s before items none =
-    let known : known_boot (before ++ items) s ≡ known_boot before s =
-    known_stays s before items none in
-    let told : controller_heard (before ++ items) ≡ controller_heard before =
-    told_stays before items none in
-    let opened : opened_at (before ++ items) s ≡ opened_at before s =
-    opened_stays s before items none in
-    rw (known, told, opened) refl
-
-current_stays : Stays concerns_controller current_mark
-unfolding current_mark
-current_stays = last_or_stays tells_current 1 concerns_controller current_silent
-
-retired_stays : Stays concerns_controller retired_mark
-unfolding retired_mark
-retired_stays = last_or_stays tells_retired 0 concerns_controller retired_silent
-
-count_of_stays : Stays concerns_controller version_count
-unfolding version_count
-count_of_stays before items none =
-    ap (λ k. k + 1) (count_stays is_submission concerns_controller submission_silent before items
-    none)
 
 pub controller_keeps : (before items : List Item) → NoneConcern concerns_controller before items
     → ControllerKeeps before (before ++ items)
-controller_keeps before items none = record {
-  heard = told_stays before items none;
-  known = λ s. known_stays s before items none;
-  over = λ s. over_stays s before items none;
-  opened = λ s. opened_stays s before items none;
-  member = λ s. member_stays s before items none;
-  acked = λ s v. acked_stays s v before items none;
-  stamp = λ s. stamp_stays s before items none;
-  current = current_stays before items none;
-  retired = retired_stays before items none;
-  count = count_of_stays before items none;
-}
+unfolding controller_heard is_over is_member has_acked acked_stamp current_mark retired_mark
+    version_count
+controller_keeps before items none =
+    let told : controller_heard (before ++ items) ≡ controller_heard before =
+    folded_stays _ [] _ told_silent before items none in
+    let known : (s : ℕ) → known_boot (before ++ items) s ≡ known_boot before s =
+    λ s. known_stays s before items none in
+    let over : (s : ℕ) → is_over (before ++ items) s ≡ is_over before s =
+    λ s. folded_stays _ false _ (over_silent s) before items none in
+    let opened : (s : ℕ) → opened_at (before ++ items) s ≡ opened_at before s =
+    λ s. opened_stays s before items none in
+    record {
+      heard = told;
+      known = known;
+      over = over;
+      opened = opened;
+      member = λ s. rw (over s, opened s) refl;
+      acked = λ s v. rw (known s, told) refl;
+      stamp = λ s. rw (known s, told, opened s) refl;
+      current = last_or_stays _ 1 _ current_silent before items none;
+      retired = last_or_stays _ 0 _ retired_silent before items none;
+      count = ap (λ k. k + 1) (count_stays _ _ submission_silent before items none);
+    }
