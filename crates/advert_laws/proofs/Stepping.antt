@@ -15,7 +15,7 @@ use Rattle.update_machine.specs.Deliveries.{is_news_to, link_changes, passed_on,
 use Rattle.update_machine.specs.Messages.{sends, sent_from}
 use Rattle.update_machine.specs.Moves.{put}
 use Rattle.update_machine.specs.Packets.{next_packet}
-use Rattle.update_machine.specs.Pieces.{crash_items, deliver_items, link_items, piece, restart_items, step_items}
+use Rattle.update_machine.specs.Pieces.{crash_items, deliver_items, link_items, restart_items, step_items}
 use Rattle.update_machine.specs.Quiet.{is_advert}
 use Rattle.update_machine.specs.Setting.{Setting}
 use Rattle.update_machine.specs.Steps.{changes_steps, steps_in}
@@ -25,7 +25,7 @@ use Rattle.update_machine.proofs.CallerLemmas.{PiecesHave, folded_append, have_a
 use Rattle.version_laws.proofs.Commands.{confirm_control, controller_control, update_has}
 use Rattle.version_laws.proofs.Crashes.{losts_have}
 use Rattle.version_laws.proofs.Delivered.{deliver_has}
-use Rattle.version_laws.proofs.Facts.{have_weaker}
+use Rattle.version_laws.proofs.Facts.{have_weaker, piece_has}
 use Rattle.version_laws.proofs.SwitchBlocks.{said_row}
 use Rattle.version_laws.proofs.Grown.{heard_more}
 use Rattle.advert_laws.proofs.LinkCauses.{ChangedNoLinks, HasLinkCause, HaveLinkCauses, IsToldIn}
@@ -203,7 +203,6 @@ step_caused setting before row step =
     are_caused setting _ _ (step_plain setting before step _ tt)
 
 pub pieces_caused : (setting : Setting) → PiecesHave (HasLinkCause setting) setting
-unfolding piece
 pieces_caused setting journal row step =
-    have_first (HasLinkCause setting) (item.Row row step) (step_items setting journal step)
-    journal tt (step_caused setting journal row step)
+    piece_has (HasLinkCause setting) setting journal row step tt
+    (step_caused setting journal row step)

@@ -22,6 +22,7 @@ use Rattle.update_machine.specs.Settling.{to_switch}
 use Rattle.update_machine.specs.Versions.{stamp_of}
 use Rattle.update_machine.specs.Links.{serves, message_of}
 use Rattle.update_machine.proofs.CallerLemmas.{start_laws}
+use Rattle.version_laws.proofs.Reached.{behind_piece}
 use Rattle.version_laws.proofs.Facts.{AreKept, fact_on}
 use Rattle.version_laws.proofs.Grown.{boot_more, heard_more, serving_more, up_more}
 use Rattle.version_laws.proofs.StepCases.{deliver_cases, restart_cases}
@@ -421,11 +422,8 @@ step_spoken setting before row step false is = absurd cc
 
 pub piece_spoken : (setting : Setting) (before : List Item) (row : ℕ) (step : Step)
     → HaveSpoken before → HaveSpoken (before ++ piece setting before row step)
-unfolding piece
 piece_spoken setting before row step spoken =
-    subst HaveSpoken
-    (append_assoc before (item.Row row step ∷ [])
-    (step_items setting before step (before ++ item.Row row step ∷ [])))
+    behind_piece setting before row step HaveSpoken
     (step_spoken setting before row step (is_plain step) refl
     (spoken_stay before (item.Row row step ∷ []) (tt, tt) spoken))
 

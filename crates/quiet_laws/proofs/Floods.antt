@@ -37,6 +37,7 @@ use Rattle.update_machine.specs.Settling.{to_switch}
 use Rattle.update_machine.specs.Versions.{stamp_of}
 use Rattle.update_machine.specs.Links.{serves, message_of}
 use Rattle.update_machine.proofs.CallerLemmas.{have_append, links_keep, near_stays, start_laws}
+use Rattle.version_laws.proofs.Reached.{behind_piece}
 use Rattle.version_laws.proofs.Commands.{confirm_control, controller_control, update_has}
 use Rattle.version_laws.proofs.Facts.{Has}
 use Rattle.version_laws.proofs.Grown.{boot_more, heard_more, up_more}
@@ -453,11 +454,9 @@ step_spread setting before row step net = λ known have.
 piece_spread : (setting : Setting) (before : List Item) (row : ℕ) (step : Step)
     → IsNet setting.net → IsKnown before → Spread setting before
     → Spread setting (before ++ piece setting before row step)
-unfolding piece
 piece_spread setting before row step net known have =
     let next : Item = item.Row row step in
-    subst (Spread setting)
-    (append_assoc before (next ∷ []) (step_items setting before step (before ++ next ∷ [])))
+    behind_piece setting before row step (Spread setting)
     (step_spread setting before row step net (known_kept setting before next tt known)
     (still_spread setting before (next ∷ []) (tt, tt) have))
 

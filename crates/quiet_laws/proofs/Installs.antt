@@ -1,6 +1,6 @@
 -- At the end of each step each switch that isn't over was sent, in its known boot, the tables of
 -- each version from the current one to the last.
-use Rattle.std.proofs.Common.{ℕ, ◌≡◌, ◌+◌, ◌-◌, ◌≤◌, ◌<◌, ◌⊎◌, ◌==◌, Bool, true, false, not, if◌then◌else◌, Option, Some, None, List, [], ◌∷◌, ◌++◌, length, refl, ap, sym, subst, ◌∙◌, append-nil, append_assoc, arith, inl, inr}
+use Rattle.std.proofs.Common.{ℕ, ◌≡◌, ◌+◌, ◌-◌, ◌≤◌, ◌<◌, ◌⊎◌, ◌==◌, Bool, true, false, not, if◌then◌else◌, Option, Some, None, List, [], ◌∷◌, ◌++◌, length, refl, ap, sym, subst, ◌∙◌, append-nil, arith, inl, inr}
 use Rattle.std.specs.Prelude.{⊤, IsTrue, IsFalse, nat_lt, option_and_then}
 use Rattle.std.specs.Option.{option_map_or}
 use Rattle.std.proofs.lemmas.Bool.{cases_eq}
@@ -18,7 +18,6 @@ use Rattle.update_machine.specs.Deliveries.{after_hello, controller_items, deliv
 use Rattle.update_machine.specs.Laws.{ControllerKeeps}
 use Rattle.update_machine.specs.Marks.{current_mark, hello_boot, is_over, known_boot, raises_known, said_to_controller}
 use Rattle.update_machine.specs.Messages.{sends}
-use Rattle.update_machine.specs.Moves.{put}
 use Rattle.update_machine.specs.Pieces.{confirm_items, deliver_items, piece, step_items, update_items}
 use Rattle.update_machine.specs.Setting.{Setting, switches_of}
 use Rattle.update_machine.specs.Settling.{install_for, installs_to, installs_to_all, settling, to_switch, versions_from_current}
@@ -26,6 +25,7 @@ use Rattle.update_machine.specs.Versions.{tables_at, version_count}
 use Rattle.update_machine.specs.Links.{message_of}
 use Rattle.update_machine.proofs.CallerLemmas.{start_laws}
 use Rattle.version_laws.specs.ItemCauses.{HasItemCause}
+use Rattle.version_laws.proofs.Reached.{behind_piece}
 use Rattle.version_laws.proofs.Boots.{hello_sent}
 use Rattle.version_laws.proofs.Commands.{grows, settling_settles}
 use Rattle.version_laws.proofs.ControllerBlocks.{settling_have}
@@ -283,14 +283,13 @@ same_body before number one other first second =
     (sym first ∙ second)
 
 heard_installs : (setting : Setting) (before : List Item) (row number : ℕ) (step : Step)
-    (body : Body) → message_of before number ≡ Some (to_controller body)
+    (body : Body) (now : List Item) → message_of before number ≡ Some (to_controller body)
     → let here = before ++ item.Row row step ∷ [] in
-    let now = here ++ item.Delivered number ∷ [] in
     (last : ℕ) → last ≡ version_count now
     → HaveInstalls setting (λ s. raises_known here s number ≡ true) last now
     → HaveInstalls setting (λ s. ⊥) last (now ++ controller_items setting before body now)
 unfolding controller_items
-heard_installs setting before row number step body sent last is have =
+heard_installs setting before row number step body now sent last is have =
     subst (HaveInstalls setting (λ s. ⊥) last)
     (sym (in_two (settling setting) (after_hello setting before body) now))
     (record {
@@ -300,9 +299,6 @@ heard_installs setting before row number step body sent last is have =
   where
     here : List Item
     here = before ++ item.Row row step ∷ []
-
-    now : List Item
-    now = here ++ item.Delivered number ∷ []
 
     settled : List Item
     settled = now ++ settling setting now
@@ -352,7 +348,7 @@ deliver_installs setting before row number is have =
     (installs_on setting (λ s. ⊥) last here item.Nothing (record { first = tt; second = tt }) have)
     (subst (λ items. HaveInstalls setting (λ s. ⊥) last (now ++ items))
     (sym (delivery_told setting before number told.0 now told.1))
-    (heard_installs setting before row number (Deliver number) told.0 told.1 last same
+    (heard_installs setting before row number (Deliver number) told.0 now told.1 last same
     (delivered_owed setting last here number have)))
   where
     here : List Item
@@ -542,24 +538,16 @@ other_installs setting before row step is have =
 
 pub piece_installs : (setting : Setting) (before : List Item) (row : ℕ) (step : Step)
     → AllInstalled setting before → AllInstalled setting (before ++ piece setting before row step)
-unfolding piece
 piece_installs setting before row step have = by_kind (asks_controller before step) refl
   where
-    next : Item
-    next = item.Row row step
-
-    here : List Item
-    here = before ++ next ∷ []
-
-    by_kind : (b : Bool) → asks_controller before step ≡ b → AllInstalled setting
-        (before ++ put (next ∷ []) (step_items setting before step) before)
+    by_kind : (b : Bool) → asks_controller before step ≡ b
+        → AllInstalled setting (before ++ piece setting before row step)
     by_kind false e = other_installs setting before row step e have
     by_kind true e =
-        subst (AllInstalled setting)
-        (append_assoc before (next ∷ []) (step_items setting before step here))
+        behind_piece setting before row step (AllInstalled setting)
         (told_installs setting before row step e
-        (counted_on setting before next (record { first = tt; second = tt })
-        (count_more before next) have))
+        (counted_on setting before (item.Row row step) (record { first = tt; second = tt })
+        (count_more before (item.Row row step)) have))
 
 -- each switch begins with the first version
 pub installs_at_first : (setting : Setting) → AllInstalled setting []

@@ -15,14 +15,14 @@ use Rattle.update_machine.specs.Deliveries.{delivery_items, link_changes, switch
 use Rattle.update_machine.specs.Messages.{is_deliverable, sends}
 use Rattle.update_machine.specs.Moves.{put}
 use Rattle.update_machine.specs.Packets.{next_packet}
-use Rattle.update_machine.specs.Pieces.{deliver_items, expire_items, forget_items, hello_of, lose_items, nothing, piece, restart_items, step_items}
+use Rattle.update_machine.specs.Pieces.{deliver_items, expire_items, forget_items, hello_of, lose_items, nothing, restart_items, step_items}
 use Rattle.update_machine.specs.Setting.{Setting}
 use Rattle.update_machine.specs.Settling.{settling}
 use Rattle.update_machine.proofs.CallerLemmas.{PiecesHave, have_first, message_keeps}
 use Rattle.version_laws.proofs.Commands.{Control, IsControl, confirm_control, controller_control, settling_control, update_has}
 use Rattle.version_laws.proofs.Crashes.{crash_changes}
 use Rattle.version_laws.proofs.Delivered.{delivery_has}
-use Rattle.version_laws.proofs.Facts.{have_weaker}
+use Rattle.version_laws.proofs.Facts.{have_weaker, piece_has}
 use Rattle.version_laws.proofs.Sent.{resends_any, sends_any}
 use Rattle.version_laws.proofs.Traffic.{Change, link_change, IsChange, IsTraffic, links_change, packet_has, step_traffic}
 
@@ -269,8 +269,6 @@ step_have cause others plain setting before row step =
 pub pieces_have : (cause : List Item → Item → Type 0) → HasOthers cause
     → ((before : List Item) (next : Item) → IsPlain before next → cause before next)
     → (setting : Setting) → PiecesHave cause setting
-unfolding piece
 pieces_have cause others plain setting journal row step =
-    have_first cause (item.Row row step) (step_items setting journal step) journal
-    (others.aside journal (item.Row row step) tt)
+    piece_has cause setting journal row step (others.aside journal (item.Row row step) tt)
     (step_have cause others plain setting journal row step)

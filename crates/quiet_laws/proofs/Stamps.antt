@@ -22,6 +22,7 @@ use Rattle.update_machine.specs.Settling.{current_items, installs_to, installs_t
 use Rattle.update_machine.specs.Versions.{version_count}
 use Rattle.update_machine.proofs.CallerLemmas.{have_first, have_in_turn}
 use Rattle.version_laws.specs.ItemCauses.{HasItemCause}
+use Rattle.version_laws.proofs.Reached.{behind_piece}
 use Rattle.version_laws.proofs.ControllerBlocks.{settling_have}
 use Rattle.version_laws.proofs.Facts.{AreKept, Both, fact_on, have_both}
 use Rattle.version_laws.proofs.Grown.{current_more, known_more, over_more}
@@ -342,27 +343,22 @@ told_stamps setting before here step is are have = absurd cc
 pub piece_stamps : (setting : Setting) (before : List Item) (row : ℕ) (step : Step)
     → StampsAreCurrent before → HaveStamps setting before
     → HaveStamps setting (before ++ piece setting before row step)
-unfolding piece
 piece_stamps setting before row step are have = by_kind (asks_controller before step) refl
   where
     next : Item
     next = item.Row row step
 
-    here : List Item
-    here = before ++ next ∷ []
-
-    begun : HaveStamps setting here
+    begun : HaveStamps setting (before ++ next ∷ [])
     begun = still_stamps setting before next (λ s. known_more before next s)
         (λ s. over_more before next s) (λ s. refl) (current_more before next) have
 
-    by_kind : (b : Bool) → asks_controller before step ≡ b → HaveStamps setting
-        (before ++ put (next ∷ []) (step_items setting before step) before)
+    by_kind : (b : Bool) → asks_controller before step ≡ b
+        → HaveStamps setting (before ++ piece setting before row step)
     by_kind false e =
         stamps_keep setting before _ (others_keep setting before row step e) have
     by_kind true e =
-        subst (HaveStamps setting)
-        (append_assoc before (next ∷ []) (step_items setting before step here))
-        (told_stamps setting before here step e (current_kept setting before next tt are) begun)
+        behind_piece setting before row step (HaveStamps setting)
+        (told_stamps setting before _ step e (current_kept setting before next tt are) begun)
 
 -- each switch begins at the first version
 pub stamps_at_first : (setting : Setting) → HaveStamps setting []

@@ -21,17 +21,17 @@ use Rattle.update_machine.specs.LinkMasks.{near}
 use Rattle.update_machine.specs.Marks.{has_acked, is_over, known_boot, raises_known}
 use Rattle.update_machine.specs.Messages.{sends, sent_from}
 use Rattle.update_machine.specs.Packets.{next_packet}
-use Rattle.update_machine.specs.Pieces.{confirm_items, deliver_items, hello_of, piece, resend_items, resent_by_switch, restart_items, step_items, update_items}
+use Rattle.update_machine.specs.Pieces.{confirm_items, deliver_items, hello_of, resend_items, resent_by_switch, restart_items, step_items, update_items}
 use Rattle.update_machine.specs.Setting.{Setting, switches_of}
 use Rattle.update_machine.specs.Settling.{install_for, installs_to, installs_to_all, resent_by_controller, resent_to_member, settling, submitted_items, to_switch, versions_from_current}
 use Rattle.update_machine.specs.Versions.{is_version, version_count}
 use Rattle.update_machine.specs.Links.{message_of}
-use Rattle.update_machine.proofs.CallerLemmas.{have_first, have_in_turn}
+use Rattle.update_machine.proofs.CallerLemmas.{have_in_turn}
 use Rattle.version_laws.proofs.Boots.{hello_above}
 use Rattle.version_laws.proofs.Commands.{grows, settling_settles}
 use Rattle.version_laws.proofs.Crashes.{crash_has}
 use Rattle.version_laws.proofs.Delivered.{row_delivers}
-use Rattle.version_laws.proofs.Facts.{have_weaker}
+use Rattle.version_laws.proofs.Facts.{have_weaker, piece_has}
 use Rattle.version_laws.proofs.Grown.{known_more, message_more}
 use Rattle.version_laws.proofs.Reached.{NamesOwn, OwnPiecesHave}
 use Rattle.version_laws.proofs.Resent.{each_by_controller, each_to_member, later_versions, resent_has}
@@ -335,7 +335,6 @@ step_name setting before row step own =
     traffic_name setting _ _ (step_traffic setting before step _ tt)
 
 pub pieces_name : (setting : Setting) → OwnPiecesHave (NamesRightly setting) setting
-unfolding piece
 pieces_name setting journal row step own =
-    have_first (NamesRightly setting) (item.Row row step) (step_items setting journal step) journal
-    tt (step_name setting journal row step own)
+    piece_has (NamesRightly setting) setting journal row step tt
+    (step_name setting journal row step own)

@@ -1,5 +1,5 @@
 -- At the end of each step the marks are settled.
-use Rattle.std.proofs.Common.{ℕ, ◌≡◌, ◌+◌, Bool, true, false, Option, Some, None, List, [], ◌∷◌, ◌++◌, refl, sym, subst, ◌∙◌, append_assoc, arith, inl}
+use Rattle.std.proofs.Common.{ℕ, ◌≡◌, ◌+◌, Bool, true, false, Option, Some, None, List, [], ◌∷◌, ◌++◌, refl, sym, subst, ◌∙◌, arith, inl}
 use Rattle.std.specs.Prelude.{IsTrue}
 use Rattle.std.proofs.lemmas.List.Elements.{All-from_recursion}
 use Rattle.ctrl_msg.specs.declared.message.Body.{Body}
@@ -17,7 +17,6 @@ use Rattle.update_machine.specs.Causes.{HaveCauses}
 use Rattle.update_machine.specs.Concerns.{is_message_to_controller}
 use Rattle.update_machine.specs.Deliveries.{after_hello, controller_items, delivery_items, received_items}
 use Rattle.update_machine.specs.Marks.{AreSettled, is_member, is_over}
-use Rattle.update_machine.specs.Moves.{put}
 use Rattle.update_machine.specs.Pieces.{confirm_items, deliver_items, nothing, piece, step_items, update_items}
 use Rattle.update_machine.specs.Setting.{Setting, switches_of}
 use Rattle.update_machine.specs.Settling.{installs_to, installs_to_all, settling, versions_from_current}
@@ -29,6 +28,7 @@ use Rattle.version_laws.specs.Always.{HoldsAtEnds}
 use Rattle.version_laws.proofs.BehindItems.{at_ends}
 use Rattle.version_laws.proofs.Facts.{have_front}
 use Rattle.version_laws.proofs.Pieces.{pieces_have}
+use Rattle.version_laws.proofs.Reached.{behind_piece}
 use Rattle.version_laws.proofs.Sends.{each}
 use Rattle.version_laws.proofs.StepCases.{confirm_cases, deliver_cases, update_cases}
 use Rattle.version_laws.proofs.Current.{current_at_first, next_below}
@@ -157,30 +157,18 @@ told_settled setting before here (Confirm s) is settled = confirm_settled settin
 told_settled setting before here step is settled = absurd cc
 
 step_settled : (setting : Setting) (before : List Item) (row : ℕ) (step : Step)
-    → AreSettled setting before → AreCaused setting (before ++ piece setting before row step)
-    → AreSettled setting (before ++ piece setting before row step)
-unfolding piece
+    → AreSettled setting before → Settles setting (before ++ piece setting before row step)
 step_settled setting before row step settled =
     by_kind (asks_controller before step) refl
   where
-    next : Item
-    next = item.Row row step
-
-    here : List Item
-    here = before ++ next ∷ []
-
     by_kind : (b : Bool) → asks_controller before step ≡ b
-        → AreCaused setting (before ++ put (next ∷ []) (step_items setting before step) before)
-        → AreSettled setting (before ++ put (next ∷ []) (step_items setting before step) before)
+        → Settles setting (before ++ piece setting before row step)
     by_kind false e = λ have.
-        settled_on setting before
-        (before ++ put (next ∷ []) (step_items setting before step) before)
-        (others_keep setting before row step e) settled
+        settled_on setting before _ (others_keep setting before row step e) settled
     by_kind true e =
-        subst (λ js. AreCaused setting js → AreSettled setting js)
-        (append_assoc before (next ∷ []) (step_items setting before step here))
-        (told_settled setting before here step e
-        (left_settled setting before (next ∷ []) (tt, tt) settled))
+        behind_piece setting before row step (Settles setting)
+        (told_settled setting before _ step e
+        (left_settled setting before (item.Row row step ∷ []) (tt, tt) settled))
 
 steps_settled : (setting : Setting) (before : List Item) (steps : List StepOfRow)
     → AreCaused setting before → AreSettled setting before

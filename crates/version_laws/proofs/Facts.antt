@@ -1,14 +1,28 @@
 -- Causes of items and facts of journals: what each item keeps, a journal has.
 use Rattle.std.proofs.Common.{ℕ, ◌≤◌, List, [], ◌∷◌, ◌++◌, append-nil, append_assoc, sym, subst}
 use Rattle.journal.specs.declared.item.Item.{Item}
+use Rattle.journal.specs.declared.item.Item.TheVariants as item
+use Rattle.steps.specs.declared.step.Step.{Step}
 use Rattle.update_machine.specs.Causes.{HaveCauses}
+use Rattle.update_machine.specs.Pieces.{piece, step_items}
 use Rattle.update_machine.specs.Setting.{Setting}
+use Rattle.update_machine.proofs.CallerLemmas.{have_first}
 pub use Rattle.update_machine.proofs.CallerLemmas.{steps_have}
 use Rattle.version_laws.specs.ItemCauses.{HasItemCause}
 
 -- the items have their causes behind the journal
 abbrev pub Has : Setting → List Item → List Item → Type 0
 Has setting journal items = HaveCauses (HasItemCause setting) journal items
+
+-- a piece has causes that its row and what stands behind that have
+pub piece_has : (cause : List Item → Item → Type 0) (setting : Setting) (journal : List Item)
+    (row : ℕ) (step : Step) → cause journal (item.Row row step)
+    → (let here = journal ++ item.Row row step ∷ [] in
+    HaveCauses cause here (step_items setting journal step here))
+    → HaveCauses cause journal (piece setting journal row step)
+unfolding piece
+piece_has cause setting journal row step =
+    have_first cause (item.Row row step) (step_items setting journal step) journal
 
 -- causes that others follow from
 pub have_weaker : (one other : List Item → Item → Type 0) →

@@ -24,10 +24,9 @@ use Rattle.update_machine.specs.Packets.{next_packet}
 use Rattle.update_machine.specs.Pieces.{deliver_items, piece, resend_items, restart_items, step_items}
 use Rattle.update_machine.specs.Setting.{Setting}
 use Rattle.update_machine.specs.Settling.{install_for, unacked, versions_from_current}
-use Rattle.update_machine.proofs.CallerLemmas.{have_first}
 use Rattle.version_laws.proofs.Crashes.{crash_has}
 use Rattle.version_laws.proofs.Delivered.{deliver_has}
-use Rattle.version_laws.proofs.Facts.{have_weaker}
+use Rattle.version_laws.proofs.Facts.{have_weaker, piece_has}
 use Rattle.version_laws.proofs.Grown.{known_more, message_more}
 use Rattle.version_laws.proofs.Resent.{each_by_controller, each_to_member, later_versions, resent_has}
 use Rattle.version_laws.proofs.Sends.{each, each_flat_map, each_map}
@@ -188,8 +187,7 @@ step_leaves setting before row step none =
 pub others_keep : (setting : Setting) (journal : List Item) (row : ℕ) (step : Step)
     → IsFalse (asks_controller journal step)
     → ControllerKeeps journal (journal ++ piece setting journal row step)
-unfolding piece
 others_keep setting journal row step none =
     leaves_keep journal _
-    (have_first LeavesController (item.Row row step) (step_items setting journal step) journal tt
+    (piece_has LeavesController setting journal row step tt
     (step_leaves setting journal row step none))

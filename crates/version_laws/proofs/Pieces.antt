@@ -13,15 +13,15 @@ use Rattle.steps.specs.declared.step.Step.TheVariants.{Packet, Deliver, Update, 
 use Rattle.update_machine.specs.Boots.{is_up}
 use Rattle.update_machine.specs.Messages.{sends}
 use Rattle.update_machine.specs.Packets.{next_packet}
-use Rattle.update_machine.specs.Pieces.{confirm_items, hello_of, marks_code, piece, plan_code, restart_items, step_items, update_code, update_items}
+use Rattle.update_machine.specs.Pieces.{confirm_items, hello_of, marks_code, plan_code, restart_items, step_items, update_code, update_items}
 use Rattle.update_machine.specs.Setting.{Setting, plan_of_file, policy_of_file}
 use Rattle.update_machine.specs.Versions.{version_count}
-use Rattle.update_machine.proofs.CallerLemmas.{PiecesHave, have_first}
+use Rattle.update_machine.proofs.CallerLemmas.{PiecesHave}
 use Rattle.version_laws.specs.Always.{HoldsAlways}
 use Rattle.version_laws.specs.ItemCauses.{HasItemCause, SubmitsRightly}
 use Rattle.version_laws.proofs.BehindItems.{behind_items}
 use Rattle.version_laws.proofs.ControllerBlocks.{settling_have, submitted_have}
-use Rattle.version_laws.proofs.Facts.{FromCauses, Has}
+use Rattle.version_laws.proofs.Facts.{FromCauses, Has, piece_has}
 use Rattle.version_laws.proofs.Grown.{up_more}
 use Rattle.version_laws.proofs.Sends.{sends_have}
 use Rattle.version_laws.proofs.SwitchBlocks.{deliver_have}
@@ -101,10 +101,9 @@ step_have setting before row step =
     traffic_has setting _ _ (step_traffic setting before step _ tt)
 
 pub pieces_have : (setting : Setting) → PiecesHave (HasItemCause setting) setting
-unfolding piece
 pieces_have setting journal row step =
-    have_first (HasItemCause setting) (item.Row row step) (step_items setting journal step) journal
-    tt (step_have setting journal row step)
+    piece_has (HasItemCause setting) setting journal row step tt
+    (step_have setting journal row step)
 
 -- so a fact that holds where items have their causes always holds
 pub always : (Holds : Setting → List Item → Type 0) → FromCauses Holds → HoldsAlways Holds
