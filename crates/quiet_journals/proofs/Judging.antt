@@ -1,9 +1,11 @@
 -- The judge answers as the definition says.
-use Rattle.std.proofs.Common.{ℕ, suc, ◌≡◌, ◌<◌, ◌⊎◌, ◌&&◌, ◌||◌, ◌==◌, Bool, true, false, not, Option, Some, None, List, [], ◌∷◌, ◌++◌, length, refl, ap, sym, subst, ◌∙◌, arith, inl, inr, append_assoc, get_or}
-use Rattle.std.specs.Prelude.{All, Any, IsTrue, IsFalse}
+use Rattle.std.proofs.Common.{ℕ, suc, ◌≡◌, ◌+◌, ◌<◌, ◌⊎◌, ◌&&◌, ◌||◌, ◌==◌, Bool, true, false, not, Option, Some, None, List, [], ◌∷◌, ◌++◌, length, refl, ap, sym, subst, ◌∙◌, arith, inl, inr, append_assoc, get_or}
+use Rattle.std.specs.Prelude.{◌↔◌, All, Any, IsTrue, IsFalse}
+use Rattle.std.specs.List.{list_all, range_with_len}
 use Rattle.std.specs.Option.{option_map_or}
 use Rattle.std.proofs.lemmas.Bool.{and_parts, eq-eqb, eqb-true, or_right}
 use Rattle.std.proofs.lemmas.List.Elements.{All-from_recursion}
+use Rattle.std.proofs.lemmas.List.Sums.{AllPass-from_list_all, list_all-from_AllPass}
 use Rattle.ctrl_msg.specs.declared.message.Body.{Body}
 use Rattle.ctrl_msg.specs.declared.message.Body.TheVariants.{Install, CacheRule, Installed}
 use Rattle.ctrl_msg.specs.declared.message.Message.{Message}
@@ -20,12 +22,12 @@ use Rattle.update_machine.specs.Quiet.{IsQuiet, IsReceived, Replaces, Sending, i
 use Rattle.update_machine.specs.Setting.{Setting, switches_of}
 use Rattle.update_machine.specs.Settling.{to_switch}
 use Rattle.quiet_laws.proofs.Lists.{IsIn, all_in, each_in, each_of_in, in_range, in_right, of_range, some_in}
-use Rattle.quiet_journals.specs.declared.lane.Lane.{Lane}
+use Rattle.version_laws.proofs.Sends.{each_range}
 use Rattle.quiet_journals.specs.declared.life.Life.{Life}
 use Rattle.quiet_journals.specs.declared.pending.Pending.{Pending}
 use Rattle.quiet_journals.specs.Judging.{has_mark, is_missed, is_old, is_of_boot, is_settled, life_in, matters_to, says_again, waiting_of}
 use Rattle.quiet_journals.specs.Lanes.{are_empty}
-use Rattle.quiet_journals.specs.Pending.{ArePending, IsPending}
+use Rattle.quiet_journals.specs.Pending.{ArePending, IsPending, none_pending}
 use Rattle.quiet_journals.specs.Plain.{AreInOrder, IsPlain, WasSentTo}
 use Rattle.quiet_journals.proofs.Counting.{all_got, is_got, none_waits}
 use Rattle.quiet_journals.proofs.Lanes.{none_in_lanes}
@@ -458,42 +460,58 @@ quiet_settled setting journal marks s plain right quiet there =
     ∙ got_if setting journal marks s plain right quiet [] (sendings journal) refl in
     rw (present, none) refl
 
--- ---- the answers
+-- ---- the answer
 
-pub answers_no : (setting : Setting) (journal : List Item) (marks : List Bool) (s : ℕ)
-    → IsPlain setting journal → AreMarks journal marks → HasSwitch setting.net s
-    → is_settled journal s marks ≡ false
-    → (IsTrue false → IsQuiet setting journal) × (IsQuiet setting journal → IsTrue false)
-answers_no setting journal marks s plain right there denied = (
-  λ yes. let clash : false ≡ true = yes in absurd cc,
-  λ quiet. sym denied ∙ quiet_settled setting journal marks s plain right quiet there,
-)
-
-pub answers_yes : (setting : Setting) (journal : List Item) (marks : List Bool)
-    → IsPlain setting journal → AreMarks journal marks
-    → ((s : ℕ) → HasSwitch setting.net s → is_settled journal s marks ≡ true)
-    → (IsTrue true → IsQuiet setting journal) × (IsQuiet setting journal → IsTrue true)
-answers_yes setting journal marks plain right settled =
-    (λ yes. settled_quiet setting journal marks plain right settled, λ quiet. refl)
-
-pub marks_here : (items journal : List Item) (marks : List Bool) → items ≡ journal
-    → AreMarks items marks → AreMarks journal marks
-marks_here items journal marks same right = subst (λ js. AreMarks js marks) same right
-
--- the answer for a switch is whether it is settled
-pub settled_row : (items journal : List Item) (rows : List Pending) (s : ℕ)
-    (given marks : List Bool) (row : Pending) (lanes : List Lane) (answer : Bool)
-    → items ≡ journal → given ≡ marks → ArePending items given items rows → s < length rows
-    → row ≡ get_or rows s row → lanes ≡ row.lanes.items
-    → answer ≡ (not (is_missed row.life) && are_empty lanes)
-    → answer ≡ is_settled journal s marks
-settled_row items journal rows s given marks row lanes answer same its are there is of now =
-    now ∙ ap (λ lanes. not (is_missed row.life) && are_empty lanes) of
-    ∙ ap (λ life. not (is_missed life) && are_empty row.lanes.items) here.life
-    ∙ ap (λ b. not (is_missed (life_in items s)) && b)
-    (none_in_lanes (waiting_of (life_in items s) given [] (sendings items)) row.lanes.items
+-- nothing is pending of a switch where it is settled
+row_settled : (journal : List Item) (marks : List Bool) (s : ℕ) (row : Pending)
+    → IsPending journal marks journal s row
+    → (not (is_missed row.life) && are_empty row.lanes.items) ≡ is_settled journal s marks
+row_settled journal marks s row here =
+    ap (λ life. not (is_missed life) && are_empty row.lanes.items) here.life
+    ∙ ap (λ b. not (is_missed (life_in journal s)) && b)
+    (none_in_lanes (waiting_of (life_in journal s) marks [] (sendings journal)) row.lanes.items
     here.messages)
-    ∙ ap (is_settled items s) its ∙ ap (λ js. is_settled js s marks) same
+
+rows_settled : (journal : List Item) (marks : List Bool) (rows : List Pending) (first : ℕ)
+    → ((s : ℕ) (d : Pending) → s < length rows
+    → IsPending journal marks journal (first + s) (get_or rows s d))
+    → none_pending rows
+    ≡ list_all (λ s. is_settled journal s marks) (range_with_len first (length rows))
+rows_settled journal marks [] first are = refl
+rows_settled journal marks (row ∷ rows) first are =
+    let here : IsPending journal marks journal first row =
+    subst (λ s. IsPending journal marks journal s row) (omega arith) (are 0 row (omega arith)) in
+    let rest : none_pending rows
+    ≡ list_all (λ s. is_settled journal s marks) (range_with_len (first + 1) (length rows)) =
+    rows_settled journal marks rows (first + 1)
+    (λ s d within. subst (λ n. IsPending journal marks journal n (get_or rows s d)) (omega arith)
+    (are (suc s) d (omega (arith, within)))) in
+    rw (row_settled journal marks first row here, rest) refl
+
+-- so nothing is pending of any where the network is quiet
+pub answer : (setting : Setting) (journal : List Item) (marks : List Bool) (rows : List Pending)
+    → IsPlain setting journal → AreMarks journal marks → ArePending journal marks journal rows
+    → length rows ≡ length setting.net.switches
+    → IsTrue (none_pending rows) ↔ IsQuiet setting journal
+answer setting journal marks rows plain right are count = (
+  λ none. settled_quiet setting journal marks plain right
+      (λ s there. all_in Settled s (switches_of setting)
+      (AllPass-from_list_all (λ s. is_settled journal s marks) (switches_of setting)
+      (sym same ∙ none))
+      (in_range s 0 (length setting.net.switches) (omega arith) (omega (arith, there)))),
+  λ quiet. same ∙ list_all-from_AllPass (λ s. is_settled journal s marks) (switches_of setting)
+      (All-from_recursion Settled (switches_of setting)
+      (each_range Settled 0 (length setting.net.switches)
+      (λ s above below.
+      quiet_settled setting journal marks s plain right quiet (omega (arith, below))))),
+)
   where
-    here : IsPending items given items s row
-    here = subst (IsPending items given items s) (sym is) (are s row there)
+    Settled : ℕ → Type 0
+    Settled s = is_settled journal s marks ≡ true
+
+    same : none_pending rows ≡ list_all (λ s. is_settled journal s marks) (switches_of setting)
+    same =
+        rows_settled journal marks rows 0
+        (λ s d within. subst (λ n. IsPending journal marks journal n (get_or rows s d))
+        (omega arith) (are s d within))
+        ∙ ap (λ n. list_all (λ s. is_settled journal s marks) (range_with_len 0 n)) count

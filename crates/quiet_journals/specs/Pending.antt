@@ -1,12 +1,13 @@
 -- What is pending of each switch behind a part of a journal.
-use Rattle.std.specs.Prelude.{ℕ, ◌≡◌, ◌<◌, Bool, List, [], get_or, length}
+use Rattle.std.specs.Prelude.{ℕ, ◌≡◌, ◌<◌, ◌&&◌, Bool, not, List, [], get_or, length}
+use Rattle.std.specs.List.{list_all}
 use Rattle.ctrl_msg.specs.declared.message.Message.{Message}
 use Rattle.journal.specs.declared.item.Item.{Item}
 use Rattle.update_machine.specs.Boots.{boot_of}
 use Rattle.update_machine.specs.Quiet.{sendings}
 use Rattle.quiet_journals.specs.declared.pending.Pending.{Pending}
-use Rattle.quiet_journals.specs.Judging.{boot_after, life_in, waiting_after, waiting_of}
-use Rattle.quiet_journals.specs.Lanes.{AreLanes}
+use Rattle.quiet_journals.specs.Judging.{boot_after, is_missed, life_in, waiting_after, waiting_of}
+use Rattle.quiet_journals.specs.Lanes.{AreLanes, are_empty}
 
 -- the switch's life at the end of the journal, and its boot and the messages that wait behind the
 -- first items
@@ -27,3 +28,7 @@ pub record IsAfter (marks : List Bool) (item : Item) (before after : Pending) : 
   pub boot : after.boot ≡ boot_after before.life.switch item before.boot
   pub messages : (waiting : List Message) → AreLanes waiting before.lanes.items
       → AreLanes (waiting_after before.life marks before.boot item waiting) after.lanes.items
+
+-- the controller misses none of the switches, and no message waits
+abbrev pub none_pending : List Pending → Bool
+none_pending rows = list_all (λ row. not (is_missed row.life) && are_empty row.lanes.items) rows

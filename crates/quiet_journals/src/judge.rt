@@ -2,11 +2,12 @@
 ghost use Rattle.std.specs.Prelude.{◌≡◌, ◌↔◌, ◌<◌, IfOk, IsTrue};
 ghost use Rattle.net_file.specs.Net.{IsNet};
 ghost use Rattle.update_machine.specs.Journals.{IsQuiet, Setting};
-ghost use Rattle.quiet_journals.specs.Judging.{is_settled};
+ghost use Rattle.update_machine.specs.Quiet.{IsQuiet};
+ghost use Rattle.update_machine.specs.Setting.{Setting};
 ghost use Rattle.quiet_journals.specs.Plain.{IsPlain};
 
 use crate::deliveries::deliveries;
-use crate::pending::{gather, is_settled};
+use crate::pending::{are_settled, gather};
 use journal::Journal;
 use net_file::Net;
 use std::alloc::{AllocError, Global};
@@ -27,11 +28,5 @@ pub fn quiet(alloc: Global, journal: &Journal, net: &Net) -> Result<bool, AllocE
     let delivered = deliveries(alloc, items)?;
     let count = net.switches.items().len() as u32;
     let rows = gather(alloc, items, count, &delivered)?;
-    for switch in 0..count {
-        let row = &rows[switch as usize];
-        if !is_settled(row.life, &row.lanes) {
-            return Ok(false);
-        }
-    }
-    Ok(true)
+    Ok(are_settled(&rows))
 }

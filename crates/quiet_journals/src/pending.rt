@@ -2,7 +2,7 @@
 ghost use Rattle.std.specs.Prelude.{ℕ, ◌≡◌, ◌<◌, ◌&&◌, Bool, true, false, not, List, [], get_or, length, IfOk, OnOk};
 ghost use Rattle.quiet_journals.specs.Judging.{concerned, is_missed, is_named, party, speaks};
 ghost use Rattle.quiet_journals.specs.Lanes.{are_empty};
-ghost use Rattle.quiet_journals.specs.Pending.{ArePending, IsAfter};
+ghost use Rattle.quiet_journals.specs.Pending.{ArePending, IsAfter, none_pending};
 ghost use Rattle.quiet_journals.specs.declared.pending.Pending.{Pending};
 
 use crate::lane::{Lane, are_empty, empty_lanes};
@@ -30,8 +30,15 @@ impl Pending {
     }
 }
 
-/// Whether nothing is pending of a switch: the controller doesn't miss it, and no message waits.
-pub fn is_settled(life: Life, lanes: &[Lane]) -> bool
+/// Whether nothing is pending of any of these switches.
+pub fn are_settled(rows: &[Pending]) -> bool
+    ensures { result ≡ none_pending rows.now }
+{
+    rows.iter().all(|row| is_settled(row.life, &row.lanes))
+}
+
+// Whether nothing is pending of a switch: the controller doesn't miss it, and no message waits.
+fn is_settled(life: Life, lanes: &[Lane]) -> bool
     ensures { result ≡ (not (is_missed life) && are_empty lanes.now) }
 {
     !life.is_missed() && are_empty(lanes)
