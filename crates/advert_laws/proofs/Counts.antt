@@ -177,8 +177,7 @@ mark_few setting net journal next none to true =
 current_few : (setting : Setting) → IsNet setting.net → (journal : List Item)
     → sent (current_items setting journal) ≤ 64
 unfolding current_items
-current_few setting net journal =
-    mark_few setting net journal (item.Current _) refl _ _
+current_few setting net journal = mark_few setting net journal (item.Current _) refl _ _
 
 open_few : (setting : Setting) → IsNet setting.net → (journal : List Item)
     → sent (open_items setting journal) ≤ 64
@@ -188,8 +187,7 @@ open_few setting net journal = each_few setting net journal _ _
 retired_few : (setting : Setting) → IsNet setting.net → (journal : List Item)
     → sent (retired_items setting journal) ≤ 64
 unfolding retired_items
-retired_few setting net journal =
-    mark_few setting net journal (item.Retired _) refl _ _
+retired_few setting net journal = mark_few setting net journal (item.Retired _) refl _ _
 
 pub settling_few : (setting : Setting) → IsNet setting.net → (journal : List Item)
     → sent (settling setting journal) ≤ 192

@@ -199,10 +199,8 @@ step_caused setting before row (Restart s) =
 step_caused setting before row (Confirm s) =
     are_caused setting _ _ (control_plain _ _ (confirm_control setting s _))
 step_caused setting before row (Resend s) = resend_caused setting s _
-step_caused setting before row step =
-    are_caused setting _ _ (step_plain setting before step _ tt)
+step_caused setting before row step = are_caused setting _ _ (step_plain setting before step _ tt)
 
 pub pieces_caused : (setting : Setting) → PiecesHave (HasLinkCause setting) setting
 pieces_caused setting journal row step =
-    piece_has (HasLinkCause setting) setting journal row step tt
-    (step_caused setting journal row step)
+    piece_has (HasLinkCause setting) setting journal row step tt (step_caused setting journal _ _)

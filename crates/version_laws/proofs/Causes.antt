@@ -336,5 +336,4 @@ step_name setting before row step own =
 
 pub pieces_name : (setting : Setting) → OwnPiecesHave (NamesRightly setting) setting
 pieces_name setting journal row step own =
-    piece_has (NamesRightly setting) setting journal row step tt
-    (step_name setting journal row step own)
+    piece_has (NamesRightly setting) setting journal row step tt (step_name setting journal _ _ own)

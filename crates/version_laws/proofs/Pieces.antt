@@ -97,13 +97,11 @@ step_have setting before row (Crash s) =
 step_have setting before row (Restart s) = restart_have setting s _
 step_have setting before row (Confirm s) = confirm_have setting s _
 step_have setting before row (Resend s) = resend_have setting s _
-step_have setting before row step =
-    traffic_has setting _ _ (step_traffic setting before step _ tt)
+step_have setting before row step = traffic_has setting _ _ (step_traffic setting before step _ tt)
 
 pub pieces_have : (setting : Setting) → PiecesHave (HasItemCause setting) setting
 pieces_have setting journal row step =
-    piece_has (HasItemCause setting) setting journal row step tt
-    (step_have setting journal row step)
+    piece_has (HasItemCause setting) setting journal row step tt (step_have setting journal _ _)
 
 -- so a fact that holds where items have their causes always holds
 pub always : (Holds : Setting → List Item → Type 0) → FromCauses Holds → HoldsAlways Holds
