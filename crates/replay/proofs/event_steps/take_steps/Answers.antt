@@ -5,11 +5,13 @@ use Rattle.world.specs.State.{WorldValue, setting_at}
 use Rattle.world.specs.NoStep.{no_step}
 use Rattle.replay.specs.Leavings.{KeepUp}
 use Rattle.replay.specs.Playing.{StopsWithin}
-use Rattle.replay.proofs.Asked.{asked, brought_all, none_yet}
+use Rattle.replay.proofs.Asked.{Asked, asked, brought_all, none_yet}
 use Rattle.replay.proofs.Keeping.{keep_up_next, keep_up_none, rest_is}
 use Rattle.replay.proofs.Stepping.{begins_next, begins_whole, happens_whole, on_err, same_error, stops_next, took_next, took_none}
 use Rattle.replay.proofs.Ties.{few_packets, tie_of}
 use Rattle.replay.proofs.event_steps.take_steps.Goals as goal
+use Rattle.replay.proofs.event_steps.take_steps.Goals.{After-tied}
+use Rattle.replay.proofs.event_steps.take_steps.Given.{Over}
 
 pub loop-next-init : goal.loop-next-init
 loop-next-init g c = record {
@@ -20,45 +22,42 @@ loop-next-init g c = record {
   kept = keep_up_none c.args.world.now.journal (map g.M.Meter.seen c.args.board.now);
 }
 
+-- what holds of the step that is asked for next
+next_asked : (g : Over) (c : After-tied g)
+    → Asked (setting_at c.loop-next.world) c.args.row c.args.event.now c.loop-next.is_begun
+    c.loop-next.world.journal c.in-Some.next
+next_asked g c =
+    asked c.drains_end.ensures.fewer c.deliveries_rise.ensures c.loop-next.world c.args.row
+    c.args.event.now c.loop-next.is_begun c.in-Some.next (c.tied.ensures c.loop-next.invariant.able)
+    (sym c.in-Some.ensures)
+
 pub step-requires-clause-few : goal.step-requires-clause-few
 step-requires-clause-few g c =
     let so_far = c.loop-next.invariant in
-    let world = c.loop-next.world in
-    let tied = c.tied.ensures so_far.able in
-    let next = asked c.drains_end.ensures.fewer c.deliveries_rise.ensures world c.args.row
-    c.args.event.now c.loop-next.is_begun c.in-Some.next tied (sym c.in-Some.ensures) in
-    few_packets world c.args.world.now.packets tied
+    let next = next_asked g (goal.at.step-requires-clause-few g c).After-tied in
+    few_packets c.loop-next.world c.args.world.now.packets (c.tied.ensures so_far.able)
     (omega (arith, so_far.packets, next.none)) c.requires.few
 
 pub step-requires-clause-may : goal.step-requires-clause-may
 step-requires-clause-may g c =
     let so_far = c.loop-next.invariant in
-    let world = c.loop-next.world in
-    let tied = c.tied.ensures so_far.able in
-    let next = asked c.drains_end.ensures.fewer c.deliveries_rise.ensures world c.args.row
-    c.args.event.now c.loop-next.is_begun c.in-Some.next tied (sym c.in-Some.ensures) in
+    let tied = tie_of c.loop-next.world (c.tied.ensures so_far.able) in
+    let next = next_asked g (goal.at.step-requires-clause-may g c).After-tied in
     next.may
     (subst (λ (s : Setting). IsEvent s.net (length s.policies) c.args.event.now)
     (sym so_far.setting) c.requires.may)
-    (omega (arith, (tie_of world tied).counted, so_far.packets, next.none, c.requires.few))
+    (omega (arith, tied.counted, so_far.packets, next.none, c.requires.few))
 
 pub loop-next-smaller : goal.loop-next-smaller
 loop-next-smaller g c =
-    let so_far = c.loop-next.invariant in
-    let world = c.loop-next.world in
-    let tied = c.tied.ensures so_far.able in
-    let next = asked c.drains_end.ensures.fewer c.deliveries_rise.ensures world c.args.row
-    c.args.event.now c.loop-next.is_begun c.in-Some.next tied (sym c.in-Some.ensures) in
+    let next = next_asked g (goal.at.loop-next-smaller g c).After-tied in
     rw c.in_ok-step.ensures.written (next.fewer c.in_ok-step.ensures.room)
 
 pub loop-next-preserved : goal.loop-next-preserved
 loop-next-preserved g c =
     let so_far = c.loop-next.invariant in
     let world = c.loop-next.world in
-    let tied = c.tied.ensures so_far.able in
-    let is = sym c.in-Some.ensures in
-    let next = asked c.drains_end.ensures.fewer c.deliveries_rise.ensures world c.args.row
-    c.args.event.now c.loop-next.is_begun c.in-Some.next tied is in record {
+    let next = next_asked g (goal.at.loop-next-preserved g c).After-tied in record {
       setting = c.in_ok-step.ensures.setting ∙ so_far.setting;
       able = c.in_ok-step.ensures.goes_on;
       packets = omega (
@@ -70,7 +69,7 @@ loop-next-preserved g c =
       );
       took = took_next (setting_at c.args.world.now) c.args.row c.args.event.now c.loop-next.is_begun
           c.args.world.now.journal world.journal c.step.new.self.journal c.in-Some.next so_far.took
-          is c.in_ok-step.ensures.room (rw so_far.setting at c.in_ok-step.ensures.written);
+          (sym c.in-Some.ensures) c.in_ok-step.ensures.room (rw so_far.setting at c.in_ok-step.ensures.written);
       kept =
           let before = c.items-before.result.now in
           let items = c.items.result.now in
