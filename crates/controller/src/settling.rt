@@ -3,9 +3,6 @@ ghost use Rattle.std.specs.Prelude.{◌≡◌, ◌++◌, ◌<◌, length, IfOk, 
 ghost use Rattle.version_update.specs.Marks.{MarksValue};
 ghost use Rattle.version_update.specs.Settling.{Settles};
 ghost use Rattle.controller.specs.Controllers.{body_of, opens, plans_from, settling_acts, switches_named, tell};
-ghost use Rattle.controller.specs.Controller.{plans_from};
-ghost use Rattle.controller.specs.News.{body_of, switches_named};
-ghost use Rattle.controller.specs.Sends.{tell, settling_acts};
 
 use crate::sends::{Act, Sends};
 use crate::version::Version;

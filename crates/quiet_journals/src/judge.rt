@@ -2,8 +2,6 @@
 ghost use Rattle.std.specs.Prelude.{◌≡◌, ◌↔◌, ◌<◌, IfOk, IsTrue};
 ghost use Rattle.net_file.specs.Net.{IsNet};
 ghost use Rattle.update_machine.specs.Journals.{IsQuiet, Setting};
-ghost use Rattle.update_machine.specs.Quiet.{IsQuiet};
-ghost use Rattle.update_machine.specs.Setting.{Setting};
 ghost use Rattle.quiet_journals.specs.Plain.{IsPlain};
 
 use crate::deliveries::deliveries;
