@@ -8,7 +8,6 @@ use Rattle.ctrl_msg.specs.declared.message.Message.{Message}
 use Rattle.wire.specs.declared.assembler.Spot.TheVariants.{Held, New}
 use Rattle.failure.specs.Refusals.{IfRefused}
 use Rattle.failure.specs.declared.error.Failure.{Failure}
-use Rattle.failure.specs.declared.error.Failure.TheVariants.{Refused}
 use Rattle.wire.specs.declared.error.Malformed.{Malformed}
 use Rattle.failure.proofs.CallerLemmas.{IfRefused-weaker}
 use Rattle.wire.specs.Frames.{place_in_frame, count_in_frame, AreFrames}
@@ -374,7 +373,3 @@ fed_new held f index after result together spot answer is unchanged =
     (subst (AreRising 0 (count_in_frame f)) (sym spot.2) spot.3)
     (subst (λ fs. IsAssembled fs (count_in_frame f) result) (sym spot.2) answer)
     (subst (λ fs. OnOk result (after ≡ fs)) (sym spot.2) is) unchanged
-
-pub fed_refused : (held : List (List ℕ)) (f : List ℕ) → AreTogether held → IsRefusedFrame held f → IsFed held f held (Err (Refused (record {})))
-fed_refused held f together refused =
-    fed_err held f held (Refused (record {})) together refused refl
