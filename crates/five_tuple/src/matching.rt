@@ -1,6 +1,5 @@
 ghost use Rattle.std.specs.Prelude.{◌≡◌, ◌≤◌};
-ghost use Rattle.five_tuple.specs.Header.{IsAddressBlock, prefix_matches, range_matches, proto_matches};
-ghost use Rattle.five_tuple.specs.Texts.{block_round};
+ghost use Rattle.five_tuple.specs.Headers.{IsAddressBlock, block_round, prefix_matches, proto_matches, range_matches};
 
 use std::marker::Model;
 

@@ -1,6 +1,5 @@
 ghost use Rattle.std.specs.Prelude.{◌≡◌, ◌≤◌, ◌<◌, ◌^◌, ◌∷◌, [], ◌==◌, ◌&&◌, nat_lt, not, length, IfSome, MatchOption, position};
-ghost use Rattle.five_tuple.specs.Header.{IsAddressBlock, IsPortRange, IsProtocol};
-ghost use Rattle.five_tuple.specs.Texts.{IsByteBefore, LacksByte, fields_from, packet_fields_of, range_from, has_leading_zero, number_up_to, address_of, prefix_of, range_of, proto_number_of, proto_of, parts_round};
+ghost use Rattle.five_tuple.specs.Headers.{IsAddressBlock, IsByteBefore, IsPortRange, IsProtocol, LacksByte, address_of, fields_from, has_leading_zero, number_up_to, packet_fields_of, parts_round, prefix_of, proto_number_of, proto_of, range_from, range_of};
 
 use crate::header::Fields;
 use crate::matching::{PortRange, Prefix, Proto};
