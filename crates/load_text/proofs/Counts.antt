@@ -36,12 +36,12 @@ pub counts_more : (before : List Item) (item : Item)
 unfolding current_mark retired_mark
 counts_more before item = rw (
   count_more is_packet before item,
-  count_more is_entered before item,
   count_more is_closed before item,
   count_more is_left before item,
   count_more is_dropped before item,
   count_more is_lost before item,
   count_more is_stuck before item,
+  count_more is_entered before item,
   count_more is_cached before item,
   count_more is_sent before item,
   told_more tells_current before item 1,
@@ -50,14 +50,14 @@ counts_more before item = rw (
 
 pub counts_start : counts_of [] ≡ record {
   packets = 0;
-  entered = 0;
   closed = 0;
-  left = 0;
+  delivered = 0;
   dropped = 0;
   lost = 0;
   stuck = 0;
+  travelling = 0;
   cached = 0;
-  sent = 0;
+  messages = 0;
   current = 1;
   retired = 0;
 }
@@ -67,12 +67,12 @@ counts_start = refl
 pub counts_room : (items : List Item) → length items + 1 < 2 ^ 64 → CountsHaveRoom (counts_of items)
 counts_room items room = record {
   packets = omega (arith, count_by-le-length is_packet items, room);
-  entered = omega (arith, count_by-le-length is_entered items, room);
   closed = omega (arith, count_by-le-length is_closed items, room);
-  left = omega (arith, count_by-le-length is_left items, room);
+  delivered = omega (arith, count_by-le-length is_left items, room);
   dropped = omega (arith, count_by-le-length is_dropped items, room);
   lost = omega (arith, count_by-le-length is_lost items, room);
   stuck = omega (arith, count_by-le-length is_stuck items, room);
+  travelling = omega (arith, count_by-le-length is_entered items, room);
   cached = omega (arith, count_by-le-length is_cached items, room);
-  sent = omega (arith, count_by-le-length is_sent items, room);
+  messages = omega (arith, count_by-le-length is_sent items, room);
 }

@@ -7,7 +7,6 @@ use Rattle.policy_rules.specs.declared.packet.How.TheVariants as how
 use Rattle.update_machine.specs.Folds.{count_of}
 use Rattle.update_machine.specs.Marks.{current_mark, retired_mark, tells_current, tells_retired}
 use Rattle.update_machine.specs.Packets.{is_packet}
-use Rattle.load_text.specs.declared.summary.Counts.{Counts}
 use Rattle.load_text.specs.declared.summary.Summary.{Summary}
 
 -- ---- which items are counted
@@ -51,72 +50,60 @@ is_sent _ = false
 
 -- ---- the summary
 
--- how many items of each kind there are, and the marks at the end
-abbrev pub counts_of : List Item → Counts
+-- how many items of each kind there are, and the marks at the end; each packet that came in travels
+abbrev pub counts_of : List Item → Summary
 counts_of journal = record {
   packets = count_of is_packet journal;
-  entered = count_of is_entered journal;
   closed = count_of is_closed journal;
-  left = count_of is_left journal;
+  delivered = count_of is_left journal;
   dropped = count_of is_dropped journal;
   lost = count_of is_lost journal;
   stuck = count_of is_stuck journal;
+  travelling = count_of is_entered journal;
   cached = count_of is_cached journal;
-  sent = count_of is_sent journal;
+  messages = count_of is_sent journal;
   current = current_mark journal;
   retired = retired_mark journal;
 }
 
 -- a packet that came in and neither left, nor was dropped or lost, nor is stuck, still travels
-abbrev pub summary_by : Counts → Summary
-summary_by c = record {
-  packets = c.packets;
-  closed = c.closed;
-  delivered = c.left;
-  dropped = c.dropped;
-  lost = c.lost;
-  stuck = c.stuck;
-  travelling = c.entered - (c.left + c.dropped + c.lost + c.stuck);
-  cached = c.cached;
-  messages = c.sent;
-  current = c.current;
-  retired = c.retired;
-}
+abbrev pub less_ended : Summary → Summary
+less_ended s = record s { travelling = s.travelling - (s.delivered + s.dropped + s.lost + s.stuck) }
 
 abbrev pub summary_of : List Item → Summary
-summary_of journal = summary_by (counts_of journal)
+summary_of journal = less_ended (counts_of journal)
 
 -- ---- one more item
 
 abbrev pub one_more : Bool → ℕ → ℕ
 one_more counts n = if counts then n + 1 else n
 
-abbrev pub counted_with : Counts → Item → Counts
-counted_with c item = record {
-  packets = one_more (is_packet item) c.packets;
-  entered = one_more (is_entered item) c.entered;
-  closed = one_more (is_closed item) c.closed;
-  left = one_more (is_left item) c.left;
-  dropped = one_more (is_dropped item) c.dropped;
-  lost = one_more (is_lost item) c.lost;
-  stuck = one_more (is_stuck item) c.stuck;
-  cached = one_more (is_cached item) c.cached;
-  sent = one_more (is_sent item) c.sent;
-  current = unwrap_or (tells_current item) c.current;
-  retired = unwrap_or (tells_retired item) c.retired;
+abbrev pub counted_with : Summary → Item → Summary
+counted_with s item = record {
+  packets = one_more (is_packet item) s.packets;
+  closed = one_more (is_closed item) s.closed;
+  delivered = one_more (is_left item) s.delivered;
+  dropped = one_more (is_dropped item) s.dropped;
+  lost = one_more (is_lost item) s.lost;
+  stuck = one_more (is_stuck item) s.stuck;
+  travelling = one_more (is_entered item) s.travelling;
+  cached = one_more (is_cached item) s.cached;
+  messages = one_more (is_sent item) s.messages;
+  current = unwrap_or (tells_current item) s.current;
+  retired = unwrap_or (tells_retired item) s.retired;
 }
 
 -- no count is at its type's end
-pub record CountsHaveRoom (c : Counts) : Type 0 where
-  pub packets : c.packets + 1 < 2 ^ 64
-  pub entered : c.entered + 1 < 2 ^ 64
-  pub closed : c.closed + 1 < 2 ^ 64
-  pub left : c.left + 1 < 2 ^ 64
-  pub dropped : c.dropped + 1 < 2 ^ 64
-  pub lost : c.lost + 1 < 2 ^ 64
-  pub stuck : c.stuck + 1 < 2 ^ 64
-  pub cached : c.cached + 1 < 2 ^ 64
-  pub sent : c.sent + 1 < 2 ^ 64
+pub record CountsHaveRoom (s : Summary) : Type 0 where
+  pub packets : s.packets + 1 < 2 ^ 64
+  pub closed : s.closed + 1 < 2 ^ 64
+  pub delivered : s.delivered + 1 < 2 ^ 64
+  pub dropped : s.dropped + 1 < 2 ^ 64
+  pub lost : s.lost + 1 < 2 ^ 64
+  pub stuck : s.stuck + 1 < 2 ^ 64
+  pub travelling : s.travelling + 1 < 2 ^ 64
+  pub cached : s.cached + 1 < 2 ^ 64
+  pub messages : s.messages + 1 < 2 ^ 64
 
 -- ---- its text
 

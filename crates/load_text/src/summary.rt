@@ -1,5 +1,5 @@
 ghost use Rattle.std.specs.Prelude.{◌≡◌};
-ghost use Rattle.load_text.specs.Summary.{CountsHaveRoom, counted_with, counts_of, summary_by, summary_of};
+ghost use Rattle.load_text.specs.Summary.{CountsHaveRoom, counted_with, counts_of, less_ended, summary_of};
 
 use journal::{How, Item, Journal};
 
@@ -27,43 +27,27 @@ pub struct Summary {
     pub retired: u32,
 }
 
-// How many items of each kind there are, and the marks of the versions.
-#[derive(Clone, Copy)]
-pub(crate) struct Counts {
-    pub(crate) packets: usize,
-    pub(crate) entered: usize,
-    pub(crate) closed: usize,
-    pub(crate) left: usize,
-    pub(crate) dropped: usize,
-    pub(crate) lost: usize,
-    pub(crate) stuck: usize,
-    pub(crate) cached: usize,
-    pub(crate) sent: usize,
-    pub(crate) current: u32,
-    pub(crate) retired: u32,
-}
-
 /// The summary of a journal.
 pub fn summarize(journal: &Journal) -> Summary
     ensures { result ≡ summary_of journal.now }
 {
-    count(journal.items()).summary()
+    count(journal.items()).less_ended()
 }
 
-// Counts the items in one pass.
-fn count(items: &[Item]) -> Counts
+// Counts the items in one pass, where each packet that came in still travels.
+fn count(items: &[Item]) -> Summary
     ensures { result ≡ counts_of items.now }
 {
-    let mut counts = Counts {
+    let mut counts = Summary {
         packets: 0,
-        entered: 0,
         closed: 0,
-        left: 0,
+        delivered: 0,
         dropped: 0,
         lost: 0,
         stuck: 0,
+        travelling: 0,
         cached: 0,
-        sent: 0,
+        messages: 0,
         current: 1,
         retired: 0,
     };
@@ -73,7 +57,7 @@ fn count(items: &[Item]) -> Counts
     counts
 }
 
-impl Counts {
+impl Summary {
     // Counts one more item.
     fn note(&mut self, item: &Item)
         requires { CountsHaveRoom self.old }
@@ -82,13 +66,13 @@ impl Counts {
         match item {
             Item::Entered { .. } => {
                 self.packets += 1;
-                self.entered += 1;
+                self.travelling += 1;
             }
             Item::Closed { .. } => {
                 self.packets += 1;
                 self.closed += 1;
             }
-            Item::Left { .. } => self.left += 1,
+            Item::Left { .. } => self.delivered += 1,
             Item::Dropped { .. } => self.dropped += 1,
             Item::Lost { .. } => self.lost += 1,
             Item::Stuck { .. } => self.stuck += 1,
@@ -96,35 +80,23 @@ impl Counts {
                 how: How::Cached { .. },
                 ..
             } => self.cached += 1,
-            Item::Sent { .. } => self.sent += 1,
+            Item::Sent { .. } => self.messages += 1,
             Item::Current { version } => self.current = *version,
             Item::Retired { version } => self.retired = *version,
             _ => {}
         }
     }
 
-    // What the counts say of a play.
-    fn summary(&self) -> Summary
-        ensures { result ≡ summary_by self.now }
+    // The counts, where the packets that came to an end travel no more.
+    fn less_ended(self) -> Summary
+        ensures { result ≡ less_ended self }
     {
         let travelling = self
-            .entered
-            .saturating_sub(self.left)
+            .travelling
+            .saturating_sub(self.delivered)
             .saturating_sub(self.dropped)
             .saturating_sub(self.lost)
             .saturating_sub(self.stuck);
-        Summary {
-            packets: self.packets,
-            closed: self.closed,
-            delivered: self.left,
-            dropped: self.dropped,
-            lost: self.lost,
-            stuck: self.stuck,
-            travelling,
-            cached: self.cached,
-            messages: self.sent,
-            current: self.current,
-            retired: self.retired,
-        }
+        Summary { travelling, ..self }
     }
 }
