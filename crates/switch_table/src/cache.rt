@@ -1,8 +1,10 @@
 ghost use Rattle.std.specs.Prelude.{◌≡◌, [], slice_get, option_map, OnOk, OnErr};
 ghost use Rattle.switch_table.specs.Cache.{IsCache, accepted, expired, raised, cleared, first_entry};
 ghost use Rattle.switch_table.specs.CacheLaws.{CacheLaws};
+ghost use Rattle.switch_table.specs.Queue.{key_of};
 
 use crate::items::CacheItems;
+use crate::key::CacheKey;
 use crate::queue::EntryQueue;
 use policy_rules::Action;
 use std::alloc::{AllocError, Global};
@@ -20,6 +22,17 @@ pub struct CacheEntry {
     pub action: Action,
     /// The number of the message that brought the entry.
     pub message: u32,
+}
+
+impl CacheEntry {
+    pub(crate) fn key(&self) -> CacheKey
+        ensures { result ≡ key_of self.now }
+    {
+        CacheKey {
+            version: self.version,
+            word: self.word,
+        }
+    }
 }
 
 /// The rules that a switch has learnt: at most as many as its capacity, no two of one version and

@@ -1,7 +1,3 @@
-ghost use Rattle.std.specs.Prelude.{◌≡◌};
-ghost use Rattle.switch_table.specs.Queue.{key_of};
-
-use crate::cache::CacheEntry;
 use ternary::Word;
 
 /// What makes a cache entry one of its kind.
@@ -9,15 +5,4 @@ use ternary::Word;
 pub struct CacheKey {
     pub version: u32,
     pub word: Word,
-}
-
-impl CacheKey {
-    pub fn of(entry: &CacheEntry) -> CacheKey
-        ensures { result ≡ key_of entry.now }
-    {
-        CacheKey {
-            version: entry.version,
-            word: entry.word,
-        }
-    }
 }

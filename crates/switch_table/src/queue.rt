@@ -47,7 +47,7 @@ impl EntryQueue {
     pub fn has_key_of(&self, entry: &CacheEntry) -> bool
         ensures { result ≡ list_any (same_key entry.now) self.now }
     {
-        self.ring.contains_key(&CacheKey::of(entry))
+        self.ring.contains_key(&entry.key())
     }
 
     /// Puts an entry last, whose key is not there. A ring that has gone round is straightened
@@ -59,10 +59,10 @@ impl EntryQueue {
     {
         if self.first < self.ring.len() {
             let mut ring = self.straight()?;
-            ring.insert(CacheKey::of(entry), *entry)?;
+            ring.insert(entry.key(), *entry)?;
             self.ring = ring;
         } else {
-            self.ring.insert(CacheKey::of(entry), *entry)?;
+            self.ring.insert(entry.key(), *entry)?;
         }
         self.first = self.ring.len();
         Ok(())
@@ -75,7 +75,7 @@ impl EntryQueue {
     {
         let mut ring = IndexMap::with_capacity(*self.ring.allocator(), self.ring.len() + 1)?;
         for entry in self.iter() {
-            ring.insert(CacheKey::of(&entry), entry)?;
+            ring.insert(entry.key(), entry)?;
         }
         Ok(ring)
     }
@@ -92,7 +92,7 @@ impl EntryQueue {
         } else {
             0
         };
-        self.ring.insert(CacheKey::of(entry), *entry)?;
+        self.ring.insert(entry.key(), *entry)?;
         self.first = first + 1;
         self.ring.swap_remove_index(first);
         Ok(())

@@ -11,8 +11,8 @@ unfolding equal_keys
 returns c =
     let entry = c.args.entry.now in
     let pairs = c.self.inside.ring.entries in
-    let there : c.contains_key.result ≡ is_some (lookup (equal_keys c.of.result) pairs) =
+    let there : c.contains_key.result ≡ is_some (lookup (equal_keys c.key.result) pairs) =
     c.contains_key.ensures in
-    there ∙ ap (λ k. is_some (lookup (equal_keys k) pairs)) c.of.ensures
+    there ∙ ap (λ k. is_some (lookup (equal_keys k) pairs)) c.key.ensures
     ∙ ring_has c.self.inside.first pairs entry c.self.invariant
     ∙ ap (list_any (same_key entry)) c.self.view_is

@@ -18,16 +18,16 @@ pushed c =
       | then-self-len+in_ok-ring+in_ok-insert w ↦
           let pairs = map pair_of entries in
           let is = ring_straight entries w.in_ok-ring.ensures.distinct in
-          ring_put (length pairs) last pairs w.insert.new.self.entries new w.of.result entry
-          entries is.ring is.entries_are (omega arith) c.requires w.of.ensures
+          ring_put (length pairs) last pairs w.insert.new.self.entries new w.key.result entry
+          entries is.ring is.entries_are (omega arith) c.requires w.key.ensures
           (w.in_ok-insert.ensures.entries
-          ∙ ap (λ ps. insert_entry equal_keys ps w.of.result entry) w.in_ok-ring.ensures.entries)
+          ∙ ap (λ ps. insert_entry equal_keys ps w.key.result entry) w.in_ok-ring.ensures.entries)
           (ap (λ s. s.ring.entries) w.self-inside-is) len
       | else-self-len+in_ok-insert-2 w ↦
           ring_put c.self.inside.first last c.self.inside.ring.entries
-          w.insert-else-self-len.new.self.entries new w.of-else-self-len.result entry entries
+          w.insert-else-self-len.new.self.entries new w.key-else-self-len.result entry entries
           c.self.invariant c.self.view_is (omega (arith, w.if-self-len.false, c.len.ensures.len))
-          c.requires w.of-else-self-len.ensures w.in_ok-insert-2.ensures.entries
+          c.requires w.key-else-self-len.ensures w.in_ok-insert-2.ensures.entries
           (ap (λ s. s.ring.entries) w.self-inside-is) len
     ]
 

@@ -14,7 +14,7 @@ loop-entry-preserved c =
     let all : before ++ entry ∷ rest ≡ c.args.self.now =
     ap (λ xs. before ++ xs) (sym next) ∙ c.loop-entry.invariant.1 in (
       straight_grown before entry rest c.loop-entry.ring.entries c.insert.new.self.entries
-          c.of.result (subst HaveDistinctKeys (sym all) c.iter-entry-items.ensures.distinct)
-          c.loop-entry.invariant.0 c.of.ensures c.in_ok-insert.ensures.entries,
+          c.key.result (subst HaveDistinctKeys (sym all) c.iter-entry-items.ensures.distinct)
+          c.loop-entry.invariant.0 c.key.ensures c.in_ok-insert.ensures.entries,
       append_assoc before (entry ∷ []) rest ∙ all,
     )
