@@ -47,7 +47,7 @@ facts_kept setting s before items none =
 
 -- ---- the cache
 
-pub cache_more : (setting : Setting) (before : List Item) (next : Item) (s : ℕ)
+cache_more : (setting : Setting) (before : List Item) (next : Item) (s : ℕ)
     → cache_of setting (before ++ next ∷ []) s
     ≡ changes_cache s before (cache_of setting before s) next
 unfolding cache_of
@@ -56,7 +56,7 @@ cache_more setting before next s =
     (next ∷ [])
 
 -- the facts behind one more item, each by its own fold
-facts_more : (setting : Setting) (before : List Item) (next : Item) (s : ℕ)
+pub facts_more : (setting : Setting) (before : List Item) (next : Item) (s : ℕ)
     → let now = before ++ next ∷ [] in
     facts_of setting now s
     ≡ record {

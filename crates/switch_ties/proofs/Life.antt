@@ -10,25 +10,23 @@ use Rattle.switch_core.specs.State.{SwitchValue}
 use Rattle.switch_table.specs.Cache.{cleared}
 use Rattle.switch_table.specs.declared.cache.CacheEntry.{CacheEntry}
 use Rattle.update_machine.specs.Adverts.{has_change, own_seq}
-use Rattle.update_machine.specs.Boots.{boot_of, heard, is_up}
+use Rattle.update_machine.specs.Boots.{boot_of, is_up}
 use Rattle.update_machine.specs.Caches.{cache_of}
 use Rattle.update_machine.specs.Causes.{HaveCauses}
-use Rattle.update_machine.specs.Handled.{handled_count}
 use Rattle.update_machine.specs.LinkMasks.{near}
 use Rattle.update_machine.specs.Pieces.{expire_items, nothing}
 use Rattle.update_machine.specs.Setting.{Setting}
 use Rattle.update_machine.specs.Steps.{steps_in}
-use Rattle.update_machine.specs.Links.{serves}
 use Rattle.update_machine.proofs.CallerLemmas.{calls_stay, start_laws}
 use Rattle.version_laws.specs.ItemCauses.{HasItemCause}
 use Rattle.version_laws.proofs.Boots.{boot_rises}
 use Rattle.version_laws.proofs.Facts.{fact_on}
-use Rattle.version_laws.proofs.Grown.{boot_more, heard_more, serving_more, up_more}
+use Rattle.version_laws.proofs.Grown.{boot_more, up_more}
 use Rattle.advert_laws.proofs.OwnAdverts.{seq_is}
 use Rattle.advert_laws.proofs.Numbers.{began_on, down_none, none_counted, steps_past}
 use Rattle.switch_ties.specs.Life.{LifeTies, expired_by, message_at}
 use Rattle.switch_ties.specs.SwitchOf.{switch_of}
-use Rattle.switch_ties.proofs.Items.{cache_more, facts_expired}
+use Rattle.switch_ties.proofs.Items.{facts_expired, facts_more}
 use Rattle.switch_ties.proofs.SwitchFacts.{SwitchFacts, by_facts, switch_by, switch_in, switch_is, facts_of}
 
 -- ---- what is forgotten
@@ -73,18 +71,11 @@ crash_is setting journal s =
     let next : Item = item.Down s in
     let now : List Item = journal ++ next ∷ [] in
     let own : (s == s) ≡ true = eq-eqb s s refl in
-    let boot : boot_of now s ≡ boot_of journal s = boot_more journal next s in
     let up : is_up now s ≡ false = rw (up_more journal next s, own) refl in
-    let serving : serves now s ≡ false = rw (serving_more journal next s, own) refl in
-    let bodies : heard now s ≡ [] = rw (heard_more journal next s, own) refl in
-    let cache : cache_of setting now s ≡ cleared (cache_of setting journal s) =
-    rw (cache_more setting journal next s, own) refl in
-    let seq : own_seq setting now s ≡ 0 = down_none setting now s up in
-    let handled : handled_count now s ≡ handled_count journal s =
-    calls_stay s journal (next ∷ []) (refl, tt) in
     let facts : facts_of setting now s
     ≡ blank (facts_of setting journal s) (boot_of journal s) false (near setting now s) =
-    rw (boot, up, serving, bodies, cache, seq, handled) refl in
+    facts_more setting journal next s
+    ∙ rw (own, down_none setting now s up, calls_stay s journal (next ∷ []) (refl, tt)) refl in
     by_facts setting now s _ facts
     ∙ forgets setting s (facts_of setting journal s) (boot_of journal s) false (near setting now s)
     ∙ ap crashed (sym (switch_is setting journal s))
@@ -109,10 +100,6 @@ restart_is setting journal s have =
     let own : (s == s) ≡ true = eq-eqb s s refl in
     let boot : boot_of now s ≡ boot_of journal s + 1 = rw (boot_more journal next s, own) refl in
     let up : is_up now s ≡ true = rw (up_more journal next s, own) refl in
-    let serving : serves now s ≡ false = rw (serving_more journal next s, own) refl in
-    let bodies : heard now s ≡ [] = rw (heard_more journal next s, own) refl in
-    let cache : cache_of setting now s ≡ cleared (cache_of setting journal s) =
-    rw (cache_more setting journal next s, own) refl in
     let later : (boot_of journal s + 1 == 1) ≡ false =
     ne_eqb (boot_of journal s + 1) 1 (λ same. absurd (omega (
       arith,
@@ -127,11 +114,10 @@ restart_is setting journal s have =
     + (if b then 1 else 0)) (ap (λ k. k == 1) boot ∙ later)
     ∙ ap (λ k. k + 0) (none_counted setting s (boot_of journal s) (boot_of now s) (steps_in now)
     below (began_on s (boot_of journal s) journal next (omega arith) past)) in
-    let handled : handled_count now s ≡ handled_count journal s =
-    calls_stay s journal (next ∷ []) (refl, tt) in
     let facts : facts_of setting now s
     ≡ blank (facts_of setting journal s) (boot_of journal s + 1) true (near setting now s) =
-    rw (boot, up, serving, bodies, cache, seq, handled) refl in
+    facts_more setting journal next s
+    ∙ rw (own, seq, calls_stay s journal (next ∷ []) (refl, tt)) refl in
     by_facts setting now s _ facts
     ∙ ap (switch_in setting s (blank (facts_of setting journal s) (boot_of journal s + 1) true
     (near setting now s))) later

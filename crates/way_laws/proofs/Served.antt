@@ -5,7 +5,6 @@ use Rattle.std.specs.Prelude.{⊤, IsTrue, IsFalse}
 use Rattle.std.specs.Option.{option_or}
 use Rattle.std.proofs.lemmas.Bool.{eqb-true}
 use Rattle.masks.specs.Masks.{has}
-use Rattle.five_tuple.specs.declared.header.Header.{Header}
 use Rattle.policy_rules.specs.declared.packet.Leg.{Leg}
 use Rattle.policy_rules.specs.declared.packet.Leg.TheVariants.{Seek, Exit}
 use Rattle.journal.specs.declared.item.Item.{Item}
@@ -73,52 +72,30 @@ pub record IsCausedUp (setting : Setting) (before : List Item) (next : Item) : T
   pub caused : IsCaused setting before next
   pub not_down : NotDown next
 
-comes_served : (before : List Item) (packet s i : ℕ) (header : Header) → AreServed before
-    → IsTrue (serves before s)
-    → IsTrue (travels (before ++ item.Entered packet s header ∷ []) i)
-    → IsServed (before ++ item.Entered packet s header ∷ []) i
-comes_served before packet s i header served serving travelling = by_same (packet == i) refl
+-- an item that brings a packet to a switch that serves
+brought_served : (before : List Item) (next : Item) (packet s i : ℕ)
+    → ((t : ℕ) → tells_serving t next ≡ None)
+    → tells_standing i next ≡ (if packet == i then Some s else None)
+    → ((packet == i) ≡ false → tells_travelling i next ≡ None) → AreServed before
+    → IsTrue (serves before s) → IsTrue (travels (before ++ next ∷ []) i)
+    → IsServed (before ++ next ∷ []) i
+brought_served before next packet s i silent stands moves served serving travelling =
+    by_same (packet == i) refl
   where
-    next : Item
-    next = item.Entered packet s header
-
     by_same : (b : Bool) → (packet == i) ≡ b → IsServed (before ++ next ∷ []) i
     by_same true e = record {
       switch = s;
-      stands = rw (standing_more before next i, e) refl;
-      serving = still_serves before next s refl serving;
+      stands = rw (standing_more before next i, stands, e) refl;
+      serving = still_serves before next s (silent s) serving;
     }
     by_same false e =
         let here : IsServed before i =
-        served i (rw (travels_more before next i, e) at travelling) in
+        served i (rw (travels_more before next i, moves e) at travelling) in
         record {
           switch = here.switch;
-          stands = rw (standing_more before next i, e) here.stands;
-          serving = still_serves before next here.switch refl here.serving;
+          stands = rw (standing_more before next i, stands, e) here.stands;
+          serving = still_serves before next here.switch (silent here.switch) here.serving;
         }
-
-hops_served : (before : List Item) (packet s i : ℕ) → AreServed before
-    → IsTrue (serves before s) → IsTrue (travels (before ++ item.Hopped packet s ∷ []) i)
-    → IsServed (before ++ item.Hopped packet s ∷ []) i
-hops_served before packet s i served serving travelling = by_same (packet == i) refl
-  where
-    next : Item
-    next = item.Hopped packet s
-
-    here : IsServed before i
-    here = served i (rw (travels_more before next i) at travelling)
-
-    by_same : (b : Bool) → (packet == i) ≡ b → IsServed (before ++ next ∷ []) i
-    by_same true e = record {
-      switch = s;
-      stands = rw (standing_more before next i, e) refl;
-      serving = still_serves before next s refl serving;
-    }
-    by_same false e = record {
-      switch = here.switch;
-      stands = rw (standing_more before next i, e) here.stands;
-      serving = still_serves before next here.switch refl here.serving;
-    }
 
 booted_serves : (before : List Item) (switch boot s : ℕ) → ServingIsKnown before
     → IsFalse (is_up before switch) → IsTrue (serves before s)
@@ -136,18 +113,15 @@ booted_serves before switch boot s known down serving = by_same (switch == s) re
 
 opened_serves : (before : List Item) (switch version s : ℕ) → IsTrue (serves before s)
     → IsTrue (serves (before ++ item.Opened switch version ∷ []) s)
-opened_serves before switch version s serving = by_same (switch == s) refl
-  where
-    by_same : (b : Bool) → (switch == s) ≡ b
-        → IsTrue (serves (before ++ item.Opened switch version ∷ []) s)
-    by_same true e = rw (serving_more before (item.Opened switch version) s, e) refl
-    by_same false e = rw (serving_more before (item.Opened switch version) s, e) serving
+opened_serves before switch version s serving =
+    grind (arith, serving_more before (item.Opened switch version) s, serving)
 
 pub served_kept : (setting : Setting) → AreKept (IsCausedUp setting) AreServed
 served_kept setting before (item.Entered packet s header) is served i travelling =
-    comes_served before packet s i header served is.caused.way.1 travelling
+    brought_served before (item.Entered packet s header) packet s i (λ t. refl) refl
+    (λ e. rw e refl) served is.caused.way.1 travelling
 served_kept setting before (item.Hopped packet s) is served i travelling =
-    hops_served before packet s i served
+    brought_served before (item.Hopped packet s) packet s i (λ t. refl) refl (λ e. refl) served
     (ends_serve setting before is.caused.way.switch s is.caused.way.usable).1 travelling
 served_kept setting before (item.Down s) is served i travelling = absurd is.not_down
 served_kept setting before (item.Booted switch boot) is served i travelling =
