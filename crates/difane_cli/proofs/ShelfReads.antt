@@ -79,8 +79,18 @@ all_reads command net events count ports old one two new many mask net_read even
     (policies_read old.files command net events net_read accepted) both policies
 
 -- a printing command reads its policy too, where the network and the switch are accepted
-pub policy_read : (known : Option Files) (command : PrintCommand) (net : Net) (switch : Option ℕ)
+policy_read : (known : Option Files) (command : PrintCommand) (net : Net) (switch : Option ℕ)
     → ForSome known (λ files. read_net files command.net ≡ Ok net) → switch_on net command.switch
     ≡ Ok switch → net_reads command.net + 1 ≤ most_reads known (Some (Print command))
 policy_read None command net switch read found = omega arith
 policy_read (Some files) command net switch read found = rw (read files refl, found) (omega arith)
+
+-- its reads, of its network and its policy
+pub both_reads : (command : PrintCommand) (net : Net) (switch : Option ℕ) (old one new : ShelfState)
+    → ForSome old.files (λ files. read_net files command.net ≡ Ok net)
+    → switch_on net command.switch ≡ Ok switch
+    → IsAfterReads (net_reads command.net) old one → IsAfterReads 1 one new
+    → IsAfterReads (most_reads old.files (Some (Print command))) old new
+both_reads command net switch old one new read found first second =
+    reads_then (net_reads command.net) 1 _ old one new
+    (policy_read old.files command net switch read found) first second

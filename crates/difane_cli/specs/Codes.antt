@@ -14,21 +14,9 @@ missing_file = 0
 abbrev pub too_long : ℕ
 too_long = 20
 
--- the rows of the first policy have too many words
-abbrev pub too_many_words : ℕ
-too_many_words = 12
-
 -- a row names a port that the network lacks
 abbrev pub no_port : ℕ
 no_port = 13
-
--- the tree of the first policy has too many leaves
-abbrev pub too_many_leaves : ℕ
-too_many_leaves = 14
-
--- too few switches have room for a partition
-abbrev pub no_room : ℕ
-no_room = 15
 
 -- the network lacks the switch
 abbrev pub no_such_switch : ℕ

@@ -20,10 +20,11 @@ use Rattle.schedule.specs.Reading.{schedule_of}
 use Rattle.schedule.specs.Refusals.{schedule_code}
 use Rattle.steps.specs.declared.step.Event.{Event}
 use Rattle.shelf.specs.Shelf.{Files, file_named}
+use Rattle.update_machine.specs.Pieces.{plan_code}
 use Rattle.update_machine.specs.Setting.{setting_of}
 use Rattle.words.specs.Commands.{Command, PrintCommand, ReplayCommand}
 use Rattle.words.specs.Commands as asked
-use Rattle.difane_cli.specs.Codes.{missing_file, most_bytes, no_port, no_room, no_such_switch, too_long, too_many_leaves, too_many_words}
+use Rattle.difane_cli.specs.Codes.{missing_file, most_bytes, no_port, no_such_switch, too_long}
 use Rattle.difane_cli.specs.declared.report.Report.TheVariants as report
 use Rattle.difane_cli.specs.declared.status.Refusal.{Refusal}
 use Rattle.difane_cli.specs.declared.status.Stop.{Stop}
@@ -102,10 +103,9 @@ read_net files (Some name) = and_then (content_of files name) (net_stated name)
 
 abbrev pub plan_from : List ℕ → Result (List Placed) NoPlan → Result (List Placed) Refusal
 plan_from name (Ok placed) = Ok placed
-plan_from name (Err (no_plan.TooManyWords words)) = Err (refused_whole name too_many_words)
-plan_from name (Err no_plan.TooManyLeaves) = Err (refused_whole name too_many_leaves)
 plan_from name (Err (no_plan.NoRoom partition)) =
-    Err (record { file = name; code = no_room; row = partition })
+    Err (record { file = name; code = plan_code (no_plan.NoRoom partition); row = partition })
+plan_from name (Err why) = Err (refused_whole name (plan_code why))
 
 -- the plan of the rows of this file on the network
 abbrev pub plan_on : List ℕ → Net → List Row → Result (List Placed) Refusal

@@ -39,21 +39,6 @@ fn one_switch(alloc: Global) -> Result<Net, Stop>
     }
 }
 
-/// The network of the file of this name.
-fn read_network<F: Shelf>(alloc: Global, shelf: &mut F, name: &str) -> Result<Net, Stop>
-    ensures value { IfOk result (λ net. ForSome (F.state shelf.old).files (λ files.
-        read_net files (Some name.now) ≡ Ok net)) }
-    ensures stopped { IfErr result (λ stop. ForSome (F.state shelf.old).files (λ files.
-        Stops (read_net files (Some name.now)) stop)) }
-    ensures faults { IfErr result (λ stop. NeedsReadFault (F.state shelf.old).files (status_of stop)
-        → Rose (F.state shelf.old).faults (F.state shelf.new).faults) }
-    ensures shelf { IsAfterReads 1 (F.state shelf.old) (F.state shelf.new) }
-    ensures sound { IfOk result IsNet }
-{
-    let bytes = read_bytes(alloc, shelf, name)?;
-    check_net(alloc, name, &bytes)
-}
-
 /// The network of the file, or that of one switch where none is named.
 pub fn take_network<F: Shelf>(alloc: Global, shelf: &mut F, name: Option<&str>) -> Result<Net, Stop>
     ensures value { IfOk result (λ net. ForSome (F.state shelf.old).files (λ files.
@@ -68,7 +53,10 @@ pub fn take_network<F: Shelf>(alloc: Global, shelf: &mut F, name: Option<&str>) 
     ensures named { IfOk result (IsNetOf (net_named name.entry)) }
 {
     match name {
-        Some(name) => read_network(alloc, shelf, name),
+        Some(name) => {
+            let bytes = read_bytes(alloc, shelf, name)?;
+            check_net(alloc, name, &bytes)
+        }
         None => one_switch(alloc),
     }
 }

@@ -1,12 +1,16 @@
 use Rattle.world.specs.State.{setting_at}
 use Rattle.std.specs.Borrow.{Bor}
-use Rattle.std.proofs.Common.{◌≡◌, ◌∙◌, ℕ, List, ap, length, refl, sym}
+use Rattle.std.proofs.Common.{◌≡◌, ◌∙◌, ℕ, Some, List, ap, length, refl, sym}
 use Rattle.std.proofs.lemmas.List.{length-map}
+use Rattle.shelf.specs.Shelf.{IsAfterReads}
+use Rattle.words.specs.Commands.{Replay}
 use Rattle.words.specs.Named.{names_seen, replay_named}
-use Rattle.difane_cli.specs.Inputs.{net_reads}
+use Rattle.difane_cli.specs.Inputs.{most_reads, net_reads}
 use Rattle.difane_cli.proofs.Begun.{all_are_events, asked_for, inputs_are}
 use Rattle.difane_cli.proofs.ShelfReads.{all_reads, reads_then, schedule_read}
 use Rattle.difane_cli.proofs.inputs.read_inputs.Goals as goal
+use Rattle.difane_cli.proofs.inputs.read_inputs.Goals.{In_ok-policies}
+use Rattle.difane_cli.proofs.inputs.read_inputs.Given.{Over}
 
 -- there are as many names as the command has
 as_many : (names owned : List (Bor (List ℕ))) → names ≡ owned
@@ -27,19 +31,23 @@ returns-in_err-policies-clause-shelf g c =
     c.in_ok-net.ensures.value c.in_ok-events.ensures.value c.in_ok-net.ensures.shelf
     c.in_ok-events.ensures.shelf (rw c.deref-names.ensures.value at c.in_err-policies.ensures.shelf)
 
-pub returns-in_err-world-clause-shelf : goal.returns-in_err-world-clause-shelf
-returns-in_err-world-clause-shelf g c =
+-- the network, the schedule and the policies are all that is read
+policies_read : (g : Over) (c : In_ok-policies g)
+    → IsAfterReads (most_reads (g.F.Shelf.state c.args.shelf.now).files
+    (Some (Replay (replay_named c.args.words.now))))
+    (g.F.Shelf.state c.args.shelf.now) (g.F.Shelf.state c.read_policies.new.shelf)
+policies_read g c =
     all_reads (replay_named c.args.words.now) c.in_ok-net.net c.in_ok-events.events.items _ _ _ _ _ _
     (as_many _ _ c.deref-names.ensures.value) c.port_mask.ensures
     c.in_ok-net.ensures.value c.in_ok-events.ensures.value c.in_ok-net.ensures.shelf
     c.in_ok-events.ensures.shelf (rw c.deref-names.ensures.value at c.in_ok-policies.ensures.shelf)
 
+pub returns-in_err-world-clause-shelf : goal.returns-in_err-world-clause-shelf
+returns-in_err-world-clause-shelf g c =
+    policies_read g (goal.at.returns-in_err-world-clause-shelf g c).In_ok-policies
+
 pub returns-clause-shelf : goal.returns-clause-shelf
-returns-clause-shelf g c =
-    all_reads (replay_named c.args.words.now) c.in_ok-net.net c.in_ok-events.events.items _ _ _ _ _ _
-    (as_many _ _ c.deref-names.ensures.value) c.port_mask.ensures
-    c.in_ok-net.ensures.value c.in_ok-events.ensures.value c.in_ok-net.ensures.shelf
-    c.in_ok-events.ensures.shelf (rw c.deref-names.ensures.value at c.in_ok-policies.ensures.shelf)
+returns-clause-shelf g c = policies_read g (goal.at.returns-clause-shelf g c).In_ok-policies
 
 pub returns-clause-value : goal.returns-clause-value
 returns-clause-value g c =
