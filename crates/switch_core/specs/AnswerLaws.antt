@@ -21,7 +21,7 @@ use Rattle.net_file.specs.Owners.{port_owner}
 use Rattle.failover.specs.Links.{with_link}
 use Rattle.masks.specs.Masks.{has}
 use Rattle.failover.specs.Routes.{route_of}
-use Rattle.tunnel.specs.Moves.{here, next}
+use Rattle.tunnel.specs.Moves.{here, next, tunnel_begun}
 use Rattle.tunnel.specs.Tunnel.{TunnelValue}
 use Rattle.cache_maker.specs.Independent.{widen}
 use Rattle.switch_table.specs.Cache.{first_entry}
@@ -87,16 +87,8 @@ route_known s near packet targets = route_of s.database s.number targets near pa
 -- the packet at the beginning of a route, on its leg to these targets, with the links that it found
 -- down
 abbrev pub setting_out : Packet → Leg → List ℕ → List ℕ → TunnelValue
-setting_out packet leg targets route = record {
-  packet = packet.number;
-  header = packet.header;
-  ingress = packet.ingress;
-  leg = leg;
-  targets = targets;
-  route = route;
-  place = 0;
-  down = packet.down;
-}
+setting_out packet leg targets route =
+    tunnel_begun packet.number packet.header packet.ingress leg targets route packet.down
 
 -- the first entry of the cache to hold the header, among those of the stamp's version, decides
 pub record IsByCache (s : SwitchValue) (header : Header) (decision : Decision) : Type 0 where
