@@ -15,6 +15,8 @@ use Rattle.failure.specs.Refusals.{IfRefused}
 use Rattle.failure.specs.declared.error.Failure.{Failure}
 use Rattle.wire.specs.declared.error.Malformed.{Malformed}
 use Rattle.failure.proofs.CallerLemmas.{IfRefused-weaker}
+use Rattle.wire.specs.Assembly.{AreRising, AreNone}
+use Rattle.wire.proofs.Framing.{pieces_of_frames}
 use Rattle.wire.proofs.Decoding.{one_message}
 
 -- ---- the pieces of a spelling are all of it
