@@ -9,3 +9,4 @@ pub mod RuleList
 pub mod Laws
 pub mod Partitions
 pub mod Placed
+pub mod Policies

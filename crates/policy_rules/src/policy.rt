@@ -5,6 +5,7 @@ ghost use Rattle.policy_rules.specs.Policy.{row_matches, IsFirstMatch, IsPolicy,
 ghost use Rattle.failure.specs.Refusals.{IfRefused};
 ghost use Rattle.policy_rules.specs.Scan.{hit_of, scan, IsHighestMatch};
 ghost use Rattle.policy_rules.specs.Repeats.{RefusesRows};
+ghost use Rattle.policy_rules.specs.Policies.{IsFirstMatch, IsHighestMatch, IsPolicy, IsSoundRow, hit_of, row_matches, scan};
 
 use failure::Failure;
 use five_tuple::{Fields, Header, PortRange, Prefix, Proto};
