@@ -1,7 +1,5 @@
 ghost use Rattle.std.specs.Prelude.{◌≡◌, ℕ, List, Ok};
-ghost use Rattle.net_file.specs.Laws.{NetLinkLaws, NameLaws, PortLaws};
-ghost use Rattle.net_file.specs.Net.{IsNet, solo_net};
-ghost use Rattle.net_file.specs.Reading.{net_of};
+ghost use Rattle.net_file.specs.Nets.{IsNet, NameLaws, NetLinkLaws, PortLaws, net_of, solo_net};
 ghost use Rattle.net_file.specs.declared.net.Net.{Net};
 
 /// Names and numbers of switches stand for each other, and no byte of a name ends a field, a word

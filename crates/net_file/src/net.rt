@@ -1,7 +1,5 @@
 ghost use Rattle.std.specs.Prelude.{◌≡◌, ◌≤◌, ◌<◌, ◌==◌, ℕ, false, IfOk, IfNone, IfSome, length};
-ghost use Rattle.net_file.specs.Net.{IsLink, IsNet, solo_net};
-ghost use Rattle.net_file.specs.Owners.{AreOwners, port_mask, switch_number, links_of};
-ghost use Rattle.net_file.specs.Joins.{joins, owner_of};
+ghost use Rattle.net_file.specs.Nets.{AreOwners, IsLink, IsNet, joins, links_of, owner_of, port_mask, solo_net, switch_number};
 
 use crate::ports::{Ports, owners};
 use lists::Listing;

@@ -2,13 +2,9 @@ ghost use Rattle.std.specs.Prelude.{◌≡◌, ◌≤◌, ◌<◌, Ok, [], IfOk,
 ghost use Rattle.std.specs.List.{list_all};
 ghost use Rattle.toml.specs.Data.{as_integer};
 ghost use Rattle.toml.specs.View.{table_view, view};
-ghost use Rattle.net_file.specs.Net.{are_name_bytes, is_label, is_name, is_name_byte};
+ghost use Rattle.net_file.specs.Nets.{IsMask, are_name_bytes, are_new, have_name, have_port, is_label, is_name, is_name_byte, name_at, port_bits, port_read, ports_at, ports_of, row_stated, switch_array, switch_read, switch_with, switches_read};
 ghost use Rattle.net_file.specs.Outcomes.{IsRead, seen_values};
-ghost use Rattle.net_file.specs.Reading.{are_new, name_at, port_bits, port_read, ports_at, ports_of, switch_array, switch_read, switch_with, switches_read};
 ghost use Rattle.failure.specs.Refusals.{IsRefusal, in_row};
-ghost use Rattle.net_file.specs.Stated.{row_stated};
-ghost use Rattle.net_file.specs.Owners.{have_name, have_port};
-ghost use Rattle.net_file.specs.Laws.{IsMask};
 
 use crate::error::{NetError, NetRefusal};
 use crate::keys::{array_in, setting_of, table_in, text_in, value_at, within};

@@ -1,11 +1,9 @@
 ghost use Rattle.std.specs.Prelude.{◌≡◌, ◌<◌, ◌^◌, nat_lt, true, IfOk, IfErr, OnOk, vec_len, length, Some};
 ghost use Rattle.std.specs.Option.{option_map_or};
 ghost use Rattle.five_tuple.specs.Header.{IsPortRange, IsProtocol};
-ghost use Rattle.policy_rules.specs.Policy.{row_matches, IsFirstMatch, IsPolicy, IsSoundRow};
-ghost use Rattle.failure.specs.Refusals.{IfRefused};
-ghost use Rattle.policy_rules.specs.Scan.{hit_of, scan, IsHighestMatch};
-ghost use Rattle.policy_rules.specs.Repeats.{RefusesRows};
 ghost use Rattle.policy_rules.specs.Policies.{IsFirstMatch, IsHighestMatch, IsPolicy, IsSoundRow, hit_of, row_matches, scan};
+ghost use Rattle.failure.specs.Refusals.{IfRefused};
+ghost use Rattle.policy_rules.specs.Repeats.{RefusesRows};
 
 use failure::Failure;
 use five_tuple::{Fields, Header, PortRange, Prefix, Proto};

@@ -1,14 +1,7 @@
 ghost use Rattle.std.specs.Prelude.{◌≡◌, ◌+◌, ◌<◌, ◌≤◌, ◌^◌, ◌∷◌, [], All, IfOk, IfErr, OnOk, Some, map, option_map, length};
 ghost use Rattle.failure.specs.Refusals.{IfRefused};
-ghost use Rattle.five_tuple.specs.Cover.{IsPortBlock, cover_of};
-ghost use Rattle.five_tuple.specs.Header.{IsHeader};
-ghost use Rattle.five_tuple.specs.declared.header.Header.{Header};
-ghost use Rattle.policy_rules.specs.Policy.{IsPolicy, IsSoundRow};
-ghost use Rattle.policy_rules.specs.Rules.{first_rule};
-ghost use Rattle.policy_rules.specs.Words.{word_of_row};
-ghost use Rattle.policy_rules.specs.RuleList.{AppendsRanked, by_falling_priority, entries_of, ranked_from, with_default, with_hit, rules_of, word_total, RefusesRules, hit_of_rule, IsRuleList};
-ghost use Rattle.policy_rules.specs.Scan.{scan};
 ghost use Rattle.five_tuple.specs.Headers.{IsHeader, IsPortBlock, cover_of};
+ghost use Rattle.five_tuple.specs.declared.header.Header.{Header};
 ghost use Rattle.policy_rules.specs.Policies.{AppendsRanked, IsPolicy, IsRuleList, IsSoundRow, RefusesRules, by_falling_priority, entries_of, first_rule, hit_of_rule, ranked_from, rules_of, scan, with_default, with_hit, word_of_row, word_total};
 
 use crate::laws::rule_list_laws;

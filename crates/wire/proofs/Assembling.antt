@@ -9,8 +9,6 @@ use Rattle.std.proofs.lemmas.List.{take-append-drop, length-map, take_all}
 use Rattle.ctrl_msg.specs.declared.message.Message.{Message}
 use Rattle.wire.specs.Messages.{message, IsSpelling}
 use Rattle.wire.specs.Frames.{frame, frames_from, frames_of, pieces, piece_of, place_in_frame, slices, cut, head_len, most_of_piece, AreFrames}
-use Rattle.wire.specs.Assembly.{AreRising, AreNone}
-use Rattle.wire.proofs.Framing.{pieces_of_frames}
 use Rattle.failure.specs.Refusals.{IfRefused}
 use Rattle.failure.specs.declared.error.Failure.{Failure}
 use Rattle.wire.specs.declared.error.Malformed.{Malformed}
