@@ -7,7 +7,7 @@
 //! it.
 #![tactic(auto)]
 
-ghost use Rattle.std.specs.Prelude.{ℕ, ◌≡◌, ◌+◌, ◌<◌, ◌≤◌, ◌^◌, Ok, Err, List, length, slice_index, All, AllPairs, MatchOption, IfOk, IfErr, IsTrue, if◌then◌else◌, nat_eq, replicate};
+ghost use Rattle.std.specs.Prelude.{ℕ, ◌≡◌, ◌+◌, ◌<◌, ◌≤◌, ◌^◌, Ok, Err, List, length, slice_index, All, AllPairs, MatchOption, IfOk, IfErr, if◌then◌else◌, nat_eq};
 ghost use Rattle.std.specs.List.{list_any, range_with_len};
 ghost use Rattle.failure.specs.Refusals.{IfRefused};
 ghost use Rattle.placement.specs.Order.{in_order};

@@ -1,5 +1,5 @@
 // Pieces put behind the first bytes of a line's array.
-ghost use Rattle.std.specs.Prelude.{◌≡◌, ◌≤◌, ◌+◌, ◌++◌, ◌<◌, ◌∷◌, length, take};
+ghost use Rattle.std.specs.Prelude.{◌≡◌, ◌≤◌, ◌+◌, ◌++◌, ◌<◌, length, take};
 ghost use Rattle.text_line.specs.Pushes.{pushed};
 
 use crate::line::LINE_BYTES;

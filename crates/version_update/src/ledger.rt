@@ -1,4 +1,4 @@
-ghost use Rattle.std.specs.Prelude.{ℕ, ◌≡◌, ◌+◌, ◌<◌, ◌≤◌, length, map, replicate, slice_set};
+ghost use Rattle.std.specs.Prelude.{◌≡◌, ◌+◌, ◌<◌, ◌≤◌, length, map, replicate, slice_set};
 ghost use Rattle.version_update.specs.Record.{first_record, IsSoundRecord, opens_at, opened_record};
 ghost use Rattle.version_update.specs.Marks.{first_marks, record_of, AreBounded, StaySettled, retired_of};
 ghost use Rattle.version_update.specs.Settling.{Names, rises_to, RisesTo, Settles};

@@ -1,4 +1,4 @@
-ghost use Rattle.std.specs.Prelude.{ℕ, ◌≡◌, ◌≢◌, ◌+◌, ◌-◌, ◌<◌, ◌≤◌, ◌↔◌, length, IsTrue, IfOk, OnErr, Err};
+ghost use Rattle.std.specs.Prelude.{◌≡◌, ◌≢◌, ◌-◌, ◌<◌, ◌≤◌, ◌↔◌, length, IsTrue, IfOk, OnErr, Err};
 ghost use Rattle.version_update.specs.Record.{is_member, has_acked, takes_hello, hello_recorded, takes_installed, after_installed, takes_stamped, after_stamped, after_over};
 ghost use Rattle.version_update.specs.Marks.{first_marks, record_of, at_switch, with_version, AreMarksSettled, StaySettled};
 ghost use Rattle.version_update.specs.Settling.{Settles};

@@ -1,5 +1,5 @@
-ghost use Rattle.std.specs.Prelude.{◌≡◌, ◌<◌, ◌≤◌, ◌↔◌, IsTrue};
-ghost use Rattle.version_update.specs.Record.{is_member, is_joining, has_acked, first_record, takes_hello, hello_recorded, takes_installed, after_installed, takes_stamped, after_stamped, after_over, opens_at, opened_record};
+ghost use Rattle.std.specs.Prelude.{◌≡◌, ◌<◌, ◌≤◌};
+ghost use Rattle.version_update.specs.Record.{is_member, has_acked, first_record, takes_hello, hello_recorded, takes_installed, after_installed, takes_stamped, after_stamped, after_over, opens_at, opened_record};
 
 use masks::has;
 

@@ -1,5 +1,5 @@
 //! Questions over what is known of all switches, each answered in one walk.
-ghost use Rattle.std.specs.Prelude.{ℕ, ◌≡◌, ◌+◌, ◌-◌, ◌<◌, ◌≤◌, ◌&&◌, map, length};
+ghost use Rattle.std.specs.Prelude.{◌≡◌, ◌-◌, ◌<◌, ◌≤◌, ◌&&◌, map, length};
 ghost use Rattle.version_update.specs.Record.{is_member, opens_at, opened_record};
 ghost use Rattle.version_update.specs.Marks.{all_have_acked, acked_stamps, least_of};
 ghost use Rattle.version_update.specs.Settling.{Names};
