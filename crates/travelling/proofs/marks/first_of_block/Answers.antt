@@ -21,9 +21,5 @@ overflow_add-result-2 c =
 pub returns : goal.returns
 unfolding least_in
 returns c =
-    let masks = c.args.masks.now in
-    let block = c.args.block in
-    let s = c.args.switch in
-    let fits : mask_at masks block s < 2 ^ 64 =
-    (let fit = c.type_inv.masks (block * 64 + s) in omega (arith, fit.fits)) in
-    first_marked masks block s c.requires.some fits
+    let fit = c.type_inv.masks (c.args.block * 64 + c.args.switch) in
+    first_marked c.args.masks.now c.args.block c.args.switch c.requires.some (omega (arith, fit.fits))
