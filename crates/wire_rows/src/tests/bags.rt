@@ -71,34 +71,6 @@ fn messages_come_out_of_a_bag(rt: HostRuntime) -> Result<(), Fail> {
     Ok(())
 }
 
-// Installations of version 1: the number, the switch, the boot, the rows beside three defaults, and
-// all the rules.
-const TO_TWO_SWITCHES: [(u32, u32, u32, u32, usize); 5] = [
-    (1, 1, 1, 2, 5),
-    (2, 5, 1, 2, 5),
-    (3, 1, 2, 2, 5),
-    (4, 5, 2, 1, 4),
-    (5, 5, 2, 2, 5),
-];
-
-#[test]
-fn the_same_tables_for_two_switches_in_two_boots(rt: HostRuntime) -> Result<(), Fail> {
-    let alloc = rt.alloc();
-    let mut bag = FrameBag::new(alloc);
-    for (number, switch, boot, rows, _) in &TO_TWO_SWITCHES {
-        let message = install_of(alloc, 1, *switch, *boot, 3, *rows)?;
-        assert_eq!(rt; post(&mut bag, alloc, &message)?, *number);
-    }
-    // Each is delivered twice.
-    for _ in 0..2 {
-        for (number, switch, boot, _, rules) in &TO_TWO_SWITCHES {
-            let told = installed(&bag, alloc, *number)?;
-            assert!(rt; told == Some((Receiver::Switch(*switch), *boot, *rules)));
-        }
-    }
-    Ok(())
-}
-
 // The rules of the first partition.
 fn first_rules(tables: &Tables) -> Option<&[Rule]> {
     match tables.auth.items().first() {
@@ -130,25 +102,34 @@ fn gives(bag: &FrameBag, alloc: Global, number: u32, message: &Message) -> Resul
     }
 }
 
-// Tables of two frames under the versions 1 and 300, and others: the number, the version, the switch,
-// the boot, and the rows beside 440 defaults.
-const UNDER_TWO_VERSIONS: [(u32, u32, u32, u32, u32); 4] = [
-    (1, 1, 1, 1, 2),
-    (2, 300, 5, 1, 2),
-    (3, 300, 1, 1, 3),
-    (4, 300, 1, 2, 2),
+// Installations: the number, the version, the switch, the boot, the default rows, and those beside
+// them. The same tables go to two switches in two boots, and tables of two frames under two versions.
+const INSTALLATIONS: [(u32, u32, u32, u32, u32, u32); 9] = [
+    (1, 1, 1, 1, 3, 2),
+    (2, 1, 5, 1, 3, 2),
+    (3, 1, 1, 2, 3, 2),
+    (4, 1, 5, 2, 3, 1),
+    (5, 1, 5, 2, 3, 2),
+    (6, 1, 1, 1, 440, 2),
+    (7, 300, 5, 1, 440, 2),
+    (8, 300, 1, 1, 440, 3),
+    (9, 300, 1, 2, 440, 2),
 ];
 
 #[test]
-fn the_same_tables_under_two_versions(rt: HostRuntime) -> Result<(), Fail> {
+fn installations_of_the_same_tables_are_told_apart(rt: HostRuntime) -> Result<(), Fail> {
     let alloc = rt.alloc();
     let mut bag = FrameBag::new(alloc);
-    for (number, version, switch, boot, rows) in &UNDER_TWO_VERSIONS {
-        let message = install_of(alloc, *version, *switch, *boot, 440, *rows)?;
+    for (number, version, switch, boot, defaults, rows) in &INSTALLATIONS {
+        let message = install_of(alloc, *version, *switch, *boot, *defaults, *rows)?;
         assert_eq!(rt; post(&mut bag, alloc, &message)?, *number);
     }
-    for (number, version, switch, boot, rows) in &UNDER_TWO_VERSIONS {
-        let message = install_of(alloc, *version, *switch, *boot, 440, *rows)?;
+    // Each is delivered twice.
+    for (number, version, switch, boot, defaults, rows) in INSTALLATIONS
+        .iter()
+        .chain(&INSTALLATIONS)
+    {
+        let message = install_of(alloc, *version, *switch, *boot, *defaults, *rows)?;
         assert!(rt; gives(&bag, alloc, *number, &message)?, "{number}");
     }
     Ok(())
