@@ -317,7 +317,7 @@ fn is_there(phase: Phase) -> bool
     phase != Phase::Over
 }
 
-// The marks settled on a hello: what is then sent, and all versions to the switch if its boot is new.
+// The marks settled on a hello: what is then sent, and all versions to a switch in a new boot.
 fn hello_sends(
     alloc: Global,
     versions: &mut Vec<Version>,

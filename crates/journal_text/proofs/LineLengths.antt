@@ -192,9 +192,9 @@ module _ (laws : NameLaws) (net : Net) (sound : IsNet net) where
   item_within (item.Closed packet switch) is =
       widened (at_within (all_of (codes "  closed")) packet switch is) 2047 (omega arith)
   item_within (item.Seeking packet version partition route) is =
-      widened (row_of (row_of (two_within (all_of (codes "  tunnelled")) (all_of (codes " v")) packet
-      version is.0 is.1) (numbered_within (all_of (codes " part")) partition is.2)) (via_within route
-      is.3)) 2047 (omega arith)
+      widened (row_of (row_of (two_within (all_of (codes "  tunnelled")) (all_of (codes " v"))
+      packet version is.0 is.1) (numbered_within (all_of (codes " part")) partition is.2))
+      (via_within route is.3)) 2047 (omega arith)
   item_within (item.Exiting packet route) is =
       widened (row_of (numbered_within (all_of (codes "  exit")) packet is.0) (via_within route
       is.1)) 2047 (omega arith)
@@ -207,9 +207,9 @@ module _ (laws : NameLaws) (net : Net) (sound : IsNet net) where
       widened (row_of (numbered_within (all_of (codes "  rerouted")) packet is.0) (via_within route
       is.1)) 2047 (omega arith)
   item_within (item.Decided packet version rule action how) is =
-      widened (row_of (with_word (row_of (two_within (all_of (codes "  decided")) (all_of (codes " v"))
-      packet version is.0 is.1) (ruled_within rule action is.2 is.3)) (codes " ")) (how_within how
-      is.4)) 2047 (omega arith)
+      widened (row_of (with_word (row_of (two_within (all_of (codes "  decided")) (all_of (codes
+      " v")) packet version is.0 is.1) (ruled_within rule action is.2 is.3)) (codes " "))
+      (how_within how is.4)) 2047 (omega arith)
   item_within (item.Left packet port leaving) is =
       widened (two_within (all_of (codes "  out")) (all_of (codes " port ")) packet port is.0 is.1)
       2047 (omega arith)

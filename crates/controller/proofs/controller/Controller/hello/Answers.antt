@@ -26,7 +26,8 @@ returns c =
       after = search settles_at;
       sends = IfOk-weaker c.hello_sends.result _ _
           (λ sends is. is
-          ∙ ap (λ b. told ++ cond b (map (install_act s boot) kept) []) c.hello-settled.ensures.taken
+          ∙ ap (λ b. told ++ cond b (map (install_act s boot) kept) [])
+          c.hello-settled.ensures.taken
           ∙ ap (λ (plans : List KeptPlan). told ++ cond (takes_hello boot (record_of old s))
           (map (install_act s boot) plans) []) (sym once)
           ∙ ap (λ (old : ControllerValue). hearing (Hello s boot) old.marks
