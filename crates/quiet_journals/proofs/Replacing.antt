@@ -1,6 +1,6 @@
 -- What says as much as another message.
 use Rattle.std.proofs.Common.{ℕ, ◌≡◌, ◌⊎◌, ◌&&◌, ◌||◌, ◌==◌, Bool, true, false, refl, ap, sym, subst, ◌∙◌, arith, inl, inr}
-use Rattle.std.specs.Prelude.{IsTrue, IsFalse, nat_lt, nat_le}
+use Rattle.std.specs.Prelude.{IsTrue, IsFalse, nat_le}
 use Rattle.std.proofs.lemmas.Bool.{and_parts, eq-eqb, eqb-true, or_right}
 use Rattle.std.proofs.lemmas.Bool.Decides.{nat_tests}
 use Rattle.ctrl_msg.specs.declared.message.Body.{Body}
@@ -106,13 +106,6 @@ says_through one two three first second =
     rw (to, body) refl
 
 -- ---- what it says is the same or more
-
-up_to : (a b : ℕ) → nat_le a b ≡ true → (a ≡ b) ⊎ IsTrue (nat_lt a b)
-up_to a b e = by_test (nat_lt a b) refl
-  where
-    by_test : (c : Bool) → nat_lt a b ≡ c → (a ≡ b) ⊎ IsTrue (nat_lt a b)
-    by_test true f = inr f
-    by_test false f = inl (grind (arith, nat_tests))
 
 -- tables of one version are the same
 abbrev pub Agree : Body → Body → Type 0
