@@ -1,11 +1,17 @@
 //! The play of accepted inputs, and the writing of its journal.
-ghost use Rattle.std.specs.Prelude.{◌≡◌, ◌≢◌, ◌≤◌, [], Ok, Option, Some, map};
+ghost use Rattle.std.specs.Prelude.{◌≡◌, [], Ok, Option, Some, map};
 ghost use Rattle.std.specs.Option.{ForSome};
 ghost use Rattle.net_file.specs.Net.{IsNet};
 ghost use Rattle.shelf.specs.Shelf.{Files};
-ghost use Rattle.shelf.specs.Sink.{Rose};
 ghost use Rattle.shelf.specs.SinkWrites.{IsAfterWrite};
-ghost use Rattle.difane_cli.specs.Work.{AnswerLaws, AreReadyToPlay, IsAfterText, IsAfterWork, IsPlayOf, Play, PlayOutcome, RanOut, inputs_stated, is_made, known_task, last_lines, play_text, replay_text};
+ghost use Rattle.difane_cli.specs.Work.{AnswerLaws, AreReadyToPlay, IsAfterText, IsPlayOf, Play, PlayOutcome, RanOut, inputs_stated, is_made, known_task, last_lines, play_text, replay_text};
+ghost use Rattle.difane_cli.specs.Inputs.{known_task};
+ghost use Rattle.difane_cli.specs.Commands.{AreReadyToPlay, inputs_stated};
+ghost use Rattle.difane_cli.specs.Laws.{AnswerLaws};
+ghost use Rattle.difane_cli.specs.Texts.{last_lines, play_text, replay_text};
+ghost use Rattle.difane_cli.specs.Run.{IsPlayOf, PlayOutcome, RanOut, is_made};
+ghost use Rattle.difane_cli.specs.Tasks.{Play};
+ghost use Rattle.difane_cli.specs.Working.{EndsWork};
 ghost use Rattle.words.specs.Commands.{Command};
 ghost use Rattle.difane_cli.specs.declared.report.Report.TheVariants.{Summary};
 ghost use Rattle.load_text.specs.Summary.{counts_text};
@@ -52,12 +58,7 @@ pub fn play<M: Meter, K: Sink>(
         → result.status ≡ status.NoMemory
         → RanOut (Some command) K.takes_memory result.journal
         (K.state out.old) (K.state out.new) }
-    ensures worked { IsAfterWork result.status }
-    ensures failed { result.status ≡ status.WriteFault
-        → Rose (K.state out.old).faults (K.state out.new).faults }
-    ensures calm { result.status ≢ status.WriteFault
-        → (K.state out.new).faults ≡ (K.state out.old).faults }
-    ensures faults { (K.state out.old).faults ≤ (K.state out.new).faults }
+    ensures ended { EndsWork result.status (K.state out.old) (K.state out.new) }
 {
     let PlayInputs {
         events,

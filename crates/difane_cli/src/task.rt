@@ -1,10 +1,13 @@
 //! What a command is to do, once its files are read, and the doing of it.
-ghost use Rattle.std.specs.Prelude.{◌≡◌, ◌≢◌, ◌≤◌, Ok, Option, Some, IfOk, IfErr, Result, [], map};
+ghost use Rattle.std.specs.Prelude.{◌≡◌, Ok, Option, Some, IfOk, IfErr, Result, [], map};
 ghost use Rattle.std.specs.Option.{ForSome};
 ghost use Rattle.shelf.specs.Sink.{Rose};
 ghost use Rattle.shelf.specs.Shelf.{Files, IsAfterReads};
-ghost use Rattle.difane_cli.specs.Work.{Accounts, IsAfterWork, IsReadyTask, IsTaskOf, NeedsReadFault, Outcome, PlaysNothing, RanOut, Task as Stated, known_task, most_reads, status_of, task_stated};
+ghost use Rattle.difane_cli.specs.Work.{Accounts, IsReadyTask, IsTaskOf, NeedsReadFault, Outcome, PlaysNothing, RanOut, Task as Stated, known_task, most_reads, status_of, task_stated};
 ghost use Rattle.difane_cli.specs.declared.status.Refusal.{Refusal};
+ghost use Rattle.difane_cli.specs.Run.{Outcome, RanOut, PlaysNothing};
+ghost use Rattle.difane_cli.specs.Ending.{NeedsReadFault, status_of};
+ghost use Rattle.difane_cli.specs.Working.{EndsWork};
 ghost use Rattle.words.specs.Named.{NamesPolicies, command_named};
 ghost use Rattle.words.specs.Commands as grammar;
 ghost use Rattle.difane_cli.specs.declared.status.Status.TheVariants as status;
@@ -83,12 +86,7 @@ pub fn work<M: Meter, K: Sink>(alloc: Global, task: Task, meters: Vec<M>, out: &
         → result.status ≡ status.NoMemory
         → RanOut (Some command) K.takes_memory result.journal
         (K.state out.old) (K.state out.new) }
-    ensures worked { IsAfterWork result.status }
-    ensures failed { result.status ≡ status.WriteFault
-        → Rose (K.state out.old).faults (K.state out.new).faults }
-    ensures calm { result.status ≢ status.WriteFault
-        → (K.state out.new).faults ≡ (K.state out.old).faults }
-    ensures faults { (K.state out.old).faults ≤ (K.state out.new).faults }
+    ensures ended { EndsWork result.status (K.state out.old) (K.state out.new) }
 {
     match task {
         Task::Play(inputs) => play(alloc, inputs, meters, out),

@@ -63,14 +63,16 @@ returns-in_default-judge-clause-outcome g c = λ command files asked read.
     (rw c.requires.net kept)
     (subst (λ (asked : Bool). IsTrue (is_asked asked full)) c.asks_quiet.ensures wants))
 
-pub returns-clause-worked : goal.returns-clause-worked
-returns-clause-worked g c =
-    rw c.after.ensures (after_work c.write_report-written.result c.in-Ok.played.full)
-
-pub returns-clause-failed : goal.returns-clause-failed
-returns-clause-failed g c = λ is.
-    c.write_report-written.ensures.failed
-    (by_failed c.write_report-written.result c.in-Ok.played.full (rw c.after.ensures at is))
+pub returns-clause-ended : goal.returns-clause-ended
+returns-clause-ended g c =
+    let written = c.write_report-written.result in
+    let full = c.in-Ok.played.full in
+    let after = c.write_report-written.ensures in record {
+      worked = rw c.after.ensures (after_work written full);
+      failed = λ is. after.failed (by_failed written full (rw c.after.ensures at is));
+      calm = λ not. after.calm (λ is. not (c.after.ensures ∙ of_failed written full is));
+      faults = after.faults;
+    }
 
 pub returns-clause-no_memory : goal.returns-clause-no_memory
 returns-clause-no_memory g c = λ command own is.
@@ -85,8 +87,3 @@ returns-in_default-judge-clause-no_memory g c = λ command own is.
     let wants = on_err c.judge.result _ c.judge.ensures.wants c.in_default-judge.not-Ok in
     out_of_judging command (inputs_stated c.args.inputs) full g.K.Sink.takes_memory _ _ own
     (subst (λ (asked : Bool). IsTrue (is_asked asked full)) c.asks_quiet.ensures wants)
-
-pub returns-clause-calm : goal.returns-clause-calm
-returns-clause-calm g c = λ not.
-    c.write_report-written.ensures.calm
-    (λ is. not (c.after.ensures ∙ of_failed c.write_report-written.result c.in-Ok.played.full is))
