@@ -90,15 +90,13 @@ fn chain() -> Database
     Database::begin(&near, 3)
 }
 
-fn header() -> Header {
-    Header::pack(&Fields {
-        src: 1,
-        dst: 2,
-        sport: 3,
-        dport: 4,
-        proto: 6,
-    })
-}
+const FIELDS: Fields = Fields {
+    src: 1,
+    dst: 2,
+    sport: 3,
+    dport: 4,
+    proto: 6,
+};
 
 // A packet that entered at a, and looks for partition 0 of this version at the end of its way.
 fn seeking(version: u32) -> Result<Tunnel, Fail>
@@ -111,7 +109,7 @@ fn seeking(version: u32) -> Result<Tunnel, Fail>
     let to_b = Targets::new(&[1]).ok_or("b")?;
     let down = DownSet::empty();
     let route = chain().route(1, &to_b, 0b101, &down).ok_or("b to b")?;
-    Ok(Tunnel::begin(7, header(), 0, leg, to_b, route, down))
+    Ok(Tunnel::begin(7, Header::pack(&FIELDS), 0, leg, to_b, route, down))
 }
 
 // b, with its tables of version 1.
@@ -193,7 +191,7 @@ fn enters(b: &mut Switch, ports: &Ports, version: u32, how: How) -> bool {
     if !b.holds_version(b.stamp()) {
         return false;
     }
-    match b.enter(8, &header(), 0b101, ports) {
+    match b.enter(8, &Header::pack(&FIELDS), 0b101, ports) {
         Entered::Answered(Answer::Decided { decision, .. }) => {
             decision.version == version && decision.how == how
         }
@@ -243,9 +241,8 @@ fn arrives_anew(b: &mut Switch, ports: &Ports) -> Result<bool, Fail> {
 #[test]
 fn an_authority_switch_decides(rt: HostRuntime) -> Result<(), Fail> {
     let alloc = rt.alloc();
-    let ports = solo(alloc)?.ports();
     let mut b = authority(alloc)?;
-    let arrived = b.arrive(&seeking(1)?, 0b101, &ports);
+    let arrived = b.arrive(&seeking(1)?, 0b101, &solo(alloc)?.ports());
     assert!(rt; is_decided(&arrived, 1));
     assert_eq!(rt; b.handled(), 1);
     assert_eq!(rt; b.number(), 1);
@@ -265,7 +262,7 @@ fn setting_out(a: &mut Switch, ports: &Ports) -> Option<Tunnel> {
     if !a.holds_version(a.stamp()) {
         return None;
     }
-    match a.enter(7, &header(), 0b010, ports) {
+    match a.enter(7, &Header::pack(&FIELDS), 0b010, ports) {
         Entered::Answered(answer) => sought(answer),
         Entered::Closed => None,
     }
@@ -307,7 +304,6 @@ fn one_version_follows_another(rt: HostRuntime) -> Result<(), Fail> {
 #[test]
 fn a_boot_follows_a_crash(rt: HostRuntime) -> Result<(), Fail> {
     let alloc = rt.alloc();
-    let ports = solo(alloc)?.ports();
     let mut b = authority(alloc)?;
     assert_eq!(rt; b.boot(), 1);
     b.crash();
@@ -316,7 +312,7 @@ fn a_boot_follows_a_crash(rt: HostRuntime) -> Result<(), Fail> {
     assert!(rt; !opens_at(alloc, &mut b, 1, 1)?, "of its old boot");
     assert!(rt; takes_in(alloc, &mut b, 2, 3)?);
     assert!(rt; opens_at(alloc, &mut b, 2, 3)?);
-    assert!(rt; enters(&mut b, &ports, 3, by_authority()));
+    assert!(rt; enters(&mut b, &solo(alloc)?.ports(), 3, by_authority()));
     Ok(())
 }
 
