@@ -1,6 +1,7 @@
 -- Which status a command ends with, and what brings one about.
-use Rattle.std.specs.Prelude.{⊤, ℕ, ◌≡◌, ◌⊎◌, Option, Some, None, Result, Ok, Err}
+use Rattle.std.specs.Prelude.{⊤, ℕ, ◌≡◌, ◌≢◌, ◌≤◌, ◌⊎◌, Option, Some, None, Result, Ok, Err}
 use Rattle.shelf.specs.Shelf.{Files}
+use Rattle.shelf.specs.Sink.{Rose, SinkState}
 use Rattle.shelf.specs.declared.output.SinkError.{SinkError}
 use Rattle.difane_cli.specs.Codes.{missing_file, too_long}
 use Rattle.difane_cli.specs.declared.status.Status.{Status}
@@ -30,6 +31,13 @@ IsAfterWork status.WriteFault = ⊤
 IsAfterWork (status.Full row) = ⊤
 IsAfterWork status.NoMemory = ⊤
 IsAfterWork _ = ⊥
+
+-- the status is one of work that was begun, and tells a fault of the output exactly if there was one
+pub record EndsWork (ended : Status) (before now : SinkState) : Type 0 where
+  pub worked : IsAfterWork ended
+  pub failed : ended ≡ status.WriteFault → Rose before.faults now.faults
+  pub calm : ended ≢ status.WriteFault → now.faults ≡ before.faults
+  pub faults : before.faults ≤ now.faults
 
 abbrev pub status_number : Status → ℕ
 status_number status.Ok = 0

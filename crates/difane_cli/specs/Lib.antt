@@ -8,6 +8,5 @@ pub mod Prints
 pub mod Writes
 pub mod Ending
 pub mod Verdict
-pub mod Working
 pub mod Commands
 pub mod Work

@@ -4,7 +4,7 @@ pub use Rattle.policy_rules.specs.Partitions.{AreSoundPartitions, LastCovers}
 pub use Rattle.policy_rules.specs.Placed.{is_in}
 pub use Rattle.policy_rules.specs.Policy.{IsFirstMatch, IsPolicy, IsSoundRow, action_text, row_matches}
 pub use Rattle.policy_rules.specs.Read.{HasSmallPort, action_of}
-pub use Rattle.policy_rules.specs.Repeats.{Refuses}
+pub use Rattle.policy_rules.specs.Repeats.{RefusesRows}
 pub use Rattle.policy_rules.specs.RuleList.{AppendsRanked, IsRuleList, RefusesRules, by_falling_priority, entries_of, hit_of_rule, ranked_from, rules_of, with_default, with_hit, word_total}
 pub use Rattle.policy_rules.specs.Rules.{first_rule, is_held}
 pub use Rattle.policy_rules.specs.Scan.{IsHighestMatch, hit_of, scan}
