@@ -1,7 +1,7 @@
-ghost use Rattle.std.specs.Prelude.{ℕ, ◌≡◌, ◌≢◌, ◌+◌, ◌*◌, ◌<◌, ◌≤◌, ◌^◌, ◌↔◌, Bool, true, false, List, ◌∷◌, length, All, IsTrue, IsFalse};
+ghost use Rattle.std.specs.Prelude.{ℕ, ◌≡◌, ◌≢◌, ◌+◌, ◌<◌, ◌≤◌, ◌^◌, ◌↔◌, true, false, List, ◌∷◌, length, All, IsTrue};
 ghost use Rattle.std.specs.Int.{bit_at, from_bool};
 ghost use Rattle.ternary.specs.Word.{WordValue};
-ghost use Rattle.ternary.specs.Meets.{admits, covers_of, fix_of, is_fixed_of};
+ghost use Rattle.ternary.specs.Meets.{admits, covers_of, fix_of};
 ghost use Rattle.policy_rules.specs.declared.rules.Rule.{Rule};
 ghost use Rattle.cut_tree.specs.Counts.{count_on_side, counted_cost, expected, HasCounted};
 ghost use Rattle.cut_tree.specs.Cuts.{CostsAtMost, IsFreeBit, cost_from, least_below, side_of};

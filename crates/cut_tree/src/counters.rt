@@ -1,4 +1,4 @@
-ghost use Rattle.std.specs.Prelude.{ℕ, ◌≡◌, ◌≢◌, ◌+◌, ◌<◌, ◌^◌, ◌↔◌, length};
+ghost use Rattle.std.specs.Prelude.{ℕ, ◌≡◌, ◌≢◌, ◌+◌, ◌<◌, ◌^◌, ◌↔◌};
 ghost use Rattle.std.specs.Int.{bit_at};
 ghost use Rattle.cut_tree.specs.Counts.{IsHeight, IsLeastOf, count_at, count_by};
 

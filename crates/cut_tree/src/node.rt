@@ -1,4 +1,4 @@
-ghost use Rattle.std.specs.Prelude.{◌≡◌, ◌<◌, ◌≤◌, ◌^◌, IfOk, IsSome, Some, length};
+ghost use Rattle.std.specs.Prelude.{◌≡◌, ◌<◌, ◌^◌, IfOk, Some, length};
 ghost use Rattle.ternary.specs.Meets.{fix_of};
 ghost use Rattle.cut_tree.specs.Cuts.{IsFreeBit, least_below, side_of};
 ghost use Rattle.cut_tree.specs.Narrow.{narrow};

@@ -1,4 +1,4 @@
-ghost use Rattle.std.specs.Prelude.{◌≡◌, ◌≤◌, IfOk};
+ghost use Rattle.std.specs.Prelude.{◌≡◌, IfOk};
 ghost use Rattle.load_case.specs.Case.{action_at, action_ends, row_at, row_ends, rows_drawn};
 ghost use Rattle.policy_rules.specs.Policy.{IsPolicy};
 
