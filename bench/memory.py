@@ -61,7 +61,7 @@ fn main(rt: HostRuntime) -> anyhow::Result<()> {
     let net = read_net(alloc, &fs::read(&rt, "FOLDER/n.toml")?)?;
     let policy = read_policy(alloc, &fs::read(&rt, "FOLDER/p.csv")?)?;
     let plan = compile(alloc, &policy, &net)?;
-    let mut kept = plan.placed().len();
+    let mut kept = plan.hosted().len();
     for word in env::args(&rt)?.skip(1) {
         if word.as_str() == "tables" {
             kept = hold_tables(alloc, &plan, net.switches.items().len() as u32)?;

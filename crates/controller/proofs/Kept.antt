@@ -60,9 +60,9 @@ module _ (controller : ControllerValue) (is : IsController controller) (version 
 
   pub kept_tables_are : (kept : KeptPlan) (s : ℕ)
       → kept ≡ get_or controller.plans (version - controller.marks.current) kept
-      → kept_tables controller version s ≡ Some (tables_of kept.plan.placed kept.version s)
+      → kept_tables controller version s ≡ Some (tables_of kept.plan.hosted kept.version s)
   kept_tables_are kept s at =
-      ap (option_map (λ (kept : KeptPlan). tables_of kept.plan.placed kept.version s))
+      ap (option_map (λ (kept : KeptPlan). tables_of kept.plan.hosted kept.version s))
       (kept_at kept ∙ ap Some (sym at))
 
   pub kept_sound : (kept : KeptPlan)

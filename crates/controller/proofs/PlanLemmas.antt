@@ -17,8 +17,8 @@ use Rattle.policy_rules.specs.RuleList.{RefusesRules, rules_of, word_total}
 use Rattle.policy_rules.specs.declared.rule_list.TooManyWords.{TooManyWords}
 use Rattle.cut_tree.specs.declared.tree.TooManyLeaves.{TooManyLeaves}
 use Rattle.partition.specs.Parts.{parts_of}
-use Rattle.partition.specs.Plan.{IsPlan, Placed, plan_of, rooms_of, sizes_of}
-use Rattle.policy_rules.specs.Placed as no_plan
+use Rattle.partition.specs.Plan.{IsPlan, Hosted, plan_of, rooms_of, sizes_of}
+use Rattle.policy_rules.specs.Hosted as no_plan
 use Rattle.partition.proofs.CallerLemmas.{no_leaves, no_room, no_words, planned}
 use Rattle.controller.specs.Causes.{of_placement, of_rules, of_tree}
 use Rattle.policy_rules.specs.declared.policy.Row.{Row}
@@ -26,15 +26,15 @@ use Rattle.policy_rules.specs.declared.rules.Partition.{Partition}
 use Rattle.policy_rules.specs.declared.rules.Rule.{Rule}
 use Rattle.controller.specs.Plan.{IsSoundPlan, RefusesPlan}
 
-pub plan_sound : (rows : List Row) (net : Net) (plan : List Placed) → IsNet net
-    → IsPlan rows net plan → IsSoundPlan (record { policy = rows; placed = plan })
+pub plan_sound : (rows : List Row) (net : Net) (plan : List Hosted) → IsNet net
+    → IsPlan rows net plan → IsSoundPlan (record { policy = rows; hosted = plan })
 plan_sound rows net plan network is = record {
   sound = is.sound;
   covers = is.ended;
   few = omega (arith, is.few);
-  few_rules = All-weaker (λ placed. length placed.0.rules ≤ net.leaf_rules)
-      (λ placed. length placed.0.rules < 2 ^ 32)
-      (λ placed small. omega (arith, small, network.leaf_rules)) plan is.leaves;
+  few_rules = All-weaker (λ hosted. length hosted.0.rules ≤ net.leaf_rules)
+      (λ hosted. length hosted.0.rules < 2 ^ 32)
+      (λ hosted small. omega (arith, small, network.leaf_rules)) plan is.leaves;
 }
 
 pub small_rules : (most : ℕ) (parts : List Partition) → most ≤ 8192
@@ -108,9 +108,9 @@ pub planned_at : (rows : List Row) (net : Net) (list : List Rule) (shape : Shape
     (sizes rooms : List ℕ) (targets : List (List ℕ)) → IsReady rows net list shape sizes rooms
     → placement_of sizes rooms net.backups ≡ Ok targets
     → plan_of rows net ≡ Ok (zip (parts_of shape) targets)
-planned_at rows net list shape sizes rooms targets is placed =
+planned_at rows net list shape sizes rooms targets is hosted =
     let there : placement_of (sizes_of (parts_of shape)) (rooms_of net) net.backups ≡ Ok targets =
     sym (ap (λ s. placement_of s (rooms_of net) net.backups) is.sizes_are)
-    ∙ sym (ap (λ r. placement_of sizes r net.backups) is.rooms_are) ∙ placed in
+    ∙ sym (ap (λ r. placement_of sizes r net.backups) is.rooms_are) ∙ hosted in
     planned rows net shape targets is.few (ready_tree rows net list shape sizes rooms is) is.leaves
     there

@@ -21,12 +21,12 @@ pub record ControllerValue : Type 0 where
 -- the tables of each switch, by the switches' numbers, as far as these are
 abbrev pub tables_by_switch : KeptPlan → ℕ → List Tables
 tables_by_switch kept switches =
-    map (tables_of kept.plan.placed kept.version) (range_with_len 0 switches)
+    map (tables_of kept.plan.hosted kept.version) (range_with_len 0 switches)
 
 -- the tables that the plan of a version gives to a switch, where it is kept
 abbrev pub kept_tables : ControllerValue → ℕ → ℕ → Option Tables
 kept_tables controller version s =
-    option_map (λ (kept : KeptPlan). tables_of kept.plan.placed kept.version s)
+    option_map (λ (kept : KeptPlan). tables_of kept.plan.hosted kept.version s)
     (find (λ (kept : KeptPlan). kept.version == version) controller.plans)
 
 -- at the start every switch has version 1

@@ -1,8 +1,8 @@
 -- Plans: a policy with its partitions, each with its targets.
 use Rattle.std.specs.Prelude.{⊤, ◌≡◌, ◌^◌, ◌<◌, Err, List, length, map, All}
 use Rattle.net_file.specs.declared.net.Net.{Net}
-use Rattle.partition.specs.Plan.{Placed, plan_of}
-use Rattle.policy_rules.specs.Placed as no_plan
+use Rattle.partition.specs.Plan.{Hosted, plan_of}
+use Rattle.policy_rules.specs.Hosted as no_plan
 use Rattle.policy_rules.specs.Partitions.{AreSoundPartitions, LastCovers}
 use Rattle.policy_rules.specs.declared.policy.Row.{Row}
 use Rattle.switch_table.specs.Tables.{part_of}
@@ -11,15 +11,15 @@ use Rattle.controller.specs.declared.plan_error.PlanError.TheVariants.{TooManyWo
 
 pub record PlanValue : Type 0 where
   pub policy : List Row
-  pub placed : List Placed
+  pub hosted : List Hosted
 
 -- the partitions are sound for the policy, the last rule of each covers its region, and their
 -- numbers and places have 32 bits
 pub record IsSoundPlan (plan : PlanValue) : Type 0 where
-  pub sound : AreSoundPartitions plan.policy (map (λ placed. placed.0) plan.placed)
-  pub covers : All LastCovers (map part_of plan.placed)
-  pub few : length plan.placed < 2 ^ 32
-  pub few_rules : All (λ placed. length placed.0.rules < 2 ^ 32) plan.placed
+  pub sound : AreSoundPartitions plan.policy (map (λ hosted. hosted.0) plan.hosted)
+  pub covers : All LastCovers (map part_of plan.hosted)
+  pub few : length plan.hosted < 2 ^ 32
+  pub few_rules : All (λ hosted. length hosted.0.rules < 2 ^ 32) plan.hosted
 
 -- why a policy has no plan on a network, or memory ran out
 abbrev pub RefusesPlan : List Row → Net → PlanError → Type 0

@@ -26,7 +26,7 @@ post s body = Post (record { to = Switch s; body = body })
 
 -- the tables that the version's plan gives to the switch
 abbrev pub install_act : ℕ → ℕ → KeptPlan → Act
-install_act s boot kept = post s (Install boot (tables_of kept.plan.placed kept.version s))
+install_act s boot kept = post s (Install boot (tables_of kept.plan.hosted kept.version s))
 
 -- the boot that is known of a switch
 abbrev pub boot_recorded : MarksValue → ℕ → ℕ

@@ -39,7 +39,6 @@ pub struct Controller {
 }
 
 impl Model for Controller {
-    
     ghost Value = { ControllerValue };
 
     ghost view = { λ c. record { marks = c.marks; plans = c.versions.items } };
@@ -63,7 +62,7 @@ impl Controller {
     {
         let switches = net.switches.items().len() as u32;
         // The plan is sound.
-        let _ = plan.placed();
+        let _ = plan.hosted();
         let mut versions = Vec::new(alloc);
         versions.push(Version::new(alloc, 1, plan, switches)?)?;
         Ok(Controller {
@@ -226,7 +225,7 @@ impl Controller {
         ensures rule { StaysController self.old self.new }
     {
         // The plan is sound.
-        let _ = plan.placed();
+        let _ = plan.hosted();
         let version = Version::new(alloc, self.marks.count() + 1, plan, self.marks.switches())?;
         let mut acts = install_each(alloc, &self.marks, &version)?;
         self.versions.push(version)?;

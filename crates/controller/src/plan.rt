@@ -20,7 +20,7 @@ pub struct Plan {
 #[derive(Drop)]
 struct PlanParts {
     policy: Policy,
-    placed: Vec<(Partition, Targets)>,
+    hosted: Vec<(Partition, Targets)>,
     /// The regions with their targets, as each switch's tables share them.
     rows: PartRows,
 }
@@ -34,13 +34,13 @@ impl Model for Plan {
 
     ghost view = { λ p. record {
       policy = p.shared.value.policy;
-      placed = p.shared.value.placed.items;
+      hosted = p.shared.value.hosted.items;
     } };
 
     ghost invariant = { λ p. IsSoundPlan (record {
       policy = p.shared.value.policy;
-      placed = p.shared.value.placed.items;
-    }) × (p.shared.value.rows ≡ map row_of p.shared.value.placed.items) };
+      hosted = p.shared.value.hosted.items;
+    }) × (p.shared.value.rows ≡ map row_of p.shared.value.hosted.items) };
 }
 
 impl Plan {
@@ -57,18 +57,18 @@ impl Plan {
         requires each { length targets.now ≡ length parts.now }
         requires sound { IsSoundPlan (record {
           policy = policy;
-          placed = zip parts.now targets.now;
+          hosted = zip parts.now targets.now;
         }) }
         ensures policy { IfOk result (λ plan. plan.policy ≡ policy) }
-        ensures placed { IfOk result (λ plan. plan.placed ≡ zip parts.now targets.now) }
+        ensures hosted { IfOk result (λ plan. plan.hosted ≡ zip parts.now targets.now) }
     {
-        let placed = place_each(alloc, parts, targets)?;
-        let rows = rows_of(alloc, &placed)?;
+        let hosted = place_each(alloc, parts, targets)?;
+        let rows = rows_of(alloc, &hosted)?;
         let shared = Rc::new(
             alloc,
             PlanParts {
                 policy,
-                placed,
+                hosted,
                 rows,
             },
         )?;
@@ -83,16 +83,16 @@ impl Plan {
     }
 
     /// The partitions, by their numbers, each with its targets.
-    pub fn placed(&self) -> &[(Partition, Targets)]
-        ensures placed { result.now ≡ self.now.placed }
+    pub fn hosted(&self) -> &[(Partition, Targets)]
+        ensures hosted { result.now ≡ self.now.hosted }
         ensures sound { IsSoundPlan self.now }
     {
-        &self.shared.placed
+        &self.shared.hosted
     }
 
     /// The regions with their targets, by the numbers of the partitions.
     pub fn rows(&self) -> &PartRows
-        ensures { result.now ≡ map row_of self.now.placed }
+        ensures { result.now ≡ map row_of self.now.hosted }
     {
         &self.shared.rows
     }
@@ -114,21 +114,21 @@ fn place_each(
     targets: &[Targets],
 ) -> Result<Vec<(Partition, Targets)>, AllocError>
     requires { length targets.now ≡ length parts.now }
-    ensures { IfOk result (λ placed. placed.items ≡ zip parts.now targets.now) }
+    ensures { IfOk result (λ hosted. hosted.items ≡ zip parts.now targets.now) }
 {
-    let mut placed = Vec::with_capacity(alloc, parts.len())?;
+    let mut hosted = Vec::with_capacity(alloc, parts.len())?;
     for (place, part) in parts.iter().enumerate() {
-        placed.push((part.clone()?, targets[place]))?;
+        hosted.push((part.clone()?, targets[place]))?;
     }
-    Ok(placed)
+    Ok(hosted)
 }
 
 // The regions with their targets.
-fn rows_of(alloc: Global, placed: &[(Partition, Targets)]) -> Result<PartRows, AllocError>
-    ensures { IfOk result (λ rows. rows ≡ map row_of placed.now) }
+fn rows_of(alloc: Global, hosted: &[(Partition, Targets)]) -> Result<PartRows, AllocError>
+    ensures { IfOk result (λ rows. rows ≡ map row_of hosted.now) }
 {
-    let mut rows = Vec::with_capacity(alloc, placed.len())?;
-    for (part, targets) in placed {
+    let mut rows = Vec::with_capacity(alloc, hosted.len())?;
+    for (part, targets) in hosted {
         rows.push(PartRow {
             region: part.region,
             targets: *targets,

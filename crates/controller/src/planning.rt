@@ -12,8 +12,8 @@ use placement::place;
 use policy_rules::{Partition, Policy, to_rules};
 use std::alloc::{AllocError, Global};
 
-/// The plan of a policy on a network: the partitions of its tree with the network's leaves, placed
-/// on the switches.
+/// The plan of a policy on a network: the partitions of its tree with the network's leaves, hosted
+/// by the switches.
 ///
 /// # Errors
 /// `TooManyWords` where its rows have more than 4,096 words; otherwise `TooManyLeaves` where its
@@ -21,7 +21,7 @@ use std::alloc::{AllocError, Global};
 /// placing, that finds too few switches.
 pub fn compile(alloc: Global, policy: &Policy, net: &Net) -> Result<Plan, PlanError>
     requires { IsNet net.now }
-    ensures plan { IfOk result (λ plan. plan_of policy.now net.now ≡ Ok plan.placed) }
+    ensures plan { IfOk result (λ plan. plan_of policy.now net.now ≡ Ok plan.hosted) }
     ensures policy { IfOk result (λ plan. plan.policy ≡ policy.now) }
     ensures refused { IfErr result (RefusesPlan policy.now net.now) }
 {

@@ -14,11 +14,11 @@ use switch_table::{Partitions, Tables, tables_laws};
 /// # Errors
 /// Want of memory alone.
 pub fn tables_of(alloc: Global, plan: &Plan, version: u32, s: u32) -> Result<Tables, AllocError>
-    ensures tables { IfOk result (λ tables. tables ≡ tables_of plan.now.placed version s) }
+    ensures tables { IfOk result (λ tables. tables ≡ tables_of plan.now.hosted version s) }
     ensures sound { IfOk result AreSoundTables }
 {
     tables_laws();
-    let own = parts_of(alloc, plan.placed(), s)?;
+    let own = parts_of(alloc, plan.hosted(), s)?;
     Ok(Tables {
         version,
         parts: plan.rows().clone()?,
@@ -29,14 +29,14 @@ pub fn tables_of(alloc: Global, plan: &Plan, version: u32, s: u32) -> Result<Tab
 // The partitions of which the switch is a target.
 fn parts_of(
     alloc: Global,
-    placed: &[(Partition, Targets)],
+    hosted: &[(Partition, Targets)],
     s: u32,
 ) -> Result<Vec<Partition>, AllocError>
     ensures { IfOk result (λ parts.
-        parts.items ≡ map part_of (filter (has_target s) placed.now)) }
+        parts.items ≡ map part_of (filter (has_target s) hosted.now)) }
 {
     let mut parts = Vec::new(alloc);
-    for (part, targets) in placed {
+    for (part, targets) in hosted {
         if is_target(targets.items(), s) {
             parts.push(part.clone()?)?;
         }

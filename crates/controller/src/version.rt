@@ -75,7 +75,7 @@ impl Version {
     /// Want of memory alone.
     pub fn tables(&self, alloc: Global, s: u32) -> Result<SharedTables, AllocError>
         ensures { IfOk result (λ tables.
-            tables ≡ tables_of self.now.plan.placed self.now.version s) }
+            tables ≡ tables_of self.now.plan.hosted self.now.version s) }
     {
         if let Some(tables) = self.made.get(s as usize) {
             let tables = tables.clone()?;

@@ -7,12 +7,12 @@ use Rattle.net_file.specs.Laws.{PortLaws}
 use Rattle.net_file.specs.Net.{IsNet}
 use Rattle.net_file.specs.declared.net.Net.{Net}
 use Rattle.net_file.specs.Owners.{port_mask}
-use Rattle.partition.specs.Plan.{Placed, plan_of}
+use Rattle.partition.specs.Plan.{Hosted, plan_of}
 use Rattle.policy_file.specs.Ports.{names_port_of}
 use Rattle.policy_rules.specs.declared.policy.Action.{Action}
 use Rattle.policy_rules.specs.declared.policy.Action.TheVariants as action
 use Rattle.policy_rules.specs.declared.policy.Row.{Row}
-use Rattle.policy_rules.specs.Placed.{NoPlan}
+use Rattle.policy_rules.specs.Hosted.{NoPlan}
 use Rattle.steps.specs.Steps.{IsEvent}
 use Rattle.steps.specs.declared.step.Event.{Event}
 use Rattle.update_machine.specs.Setting.{Setting, setting_of, IsSetting, NamesOwnPort}
@@ -59,8 +59,8 @@ pub has_plan : (names : List (List ℕ)) (net : Net) (policies : List (List Row)
 has_plan names net policies is =
     by (slice_index_or names 0 []) (plan_of (slice_index_or policies 0 []) net) is
   where
-    by : (name : List ℕ) (plan : Result (List Placed) NoPlan) → IsOk plan → IsOk (plan_from name plan)
-    by name (Ok placed) is = refl
+    by : (name : List ℕ) (plan : Result (List Hosted) NoPlan) → IsOk plan → IsOk (plan_from name plan)
+    by name (Ok hosted) is = refl
     by name (Err why) is = cc is
 
 pub sound_by_tie : (world : WorldValue) → world.is_spent ≡ false

@@ -24,7 +24,7 @@ abbrev pub printing_stated : PrintInputs → Printing
 printing_stated inputs = record {
   policy = inputs.plan.policy;
   net = inputs.net;
-  placed = inputs.plan.placed;
+  hosted = inputs.plan.hosted;
   switch = inputs.switch;
 }
 

@@ -8,10 +8,10 @@ use Rattle.net_file.specs.Reading.{net_of}
 use Rattle.net_file.specs.Refusals.{net_code}
 use Rattle.net_file.specs.declared.net.Net.{Net}
 use Rattle.net_file.specs.Owners.{port_mask, switch_number}
-use Rattle.partition.specs.Plan.{Placed, plan_of}
-use Rattle.policy_rules.specs.Placed as no_plan
+use Rattle.partition.specs.Plan.{Hosted, plan_of}
+use Rattle.policy_rules.specs.Hosted as no_plan
 use Rattle.policy_rules.specs.declared.policy.Row.{Row}
-use Rattle.policy_rules.specs.Placed.{NoPlan}
+use Rattle.policy_rules.specs.Hosted.{NoPlan}
 use Rattle.policy_file.specs.Ports.{first_without_port}
 use Rattle.policy_file.specs.Reading.{policy_code, policy_of}
 use Rattle.policy_file.specs.declared.ports.NoPort.{NoPort}
@@ -101,18 +101,18 @@ read_net files (Some name) = and_then (content_of files name) (net_stated name)
 
 -- ---- plans
 
-abbrev pub plan_from : List ℕ → Result (List Placed) NoPlan → Result (List Placed) Refusal
-plan_from name (Ok placed) = Ok placed
+abbrev pub plan_from : List ℕ → Result (List Hosted) NoPlan → Result (List Hosted) Refusal
+plan_from name (Ok hosted) = Ok hosted
 plan_from name (Err (no_plan.NoRoom partition)) =
     Err (record { file = name; code = plan_code (no_plan.NoRoom partition); row = partition })
 plan_from name (Err why) = Err (refused_whole name (plan_code why))
 
 -- the plan of the rows of this file on the network
-abbrev pub plan_on : List ℕ → Net → List Row → Result (List Placed) Refusal
+abbrev pub plan_on : List ℕ → Net → List Row → Result (List Hosted) Refusal
 plan_on name net rows = plan_from name (plan_of rows net)
 
 -- the plan of the first of these policies, which stand in files of these names
-abbrev pub first_plan : List (List ℕ) → Net → List (List Row) → Result (List Placed) Refusal
+abbrev pub first_plan : List (List ℕ) → Net → List (List Row) → Result (List Hosted) Refusal
 first_plan names net policies =
     plan_on (slice_index_or names 0 []) net (slice_index_or policies 0 [])
 
@@ -125,7 +125,7 @@ inputs_of files command =
     and_then (read_net files command.net) (λ net.
     and_then (read_schedule net (length command.policies) files command.schedule) (λ events.
     and_then (read_policies (port_mask net.switches) files command.policies) (λ policies.
-    and_then (first_plan command.policies net policies) (λ placed.
+    and_then (first_plan command.policies net policies) (λ hosted.
     Ok (record {
       setting = setting_of net policies;
       events = events;
@@ -148,7 +148,7 @@ load_name = codes "load"
 abbrev pub load_inputs : ℕ → Result Inputs Refusal
 load_inputs n =
     let load = load_case n in
-    and_then (first_plan (load_name ∷ []) load.net load.policies) (λ placed.
+    and_then (first_plan (load_name ∷ []) load.net load.policies) (λ hosted.
     Ok (case_inputs load))
 
 -- ---- all files of a plan
@@ -172,8 +172,8 @@ abbrev pub printing_of : Files → PrintCommand → Result Printing Refusal
 printing_of files command =
     and_then (net_asked files command) (λ asked.
     and_then (read_policy (port_mask asked.0.switches) files command.policy) (λ rows.
-    and_then (plan_on command.policy asked.0 rows) (λ placed.
-    Ok (record { policy = rows; net = asked.0; placed = placed; switch = asked.1 }))))
+    and_then (plan_on command.policy asked.0 rows) (λ hosted.
+    Ok (record { policy = rows; net = asked.0; hosted = hosted; switch = asked.1 }))))
 
 -- ---- all commands
 

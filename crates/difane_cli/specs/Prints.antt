@@ -32,12 +32,12 @@ pub record IsPrintingOf (command : PrintCommand) (printing : Printing) : Type 0 
   pub policy : IsPolicy printing.policy
   pub net : IsNetOf command.net printing.net
   pub switch : IsSwitchOf command.switch printing.net printing.switch
-  pub plan : plan_of printing.policy printing.net ≡ Ok printing.placed
+  pub plan : plan_of printing.policy printing.net ≡ Ok printing.hosted
 
 -- the plan, or the tables that it gives to the switch for version 1
 abbrev pub text_by : Option ℕ → Printing → List ℕ
-text_by None printing = compile_text printing.policy printing.placed printing.net
-text_by (Some s) printing = table_text s (tables_of printing.placed 1 s) printing.net
+text_by None printing = compile_text printing.policy printing.hosted printing.net
+text_by (Some s) printing = table_text s (tables_of printing.hosted 1 s) printing.net
 
 abbrev pub printing_text : Printing → List ℕ
 printing_text printing = text_by printing.switch printing

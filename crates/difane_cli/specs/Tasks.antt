@@ -2,7 +2,7 @@
 use Rattle.std.specs.Prelude.{ℕ, Option, List, ◌≡◌, Some, None}
 use Rattle.net_file.specs.declared.net.Net.{Net}
 use Rattle.net_file.specs.Net.{IsNet, solo_net}
-use Rattle.partition.specs.Plan.{Placed}
+use Rattle.partition.specs.Plan.{Hosted}
 use Rattle.policy_rules.specs.declared.policy.Row.{Row}
 use Rattle.steps.specs.declared.step.Event.{Event}
 use Rattle.update_machine.specs.Setting.{Setting}
@@ -18,7 +18,7 @@ pub record Inputs : Type 0 where
 pub record Printing : Type 0 where
   pub policy : List Row
   pub net : Net
-  pub placed : List Placed
+  pub hosted : List Hosted
   pub switch : Option ℕ
 
 -- what a command is to do: to play inputs, or to print a plan or the tables of a switch

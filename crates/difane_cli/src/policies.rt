@@ -113,8 +113,8 @@ pub fn begin_world(
 /// The plan of the policy of this file on the network.
 pub fn plan_policy(alloc: Global, name: &str, policy: &Policy, net: &Net) -> Result<Plan, Stop>
     requires { IsNet net.now }
-    ensures value { IfOk result (λ plan. plan_on name.now net.now policy.now ≡ Ok plan.placed) }
-    ensures planned { IfOk result (λ plan. plan_of policy.now net.now ≡ Ok plan.placed) }
+    ensures value { IfOk result (λ plan. plan_on name.now net.now policy.now ≡ Ok plan.hosted) }
+    ensures planned { IfOk result (λ plan. plan_of policy.now net.now ≡ Ok plan.hosted) }
     ensures policy { IfOk result (λ plan. plan.policy ≡ policy.now) }
     ensures stopped { IfErr result (StopsContent (plan_on name.now net.now policy.now)) }
 {

@@ -30,7 +30,7 @@ use Rattle.cut_tree.specs.Shape.{Shape, End, Node, leaf_count, leaves_of}
 use Rattle.cut_tree.proofs.CallerLemmas.{narrow_few, narrow_first, tree_defined}
 use Rattle.policy_rules.specs.Partitions.{ArePartsNumbered, AreSoundPartitions}
 use Rattle.policy_rules.specs.Scan.{scan}
-use Rattle.policy_rules.specs.Placed.{is_in}
+use Rattle.policy_rules.specs.Hosted.{is_in}
 use Rattle.partition.specs.Parts.{DecideAs, DecidesAs, partition_numbered, numbered_from, parts_of, partitions_of}
 
 -- what becomes of a header by the first rule that holds it

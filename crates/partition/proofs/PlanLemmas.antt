@@ -21,10 +21,10 @@ use Rattle.policy_rules.specs.RuleList.{rules_of, word_total}
 use Rattle.policy_rules.specs.declared.policy.Row.{Row}
 use Rattle.policy_rules.specs.declared.rules.Partition.{Partition}
 use Rattle.policy_rules.specs.declared.rules.Rule.{Rule}
-use Rattle.policy_rules.specs.Placed.{TooManyWords, TooManyLeaves, NoRoom}
+use Rattle.policy_rules.specs.Hosted.{TooManyWords, TooManyLeaves, NoRoom}
 use Rattle.policy_rules.proofs.CallerLemmas.{IsRuleList-rules_of}
 use Rattle.partition.specs.Parts.{numbered_from, parts_of}
-use Rattle.partition.specs.Plan.{IsPlan, Placed, placed_on, plan_of, plan_of_tree, rooms_of, sizes_of}
+use Rattle.partition.specs.Plan.{IsPlan, Hosted, hosted_on, plan_of, plan_of_tree, rooms_of, sizes_of}
 use Rattle.partition.proofs.EndLemmas.{parts_ended}
 use Rattle.partition.proofs.PartLemmas.{numbered_length, numbered_more, numbered_none, parts_sound}
 
@@ -58,36 +58,36 @@ small_parts most number (leaf ∷ leaves) all =
 -- ---- what a plan is made of
 
 -- the tree and the placement of a plan
-record IsMadeOf (rows : List Row) (net : Net) (plan : List Placed) (tree : Shape) : Type 0 where
+record IsMadeOf (rows : List Row) (net : Net) (plan : List Hosted) (tree : Shape) : Type 0 where
   pub few : leaf_count tree ≤ 512
   pub targets : List (List ℕ)
-  pub placed : placement_of (sizes_of (parts_of tree)) (rooms_of net) net.backups ≡ Ok targets
+  pub hosted : placement_of (sizes_of (parts_of tree)) (rooms_of net) net.backups ≡ Ok targets
   pub pairs : zip (parts_of tree) targets ≡ plan
 
-placed_by : (parts : List Partition) (plan : List Placed) (answer : Result (List (List ℕ)) ℕ)
+hosted_by : (parts : List Partition) (plan : List Hosted) (answer : Result (List (List ℕ)) ℕ)
     → result_map_both (zip parts) NoRoom answer ≡ Ok plan → (targets : List (List ℕ))
     × (answer ≡ Ok targets) × (zip parts targets ≡ plan)
-placed_by parts plan (Ok targets) is = (targets, refl, cc)
-placed_by parts plan (Err number) is = cc
+hosted_by parts plan (Ok targets) is = (targets, refl, cc)
+hosted_by parts plan (Err number) is = cc
 
-made_by : (rows : List Row) (net : Net) (plan : List Placed) (tree : Shape) (many : Bool)
+made_by : (rows : List Row) (net : Net) (plan : List Hosted) (tree : Shape) (many : Bool)
     → ltb 512 (leaf_count tree) ≡ many
-    → cond many (Err TooManyLeaves) (placed_on net (parts_of tree)) ≡ Ok plan
+    → cond many (Err TooManyLeaves) (hosted_on net (parts_of tree)) ≡ Ok plan
     → IsMadeOf rows net plan tree
 made_by rows net plan tree true test is = cc
 made_by rows net plan tree false test is =
-    let made = placed_by (parts_of tree) plan
+    let made = hosted_by (parts_of tree) plan
     (placement_of (sizes_of (parts_of tree)) (rooms_of net) net.backups) is in
-    record { few = grind (arith, nat_tests); targets = made.0; placed = made.1; pairs = made.2 }
+    record { few = grind (arith, nat_tests); targets = made.0; hosted = made.1; pairs = made.2 }
 
-worded_by : (rows : List Row) (net : Net) (plan : List Placed) (tree : Shape) (many : Bool)
+worded_by : (rows : List Row) (net : Net) (plan : List Hosted) (tree : Shape) (many : Bool)
     → cond many (Err (TooManyWords (word_total rows))) (plan_of_tree net tree) ≡ Ok plan
     → IsMadeOf rows net plan tree
 worded_by rows net plan tree true is = cc
 worded_by rows net plan tree false is = made_by rows net plan tree (ltb 512 (leaf_count tree)) refl
     is
 
-made_of : (rows : List Row) (net : Net) (plan : List Placed) → plan_of rows net ≡ Ok plan
+made_of : (rows : List Row) (net : Net) (plan : List Hosted) → plan_of rows net ≡ Ok plan
     → IsMadeOf rows net plan (tree_of (rules_of rows) net.leaf_rules)
 unfolding plan_of
 made_of rows net plan is = worded_by rows net plan (tree_of (rules_of rows) net.leaf_rules)
@@ -108,11 +108,11 @@ targets_there : (net : Net) (sizes : List ℕ) (targets : List (List ℕ))
     → IsPlacement sizes (rooms_of net) net.backups targets → All (AreThere net) targets
 targets_there net sizes targets placement =
     All-from_get_or (AreThere net) targets [] (λ i within.
-    let placed = placement.placed i (omega (arith, within, placement.number)) in
+    let hosted = placement.hosted i (omega (arith, within, placement.number)) in
     All-weaker (λ s. s < length (rooms_of net)) (λ s. s < length net.switches)
     (λ s here. omega (arith, here, length-map net.switches (λ row. row.room)))
     _ (first_there (load_before sizes targets i) (rooms_of net) (get_or sizes i 0) (1 + net.backups)
-    _ placed))
+    _ hosted))
 
 -- pairs of these partitions with these targets are a plan
 zip_holds : (rows : List Row) (net : Net) (tree : Shape) (targets : List (List ℕ)) → IsPolicy rows
@@ -124,9 +124,9 @@ zip_holds rows net tree targets policy defined few placement =
     let count : length targets ≡ length parts = placement.number
     ∙ length-map parts (λ part. length part.rules) in
     let number : length parts ≡ leaf_count tree = numbered_length 0 (leaves_of tree) in
-    let firsts : map (λ (p : Placed). p.0) (zip parts targets) ≡ parts = firsts-zip parts targets
+    let firsts : map (λ (p : Hosted). p.0) (zip parts targets) ≡ parts = firsts-zip parts targets
     count in
-    let seconds : map (λ (p : Placed). p.1) (zip parts targets) ≡ targets = seconds-zip parts
+    let seconds : map (λ (p : Hosted). p.1) (zip parts targets) ≡ targets = seconds-zip parts
     targets count in
     let pairs : length (zip parts targets) ≡ length parts =
     grind (arith, length-zip parts targets, count) in
@@ -147,7 +147,7 @@ zip_holds rows net tree targets policy defined few placement =
           rw (get_or-zip parts targets k d here goes) (there k d.1 goes);
     }
 
-pub plan_holds : (rows : List Row) (net : Net) (plan : List Placed) → IsPolicy rows → IsNet net
+pub plan_holds : (rows : List Row) (net : Net) (plan : List Hosted) → IsPolicy rows → IsNet net
     → plan_of rows net ≡ Ok plan → IsPlan rows net plan
 plan_holds rows net plan policy network is =
     let made = made_of rows net plan is in
@@ -156,8 +156,8 @@ plan_holds rows net plan policy network is =
     let defined = tree_defined (rules_of rows) net.leaf_rules some
     (IsRuleList-rules_of rows policy).words in
     let placement = placement_there (sizes_of (parts_of tree)) (rooms_of net) net.backups
-    made.targets made.placed in
-    let P : List Placed → Type 0 = IsPlan rows net in
+    made.targets made.hosted in
+    let P : List Hosted → Type 0 = IsPlan rows net in
     subst P made.pairs (zip_holds rows net tree made.targets policy defined made.few placement)
 
 -- ---- the way to a plan
@@ -189,22 +189,22 @@ pub no_leaves : (rows : List Row) (net : Net) → word_total rows ≤ 4096
 no_leaves rows net few many = worded rows net few
     ∙ if_many 512 (leaf_count (tree_of (rules_of rows) net.leaf_rules)) _ _ many
 
-pub placed_plan : (rows : List Row) (net : Net) (tree : Shape) → word_total rows ≤ 4096
+pub hosted_plan : (rows : List Row) (net : Net) (tree : Shape) → word_total rows ≤ 4096
     → tree ≡ tree_of (rules_of rows) net.leaf_rules → leaf_count tree ≤ 512
-    → plan_of rows net ≡ placed_on net (parts_of tree)
-placed_plan rows net tree few is small =
+    → plan_of rows net ≡ hosted_on net (parts_of tree)
+hosted_plan rows net tree few is small =
     worded rows net few ∙ sym (ap (plan_of_tree net) is) ∙ if_few 512 (leaf_count tree) _ _ small
 
 pub no_room : (rows : List Row) (net : Net) (tree : Shape) (number : ℕ) → word_total rows ≤ 4096
     → tree ≡ tree_of (rules_of rows) net.leaf_rules → leaf_count tree ≤ 512
     → placement_of (sizes_of (parts_of tree)) (rooms_of net) net.backups ≡ Err number
     → plan_of rows net ≡ Err (NoRoom number)
-no_room rows net tree number few is small none = placed_plan rows net tree few is small
+no_room rows net tree number few is small none = hosted_plan rows net tree few is small
     ∙ ap (result_map_both (zip (parts_of tree)) NoRoom) none
 
 pub planned : (rows : List Row) (net : Net) (tree : Shape) (targets : List (List ℕ))
     → word_total rows ≤ 4096 → tree ≡ tree_of (rules_of rows) net.leaf_rules → leaf_count tree ≤ 512
     → placement_of (sizes_of (parts_of tree)) (rooms_of net) net.backups ≡ Ok targets
     → plan_of rows net ≡ Ok (zip (parts_of tree) targets)
-planned rows net tree targets few is small placed = placed_plan rows net tree few is small
-    ∙ ap (result_map_both (zip (parts_of tree)) NoRoom) placed
+planned rows net tree targets few is small hosted = hosted_plan rows net tree few is small
+    ∙ ap (result_map_both (zip (parts_of tree)) NoRoom) hosted

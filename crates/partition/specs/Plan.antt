@@ -9,13 +9,13 @@ use Rattle.cut_tree.specs.Shape.{Shape, leaf_count}
 use Rattle.net_file.specs.Net.{IsNet}
 use Rattle.net_file.specs.declared.net.Net.{Net}
 use Rattle.placement.specs.Placement.{IsPlacement, placement_of}
-pub use Rattle.policy_rules.specs.Placed.{Placed}
+pub use Rattle.policy_rules.specs.Hosted.{Hosted}
 use Rattle.policy_rules.specs.Partitions.{AreSoundPartitions, LastCovers}
 use Rattle.policy_rules.specs.Policy.{IsPolicy}
 use Rattle.policy_rules.specs.RuleList.{rules_of, word_total}
 use Rattle.policy_rules.specs.declared.policy.Row.{Row}
 use Rattle.policy_rules.specs.declared.rules.Partition.{Partition}
-use Rattle.policy_rules.specs.Placed.{NoPlan, TooManyWords, TooManyLeaves, NoRoom}
+use Rattle.policy_rules.specs.Hosted.{NoPlan, TooManyWords, TooManyLeaves, NoRoom}
 use Rattle.partition.specs.Parts.{parts_of}
 
 -- how many rules each partition has, and for how many each switch has room
@@ -26,33 +26,33 @@ abbrev pub rooms_of : Net → List ℕ
 rooms_of net = map (λ row. row.room) net.switches
 
 -- these partitions, each with the targets that it has on the network
-abbrev pub placed_on : Net → List Partition → Result (List Placed) NoPlan
-placed_on net parts =
+abbrev pub hosted_on : Net → List Partition → Result (List Hosted) NoPlan
+hosted_on net parts =
     result_map_both (zip parts) NoRoom (placement_of (sizes_of parts) (rooms_of net) net.backups)
 
-abbrev pub plan_of_tree : Net → Shape → Result (List Placed) NoPlan
+abbrev pub plan_of_tree : Net → Shape → Result (List Hosted) NoPlan
 plan_of_tree net tree =
-    if nat_lt 512 (leaf_count tree) then Err TooManyLeaves else placed_on net (parts_of tree)
+    if nat_lt 512 (leaf_count tree) then Err TooManyLeaves else hosted_on net (parts_of tree)
 
--- the plan of a policy: the partitions of its tree with the network's leaves, placed on the
+-- the plan of a policy: the partitions of its tree with the network's leaves, hosted by the
 -- network's switches
-unfoldable pub plan_of : List Row → Net → Result (List Placed) NoPlan
+unfoldable pub plan_of : List Row → Net → Result (List Hosted) NoPlan
 plan_of rows net = if nat_lt 4096 (word_total rows)
     then Err (TooManyWords (word_total rows))
     else plan_of_tree net (tree_of (rules_of rows) net.leaf_rules)
 
 -- what holds of each plan
-pub record IsPlan (rows : List Row) (net : Net) (plan : List Placed) : Type 0 where
-  pub sound : AreSoundPartitions rows (map (λ placed. placed.0) plan)
-  pub ended : All LastCovers (map (λ placed. placed.0) plan)
+pub record IsPlan (rows : List Row) (net : Net) (plan : List Hosted) : Type 0 where
+  pub sound : AreSoundPartitions rows (map (λ hosted. hosted.0) plan)
+  pub ended : All LastCovers (map (λ hosted. hosted.0) plan)
   pub few : length plan ≤ 512
-  pub leaves : All (λ placed. length placed.0.rules ≤ net.leaf_rules) plan
-  pub placement : IsPlacement (sizes_of (map (λ placed. placed.0) plan)) (rooms_of net) net.backups
-      (map (λ placed. placed.1) plan)
-  pub targets : All (λ placed. All (λ s. s < length net.switches) placed.1) plan
+  pub leaves : All (λ hosted. length hosted.0.rules ≤ net.leaf_rules) plan
+  pub placement : IsPlacement (sizes_of (map (λ hosted. hosted.0) plan)) (rooms_of net) net.backups
+      (map (λ hosted. hosted.1) plan)
+  pub targets : All (λ hosted. All (λ s. s < length net.switches) hosted.1) plan
 
 pub record PlanLaws : Type 0 where
   -- its partitions are sound for the policy and small, the last rule of each covers its region, and
-  -- each is placed where there is room
-  pub holds : (rows : List Row) (net : Net) (plan : List Placed)
+  -- each is hosted where there is room
+  pub holds : (rows : List Row) (net : Net) (plan : List Hosted)
       → IsPolicy rows → IsNet net → plan_of rows net ≡ Ok plan → IsPlan rows net plan

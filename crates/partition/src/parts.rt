@@ -4,7 +4,7 @@ ghost use Rattle.policy_rules.specs.Policy.{IsPolicy};
 ghost use Rattle.policy_rules.specs.RuleList.{rules_of};
 ghost use Rattle.policy_rules.specs.declared.policy.Row.{Row};
 ghost use Rattle.policy_rules.specs.declared.rules.Rule.{Rule};
-ghost use Rattle.policy_rules.specs.Placed.{is_in};
+ghost use Rattle.policy_rules.specs.Hosted.{is_in};
 ghost use Rattle.cut_tree.specs.DefinedTree.{IsDefinedTree};
 ghost use Rattle.cut_tree.specs.Shape.{leaf_count, leaves_of, shape_of};
 ghost use Rattle.partition.specs.Parts.{DecideAs, numbered_from, parts_of};

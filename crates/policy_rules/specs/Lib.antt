@@ -8,5 +8,5 @@ pub mod Words
 pub mod RuleList
 pub mod Laws
 pub mod Partitions
-pub mod Placed
+pub mod Hosted
 pub mod Policies

@@ -11,7 +11,7 @@ use Rattle.policy_rules.specs.Rules.{first_rule}
 use Rattle.policy_rules.specs.declared.policy.Row.{Row}
 use Rattle.policy_rules.specs.declared.rules.Partition.{Partition}
 use Rattle.policy_rules.specs.declared.rules.Rule.{Rule}
-use Rattle.policy_rules.specs.Placed.{is_in}
+use Rattle.policy_rules.specs.Hosted.{is_in}
 
 -- partitions that are numbered from 0
 abbrev pub ArePartsNumbered : List Partition → Type 0

@@ -1,7 +1,7 @@
 -- The definitions by which clauses of this crate and of those above speak of policies and their
 -- rules, passed on from the files that define them.
 pub use Rattle.policy_rules.specs.Partitions.{AreSoundPartitions, LastCovers}
-pub use Rattle.policy_rules.specs.Placed.{is_in}
+pub use Rattle.policy_rules.specs.Hosted.{is_in}
 pub use Rattle.policy_rules.specs.Policy.{IsFirstMatch, IsPolicy, IsSoundRow, action_text, row_matches}
 pub use Rattle.policy_rules.specs.Read.{HasSmallPort, action_of}
 pub use Rattle.policy_rules.specs.Repeats.{RefusesRows}

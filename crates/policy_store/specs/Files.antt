@@ -4,7 +4,7 @@ use Rattle.net_file.specs.Net.{IsNet}
 use Rattle.net_file.specs.declared.net.Net.{Net}
 use Rattle.partition.specs.Plan.{plan_of}
 use Rattle.policy_rules.specs.declared.policy.Row.{Row}
-use Rattle.policy_rules.specs.Placed.{NoPlan}
+use Rattle.policy_rules.specs.Hosted.{NoPlan}
 use Rattle.update_machine.specs.Pieces.{plan_code}
 use Rattle.policy_store.specs.declared.files.Compiled.{Compiled}
 use Rattle.policy_store.specs.declared.files.Compiled.TheVariants.{Planned, Refused}
@@ -16,7 +16,7 @@ pub record FilesValue : Type 0 where
 -- the policy has this plan, or is refused with this code
 abbrev pub IsCompiled : Net → List Row → Compiled → Type 0
 IsCompiled net rows (Planned plan) =
-    (plan.policy ≡ rows) × (plan_of rows net ≡ Ok plan.placed)
+    (plan.policy ≡ rows) × (plan_of rows net ≡ Ok plan.hosted)
 IsCompiled net rows (Refused code) =
     (why : NoPlan) × (plan_of rows net ≡ Err why) × (plan_code why ≡ code)
 

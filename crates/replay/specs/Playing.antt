@@ -3,8 +3,8 @@ use Rattle.std.specs.Prelude.{⊤, ℕ, ◌≡◌, Bool, true, false, Option, So
 use Rattle.controller.specs.declared.plan_error.PlanError.{PlanError}
 use Rattle.controller.specs.declared.plan_error.PlanError.TheVariants as why
 use Rattle.journal.specs.declared.item.Item.{Item}
-use Rattle.partition.specs.Plan.{Placed}
-use Rattle.policy_rules.specs.Placed as no_plan
+use Rattle.partition.specs.Plan.{Hosted}
+use Rattle.policy_rules.specs.Hosted as no_plan
 use Rattle.steps.specs.declared.step.Event.{Event}
 use Rattle.steps.specs.declared.step.Event.TheVariants.{One, Flush, Drain}
 use Rattle.steps.specs.declared.step.Step.{Step}
@@ -13,7 +13,7 @@ use Rattle.update_machine.specs.Full.{HaveRoom, IsFull}
 use Rattle.update_machine.specs.Setting.{Setting}
 use Rattle.world.specs.State.{comes_in}
 use Rattle.replay.specs.declared.error.ReplayError.{ReplayError}
-use Rattle.policy_rules.specs.Placed.{NoPlan}
+use Rattle.policy_rules.specs.Hosted.{NoPlan}
 use Rattle.replay.specs.declared.error.ReplayError.TheVariants as replayed
 
 -- the step that the event asks for next behind this journal, where it began or has yet to
@@ -66,7 +66,7 @@ error_of why.NoMemory = replayed.NoMemory
 error_of error = replayed.Plan error
 
 -- why there is no first plan, or memory ran out
-abbrev pub IsPlanRefusal : Result (List Placed) NoPlan → ReplayError → Type 0
+abbrev pub IsPlanRefusal : Result (List Hosted) NoPlan → ReplayError → Type 0
 IsPlanRefusal plan (replayed.Plan (why.TooManyWords words)) = plan ≡ Err (no_plan.TooManyWords words)
 IsPlanRefusal plan (replayed.Plan why.TooManyLeaves) = plan ≡ Err no_plan.TooManyLeaves
 IsPlanRefusal plan (replayed.Plan (why.NoRoom partition)) = plan ≡ Err (no_plan.NoRoom partition)

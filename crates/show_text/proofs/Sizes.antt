@@ -64,10 +64,10 @@ module _ (laws : NameLaws) (net : Net) (sound : IsNet net) where
       (row_of (with_word (row_of (all_of (codes "switch ")) (name_within laws net sound s))
       (codes " version ")) (number version small)) (omega arith)
 
-  pub placed_fits : (part : Partition) (targets : List ℕ) → part.number < 2 ^ 64
+  pub hosted_fits : (part : Partition) (targets : List ℕ) → part.number < 2 ^ 64
       → length part.rules < 2 ^ 64 → length targets ≤ 4
       → length (with_line_feed (part_text part ++ targets_text net targets)) ≤ 2048
-  placed_fits part targets n rules few = fits
+  hosted_fits part targets n rules few = fits
       (row_of (part_within part n rules) (targets_within targets few)) (omega arith)
 
   pub row_fits : (n : ℕ) (row : PartRow) → n < 2 ^ 64 → length row.targets ≤ 4

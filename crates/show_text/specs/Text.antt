@@ -3,7 +3,7 @@ use Rattle.std.specs.Prelude.{ℕ, List, [], ◌∷◌, ◌++◌, length, codes,
 use Rattle.std.specs.List.{flat_map, enumerate_from}
 use Rattle.net_file.specs.Net.{name_of, names_text}
 use Rattle.net_file.specs.declared.net.Net.{Net}
-use Rattle.partition.specs.Plan.{Placed}
+use Rattle.partition.specs.Plan.{Hosted}
 use Rattle.policy_rules.specs.Policy.{action_text, rule_text}
 use Rattle.policy_rules.specs.RuleList.{word_total}
 use Rattle.policy_rules.specs.declared.policy.Row.{Row}
@@ -41,16 +41,16 @@ rule_lines rules = flat_map (λ rule. with_line_feed (rule_text_of rule)) rules
 -- ---- a plan
 
 -- a partition with its targets, and its rules
-abbrev pub placed_lines : Net → Placed → List ℕ
-placed_lines net placed =
-    with_line_feed (part_text placed.0 ++ targets_text net placed.1) ++ rule_lines placed.0.rules
+abbrev pub hosted_lines : Net → Hosted → List ℕ
+hosted_lines net hosted =
+    with_line_feed (part_text hosted.0 ++ targets_text net hosted.1) ++ rule_lines hosted.0.rules
 
 -- a plan of a policy: how many words its rows have, how many partitions there are, and each of them
-abbrev pub compile_text : List Row → List Placed → Net → List ℕ
+abbrev pub compile_text : List Row → List Hosted → Net → List ℕ
 compile_text rows plan net =
     with_line_feed (codes "words " ++ decimal (word_total rows))
     ++ with_line_feed (codes "partitions " ++ decimal (length plan))
-    ++ flat_map (placed_lines net) plan
+    ++ flat_map (hosted_lines net) plan
 
 -- ---- the tables of a switch
 

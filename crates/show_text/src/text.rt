@@ -2,7 +2,7 @@ ghost use Rattle.std.specs.Prelude.{◌≡◌, ◌≤◌, ◌++◌, IfOk, OnOk, 
 ghost use Rattle.std.specs.List.{flat_map, enumerate_from};
 ghost use Rattle.net_file.specs.Net.{IsNet, name_of};
 ghost use Rattle.switch_table.specs.Tables.{tables_of};
-ghost use Rattle.show_text.specs.Text.{compile_text, with_line_feed, own_lines, part_text, placed_lines, row_line, table_text, targets_text};
+ghost use Rattle.show_text.specs.Text.{compile_text, with_line_feed, own_lines, part_text, hosted_lines, row_line, table_text, targets_text};
 
 use crate::lines::{add_rules, push_part, push_region, push_targets};
 use controller::{Plan, tables_of};
@@ -23,15 +23,15 @@ const FIRST_VERSION: u32 = 1;
 pub fn compile_text(alloc: Global, plan: &Plan, net: &Net) -> Result<Vec<u8>, AllocError>
     requires { IsNet net.now }
     ensures { IfOk result (λ bytes.
-        bytes.items ≡ compile_text plan.now.policy plan.now.placed net.now) }
+        bytes.items ≡ compile_text plan.now.policy plan.now.hosted net.now) }
 {
     let mut text = Vec::new(alloc);
     let mut entry = Line::new();
     let words = count_words(plan.policy()) as u64;
-    let placed = plan.placed();
+    let hosted = plan.hosted();
     add_count(&mut text, &mut entry, "words ", words)?;
-    add_count(&mut text, &mut entry, "partitions ", placed.len() as u64)?;
-    add_placed(&mut text, &mut entry, net, placed)?;
+    add_count(&mut text, &mut entry, "partitions ", hosted.len() as u64)?;
+    add_hosted(&mut text, &mut entry, net, hosted)?;
     Ok(text)
 }
 
@@ -43,7 +43,7 @@ pub fn compile_text(alloc: Global, plan: &Plan, net: &Net) -> Result<Vec<u8>, Al
 pub fn table_text(alloc: Global, plan: &Plan, net: &Net, s: u32) -> Result<Vec<u8>, AllocError>
     requires { IsNet net.now }
     ensures { IfOk result (λ bytes.
-        bytes.items ≡ table_text s (tables_of plan.now.placed 1 s) net.now) }
+        bytes.items ≡ table_text s (tables_of plan.now.hosted 1 s) net.now) }
 {
     let tables = tables_of(alloc, plan, FIRST_VERSION, s)?;
     text_of_tables(alloc, net, s, &tables)
@@ -104,8 +104,8 @@ fn add_count(text: &mut Vec<u8>, entry: &mut Line, word: &str, count: u64) -> Re
 }
 
 // Makes the line that of a partition with its targets.
-#[tactic(auto, using(text_line::proofs::CallerLemmas::pushed_append, text_line::proofs::CallerLemmas::pushed_whole, crate::proofs::Sizes::placed_fits))]
-fn set_placed(entry: &mut Line, net: &Net, part: &Partition, targets: &Targets)
+#[tactic(auto, using(text_line::proofs::CallerLemmas::pushed_append, text_line::proofs::CallerLemmas::pushed_whole, crate::proofs::Sizes::hosted_fits))]
+fn set_hosted(entry: &mut Line, net: &Net, part: &Partition, targets: &Targets)
     requires { IsNet net.now }
     ensures { entry.new ≡ with_line_feed (part_text part.now ++ targets_text net.now targets.now) }
 {
@@ -116,18 +116,18 @@ fn set_placed(entry: &mut Line, net: &Net, part: &Partition, targets: &Targets)
     entry.push("\n");
 }
 
-fn add_placed(
+fn add_hosted(
     text: &mut Vec<u8>,
     entry: &mut Line,
     net: &Net,
-    placed: &[(Partition, Targets)],
+    hosted: &[(Partition, Targets)],
 ) -> Result<(), AllocError>
     requires { IsNet net.now }
     ensures { OnOk result (text.new.items
-        ≡ text.old.items ++ flat_map (placed_lines net.now) placed.now) }
+        ≡ text.old.items ++ flat_map (hosted_lines net.now) hosted.now) }
 {
-    for (part, targets) in placed {
-        set_placed(entry, net, part, targets);
+    for (part, targets) in hosted {
+        set_hosted(entry, net, part, targets);
         text.extend_from_slice(entry.bytes())?;
         add_rules(text, entry, part.rules.items())?;
     }

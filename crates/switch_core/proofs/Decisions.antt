@@ -14,7 +14,7 @@ use Rattle.policy_rules.specs.declared.packet.Leg.{Leg}
 use Rattle.policy_rules.specs.declared.packet.Leg.TheVariants.{Seek as SeekLeg, Exit as ExitLeg}
 use Rattle.policy_rules.specs.declared.policy.Row.{Row}
 use Rattle.policy_rules.specs.declared.rules.Partition.{Partition}
-use Rattle.policy_rules.specs.Placed.{Placed, is_in}
+use Rattle.policy_rules.specs.Hosted.{Hosted, is_in}
 use Rattle.tunnel.specs.Tunnel.{TunnelValue}
 use Rattle.switch_table.proofs.TableLemmas.{find-there}
 use Rattle.switch_table.specs.Cache.{first_entry}
@@ -188,20 +188,20 @@ decided_on_arrival s site t decision cache way arriving is = by_leg t.leg refl
 
 -- ---- tables of a plan
 
-of_plan : (P : Partition → Type 0) (kept : Placed → Bool) (plan : List Placed) →
+of_plan : (P : Partition → Type 0) (kept : Hosted → Bool) (plan : List Hosted) →
     All P (map part_of plan) → All P (map part_of (filter kept plan))
 of_plan P kept [] all = all
-of_plan P kept (placed ∷ plan) all =
-    by_test (kept placed) (of_plan P kept plan (All-tail P _ (map part_of plan) all))
+of_plan P kept (hosted ∷ plan) all =
+    by_test (kept hosted) (of_plan P kept plan (All-tail P _ (map part_of plan) all))
   where
     by_test : (test : Bool) → All P (map part_of (filter kept plan)) →
-        All P (map part_of (cond test (placed ∷ filter kept plan) (filter kept plan)))
-    by_test true rest = All-cons P (part_of placed) (map part_of (filter kept plan))
-        (All-head P (part_of placed) (map part_of plan) all) rest
+        All P (map part_of (cond test (hosted ∷ filter kept plan) (filter kept plan)))
+    by_test true rest = All-cons P (part_of hosted) (map part_of (filter kept plan))
+        (All-head P (part_of hosted) (map part_of plan) all) rest
     by_test false rest = rest
 
 pub decides_as_policy : (s : SwitchValue) (header : Header) (decision : Decision)
-    (rows : List Row) (plan : List Placed) →
+    (rows : List Row) (plan : List Hosted) →
     AreSoundPartitions rows (map part_of plan) → IsHeader header →
     held_tables s decision.version ≡ Some (tables_of plan decision.version s.number) →
     IsByOwnRule s header decision →

@@ -16,7 +16,7 @@ use Rattle.policy_rules.specs.declared.policy.Action.TheVariants.{Drop, Out as O
 use Rattle.policy_rules.specs.declared.policy.Row.{Row}
 use Rattle.policy_rules.specs.declared.rules.Partition.{Partition}
 use Rattle.policy_rules.specs.declared.rules.Rule.{Rule}
-use Rattle.policy_rules.specs.Placed.{Placed}
+use Rattle.policy_rules.specs.Hosted.{Hosted}
 use Rattle.net_file.specs.Owners.{port_owner}
 use Rattle.failover.specs.Links.{with_link}
 use Rattle.masks.specs.Masks.{has}
@@ -263,7 +263,7 @@ pub record DecisionLaws : Type 0 where
       IsDecision s site (packet_of t) decision cache way
   -- by the tables of a plan, rules of the switch's own decide as the plan's policy does
   pub as_policy : (s : SwitchValue) (header : Header) (decision : Decision) (rows : List Row)
-      (plan : List Placed) → AreSoundPartitions rows (map part_of plan) → IsHeader header →
+      (plan : List Hosted) → AreSoundPartitions rows (map part_of plan) → IsHeader header →
       held_tables s decision.version ≡ Some (tables_of plan decision.version s.number) →
       IsByOwnRule s header decision →
       scan rows header ≡ record { rule = decision.rule; action = decision.action }

@@ -1,5 +1,5 @@
 ghost use Rattle.std.specs.Prelude.{◌≡◌, IfOk, IsSomeAnd, IsTrue};
-ghost use Rattle.policy_rules.specs.Placed.{is_in};
+ghost use Rattle.policy_rules.specs.Hosted.{is_in};
 ghost use Rattle.switch_table.specs.Lookup.{lookup_of};
 ghost use Rattle.switch_table.specs.Tables.{AreSoundTables};
 ghost use Rattle.switch_core.specs.Deciding.{IsFirstHit, place_of_first, own_part, part_numbered};

@@ -12,7 +12,7 @@ use Rattle.policy_rules.specs.declared.packet.Leg.TheVariants.{Seek}
 use Rattle.policy_rules.specs.declared.policy.Action.TheVariants.{Out}
 use Rattle.policy_rules.specs.declared.rules.Partition.{Partition}
 use Rattle.policy_rules.specs.declared.rules.Rule.{Rule}
-use Rattle.policy_rules.specs.Placed.{is_in}
+use Rattle.policy_rules.specs.Hosted.{is_in}
 use Rattle.failover.specs.declared.advert.Advert.{Advert}
 use Rattle.switch_table.specs.Tables.{AreSoundTables}
 use Rattle.switch_table.specs.declared.tables.PartRow.{PartRow}

@@ -22,8 +22,8 @@ use Rattle.policy_rules.specs.Rules.{first_rule, is_held}
 use Rattle.policy_rules.specs.declared.policy.Row.{Row}
 use Rattle.policy_rules.specs.declared.rules.Partition.{Partition}
 use Rattle.policy_rules.specs.declared.rules.Rule.{Rule}
-use Rattle.policy_rules.specs.Placed.{is_in}
-use Rattle.switch_table.specs.Tables.{AreSoundTables, DecidesAll, Placed, part_of, row_of, row_has, has_target, tables_of}
+use Rattle.policy_rules.specs.Hosted.{is_in}
+use Rattle.switch_table.specs.Tables.{AreSoundTables, DecidesAll, Hosted, part_of, row_of, row_has, has_target, tables_of}
 use Rattle.switch_table.specs.Lookup.{AllDecide, FindsFirstMatch, LeadsToFirstMatch, authority_of, redirect_of, lookup_in, plan_lookup, table_lookup}
 use Rattle.switch_table.specs.declared.tables.PartRow.{PartRow}
 use Rattle.switch_table.specs.declared.tables.Tables.{Tables}
@@ -129,11 +129,11 @@ find-filter {X} test kept (y ∷ ys) x one is = by_case (test y) refl is (find-f
 -- ---- a plan's tables
 
 -- the partition of the plan that holds a header
-record IsAt (rows : List Row) (plan : List Placed) (header : Header) (placed : Placed) : Type 0
+record IsAt (rows : List Row) (plan : List Hosted) (header : Header) (hosted : Hosted) : Type 0
   where
-    found : find (λ p. is_in header (part_of p)) plan ≡ Some placed
-    there : Contains plan placed
-    decides : option_map hit_of_rule (first_rule placed.0.rules header) ≡ Some (scan rows header)
+    found : find (λ p. is_in header (part_of p)) plan ≡ Some hosted
+    there : Contains plan hosted
+    decides : option_map hit_of_rule (first_rule hosted.0.rules header) ≡ Some (scan rows header)
 
 contains-map : {X Y : Type 0} (f : X → Y) (xs : List X) (x : X) → Contains xs x
     → Contains (map f xs) (f x)
@@ -141,9 +141,9 @@ contains-map f xs x (k, within, is) =
     let len : length (map f xs) ≡ length xs = length-map _ _ in
     (k, omega arith, get_or-map f xs k x (f x) within ∙ ap f is)
 
-at_header : (rows : List Row) (plan : List Placed) (header : Header)
-    → AreSoundPartitions rows (map part_of plan) → IsHeader header → (placed : Placed)
-    × IsAt rows plan header placed
+at_header : (rows : List Row) (plan : List Hosted) (header : Header)
+    → AreSoundPartitions rows (map part_of plan) → IsHeader header → (hosted : Hosted)
+    × IsAt rows plan header hosted
 at_header rows plan header sound is =
     let one : count_by (λ p. is_in header (part_of p)) plan ≡ 1 =
     sym (count_by-map (is_in header) part_of plan) ∙ sound.one header is in
@@ -161,32 +161,32 @@ at_header rows plan header sound is =
     )
 
 -- a partition of a plan stands at the place of its number
-numbered_at : (plan : List Placed) (placed : Placed) → ArePartsNumbered (map part_of plan)
-    → Contains plan placed → slice_get plan placed.0.number ≡ Some placed
-numbered_at plan placed numbers (k, within, is) =
+numbered_at : (plan : List Hosted) (hosted : Hosted) → ArePartsNumbered (map part_of plan)
+    → Contains plan hosted → slice_get plan hosted.0.number ≡ Some hosted
+numbered_at plan hosted numbers (k, within, is) =
     let len : length (map part_of plan) ≡ length plan = length-map _ _ in
-    let number : placed.0.number ≡ k = ap (λ (p : Partition). p.number)
-    (sym (get_or-map part_of plan k placed (part_of placed) within ∙ ap part_of is))
-    ∙ numbers k (part_of placed) (omega arith) in
-    ap (slice_get plan) number ∙ slice_get-get_or plan k placed within ∙ ap Some is
+    let number : hosted.0.number ≡ k = ap (λ (p : Partition). p.number)
+    (sym (get_or-map part_of plan k hosted (part_of hosted) within ∙ ap part_of is))
+    ∙ numbers k (part_of hosted) (omega arith) in
+    ap (slice_get plan) number ∙ slice_get-get_or plan k hosted within ∙ ap Some is
 
 -- the place of the first rule leads to that rule
-place_leads : (rows : List Row) (plan : List Placed) (header : Header) (placed : Placed)
-    → ArePartsNumbered (map part_of plan) → IsAt rows plan header placed
-    → FindsFirstMatch rows (map part_of plan) header (authority_of header (part_of placed))
-place_leads rows plan header placed numbers at =
-    let here : slice_get (map part_of plan) placed.0.number ≡ Some (part_of placed) =
-    slice_get-map part_of plan placed.0.number
-    ∙ ap (option_map part_of) (numbered_at plan placed numbers at.there) in
-    let leads = find-position (is_held (number_of header)) placed.0.rules in
+place_leads : (rows : List Row) (plan : List Hosted) (header : Header) (hosted : Hosted)
+    → ArePartsNumbered (map part_of plan) → IsAt rows plan header hosted
+    → FindsFirstMatch rows (map part_of plan) header (authority_of header (part_of hosted))
+place_leads rows plan header hosted numbers at =
+    let here : slice_get (map part_of plan) hosted.0.number ≡ Some (part_of hosted) =
+    slice_get-map part_of plan hosted.0.number
+    ∙ ap (option_map part_of) (numbered_at plan hosted numbers at.there) in
+    let leads = find-position (is_held (number_of header)) hosted.0.rules in
     ap (option_map hit_of_rule)
     (ap (option_and_then (λ part. slice_get part.rules
-    (unwrap_or (position (is_held (number_of header)) placed.0.rules) 0))) here
-    ∙ by_case (position (is_held (number_of header)) placed.0.rules) leads) ∙ at.decides
+    (unwrap_or (position (is_held (number_of header)) hosted.0.rules) 0))) here
+    ∙ by_case (position (is_held (number_of header)) hosted.0.rules) leads) ∙ at.decides
   where
-    by_case : (place : Option ℕ) → option_and_then (slice_get placed.0.rules) place ≡ first_rule
-        placed.0.rules header → slice_get placed.0.rules (unwrap_or place 0) ≡ first_rule
-        placed.0.rules header
+    by_case : (place : Option ℕ) → option_and_then (slice_get hosted.0.rules) place ≡ first_rule
+        hosted.0.rules header → slice_get hosted.0.rules (unwrap_or place 0) ≡ first_rule
+        hosted.0.rules header
     by_case (Some place) leads = leads
     by_case None leads =
         let none : option_map hit_of_rule None ≡ Some (scan rows header) =
@@ -194,62 +194,62 @@ place_leads rows plan header placed numbers at =
         absurd (cc)
 
 -- what the tables of a switch say of the header
-lookup_at : (rows : List Row) (plan : List Placed) (version switch : ℕ) (header : Header)
-    (placed : Placed) → AreSoundPartitions rows (map part_of plan) → IsHeader header
-    → IsAt rows plan header placed → table_lookup (tables_of plan version switch) header ≡ cond
-    (has_target switch placed) (authority_of header (part_of placed))
+lookup_at : (rows : List Row) (plan : List Hosted) (version switch : ℕ) (header : Header)
+    (hosted : Hosted) → AreSoundPartitions rows (map part_of plan) → IsHeader header
+    → IsAt rows plan header hosted → table_lookup (tables_of plan version switch) header ≡ cond
+    (has_target switch hosted) (authority_of header (part_of hosted))
     (redirect_of header (map row_of plan))
-lookup_at rows plan version switch header placed sound is at =
+lookup_at rows plan version switch header hosted sound is at =
     let one : count_by (λ p. is_in header (part_of p)) plan ≡ 1 =
     sym (count_by-map (is_in header) part_of plan) ∙ sound.one header is in
     let own : find (is_in header) (map part_of (filter (has_target switch) plan)) ≡ option_map
-    part_of (cond (has_target switch placed) (Some placed) None) = find-map (is_in header)
+    part_of (cond (has_target switch hosted) (Some hosted) None) = find-map (is_in header)
     part_of (filter (has_target switch) plan)
     ∙ ap (option_map part_of)
-    (find-filter (λ p. is_in header (part_of p)) (has_target switch) plan placed one at.found)
+    (find-filter (λ p. is_in header (part_of p)) (has_target switch) plan hosted one at.found)
     in
     ap (λ part. option_map_or (authority_of header) part (redirect_of header (map row_of plan))) own
-    ∙ by_case (has_target switch placed)
+    ∙ by_case (has_target switch hosted)
   where
     by_case : (b : Bool) → option_map_or (authority_of header)
-        (option_map part_of (cond b (Some placed) None)) (redirect_of header (map row_of plan))
-        ≡ cond b (authority_of header (part_of placed)) (redirect_of header (map row_of plan))
+        (option_map part_of (cond b (Some hosted) None)) (redirect_of header (map row_of plan))
+        ≡ cond b (authority_of header (part_of hosted)) (redirect_of header (map row_of plan))
     by_case true = refl
     by_case false = refl
 
-row_targets : (rows : List Row) (plan : List Placed) (header : Header) (placed : Placed)
-    → IsAt rows plan header placed → option_map_or (λ (row : PartRow). row.targets)
-    (find (row_has header) (map row_of plan)) [] ≡ placed.1
-row_targets rows plan header placed at =
+row_targets : (rows : List Row) (plan : List Hosted) (header : Header) (hosted : Hosted)
+    → IsAt rows plan header hosted → option_map_or (λ (row : PartRow). row.targets)
+    (find (row_has header) (map row_of plan)) [] ≡ hosted.1
+row_targets rows plan header hosted at =
     ap (λ row. option_map_or (λ (r : PartRow). r.targets) row [])
     (find-map (row_has header) row_of plan ∙ ap (option_map row_of) at.found)
 
-pub tables_lead : (rows : List Row) (plan : List Placed) (version switch : ℕ) (header : Header)
-    → AreSoundPartitions rows (map part_of plan) → All (λ placed. 0 < length placed.1) plan
+pub tables_lead : (rows : List Row) (plan : List Hosted) (version switch : ℕ) (header : Header)
+    → AreSoundPartitions rows (map part_of plan) → All (λ hosted. 0 < length hosted.1) plan
     → IsHeader header
     → LeadsToFirstMatch rows plan version header (table_lookup (tables_of plan version switch) header)
 tables_lead rows plan version switch header sound some is =
     let here = at_header rows plan header sound is in
-    let placed = here.0 in
+    let hosted = here.0 in
     let at = here.1 in
-    let decides = place_leads rows plan header placed sound.numbers at in
-    let there : (s : ℕ) → list_any (eqb s) placed.1 ≡ true → FindsFirstMatch rows (map part_of plan) header
+    let decides = place_leads rows plan header hosted sound.numbers at in
+    let there : (s : ℕ) → list_any (eqb s) hosted.1 ≡ true → FindsFirstMatch rows (map part_of plan) header
     (table_lookup (tables_of plan version s) header) = λ s target.
     subst (FindsFirstMatch rows (map part_of plan) header)
-    (sym (lookup_at rows plan version s header placed sound is at
-    ∙ ap (λ b. cond b (authority_of header (part_of placed))
+    (sym (lookup_at rows plan version s header hosted sound is at
+    ∙ ap (λ b. cond b (authority_of header (part_of hosted))
     (redirect_of header (map row_of plan))) target)) decides in
     subst (LeadsToFirstMatch rows plan version header)
-    (sym (lookup_at rows plan version switch header placed sound is at))
-    (by_case placed (has_target switch placed) decides
-    (subst (AllDecide rows plan version header) (sym (row_targets rows plan header placed at))
+    (sym (lookup_at rows plan version switch header hosted sound is at))
+    (by_case hosted (has_target switch hosted) decides
+    (subst (AllDecide rows plan version header) (sym (row_targets rows plan header hosted at))
     (record {
       some = has_some at.there;
-      each = λ k d within. there (get_or placed.1 k d) (among placed.1 k d within);
+      each = λ k d within. there (get_or hosted.1 k d) (among hosted.1 k d within);
     })))
   where
-    has_some : {placed : Placed} → Contains plan placed → 0 < length placed.1
-    has_some (k, within, is) = subst (λ (p : Placed). 0 < length p.1) is (some k _ within)
+    has_some : {hosted : Hosted} → Contains plan hosted → 0 < length hosted.1
+    has_some (k, within, is) = subst (λ (p : Hosted). 0 < length p.1) is (some k _ within)
 
     among : (targets : List ℕ) (k d : ℕ) → k < length targets → list_any (eqb (get_or targets k d))
         targets ≡ true
@@ -261,13 +261,13 @@ tables_lead rows plan version switch header sound some is =
       eq-eqb (get_or targets k d) (get_or targets k d) refl,
     )
 
-    by_case : (placed : Placed) (b : Bool) → FindsFirstMatch rows (map part_of plan) header
-        (authority_of header (part_of placed))
+    by_case : (hosted : Hosted) (b : Bool) → FindsFirstMatch rows (map part_of plan) header
+        (authority_of header (part_of hosted))
         → LeadsToFirstMatch rows plan version header (redirect_of header (map row_of plan))
         → LeadsToFirstMatch rows plan version header
-        (cond b (authority_of header (part_of placed)) (redirect_of header (map row_of plan)))
-    by_case placed true own others = own
-    by_case placed false own others = others
+        (cond b (authority_of header (part_of hosted)) (redirect_of header (map row_of plan)))
+    by_case hosted true own others = own
+    by_case hosted false own others = others
 
 position_or_len-map : {X Y : Type 0} (test : Y → Bool) (f : X → Y) (xs : List X) →
     position_or_len test (map f xs) ≡ position_or_len (λ x. test (f x)) xs
@@ -283,54 +283,54 @@ position-map test f xs =
     (Some (position_or_len (λ x. test (f x)) xs)) None) (length-map xs f)
 
 -- the row that holds a header stands at the number of the partition that does, and has its targets
-redirect_there : (rows : List Row) (plan : List Placed) (header : Header) (placed : Placed) →
-    ArePartsNumbered (map part_of plan) → IsAt rows plan header placed →
-    redirect_of header (map row_of plan) ≡ Redirect placed.0.number placed.1
-redirect_there rows plan header placed numbers at =
-    let place : unwrap_or (position (row_has header) (map row_of plan)) 0 ≡ placed.0.number =
+redirect_there : (rows : List Row) (plan : List Hosted) (header : Header) (hosted : Hosted) →
+    ArePartsNumbered (map part_of plan) → IsAt rows plan header hosted →
+    redirect_of header (map row_of plan) ≡ Redirect hosted.0.number hosted.1
+redirect_there rows plan header hosted numbers at =
+    let place : unwrap_or (position (row_has header) (map row_of plan)) 0 ≡ hosted.0.number =
     ap (λ k. unwrap_or k 0) (position-map (row_has header) row_of plan)
     ∙ by_case (position (λ p. is_in header (part_of p)) plan) refl
     (find-position (λ p. is_in header (part_of p)) plan ∙ at.found) in
     ap (λ (number : ℕ). Redirect number (option_map_or (λ (row : PartRow). row.targets)
     (find (row_has header) (map row_of plan)) [])) place
-    ∙ ap (Redirect placed.0.number) (row_targets rows plan header placed at)
+    ∙ ap (Redirect hosted.0.number) (row_targets rows plan header hosted at)
   where
     by_case : (place : Option ℕ) → position (λ p. is_in header (part_of p)) plan ≡ place →
-        option_and_then (slice_get plan) place ≡ Some placed → unwrap_or place 0 ≡ placed.0.number
+        option_and_then (slice_get plan) place ≡ Some hosted → unwrap_or place 0 ≡ hosted.0.number
     by_case None is leads =
-        let clash : None ≡ Some placed = leads in
+        let clash : None ≡ Some hosted = leads in
         absurd (cc)
     by_case (Some k) is leads =
         let within : k < length plan =
-        (position-Some (λ p. is_in header (part_of p)) plan k placed is).0 in
-        let there : Some (get_or plan k placed) ≡ Some placed =
-        sym (slice_get-get_or plan k placed within) ∙ leads in
-        let it : get_or plan k placed ≡ placed = cc in
+        (position-Some (λ p. is_in header (part_of p)) plan k hosted is).0 in
+        let there : Some (get_or plan k hosted) ≡ Some hosted =
+        sym (slice_get-get_or plan k hosted within) ∙ leads in
+        let it : get_or plan k hosted ≡ hosted = cc in
         let len : length (map part_of plan) ≡ length plan = length-map _ _ in
-        sym (numbers k (part_of placed) (omega arith))
+        sym (numbers k (part_of hosted) (omega arith))
         ∙ ap (λ (p : Partition). p.number)
-        (get_or-map part_of plan k placed (part_of placed) within ∙ ap part_of it)
+        (get_or-map part_of plan k hosted (part_of hosted) within ∙ ap part_of it)
 
-pub tables_planned : (rows : List Row) (plan : List Placed) (version switch : ℕ) (header : Header) →
+pub tables_planned : (rows : List Row) (plan : List Hosted) (version switch : ℕ) (header : Header) →
     AreSoundPartitions rows (map part_of plan) → IsHeader header →
     plan_lookup plan switch header ≡ Some (table_lookup (tables_of plan version switch) header)
 tables_planned rows plan version switch header sound is =
     let here = at_header rows plan header sound is in
-    let placed = here.0 in
+    let hosted = here.0 in
     let at = here.1 in
-    let says = ap (λ (other : Found). cond (has_target switch placed)
-    (authority_of header (part_of placed)) other)
-    (redirect_there rows plan header placed sound.numbers at) in
+    let says = ap (λ (other : Found). cond (has_target switch hosted)
+    (authority_of header (part_of hosted)) other)
+    (redirect_there rows plan header hosted sound.numbers at) in
     ap (option_map (lookup_in switch header)) at.found
-    ∙ ap Some (sym (lookup_at rows plan version switch header placed sound is at ∙ says))
+    ∙ ap Some (sym (lookup_at rows plan version switch header hosted sound is at ∙ says))
 
 -- a fact of each partition of a plan holds of those in a switch's tables
-own_all : (P : Partition → Type 0) (plan : List Placed) (kept : Placed → Bool)
-    → ((placed : Placed) → Contains plan placed → P (part_of placed))
+own_all : (P : Partition → Type 0) (plan : List Hosted) (kept : Hosted → Bool)
+    → ((hosted : Hosted) → Contains plan hosted → P (part_of hosted))
     → All P (map part_of (filter kept plan))
 own_all P plan kept each = All-map P part_of (filter kept plan)
-    (All-filter kept (λ placed. P (part_of placed)) plan
-    (All-weaker (Contains plan) (λ placed. P (part_of placed)) each plan
+    (All-filter kept (λ hosted. P (part_of hosted)) plan
+    (All-weaker (Contains plan) (λ hosted. P (part_of hosted)) each plan
     (All-contains_itself plan)))
 
 pairs-map : {X Y : Type 0} (R : Y → Y → Type 0) (f : X → Y) (xs : List X)
@@ -341,7 +341,7 @@ pairs-map R f (x ∷ xs) pairs = λ i j d less within.
     rw (get_or-map f (x ∷ xs) i x d (omega arith), get_or-map f (x ∷ xs) j x d (omega arith))
     (pairs i j x less (omega arith))
 
-numbers_differ : (plan : List Placed) → ArePartsNumbered (map part_of plan)
+numbers_differ : (plan : List Hosted) → ArePartsNumbered (map part_of plan)
     → AllPairs (λ a b. a.0.number ≢ b.0.number) plan
 numbers_differ plan numbers = λ i j d less within same.
     let len : length (map part_of plan) ≡ length plan = length-map _ _ in
@@ -371,28 +371,28 @@ decides_all part ends header is inside =
 pub auth_decides : (tables : Tables) → AreSoundTables tables → All DecidesAll tables.auth
 auth_decides tables sound = All-weaker LastCovers DecidesAll decides_all tables.auth sound.covers
 
-pub tables_are_sound : (rows : List Row) (plan : List Placed) (version switch : ℕ)
+pub tables_are_sound : (rows : List Row) (plan : List Hosted) (version switch : ℕ)
     → AreSoundPartitions rows (map part_of plan) → All LastCovers (map part_of plan)
-    → length plan < 2 ^ 32 → All (λ placed. length placed.0.rules < 2 ^ 32) plan
+    → length plan < 2 ^ 32 → All (λ hosted. length hosted.0.rules < 2 ^ 32) plan
     → AreSoundTables (tables_of plan version switch)
 tables_are_sound rows plan version switch sound covers few small = record {
   one = λ header is. count_by-map (row_has header) row_of plan
       ∙ sym (count_by-map (is_in header) part_of plan) ∙ sound.one header is;
   numbers = own_all (λ part. slice_get (map (λ (row : PartRow). row.region) (map row_of plan))
-      part.number ≡ Some part.region) plan (has_target switch) (λ placed there.
-      slice_get-map (λ (row : PartRow). row.region) (map row_of plan) placed.0.number
+      part.number ≡ Some part.region) plan (has_target switch) (λ hosted there.
+      slice_get-map (λ (row : PartRow). row.region) (map row_of plan) hosted.0.number
       ∙ ap (option_map (λ (row : PartRow). row.region))
-      (slice_get-map row_of plan placed.0.number
-      ∙ ap (option_map row_of) (numbered_at plan placed sound.numbers there)));
+      (slice_get-map row_of plan hosted.0.number
+      ∙ ap (option_map row_of) (numbered_at plan hosted sound.numbers there)));
   distinct = pairs-map (λ a b. a.number ≢ b.number) part_of (filter (has_target switch) plan)
       (AllPairs-filter (λ a b. a.0.number ≢ b.0.number) (has_target switch) plan
       (numbers_differ plan sound.numbers));
-  covers = own_all LastCovers plan (has_target switch) (λ placed there.
-      All-contains LastCovers (map part_of plan) (part_of placed) covers
-      (contains-map part_of plan placed there));
+  covers = own_all LastCovers plan (has_target switch) (λ hosted there.
+      All-contains LastCovers (map part_of plan) (part_of hosted) covers
+      (contains-map part_of plan hosted there));
   few_rows = (let len : length (map row_of plan) ≡ length plan = length-map _ _ in omega arith);
   few_rules = own_all (λ part. length part.rules < 2 ^ 32) plan (has_target switch)
-      (λ placed there. All-contains (λ p. length p.0.rules < 2 ^ 32) plan placed small there);
+      (λ hosted there. All-contains (λ p. length p.0.rules < 2 ^ 32) plan hosted small there);
 }
 
 -- ---- what a lookup finds

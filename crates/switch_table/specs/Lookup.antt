@@ -12,9 +12,9 @@ use Rattle.policy_rules.specs.Rules.{is_held}
 use Rattle.policy_rules.specs.declared.policy.Row.{Row}
 use Rattle.policy_rules.specs.declared.rules.Partition.{Partition}
 use Rattle.policy_rules.specs.declared.rules.Rule.{Rule}
-use Rattle.policy_rules.specs.Placed.{is_in}
+use Rattle.policy_rules.specs.Hosted.{is_in}
 use Rattle.switch_table.specs.Cache.{first_entry}
-use Rattle.switch_table.specs.Tables.{AreSoundTables, DecidesAll, Placed, has_target, part_of, row_has, tables_of}
+use Rattle.switch_table.specs.Tables.{AreSoundTables, DecidesAll, Hosted, has_target, part_of, row_has, tables_of}
 use Rattle.switch_table.specs.declared.cache.CacheEntry.{CacheEntry}
 use Rattle.switch_table.specs.declared.tables.PartRow.{PartRow}
 use Rattle.switch_table.specs.declared.tables.Tables.{Tables}
@@ -48,15 +48,15 @@ lookup_of entries tables header =
 -- ---- where a plan's tables lead
 
 -- the partition decides the header at its targets; every other switch sends it to them
-abbrev pub lookup_in : ℕ → Header → Placed → Found
-lookup_in switch header placed = if has_target switch placed
-    then authority_of header (part_of placed)
-    else Redirect placed.0.number placed.1
+abbrev pub lookup_in : ℕ → Header → Hosted → Found
+lookup_in switch header hosted = if has_target switch hosted
+    then authority_of header (part_of hosted)
+    else Redirect hosted.0.number hosted.1
 
 -- what a plan says of the header at a switch, by the partition that holds it
-abbrev pub plan_lookup : List Placed → ℕ → Header → Option Found
+abbrev pub plan_lookup : List Hosted → ℕ → Header → Option Found
 plan_lookup plan switch header =
-    option_map (lookup_in switch header) (find (λ placed. is_in header (part_of placed)) plan)
+    option_map (lookup_in switch header) (find (λ hosted. is_in header (part_of hosted)) plan)
 
 -- the rule at a place of the partition of a number
 abbrev pub rule_at : List Partition → ℕ → ℕ → Option Rule
@@ -70,14 +70,14 @@ FindsFirstMatch rows parts header (Authority partition place) =
 FindsFirstMatch rows parts header _ = ⊥
 
 -- there are targets, and the tables of each of them decide the header
-pub record AllDecide (rows : List Row) (plan : List Placed) (version : ℕ) (header : Header)
+pub record AllDecide (rows : List Row) (plan : List Hosted) (version : ℕ) (header : Header)
     (targets : List ℕ) : Type 0 where
   pub some : 0 < length targets
   pub each : All (λ switch. FindsFirstMatch rows (map part_of plan) header
       (table_lookup (tables_of plan version switch) header)) targets
 
 -- the tables decide the header, or send it to targets that all do
-abbrev pub LeadsToFirstMatch : List Row → List Placed → ℕ → Header → Found → Type 0
+abbrev pub LeadsToFirstMatch : List Row → List Hosted → ℕ → Header → Found → Type 0
 LeadsToFirstMatch rows plan version header (Redirect partition targets) =
     AllDecide rows plan version header targets
 LeadsToFirstMatch rows plan version header found = FindsFirstMatch rows (map part_of plan) header found
@@ -86,18 +86,18 @@ pub record TablesLaws : Type 0 where
   -- the authority rules of sound tables decide each header of their regions
   pub decided : (tables : Tables) → AreSoundTables tables → All DecidesAll tables.auth
   -- tables of a plan of sound partitions, whose last rules cover their regions, are sound ..
-  pub sound : (rows : List Row) (plan : List Placed) (version switch : ℕ)
+  pub sound : (rows : List Row) (plan : List Hosted) (version switch : ℕ)
       → AreSoundPartitions rows (map part_of plan) → All LastCovers (map part_of plan)
       → length plan < 2 ^ 32
-      → All (λ placed. length placed.0.rules < 2 ^ 32) plan
+      → All (λ hosted. length hosted.0.rules < 2 ^ 32) plan
       → AreSoundTables (tables_of plan version switch)
   -- .. and lead each header to the policy's first match, at each switch and at each target
-  pub leads : (rows : List Row) (plan : List Placed) (version switch : ℕ) (header : Header)
-      → AreSoundPartitions rows (map part_of plan) → All (λ placed. 0 < length placed.1) plan
+  pub leads : (rows : List Row) (plan : List Hosted) (version switch : ℕ) (header : Header)
+      → AreSoundPartitions rows (map part_of plan) → All (λ hosted. 0 < length hosted.1) plan
       → IsHeader header
       → LeadsToFirstMatch rows plan version header (table_lookup (tables_of plan version switch) header)
   -- .. and say what the plan says: the number of the partition that holds the header, and its rule
   -- or its targets
-  pub planned : (rows : List Row) (plan : List Placed) (version switch : ℕ) (header : Header) →
+  pub planned : (rows : List Row) (plan : List Hosted) (version switch : ℕ) (header : Header) →
       AreSoundPartitions rows (map part_of plan) → IsHeader header →
       plan_lookup plan switch header ≡ Some (table_lookup (tables_of plan version switch) header)

@@ -6,11 +6,11 @@ use Rattle.std.specs.List.{list_any}
 use Rattle.five_tuple.specs.Header.{IsHeader, number_of}
 use Rattle.five_tuple.specs.declared.header.Header.{Header}
 use Rattle.ternary.specs.Word.{holds}
-pub use Rattle.policy_rules.specs.Placed.{Placed}
+pub use Rattle.policy_rules.specs.Hosted.{Hosted}
 use Rattle.policy_rules.specs.Partitions.{LastCovers}
 use Rattle.policy_rules.specs.Rules.{first_rule}
 use Rattle.policy_rules.specs.declared.rules.Partition.{Partition}
-use Rattle.policy_rules.specs.Placed.{is_in}
+use Rattle.policy_rules.specs.Hosted.{is_in}
 use Rattle.switch_table.specs.declared.tables.PartRow.{PartRow}
 use Rattle.switch_table.specs.declared.tables.Tables.{Tables}
 
@@ -37,18 +37,18 @@ pub record AreSoundTables (tables : Tables) : Type 0 where
 
 -- ---- the tables of a plan
 
-abbrev pub part_of : Placed → Partition
-part_of placed = placed.0
+abbrev pub part_of : Hosted → Partition
+part_of hosted = hosted.0
 
-abbrev pub row_of : Placed → PartRow
-row_of placed = record { region = placed.0.region; targets = placed.1 }
+abbrev pub row_of : Hosted → PartRow
+row_of hosted = record { region = hosted.0.region; targets = hosted.1 }
 
-abbrev pub has_target : ℕ → Placed → Bool
-has_target switch placed = list_any (nat_eq switch) placed.1
+abbrev pub has_target : ℕ → Hosted → Bool
+has_target switch hosted = list_any (nat_eq switch) hosted.1
 
 -- the tables that a plan gives to a switch: all regions with their targets, and exactly the
 -- partitions whose targets contain it, in the order of the plan
-abbrev pub tables_of : List Placed → ℕ → ℕ → Tables
+abbrev pub tables_of : List Hosted → ℕ → ℕ → Tables
 tables_of plan version switch = record {
   version = version;
   parts = map row_of plan;

@@ -16,14 +16,14 @@ use Rattle.policy_rules.specs.declared.packet.Leg.{Leg}
 use Rattle.policy_rules.specs.declared.packet.Leg.TheVariants.{Seek, Exit}
 use Rattle.policy_rules.specs.declared.policy.Row.{Row}
 use Rattle.policy_rules.specs.declared.rules.Partition.{Partition}
-use Rattle.policy_rules.specs.Placed.{is_in}
+use Rattle.policy_rules.specs.Hosted.{is_in}
 use Rattle.journal.specs.declared.item.Item.{Item}
 use Rattle.switch_core.specs.Answering.{CanLookUp, IsAtAuthority}
 use Rattle.switch_core.specs.Deciding.{own_part}
 use Rattle.switch_core.specs.Hearing.{IsSoundBody}
 use Rattle.switch_core.specs.State.{SwitchValue, held_tables, holds_version, serves}
 use Rattle.switch_core.proofs.SwitchLaws.{heard_keeps}
-use Rattle.switch_table.specs.Tables.{AreSoundTables, Placed, has_target, part_of, tables_of}
+use Rattle.switch_table.specs.Tables.{AreSoundTables, Hosted, has_target, part_of, tables_of}
 use Rattle.switch_table.specs.declared.tables.Tables.{Tables}
 use Rattle.update_machine.specs.Boots.{is_up}
 use Rattle.update_machine.specs.Setting.{Setting}
@@ -78,15 +78,15 @@ any_at test (y ∷ ys) (suc k) x there passes =
     ap (λ b. test y || b) (any_at test ys k x there passes) ∙ or_right (test y) true refl
 
 -- what holds of each partition of the number holds of the switch's own one
-own_found : (P : Partition → Type 0) (s partition : ℕ) (plan : List Placed)
-    → AllByRecursion (λ placed. placed.0.number ≡ partition → P (part_of placed)) plan
-    → list_any (λ placed. (placed.0.number == partition) && has_target s placed) plan ≡ true
+own_found : (P : Partition → Type 0) (s partition : ℕ) (plan : List Hosted)
+    → AllByRecursion (λ hosted. hosted.0.number ≡ partition → P (part_of hosted)) plan
+    → list_any (λ hosted. (hosted.0.number == partition) && has_target s hosted) plan ≡ true
     → IsSomeAnd (find (λ (part : Partition). part.number == partition)
     (map part_of (filter (has_target s) plan))) P
 own_found P s partition [] all there = absurd cc
-own_found P s partition (placed ∷ plan) all there =
-    by_test (own_found P s partition plan all.1) (placed.0.number == partition) refl
-    (has_target s placed) refl there
+own_found P s partition (hosted ∷ plan) all there =
+    by_test (own_found P s partition plan all.1) (hosted.0.number == partition) refl
+    (has_target s hosted) refl there
   where
     Found : List Partition → Type 0
     Found parts = IsSomeAnd (find (λ (part : Partition). part.number == partition) parts) P
@@ -95,46 +95,46 @@ own_found P s partition (placed ∷ plan) all there =
     rest = map part_of (filter (has_target s) plan)
 
     any : Bool
-    any = list_any (λ placed. (placed.0.number == partition) && has_target s placed) plan
+    any = list_any (λ hosted. (hosted.0.number == partition) && has_target s hosted) plan
 
-    by_test : (any ≡ true → Found rest) → (own : Bool) → (placed.0.number == partition) ≡ own
-        → (b : Bool) → has_target s placed ≡ b → ((own && b) || any) ≡ true
-        → Found (map part_of (if b then placed ∷ filter (has_target s) plan
+    by_test : (any ≡ true → Found rest) → (own : Bool) → (hosted.0.number == partition) ≡ own
+        → (b : Bool) → has_target s hosted ≡ b → ((own && b) || any) ≡ true
+        → Found (map part_of (if b then hosted ∷ filter (has_target s) plan
         else filter (has_target s) plan))
     by_test found true is true e there =
-        rw is (all.0 (eqb-true placed.0.number partition is))
+        rw is (all.0 (eqb-true hosted.0.number partition is))
     by_test found true is false e there = found there
     by_test found false is true e there = rw is (found there)
     by_test found false is false e there = found there
 
 -- a partition of this number is the one at its place
-one_of_number : (P : Partition → Type 0) (plan : List Placed) (partition : ℕ) (placed : Placed)
-    → ArePartsNumbered (map part_of plan) → slice_get plan partition ≡ Some placed
-    → P (part_of placed) → All (λ each. each.0.number ≡ partition → P (part_of each)) plan
-one_of_number P plan partition placed numbers there holds k d within is =
-    let each : Placed = get_or plan k d in
+one_of_number : (P : Partition → Type 0) (plan : List Hosted) (partition : ℕ) (hosted : Hosted)
+    → ArePartsNumbered (map part_of plan) → slice_get plan partition ≡ Some hosted
+    → P (part_of hosted) → All (λ each. each.0.number ≡ partition → P (part_of each)) plan
+one_of_number P plan partition hosted numbers there holds k d within is =
+    let each : Hosted = get_or plan k d in
     let fits : k < length (map part_of plan) = omega (arith, within, length-map plan part_of) in
     let number : each.0.number ≡ k =
     ap (λ (p : Partition). p.number) (sym (get_or-map part_of plan k d (part_of d) within))
     ∙ numbers k (part_of d) fits in
     let at : slice_get plan partition ≡ Some each =
     ap (slice_get plan) (sym is ∙ number) ∙ slice_get-get_or plan k d within in
-    let both : Some placed ≡ Some each = sym there ∙ at in
-    let same : placed ≡ each = cc in
+    let both : Some hosted ≡ Some each = sym there ∙ at in
+    let same : hosted ≡ each = cc in
     subst (λ one. P (part_of one)) same holds
 
 -- so what holds of a partition of a plan holds of the own one, by its number, of a target
-pub own_has : (P : Partition → Type 0) (plan : List Placed) (s version partition : ℕ)
-    (placed : Placed) → ArePartsNumbered (map part_of plan)
-    → slice_get plan partition ≡ Some placed → placed.0.number ≡ partition
-    → IsTrue (has_target s placed) → P (part_of placed)
+pub own_has : (P : Partition → Type 0) (plan : List Hosted) (s version partition : ℕ)
+    (hosted : Hosted) → ArePartsNumbered (map part_of plan)
+    → slice_get plan partition ≡ Some hosted → hosted.0.number ≡ partition
+    → IsTrue (has_target s hosted) → P (part_of hosted)
     → IsSomeAnd (own_part (tables_of plan version s) partition) P
-own_has P plan s version partition placed numbers there number target holds =
-    let own : (placed.0.number == partition) ≡ true = eq-eqb placed.0.number partition number in
+own_has P plan s version partition hosted numbers there number target holds =
+    let own : (hosted.0.number == partition) ≡ true = eq-eqb hosted.0.number partition number in
     own_found P s partition plan
     (recursion_from_All (λ each. each.0.number ≡ partition → P (part_of each)) plan
-    (one_of_number P plan partition placed numbers there holds))
-    (any_at (λ each. (each.0.number == partition) && has_target s each) plan partition placed
+    (one_of_number P plan partition hosted numbers there holds))
+    (any_at (λ each. (each.0.number == partition) && has_target s each) plan partition hosted
     there (rw own target))
 
 at_leg : (setting : Setting) (journal : List Item) (s : ℕ) (header : Header) (leg : Leg)
@@ -144,14 +144,14 @@ at_leg setting journal s header (Exit port) known ends = tt
 at_leg setting journal s header (Seek version partition) known sought =
     by_held (held_tables (switch_of setting journal s) version) refl
   where
-    plan : List Placed
+    plan : List Hosted
     plan = plan_at setting journal version
 
     own : (rows : List Row) → IsPlan rows setting.net plan
         → IsSomeAnd (own_part (tables_of plan version s) partition)
         (λ part. IsTrue (is_in header part))
     own rows holds =
-        own_has (λ part. IsTrue (is_in header part)) plan s version partition sought.placed
+        own_has (λ part. IsTrue (is_in header part)) plan s version partition sought.hosted
         holds.sound.numbers sought.found sought.number sought.target sought.holds
 
     by_held : (o : Option Tables) → held_tables (switch_of setting journal s) version ≡ o

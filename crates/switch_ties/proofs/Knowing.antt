@@ -14,10 +14,10 @@ use Rattle.partition.specs.Plan.{IsPlan, plan_of}
 use Rattle.partition.proofs.CallerLemmas.{plan_holds}
 use Rattle.policy_rules.specs.Policy.{IsPolicy}
 use Rattle.policy_rules.specs.declared.policy.Row.{Row}
-use Rattle.policy_rules.specs.Placed.{NoPlan}
+use Rattle.policy_rules.specs.Hosted.{NoPlan}
 use Rattle.journal.specs.declared.item.Item.{Item}
 use Rattle.switch_core.specs.State.{SwitchValue, held_tables, holds_version, no_tables}
-use Rattle.switch_table.specs.Tables.{AreSoundTables, Placed}
+use Rattle.switch_table.specs.Tables.{AreSoundTables, Hosted}
 use Rattle.switch_table.specs.declared.tables.Tables.{Tables}
 use Rattle.switch_table.proofs.TableLemmas.{find-there, tables_are_sound}
 use Rattle.switch_table.specs.Lookup.{lookup_of}
@@ -25,7 +25,7 @@ use Rattle.update_machine.specs.Adverts.{is_cut_off, route_from}
 use Rattle.update_machine.specs.Caches.{lookup_at}
 use Rattle.update_machine.specs.Boots.{boot_of, heard, is_up}
 use Rattle.update_machine.specs.Setting.{Setting, plan_of_file, policy_of_file}
-use Rattle.update_machine.specs.Versions.{collects, holds_version as holds_in, installs, stamp_of, tables_at, version_count, placed_in, file_of, plan_at}
+use Rattle.update_machine.specs.Versions.{collects, holds_version as holds_in, installs, stamp_of, tables_at, version_count, hosted_in, file_of, plan_at}
 use Rattle.update_machine.proofs.CallerLemmas.{of_its_file}
 use Rattle.version_laws.proofs.Sends.{each_kept}
 use Rattle.version_laws.specs.Planned.{BringsTables, HasPlan}
@@ -155,7 +155,7 @@ pub record IsOfPlan (setting : Setting) (journal : List Item) (version : ℕ) : 
   pub rows : List Row
   pub plan : IsPlan rows setting.net (plan_at setting journal version)
 
-is_ok : (r : Result (List Placed) NoPlan) → IsOk r → r ≡ Ok (placed_in r)
+is_ok : (r : Result (List Hosted) NoPlan) → IsOk r → r ≡ Ok (hosted_in r)
 is_ok (Ok plan) ok = refl
 is_ok (Err why) ok = absurd cc
 
@@ -202,9 +202,9 @@ pub tables_sound : (setting : Setting) (journal : List Item) (version s : ℕ)
     → AreSoundTables (tables_at setting journal version s)
 tables_sound setting journal version s known first last =
     let of = planned setting journal version known first last in
-    let plan : List Placed = plan_at setting journal version in
+    let plan : List Hosted = plan_at setting journal version in
     let few : length plan < 2 ^ 32 = omega (arith, of.plan.few) in
-    let few_rules : All (λ placed. length placed.0.rules < 2 ^ 32) plan =
+    let few_rules : All (λ hosted. length hosted.0.rules < 2 ^ 32) plan =
     λ k d within. omega (arith, of.plan.leaves k d within, known.sound.net.leaf_rules) in
     tables_are_sound of.rows plan version s of.plan.sound of.plan.ended few few_rules
 

@@ -7,7 +7,7 @@ use Rattle.ctrl_msg.specs.declared.message.Body.TheVariants.{Collect, Install}
 use Rattle.masks.specs.Masks.{mask_of, mask_where, switches}
 use Rattle.policy_rules.specs.declared.packet.Leg.TheVariants.{Seek}
 use Rattle.policy_rules.specs.declared.policy.Action.TheVariants.{Drop, Out}
-use Rattle.switch_table.specs.Tables.{Placed}
+use Rattle.switch_table.specs.Tables.{Hosted}
 use Rattle.ternary.specs.Word.{holds}
 use Rattle.steps.specs.declared.step.Step.TheVariants as step
 use Rattle.journal.specs.declared.item.Item.{Item}
@@ -114,7 +114,7 @@ not_two_packets : AreInStep (item.Entered 2 0 one ∷ []) → ⊥
 not_two_packets are = absurd are.0
 
 -- the partition is on b, so a isn't where its leg leads
-abbrev only : Placed
+abbrev only : Hosted
 only = (
   record {
     number = 0;
@@ -127,15 +127,15 @@ only = (
 ends_at_b : EndsAt open_net [] 1 one (Seek 1 0)
 unfolding plan_at file_of holds
 ends_at_b =
-    record { placed = only; found = refl; number = refl; holds = refl; target = refl }
+    record { hosted = only; found = refl; number = refl; holds = refl; target = refl }
 
 not_at_a : EndsAt open_net [] 0 one (Seek 1 0) → ⊥
 unfolding plan_at file_of
 not_at_a ends =
-    let found : Some only ≡ Some ends.placed = ends.found in
-    let same : only ≡ ends.placed = cc in
+    let found : Some only ≡ Some ends.hosted = ends.found in
+    let same : only ≡ ends.hosted = cc in
     let target : list_any (nat_eq 0) (1 ∷ []) ≡ true =
-    subst (λ (placed : Placed). list_any (nat_eq 0) placed.1 ≡ true) (sym same) ends.target in
+    subst (λ (hosted : Hosted). list_any (nat_eq 0) hosted.1 ≡ true) (sym same) ends.target in
     cc
 
 -- a switch that is up isn't restarted

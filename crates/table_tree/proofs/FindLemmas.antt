@@ -17,7 +17,7 @@ use Rattle.ternary.specs.Laws.{HoldsLaws, MeetLaws}
 use Rattle.ternary.specs.Word.{WordValue, holds}
 use Rattle.ternary.specs.Meets.{any_word, fix_of, is_fixed_of}
 use Rattle.ternary.proofs.CallerLemmas.{any_holds, fix_holds}
-use Rattle.policy_rules.specs.Placed.{is_in}
+use Rattle.policy_rules.specs.Hosted.{is_in}
 use Rattle.policy_rules.specs.Rules.{is_held}
 use Rattle.policy_rules.specs.declared.rules.Partition.{Partition}
 use Rattle.policy_rules.proofs.CallerLemmas.{find-position}

@@ -239,31 +239,31 @@ leads (suc cuts) list rules region number inside all =
 
 -- ---- the root
 
-pub length_placed : (place : ℕ) (rules : List Rule)
+pub length_ranked : (place : ℕ) (rules : List Rule)
     → length (ranked_by_place place rules) ≡ length rules
-length_placed place [] = refl
-length_placed place (rule ∷ rules) = ap suc (length_placed (place + 1) rules)
+length_ranked place [] = refl
+length_ranked place (rule ∷ rules) = ap suc (length_ranked (place + 1) rules)
 
-placed_agrees : (list : List Rule) (number place : ℕ) (rules : List Rule)
+ranked_agrees : (list : List Rule) (number place : ℕ) (rules : List Rule)
     → ((i : ℕ) → slice_get list (place + i) ≡ slice_get rules i)
     → All (Agrees list number) (ranked_by_place place rules)
-placed_agrees list number place [] same = All-nil (Agrees list number)
-placed_agrees list number place (rule ∷ rules) same =
+ranked_agrees list number place [] same = All-nil (Agrees list number)
+ranked_agrees list number place (rule ∷ rules) same =
     let here : place + 0 ≡ place = omega arith in
     let at : slice_get list place ≡ Some rule = sym (ap (slice_get list) here) ∙ same 0 in
     All-cons (Agrees list number) (record rule { rank = place }) (ranked_by_place (place + 1) rules)
     (ap (λ found. option_map_or (λ (r : Rule). holds r.word number) found false) at)
-    (placed_agrees list number (place + 1) rules
+    (ranked_agrees list number (place + 1) rules
     (λ i. let next : place + 1 + i ≡ place + suc i = omega arith in
     ap (slice_get list) next ∙ same (suc i)))
 
-placed_position : (number place : ℕ) (rules : List Rule)
+ranked_position : (number place : ℕ) (rules : List Rule)
     → option_map rank_of (find (is_held number) (ranked_by_place place rules))
     ≡ cond (nat_lt (position_or_len (is_held number) rules) (length rules))
     (Some (place + position_or_len (is_held number) rules)) None
-placed_position number place [] = refl
-placed_position number place (rule ∷ rules) =
-    by_case (holds rule.word number) (placed_position number (place + 1) rules)
+ranked_position number place [] = refl
+ranked_position number place (rule ∷ rules) =
+    by_case (holds rule.word number) (ranked_position number (place + 1) rules)
   where
     by_case : (b : Bool)
         → option_map rank_of (find (is_held number) (ranked_by_place (place + 1) rules))
@@ -298,12 +298,12 @@ pub tree_first : (list : List Rule) (region : WordValue) (number : ℕ)
     ≡ position (is_held number) list
 unfolding rule_tree
 tree_first list region number inside =
-    let placed = ranked_by_place 0 list in
-    let agree = placed_agrees list number 0 list (λ i. ap (slice_get list) (none_more i)) in
-    leads 12 list (narrow placed region) region number inside
-    (side_agrees list placed region number inside agree)
-    ∙ first_kept placed region number inside
-    ∙ placed_position number 0 list
+    let ranked = ranked_by_place 0 list in
+    let agree = ranked_agrees list number 0 list (λ i. ap (slice_get list) (none_more i)) in
+    leads 12 list (narrow ranked region) region number inside
+    (side_agrees list ranked region number inside agree)
+    ∙ first_kept ranked region number inside
+    ∙ ranked_position number 0 list
     ∙ ap (λ k. cond (nat_lt (position_or_len (is_held number) list) (length list)) (Some k) None)
     (none_more (position_or_len (is_held number) list))
   where

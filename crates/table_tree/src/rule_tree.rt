@@ -39,8 +39,8 @@ impl RuleTree {
         ensures tree { IfOk result (λ tree.
             rule_shape tree.root ≡ rule_tree rules.now region.now) }
     {
-        let placed = placed(alloc, rules)?;
-        let node = Node::new(alloc, &placed, region)?;
+        let ranked = ranked(alloc, rules)?;
+        let node = Node::new(alloc, &ranked, region)?;
         let root = grow(alloc, node, MOST_CUTS)?;
         Ok(RuleTree {
             region: *region,
@@ -82,16 +82,16 @@ fn holds_at(rules: &[Rule], place: u32, number: u128) -> bool
 }
 
 // The rules, each with its place as its rank.
-fn placed(alloc: Global, rules: &[Rule]) -> Result<Vec<Rule>, AllocError>
+fn ranked(alloc: Global, rules: &[Rule]) -> Result<Vec<Rule>, AllocError>
     requires { length rules.now < 2 ^ 32 }
-    ensures rules { IfOk result (λ placed. placed.items ≡ ranked_by_place 0 rules.now) }
-    ensures words { IfOk result (λ placed. AreWords placed.items) }
+    ensures rules { IfOk result (λ ranked. ranked.items ≡ ranked_by_place 0 rules.now) }
+    ensures words { IfOk result (λ ranked. AreWords ranked.items) }
 {
-    let mut placed = Vec::with_capacity(alloc, rules.len())?;
+    let mut ranked = Vec::with_capacity(alloc, rules.len())?;
     for rule in rules {
-        let rank = placed.len() as u32;
+        let rank = ranked.len() as u32;
         let _ = rule.word.mask();
-        placed.push(Rule { rank, ..*rule })?;
+        ranked.push(Rule { rank, ..*rule })?;
     }
-    Ok(placed)
+    Ok(ranked)
 }

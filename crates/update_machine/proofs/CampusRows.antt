@@ -14,7 +14,7 @@ use Rattle.five_tuple.specs.HeaderNumbers.{header_of}
 use Rattle.five_tuple.specs.declared.header.Header.{Header}
 use Rattle.ternary.specs.Word.{WordValue}
 use Rattle.net_file.specs.declared.net.Net.{Net}
-use Rattle.partition.specs.Plan.{Placed}
+use Rattle.partition.specs.Plan.{Hosted}
 use Rattle.update_machine.specs.Setting.{Setting}
 
 abbrev header_1 : Header
@@ -62,10 +62,10 @@ later_rules =
     9 (Some 200) (Out 3)
     ∷ rule any_word 10 None Drop ∷ []
 
-abbrev plan_1 : List Placed
+abbrev plan_1 : List Hosted
 plan_1 = on (1 ∷ 2 ∷ []) (rule word_1 0 (Some 600) (Out 2) ∷ later_rules)
 
-abbrev plan_2 : List Placed
+abbrev plan_2 : List Hosted
 plan_2 = on (1 ∷ 2 ∷ []) (rule word_1 0 (Some 600) Drop ∷ later_rules)
 
 abbrev campus_net : Net

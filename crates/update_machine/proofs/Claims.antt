@@ -13,9 +13,9 @@ use Rattle.failover.proofs.LinkSets.{has_link-none}
 use Rattle.masks.specs.Masks.{has}
 use Rattle.masks.proofs.CallerLemmas.{has_mask, has-or, has-pow_other}
 use Rattle.net_file.specs.Joins.{are_linked, joins}
-use Rattle.partition.specs.Plan.{Placed}
+use Rattle.partition.specs.Plan.{Hosted}
 use Rattle.policy_rules.specs.declared.policy.Row.{Row}
-use Rattle.policy_rules.specs.Placed.{NoPlan}
+use Rattle.policy_rules.specs.Hosted.{NoPlan}
 use Rattle.journal.specs.declared.item.Item.{Item}
 use Rattle.journal.specs.declared.item.Item.TheVariants as item
 use Rattle.update_machine.specs.Causes.{finds_down}
@@ -23,7 +23,7 @@ use Rattle.update_machine.specs.Folds.{first_told, folded_from}
 use Rattle.update_machine.specs.LinkMasks.{near, usable_links}
 use Rattle.update_machine.specs.Links.{can_use, is_usable}
 use Rattle.update_machine.specs.Setting.{IsFileOf, IsPlanOf, Setting, plan_of_file, policy_of_file}
-use Rattle.update_machine.specs.Versions.{file_of, placed_in, plan_at, tells_file}
+use Rattle.update_machine.specs.Versions.{file_of, hosted_in, plan_at, tells_file}
 use Rattle.update_machine.specs.Ways.{changes_found, found_down}
 
 -- ---- links that switches can use
@@ -197,32 +197,32 @@ file_is journal version file is = elim (cases_eq version 1) [
 ]
 
 -- a plan that has a partition is that of the file of its version
-pub plan_is : (setting : Setting) (journal : List Item) (version : ℕ) (placed : Placed)
-    → Contains (plan_at setting journal version) placed
+pub plan_is : (setting : Setting) (journal : List Item) (version : ℕ) (hosted : Hosted)
+    → Contains (plan_at setting journal version) hosted
     → IsPlanOf setting journal version (plan_at setting journal version)
 unfolding plan_at
-plan_is setting journal version placed there =
+plan_is setting journal version hosted there =
     by_file (file_of journal version) refl there
   where
-    plan_by : Option (List Row) → List Placed
-    plan_by policy = option_map_or (λ rows. placed_in (setting.plan rows)) policy []
+    plan_by : Option (List Row) → List Hosted
+    plan_by policy = option_map_or (λ rows. hosted_in (setting.plan rows)) policy []
 
-    by_plan : (file : ℕ) (rows : List Row) (plan : Result (List Placed) NoPlan)
+    by_plan : (file : ℕ) (rows : List Row) (plan : Result (List Hosted) NoPlan)
         → IsFileOf journal version file → policy_of_file setting file ≡ Some rows
-        → setting.plan rows ≡ plan → Contains (placed_in plan) placed
-        → IsPlanOf setting journal version (placed_in plan)
+        → setting.plan rows ≡ plan → Contains (hosted_in plan) hosted
+        → IsPlanOf setting journal version (hosted_in plan)
     by_plan file rows (Err why) of policy is there = absurd (omega (arith, there.1))
     by_plan file rows (Ok plan) of policy is there = (file, of, rw (policy, plan_of_file) is)
 
     by_policy : (file : ℕ) (policy : Option (List Row)) → IsFileOf journal version file
-        → policy_of_file setting file ≡ policy → Contains (plan_by policy) placed
+        → policy_of_file setting file ≡ policy → Contains (plan_by policy) hosted
         → IsPlanOf setting journal version (plan_by policy)
     by_policy file None of is there = absurd (omega (arith, there.1))
     by_policy file (Some rows) of is there =
         by_plan file rows (setting.plan rows) of is refl there
 
     by_file : (file : Option ℕ) → file_of journal version ≡ file
-        → Contains (plan_by (option_and_then (policy_of_file setting) file)) placed
+        → Contains (plan_by (option_and_then (policy_of_file setting) file)) hosted
         → IsPlanOf setting journal version
         (plan_by (option_and_then (policy_of_file setting) file))
     by_file None is there = absurd (omega (arith, there.1))

@@ -8,13 +8,13 @@ use Rattle.ternary.specs.Word.{WordValue}
 use Rattle.net_file.specs.declared.net.Net.{Net}
 use Rattle.net_file.specs.declared.net.LinkRow.{LinkRow}
 use Rattle.net_file.specs.declared.net.SwitchRow.{SwitchRow}
-use Rattle.partition.specs.Plan.{Placed}
+use Rattle.partition.specs.Plan.{Hosted}
 use Rattle.policy_rules.specs.declared.rules.Rule.{Rule}
 use Rattle.policy_rules.specs.declared.packet.Leaving.{Leaving}
 use Rattle.policy_rules.specs.declared.policy.Action.{Action}
 use Rattle.policy_rules.specs.declared.policy.Action.TheVariants.{Drop, Out}
 use Rattle.policy_rules.specs.declared.policy.Row.{Row}
-use Rattle.policy_rules.specs.Placed.{NoPlan, TooManyLeaves}
+use Rattle.policy_rules.specs.Hosted.{NoPlan, TooManyLeaves}
 use Rattle.ctrl_msg.specs.declared.message.Body.{Body}
 use Rattle.ctrl_msg.specs.declared.message.Body.TheVariants.{Advertise, Hello, Install, Installed, OpenAt}
 use Rattle.ctrl_msg.specs.declared.message.Message.{Message}
@@ -88,8 +88,8 @@ abbrev pub out_or_drop : List (List Row)
 out_or_drop = (all_to (Out 2) ∷ []) ∷ (all_to Drop ∷ []) ∷ []
 
 -- the plan of the policy that lets out, and of the one that drops
-abbrev pub by_action : Result (List Placed) NoPlan → Result (List Placed) NoPlan → List Row
-    → Result (List Placed) NoPlan
+abbrev pub by_action : Result (List Hosted) NoPlan → Result (List Hosted) NoPlan → List Row
+    → Result (List Hosted) NoPlan
 by_action outs drops [] = Err TooManyLeaves
 by_action outs drops (row ∷ rows) = elim row.action [
   | Drop ↦ drops
@@ -105,7 +105,7 @@ abbrev pub rule : WordValue → ℕ → Option ℕ → Action → Rule
 rule word rank priority action =
     record { word = word; rank = rank; rule = priority; action = action }
 
-abbrev pub on : List ℕ → List Rule → List Placed
+abbrev pub on : List ℕ → List Rule → List Hosted
 on targets rules = (record { number = 0; region = any_word; rules = rules }, targets) ∷ []
 
 -- `200,any,10.1.0.0/16,any,80,tcp,drop` and `100,any,10.0.0.0/8,any,any,tcp,out:2`, on b
@@ -115,7 +115,7 @@ web = record { value = 184539498331133464582; mask = 4722294425275624062975 }
 abbrev pub tcp : WordValue
 tcp = record { value = 184467440737095516166; mask = 4703919738795935662335 }
 
-abbrev pub shield_plan : List Placed
+abbrev pub shield_plan : List Hosted
 shield_plan =
     on (1 ∷ [])
     (rule web 0 (Some 200) Drop ∷ rule tcp 1 (Some 100) (Out 2) ∷ rule any_word 2 None Drop ∷ [])
@@ -125,16 +125,16 @@ abbrev pub cached : WordValue
 cached = record { value = 184611555925171372038; mask = 4704063853984011518207 }
 
 -- `100,any,any,any,any,any,out:2`, and the same with `drop`, on b; the latter on the one switch too
-abbrev pub plan_p : List Placed
+abbrev pub plan_p : List Hosted
 plan_p = on (1 ∷ []) (rule any_word 0 (Some 100) (Out 2) ∷ rule any_word 1 None Drop ∷ [])
 
 abbrev pub all_dropped : List Rule
 all_dropped = rule any_word 0 (Some 100) Drop ∷ rule any_word 1 None Drop ∷ []
 
-abbrev pub plan_q : List Placed
+abbrev pub plan_q : List Hosted
 plan_q = on (1 ∷ []) all_dropped
 
-abbrev pub plan_s : List Placed
+abbrev pub plan_s : List Hosted
 plan_s = on (0 ∷ []) all_dropped
 
 -- ---- networks

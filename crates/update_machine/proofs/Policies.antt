@@ -10,7 +10,7 @@ use Rattle.journal.specs.declared.item.Item.TheVariants as item
 use Rattle.update_machine.specs.Folds.{first_told}
 use Rattle.update_machine.specs.Numbers.{VersionsAreNumbered}
 use Rattle.update_machine.specs.Setting.{Setting, policy_of_file}
-use Rattle.update_machine.specs.Versions.{is_submission, is_version, policy_at, version_count, placed_in, file_of, plan_at, tells_file}
+use Rattle.update_machine.specs.Versions.{is_submission, is_version, policy_at, version_count, hosted_in, file_of, plan_at, tells_file}
 use Rattle.update_machine.proofs.FoldLemmas.{count_of_append, first_told_append}
 use Rattle.update_machine.proofs.SilentLinks.{policies_keep}
 
@@ -56,14 +56,14 @@ pub plan_kept : (setting : Setting) (before items : List Item) (v : ℕ)
     → plan_at setting (before ++ items) v ≡ plan_at setting before v
 unfolding plan_at
 plan_kept setting before items v there =
-    ap (λ file. option_map_or (λ rows. placed_in (setting.plan rows))
+    ap (λ file. option_map_or (λ rows. hosted_in (setting.plan rows))
     (option_and_then (policy_of_file setting) file) [])
     (file_kept before items v there)
 
 pub of_its_file : (setting : Setting) (journal : List Item) (v file : ℕ) (rows : List Row)
     → file_of journal v ≡ Some file → policy_of_file setting file ≡ Some rows
     → (policy_at setting journal v ≡ rows)
-    × (plan_at setting journal v ≡ placed_in (setting.plan rows))
+    × (plan_at setting journal v ≡ hosted_in (setting.plan rows))
 unfolding policy_at plan_at
 of_its_file setting journal v file rows of_file there =
     (rw (of_file, there) refl, rw (of_file, there) refl)

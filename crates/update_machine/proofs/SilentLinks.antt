@@ -16,7 +16,7 @@ use Rattle.update_machine.specs.LinkMasks.{near}
 use Rattle.update_machine.specs.Quiet.{is_waited_for, tells_waited_for}
 use Rattle.update_machine.specs.Setting.{Setting, policy_of_file}
 use Rattle.update_machine.specs.Steps.{StepItems, steps_in}
-use Rattle.update_machine.specs.Versions.{is_submission, policy_at, stamp_of, version_count, placed_in, file_of, plan_at, tells_file}
+use Rattle.update_machine.specs.Versions.{is_submission, policy_at, stamp_of, version_count, hosted_in, file_of, plan_at, tells_file}
 use Rattle.update_machine.proofs.Silent.{Silent, Stays, count_stays, fewer, first_stays, last_or_stays, neither_left, neither_right, stays}
 use Rattle.update_machine.proofs.SilentSteps.{weight_stays}
 use Rattle.update_machine.proofs.SilentSwitches.{link_stays, near_stays, switch_keeps}
@@ -195,7 +195,7 @@ policies_keep before items none = record {
   file = file_stays before items none;
   policy = λ setting v. ap (λ o. unwrap_or (option_and_then (policy_of_file setting) o) [])
       (file_stays before items none v);
-  plan = λ setting v. ap (λ o. option_map_or (λ rows. placed_in (setting.plan rows))
+  plan = λ setting v. ap (λ o. option_map_or (λ rows. hosted_in (setting.plan rows))
       (option_and_then (policy_of_file setting) o) [])
       (file_stays before items none v);
 }

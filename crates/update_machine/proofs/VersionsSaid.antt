@@ -2,7 +2,7 @@
 use Rattle.std.proofs.Common.{◌≡◌, true, Some, None, List, [], ◌∷◌, refl, arith}
 use Rattle.std.specs.Prelude.{Ok, Err, length}
 use Rattle.std.proofs.lemmas.List.Elements.{All-from_recursion}
-use Rattle.policy_rules.specs.Placed.{NoRoom}
+use Rattle.policy_rules.specs.Hosted.{NoRoom}
 use Rattle.policy_rules.specs.declared.policy.Action.TheVariants.{Out}
 use Rattle.steps.specs.Steps.{IsStep}
 use Rattle.steps.specs.declared.step.Step.TheVariants as step

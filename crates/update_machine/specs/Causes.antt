@@ -3,7 +3,7 @@ use Rattle.std.specs.Prelude.{⊤, ℕ, ◌≡◌, ◌⊎◌, Bool, true, false,
 use Rattle.std.specs.List.{list_any}
 use Rattle.five_tuple.specs.declared.header.Header.{Header}
 use Rattle.net_file.specs.Joins.{are_linked, owner_of}
-use Rattle.policy_rules.specs.Placed.{Placed, is_in}
+use Rattle.policy_rules.specs.Hosted.{Hosted, is_in}
 use Rattle.policy_rules.specs.declared.packet.Leaving.{Leaving}
 use Rattle.policy_rules.specs.declared.packet.Leg.{Leg}
 use Rattle.policy_rules.specs.declared.packet.Leg.TheVariants.{Seek, Exit}
@@ -73,9 +73,9 @@ Leads joined at (next ∷ rest) target = IsTrue (joined at next) × Leads joined
 abbrev pub AreTargets : Setting → List Item → ℕ → Leg → List ℕ → Type 0
 AreTargets setting before packet (Seek version partition) targets =
     (decision_of before packet ≡ None) × (header : Header) × (header_in before packet ≡ Some header)
-    × (plan : List Placed) × IsPlanOf setting before version plan
-    × (placed : Placed) × Contains plan placed × IsTrue (is_in header placed.0)
-    × (placed.0.number ≡ partition) × (placed.1 ≡ targets)
+    × (plan : List Hosted) × IsPlanOf setting before version plan
+    × (hosted : Hosted) × Contains plan hosted × IsTrue (is_in header hosted.0)
+    × (hosted.0.number ≡ partition) × (hosted.1 ≡ targets)
 AreTargets setting before packet (Exit port) targets =
     (decision : Decision) × (decision_of before packet ≡ Some decision)
     × (decision.action ≡ Out port)

@@ -2,7 +2,7 @@
 use Rattle.std.specs.Prelude.{ℕ, ◌≡◌, Some, List, find, option_map, All, IsFalse}
 use Rattle.failover.specs.Links.{IsReachable}
 use Rattle.masks.specs.Masks.{has}
-use Rattle.policy_rules.specs.Placed.{is_in}
+use Rattle.policy_rules.specs.Hosted.{is_in}
 use Rattle.policy_rules.specs.declared.packet.Leg.{Leg}
 use Rattle.policy_rules.specs.declared.packet.Leg.TheVariants.{Seek, Exit}
 use Rattle.policy_rules.specs.declared.policy.Action.TheVariants.{Out}
@@ -25,8 +25,8 @@ pub record FindsNextDown (setting : Setting) (before : List Item) (packet one tw
 abbrev pub SeeksOwn : Setting → List Item → ℕ → Leg → Type 0
 SeeksOwn setting before packet (Seek version partition) =
     (header : Header) × (header_in before packet ≡ Some header)
-    × (option_map (λ placed. placed.0.number)
-    (find (λ placed. is_in header placed.0) (plan_at setting before version))
+    × (option_map (λ hosted. hosted.0.number)
+    (find (λ hosted. is_in header hosted.0) (plan_at setting before version))
     ≡ Some partition)
 SeeksOwn setting before packet (Exit port) =
     (decision : Decision) × (decision_of before packet ≡ Some decision)

@@ -117,16 +117,16 @@ abbrev pub authority_rule : Setting → List Item → ℕ → ℕ → ℕ → Op
 authority_rule setting journal version partition place =
     elim (slice_get (plan_at setting journal version) partition) [
       | None ↦ None
-      | Some placed ↦ option_map
-          (λ rule. record { version = version; part = part_of placed; place = place; rule = rule })
-          (slice_get placed.0.rules place)
+      | Some hosted ↦ option_map
+          (λ rule. record { version = version; part = part_of hosted; place = place; rule = rule })
+          (slice_get hosted.0.rules place)
     ]
 
 -- the place of the first rule of the partition that holds the header
 abbrev pub first_place : Setting → List Item → ℕ → ℕ → Header → ℕ
 first_place setting journal version partition header =
     unwrap_or (option_and_then
-    (λ placed. position (is_held (number_of header)) placed.0.rules)
+    (λ hosted. position (is_held (number_of header)) hosted.0.rules)
     (slice_get (plan_at setting journal version) partition)) 0
 
 -- the cache rule by which the ingress decides headers as this rule does

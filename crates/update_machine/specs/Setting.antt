@@ -4,11 +4,11 @@ use Rattle.std.specs.List.{range_with_len}
 use Rattle.net_file.specs.declared.net.Net.{Net}
 use Rattle.net_file.specs.Net.{IsNet}
 use Rattle.net_file.specs.Joins.{owner_of}
-use Rattle.partition.specs.Plan.{Placed, plan_of}
+use Rattle.partition.specs.Plan.{Hosted, plan_of}
 use Rattle.policy_rules.specs.declared.policy.Row.{Row}
 use Rattle.policy_rules.specs.Policy.{IsPolicy}
 use Rattle.policy_rules.specs.declared.policy.Action.{Action}
-use Rattle.policy_rules.specs.Placed.{NoPlan, TooManyLeaves}
+use Rattle.policy_rules.specs.Hosted.{NoPlan, TooManyLeaves}
 use Rattle.policy_rules.specs.declared.policy.Action.TheVariants as action
 use Rattle.journal.specs.declared.item.Item.{Item}
 use Rattle.journal.specs.declared.item.Item.TheVariants as item
@@ -18,7 +18,7 @@ use Rattle.journal.specs.declared.item.Item.TheVariants as item
 pub record Setting : Type 0 where
   pub net : Net
   pub policies : List (List Row)
-  pub plan : List Row → Result (List Placed) NoPlan
+  pub plan : List Row → Result (List Hosted) NoPlan
 
 -- the setting of these policies on this network
 abbrev pub setting_of : Net → List (List Row) → Setting
@@ -38,7 +38,7 @@ policy_of_file setting file =
     if file == 0 then None else slice_get setting.policies (file - 1)
 
 -- and has no plan
-abbrev pub plan_of_file : Setting → ℕ → Result (List Placed) NoPlan
+abbrev pub plan_of_file : Setting → ℕ → Result (List Hosted) NoPlan
 plan_of_file setting file = elim (policy_of_file setting file) [
   | None ↦ Err TooManyLeaves
   | Some rows ↦ setting.plan rows
@@ -50,7 +50,7 @@ IsFileOf journal version file =
     ((version ≡ 1) × (file ≡ 1)) ⊎ Contains journal (item.Submitted file version)
 
 -- the plan of a version is that of its file's policy
-abbrev pub IsPlanOf : Setting → List Item → ℕ → List Placed → Type 0
+abbrev pub IsPlanOf : Setting → List Item → ℕ → List Hosted → Type 0
 IsPlanOf setting journal version plan = (file : ℕ) × IsFileOf journal version file
     × (plan_of_file setting file ≡ Ok plan)
 

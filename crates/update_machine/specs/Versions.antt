@@ -8,7 +8,7 @@ use Rattle.std.specs.Option.{option_map_or}
 use Rattle.ctrl_msg.specs.declared.message.Body.{Body}
 use Rattle.ctrl_msg.specs.declared.message.Body.TheVariants.{Install, OpenAt, Stamp, Collect}
 use Rattle.policy_rules.specs.declared.policy.Row.{Row}
-use Rattle.policy_rules.specs.Placed.{NoPlan}
+use Rattle.policy_rules.specs.Hosted.{NoPlan}
 use Rattle.switch_table.specs.Tables.{tables_of}
 use Rattle.switch_table.specs.declared.tables.Tables.{Tables}
 use Rattle.journal.specs.declared.item.Item.{Item}
@@ -16,14 +16,14 @@ use Rattle.journal.specs.declared.item.Item.TheVariants as item
 use Rattle.update_machine.specs.Boots.{heard, is_in_first_boot}
 use Rattle.update_machine.specs.Folds.{count_of, first_told}
 use Rattle.update_machine.specs.Setting.{Setting, policy_of_file}
-use Rattle.partition.specs.Plan.{Placed}
+use Rattle.partition.specs.Plan.{Hosted}
 
 -- ---- policies and plans
 
 -- the partitions of a plan with their targets; none where there is no plan
-abbrev pub placed_in : Result (List Placed) NoPlan → List Placed
-placed_in (Ok plan) = plan
-placed_in (Err why) = []
+abbrev pub hosted_in : Result (List Hosted) NoPlan → List Hosted
+hosted_in (Ok plan) = plan
+hosted_in (Err why) = []
 
 abbrev pub tells_file : ℕ → Item → Option ℕ
 tells_file v (item.Submitted file version) = if version == v then Some file else None
@@ -41,9 +41,9 @@ policy_in setting journal version =
     option_and_then (policy_of_file setting) (file_of journal version)
 
 -- the partitions of its plan with their targets; none where there is no policy or no plan
-unfoldable pub plan_at : Setting → List Item → ℕ → List Placed
+unfoldable pub plan_at : Setting → List Item → ℕ → List Hosted
 plan_at setting journal version =
-    option_map_or (λ rows. placed_in (setting.plan rows)) (policy_in setting journal version) []
+    option_map_or (λ rows. hosted_in (setting.plan rows)) (policy_in setting journal version) []
 
 abbrev pub is_submission : Item → Bool
 is_submission (item.Submitted file version) = true

@@ -6,7 +6,7 @@ use Rattle.failover.specs.Links.{no_links, with_link}
 use Rattle.net_file.specs.Joins.{owner_of}
 use Rattle.policy_rules.specs.declared.packet.Leg.{Leg}
 use Rattle.policy_rules.specs.declared.packet.Leg.TheVariants.{Seek, Exit}
-use Rattle.switch_table.specs.Tables.{Placed}
+use Rattle.switch_table.specs.Tables.{Hosted}
 use Rattle.journal.specs.declared.item.Item.{Item}
 use Rattle.update_machine.specs.Folds.{folded, last_told}
 use Rattle.update_machine.specs.Setting.{Setting}
@@ -50,9 +50,9 @@ unfoldable pub found_down : List Item → ℕ → List ℕ
 found_down journal i = folded (changes_found i) no_links journal
 
 -- the targets of the partition at a place of a plan
-abbrev pub targets_in : List Placed → ℕ → List ℕ
+abbrev pub targets_in : List Hosted → ℕ → List ℕ
 targets_in plan partition =
-    unwrap_or (option_map (λ placed. placed.1) (slice_get plan partition)) []
+    unwrap_or (option_map (λ hosted. hosted.1) (slice_get plan partition)) []
 
 -- a number that no switch has: they are below 64
 abbrev pub no_switch : ℕ

@@ -3,7 +3,7 @@ ghost use Rattle.std.specs.Prelude.{◌≡◌, ◌+◌, ◌++◌, ◌↔◌, ◌
 ghost use Rattle.std.specs.Option.{option_or};
 ghost use Rattle.policy_rules.specs.declared.policy.Row.{Row};
 ghost use Rattle.steps.specs.declared.step.Event.TheVariants.{One};
-ghost use Rattle.update_machine.specs.Journals.{Answers, AnswersSoFar, AreAnswered, AreNumbered, AreStepsOf, BeginsAnswer, ConcernLaws, Event, HasPlay, HaveSteps, IsFull, IsPlay, Item, KnownLinkLaws, Setting, StartLaws, Step, StepOfRow, StopsFull, after_steps, file_of, full_at, is_sending, is_version, placed_in, plan_at, policy_at, policy_of_file};
+ghost use Rattle.update_machine.specs.Journals.{Answers, AnswersSoFar, AreAnswered, AreNumbered, AreStepsOf, BeginsAnswer, ConcernLaws, Event, HasPlay, HaveSteps, IsFull, IsPlay, Item, KnownLinkLaws, Setting, StartLaws, Step, StepOfRow, StopsFull, after_steps, file_of, full_at, is_sending, is_version, hosted_in, plan_at, policy_at, policy_of_file};
 ghost use Rattle.update_machine.specs.Folds.{all_given, count_of, first_told, folded, folded_from, last_told};
 ghost use Rattle.update_machine.specs.declared.full.TheConstants.{FULL_AT};
 
@@ -93,7 +93,7 @@ pub fn versions_keep_policies()
     ensures of_file { (setting : Setting) (journal : List Item) (version file : ℕ) (rows : List Row)
         → file_of journal version ≡ Some file → policy_of_file setting file ≡ Some rows
         → (policy_at setting journal version ≡ rows)
-        × (plan_at setting journal version ≡ placed_in (setting.plan rows)) }
+        × (plan_at setting journal version ≡ hosted_in (setting.plan rows)) }
 {}
 
 /// What a journal without items says.

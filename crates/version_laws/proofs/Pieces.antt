@@ -3,9 +3,9 @@ use Rattle.std.proofs.Common.{ℕ, ◌≡◌, ◌+◌, ◌==◌, true, Option, S
 use Rattle.std.specs.Prelude.{Result, Ok, Err}
 use Rattle.std.proofs.lemmas.Bool.{eq-eqb}
 use Rattle.std.proofs.lemmas.Bool.Decides.{nat_tests}
-use Rattle.partition.specs.Plan.{Placed}
+use Rattle.partition.specs.Plan.{Hosted}
 use Rattle.policy_rules.specs.declared.policy.Row.{Row}
-use Rattle.policy_rules.specs.Placed.{NoPlan, TooManyLeaves}
+use Rattle.policy_rules.specs.Hosted.{NoPlan, TooManyLeaves}
 use Rattle.journal.specs.declared.item.Item.{Item}
 use Rattle.journal.specs.declared.item.Item.TheVariants as item
 use Rattle.steps.specs.declared.step.Step.{Step}
@@ -42,7 +42,7 @@ may_submit setting file journal allowed = by (policy_of_file setting file) refl
         rw (none, update_code) at allowed in absurd cc
     by (Some rows) there = by_plan (setting.plan rows) refl
       where
-        by_plan : (plan : Result (List Placed) NoPlan) → setting.plan rows ≡ plan
+        by_plan : (plan : Result (List Hosted) NoPlan) → setting.plan rows ≡ plan
             → SubmitsRightly setting journal file (version_count journal + 1)
         by_plan (Err why) none =
             let refused : Some (plan_code why) ≡ None =

@@ -35,11 +35,11 @@ use Rattle.update_machine.specs.Setting.{Setting, switches_of, policy_of_file}
 use Rattle.update_machine.specs.Ways.{found_down, targets_of}
 use Rattle.update_machine.proofs.CallerLemmas.{have_first, have_in_turn, have_put, version_kept}
 use Rattle.std.specs.Option.{option_map_or}
-use Rattle.partition.specs.Plan.{Placed}
+use Rattle.partition.specs.Plan.{Hosted}
 use Rattle.policy_rules.specs.declared.packet.Leg.TheVariants.{Seek, Exit}
 use Rattle.policy_rules.specs.declared.rules.Rule.{Rule}
 use Rattle.switch_table.specs.Tables.{part_of}
-use Rattle.update_machine.specs.Versions.{holds_version, is_version, stamp_of, placed_in, file_of, plan_at}
+use Rattle.update_machine.specs.Versions.{holds_version, is_version, stamp_of, hosted_in, file_of, plan_at}
 use Rattle.version_laws.specs.ItemCauses.{HasItemCause, IsRightMessage}
 use Rattle.version_laws.proofs.Facts.{Has, have_weaker}
 use Rattle.version_laws.proofs.Sends.{each_flat_map, each_map, each_append, each_of_network}
@@ -178,14 +178,14 @@ end_work setting i s action.Drop journal = (tt, tt)
 end_work setting i s (action.Out port) journal = grind (arith, leg_work)
 
 -- a version with a partition is there
-part_there : (setting : Setting) (journal : List Item) (version partition : ℕ) (placed : Placed)
-    → slice_get (plan_at setting journal version) partition ≡ Some placed
+part_there : (setting : Setting) (journal : List Item) (version partition : ℕ) (hosted : Hosted)
+    → slice_get (plan_at setting journal version) partition ≡ Some hosted
     → IsTrue (is_version journal version)
 unfolding plan_at
-part_there setting journal version partition placed is = by_file (file_of journal version) is
+part_there setting journal version partition hosted is = by_file (file_of journal version) is
   where
-    by_file : (o : Option ℕ) → slice_get (option_map_or (λ rows. placed_in (setting.plan rows))
-        (option_and_then (policy_of_file setting) o) []) partition ≡ Some placed
+    by_file : (o : Option ℕ) → slice_get (option_map_or (λ rows. hosted_in (setting.plan rows))
+        (option_and_then (policy_of_file setting) o) []) partition ≡ Some hosted
         → IsTrue (is_some o)
     by_file None is = absurd cc
     by_file (Some file) is = refl
@@ -198,26 +198,26 @@ rule_there : (setting : Setting) (journal : List Item) (version partition place 
 rule_there setting journal version partition place =
     by_part (slice_get (plan_at setting journal version) partition) refl
   where
-    by_rule : (placed : Placed) (o : Option Rule) → IsTrue (is_version journal version)
+    by_rule : (hosted : Hosted) (o : Option Rule) → IsTrue (is_version journal version)
         → IsOfVersion journal (option_map
-        (λ rule. record { version = version; part = part_of placed; place = place; rule = rule }) o)
-    by_rule placed None there = tt
-    by_rule placed (Some rule) there = there
+        (λ rule. record { version = version; part = part_of hosted; place = place; rule = rule }) o)
+    by_rule hosted None there = tt
+    by_rule hosted (Some rule) there = there
 
-    by_part : (o : Option Placed) → slice_get (plan_at setting journal version) partition ≡ o
+    by_part : (o : Option Hosted) → slice_get (plan_at setting journal version) partition ≡ o
         → IsOfVersion journal (elim o [
           | None ↦ None
-          | Some placed ↦ option_map
+          | Some hosted ↦ option_map
               (λ rule. record {
                 version = version;
-                part = part_of placed;
+                part = part_of hosted;
                 place = place;
                 rule = rule;
-              }) (slice_get placed.0.rules place)
+              }) (slice_get hosted.0.rules place)
         ])
     by_part None e = tt
-    by_part (Some placed) e = by_rule placed (slice_get placed.0.rules place)
-        (part_there setting journal version partition placed e)
+    by_part (Some hosted) e = by_rule hosted (slice_get hosted.0.rules place)
+        (part_there setting journal version partition hosted e)
 
 cache_work : (setting : Setting) (i s : ℕ) (rule : AuthorityRule) (journal : List Item)
     → IsTrue (is_version journal rule.version)

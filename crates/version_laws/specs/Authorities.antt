@@ -5,10 +5,10 @@ use Rattle.std.specs.Prelude.{ℕ, ◌≡◌, nat_eq, Some, List, slice_get, IsT
 use Rattle.std.specs.List.{list_any}
 use Rattle.five_tuple.specs.declared.header.Header.{Header}
 use Rattle.net_file.specs.Joins.{owner_of}
-use Rattle.policy_rules.specs.Placed.{is_in}
+use Rattle.policy_rules.specs.Hosted.{is_in}
 use Rattle.policy_rules.specs.declared.packet.Leg.{Leg}
 use Rattle.policy_rules.specs.declared.packet.Leg.TheVariants.{Seek, Exit}
-use Rattle.switch_table.specs.Tables.{Placed, part_of}
+use Rattle.switch_table.specs.Tables.{Hosted, part_of}
 use Rattle.journal.specs.declared.item.Item.{Item}
 use Rattle.update_machine.specs.Setting.{Setting}
 use Rattle.update_machine.specs.Versions.{plan_at}
@@ -17,11 +17,11 @@ use Rattle.update_machine.specs.Versions.{plan_at}
 -- its targets
 pub record IsSoughtAt (setting : Setting) (journal : List Item) (s : ℕ) (header : Header)
     (version partition : ℕ) : Type 0 where
-  pub placed : Placed
-  pub found : slice_get (plan_at setting journal version) partition ≡ Some placed
-  pub number : placed.0.number ≡ partition
-  pub holds : IsTrue (is_in header (part_of placed))
-  pub target : IsTrue (list_any (nat_eq s) placed.1)
+  pub hosted : Hosted
+  pub found : slice_get (plan_at setting journal version) partition ≡ Some hosted
+  pub number : hosted.0.number ≡ partition
+  pub holds : IsTrue (is_in header (part_of hosted))
+  pub target : IsTrue (list_any (nat_eq s) hosted.1)
 
 -- a packet at the end of its route is where its leg leads
 abbrev pub EndsAt : Setting → List Item → ℕ → Header → Leg → Type 0

@@ -5,7 +5,7 @@ use Rattle.five_tuple.specs.Header.{number_of}
 use Rattle.policy_rules.specs.Rules.{is_held}
 use Rattle.policy_rules.specs.declared.packet.Leg.{Leg}
 use Rattle.policy_rules.specs.declared.packet.Leg.TheVariants.{Seek, Exit}
-use Rattle.switch_table.specs.Tables.{Placed}
+use Rattle.switch_table.specs.Tables.{Hosted}
 use Rattle.switch_table.specs.declared.search.Found.TheVariants as found
 use Rattle.journal.specs.declared.item.Item.{Item}
 use Rattle.update_machine.specs.Links.{serves}
@@ -69,7 +69,7 @@ rules_there setting journal i s moved partition place answer =
     let finds : FindsRule setting journal s moved.here.under.header partition place =
     authority_found setting journal s moved.here.under.header partition place moved.here.stamped
     moved.here.under.sound (ap (lookup_at setting journal s) (sym moved.here.header) ∙ answer) in
-    let rule = rule_there setting journal moved.here.under.header finds.part.placed
+    let rule = rule_there setting journal moved.here.under.header finds.part.hosted
     (stamp_of journal s) partition finds.part.finds finds.part.number in
     subst
     (λ p. IsTrue (is_some (authority_rule setting journal (stamp_of journal s) partition p)))
@@ -89,16 +89,16 @@ sought_there setting journal i s version partition moved seeks =
     current_planned setting journal version moved.is moved.have
     (omega (arith, on.not_retired)) on.current in
     let finds : Finds (policy_at setting journal version) (plan_at setting journal version)
-    moved.here.under.header on.placed =
+    moved.here.under.header on.hosted =
     in_plan setting (policy_at setting journal version) (plan_at setting journal version)
-    moved.here.under.header on.placed planned moved.here.under.sound on.own.first in
+    moved.here.under.header on.hosted planned moved.here.under.sound on.own.first in
     let place : first_place setting journal version partition (header_at journal i)
     ≡ finds.place =
     ap (first_place setting journal version partition) moved.here.header
-    ∙ ap (λ (o : Option Placed). unwrap_or (option_and_then
-    (λ (p : Placed). position (is_held (number_of moved.here.under.header)) p.0.rules) o) 0)
+    ∙ ap (λ (o : Option Hosted). unwrap_or (option_and_then
+    (λ (p : Hosted). position (is_held (number_of moved.here.under.header)) p.0.rules) o) 0)
     on.own.found ∙ finds.position in
-    let rule = rule_there setting journal moved.here.under.header on.placed version partition finds
+    let rule = rule_there setting journal moved.here.under.header on.hosted version partition finds
     on.own.number in
     subst
     (λ p. IsTrue (is_some (authority_rule setting journal version partition p)))

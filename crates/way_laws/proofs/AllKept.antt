@@ -279,7 +279,7 @@ told_right setting before message known tells =
       known = omega (arith, rules.not_retired);
       current = rules.current;
       decides = cache_rule_right setting (policy_at setting before version)
-          (plan_at setting before version) header rules.placed rules.finds rules.planned
+          (plan_at setting before version) header rules.hosted rules.finds rules.planned
           here.under.sound;
     } in
     subst (λ (m : Message). BringsRight setting before m.body) (sym tells.says)

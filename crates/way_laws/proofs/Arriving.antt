@@ -36,11 +36,11 @@ by_leg : (setting : Setting) (journal : List Item) (i s : ℕ) (header : Header)
     → IsOnLeg setting journal (what_is_known journal i) header leg
     → EndsAt setting journal s header leg
 by_leg setting journal i s header (Seek version partition) way at on = record {
-  placed = on.placed;
+  hosted = on.hosted;
   found = on.own.found;
   number = on.own.number;
   holds = on.own.holds;
-  target = at_target setting journal i s header (Seek version partition) on.placed.1 way at
+  target = at_target setting journal i s header (Seek version partition) on.hosted.1 way at
       on.leads.ends;
 }
 by_leg setting journal i s header (Exit port) way at on =

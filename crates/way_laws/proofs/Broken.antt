@@ -9,13 +9,13 @@ use Rattle.std.proofs.lemmas.List.Elements.{All-from_recursion}
 use Rattle.failover.specs.Links.{no_links}
 use Rattle.five_tuple.specs.Header.{number_of}
 use Rattle.masks.specs.Masks.{has, mask_where, mask_of, switches}
-use Rattle.partition.specs.Plan.{Placed}
+use Rattle.partition.specs.Plan.{Hosted}
 use Rattle.policy_rules.specs.declared.packet.Cause.TheVariants.{NoAuthority, NoRoute}
 use Rattle.policy_rules.specs.declared.packet.How.TheVariants.{Authority}
 use Rattle.policy_rules.specs.declared.packet.Leg.TheVariants.{Seek, Exit}
 use Rattle.policy_rules.specs.declared.policy.Action.TheVariants.{Drop, Out}
 use Rattle.policy_rules.specs.declared.rules.Rule.{Rule}
-use Rattle.policy_rules.specs.Placed.{NoPlan}
+use Rattle.policy_rules.specs.Hosted.{NoPlan}
 use Rattle.ternary.specs.Word.{holds}
 use Rattle.journal.specs.declared.item.Item.{Item}
 use Rattle.journal.specs.declared.item.Item.TheVariants as item
@@ -162,18 +162,18 @@ first_file zero file within e = absurd cc
 first_file (suc zero) file within e = absurd cc
 first_file (suc (suc k)) file within e = absurd (omega (arith, within))
 
-its_plan : (file : ℕ) (plan : List Placed) → IsFileOf entered 1 file
+its_plan : (file : ℕ) (plan : List Hosted) → IsFileOf entered 1 file
     → plan_of_file open_net file ≡ Ok plan → plan ≡ plan_p
 its_plan file plan (inl first) planned =
-    let own : ◌≡◌ {A = Result (List Placed) NoPlan} (Ok plan_p) (Ok plan) =
+    let own : ◌≡◌ {A = Result (List Hosted) NoPlan} (Ok plan_p) (Ok plan) =
     subst (λ f. plan_of_file open_net f ≡ Ok plan) first.1 planned in
     cc
 its_plan file plan (inr sent) planned = absurd (first_file sent.0 file sent.1 sent.2)
 
-its_part : (k : ℕ) (placed : Placed) → k < 1 → get_or plan_p k placed ≡ placed
-    → placed.1 ≡ 1 ∷ []
-its_part zero placed within e = ap (λ (p : Placed). p.1) (sym e)
-its_part (suc k) placed within e = absurd (omega (arith, within))
+its_part : (k : ℕ) (hosted : Hosted) → k < 1 → get_or plan_p k hosted ≡ hosted
+    → hosted.1 ≡ 1 ∷ []
+its_part zero hosted within e = ap (λ (p : Hosted). p.1) (sym e)
+its_part (suc k) hosted within e = absurd (omega (arith, within))
 
 not_stuck_where_a_way_is_known : HasCause open_net entered (seeking 1) → ⊥
 unfolding is_link_up serves claim_of message_of

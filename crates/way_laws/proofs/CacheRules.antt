@@ -11,14 +11,14 @@ use Rattle.cache_maker.specs.Independent.{IsIndependent, is_independent, widen, 
 use Rattle.cache_maker.proofs.Independence.{test_true}
 use Rattle.five_tuple.specs.Header.{IsHeader, number_of}
 use Rattle.five_tuple.specs.declared.header.Header.{Header}
-use Rattle.policy_rules.specs.Placed.{is_in}
+use Rattle.policy_rules.specs.Hosted.{is_in}
 use Rattle.policy_rules.specs.Scan.{scan}
 use Rattle.policy_rules.specs.RuleList.{hit_of_rule}
 use Rattle.policy_rules.specs.Rules.{first_rule, is_held}
 use Rattle.policy_rules.specs.declared.policy.Row.{Row}
 use Rattle.policy_rules.specs.declared.rules.Partition.{Partition}
 use Rattle.policy_rules.specs.declared.rules.Rule.{Rule}
-use Rattle.switch_table.specs.Tables.{Placed, part_of}
+use Rattle.switch_table.specs.Tables.{Hosted, part_of}
 use Rattle.ternary.specs.Word.{WordValue, holds}
 use Rattle.ternary.specs.Meets.{covers_of, exact_word, free_of, meet_of}
 use Rattle.ternary.proofs.CallerLemmas.{covers_held, meet_disjoint}
@@ -66,21 +66,21 @@ number_bound header sound =
 -- ---- headers of a partition
 
 -- the first rule of a partition of a plan decides each header of its region
-region_decides : (setting : Setting) (rows : List Row) (plan : List Placed) (number : ℕ)
-    (placed : Placed) (header : Header) → IsPlanned setting rows plan → IsHeader header → slice_get plan number ≡ Some placed
-    → IsTrue (is_in header (part_of placed)) →
-    option_map hit_of_rule (first_rule placed.0.rules header) ≡ Some
+region_decides : (setting : Setting) (rows : List Row) (plan : List Hosted) (number : ℕ)
+    (hosted : Hosted) (header : Header) → IsPlanned setting rows plan → IsHeader header → slice_get plan number ≡ Some hosted
+    → IsTrue (is_in header (part_of hosted)) →
+    option_map hit_of_rule (first_rule hosted.0.rules header) ≡ Some
     (scan rows header)
-region_decides setting rows plan number placed header is sound at =
+region_decides setting rows plan number hosted header is sound at =
     let parts : List Partition = map part_of plan in
-    let there : slice_get parts number ≡ Some (part_of placed) =
+    let there : slice_get parts number ≡ Some (part_of hosted) =
     slice_get-map part_of plan number ∙ ap (option_map part_of) at in
     subst (λ (p : Partition). IsTrue (is_in header p)
     → option_map hit_of_rule (first_rule p.rules header) ≡ Some
     (scan rows header))
-    (get_or_from_slice_get parts number (part_of placed) (part_of placed) there)
-    (is.parts.sound.decides header sound number (part_of placed)
-    (slice_get_within parts number (part_of placed) there))
+    (get_or_from_slice_get parts number (part_of hosted) (part_of hosted) there)
+    (is.parts.sound.decides header sound number (part_of hosted)
+    (slice_get_within parts number (part_of hosted) there))
 
 -- the policy decides each header of the word by this rule
 abbrev Settles : List Row → Rule → WordValue → Type 0
@@ -91,65 +91,65 @@ Settles rows rule word =
 some_same : {X : Type 0} (x y : X) → Some x ≡ Some y → x ≡ y
 some_same x y e = cc
 
-exact_settles : (setting : Setting) (rows : List Row) (plan : List Placed) (header : Header)
-    (placed : Placed) (finds : Finds rows plan header placed) → IsPlanned setting rows plan → IsHeader header
+exact_settles : (setting : Setting) (rows : List Row) (plan : List Hosted) (header : Header)
+    (hosted : Hosted) (finds : Finds rows plan header hosted) → IsPlanned setting rows plan → IsHeader header
     → Settles rows finds.rule (exact_word (number_of header))
-exact_settles setting rows plan header placed finds is sound other fits held =
+exact_settles setting rows plan header hosted finds is sound other fits held =
     let same : number_of other ≡ number_of header =
     exact_number (number_of header) (number_of other) (number_bound header sound)
     (number_bound other fits) held in
-    some_same _ _ (sym (region_decides setting rows plan placed.0.number placed other is fits finds.at
-    (subst (λ n. IsTrue (holds placed.0.region n)) (sym same) finds.holds))
-    ∙ ap (λ n. option_map hit_of_rule (find (is_held n) placed.0.rules)) same
-    ∙ region_decides setting rows plan placed.0.number placed header is sound finds.at finds.holds)
+    some_same _ _ (sym (region_decides setting rows plan hosted.0.number hosted other is fits finds.at
+    (subst (λ n. IsTrue (holds hosted.0.region n)) (sym same) finds.holds))
+    ∙ ap (λ n. option_map hit_of_rule (find (is_held n) hosted.0.rules)) same
+    ∙ region_decides setting rows plan hosted.0.number hosted header is sound finds.at finds.holds)
     ∙ sym finds.decides
 
-independent_settles : (setting : Setting) (rows : List Row) (plan : List Placed) (header : Header)
-    (placed : Placed) (finds : Finds rows plan header placed) (word : WordValue) → IsPlanned setting rows plan
-    → IsIndependent placed.0.region placed.0.rules finds.place word →
+independent_settles : (setting : Setting) (rows : List Row) (plan : List Hosted) (header : Header)
+    (hosted : Hosted) (finds : Finds rows plan header hosted) (word : WordValue) → IsPlanned setting rows plan
+    → IsIndependent hosted.0.region hosted.0.rules finds.place word →
     Settles rows finds.rule word
-independent_settles setting rows plan header placed finds word is apart other fits held =
+independent_settles setting rows plan header hosted finds word is apart other fits held =
     let covered : IsTrue (covers_of finds.rule.word word) =
     subst (λ o. IsSomeAnd o (λ (rule : Rule). IsTrue (covers_of rule.word word))) finds.ruled
     apart.in_rule in
-    let first : find (is_held (number_of other)) placed.0.rules ≡ Some finds.rule =
-    first_found placed.0.rules finds.place finds.rule word (number_of other) finds.ruled covered
+    let first : find (is_held (number_of other)) hosted.0.rules ≡ Some finds.rule =
+    first_found hosted.0.rules finds.place finds.rule word (number_of other) finds.ruled covered
     apart.earlier held in
-    some_same _ _ (sym (region_decides setting rows plan placed.0.number placed other is fits finds.at
-    (covers_held placed.0.region word (number_of other) apart.in_region held))
+    some_same _ _ (sym (region_decides setting rows plan hosted.0.number hosted other is fits finds.at
+    (covers_held hosted.0.region word (number_of other) apart.in_region held))
     ∙ ap (option_map hit_of_rule) first)
 
 -- each bit is freed where that keeps the word independent
-widened_settles : (setting : Setting) (rows : List Row) (plan : List Placed) (header : Header)
-    (placed : Placed) (finds : Finds rows plan header placed) (n : ℕ) → IsPlanned setting rows plan → IsHeader header
+widened_settles : (setting : Setting) (rows : List Row) (plan : List Hosted) (header : Header)
+    (hosted : Hosted) (finds : Finds rows plan header hosted) (n : ℕ) → IsPlanned setting rows plan → IsHeader header
     → Settles rows finds.rule
-    (widened (number_of header) placed.0.region placed.0.rules finds.place n)
+    (widened (number_of header) hosted.0.region hosted.0.rules finds.place n)
 unfolding widened
-widened_settles setting rows plan header placed finds zero is sound = exact_settles setting rows plan header placed
+widened_settles setting rows plan header hosted finds zero is sound = exact_settles setting rows plan header hosted
     finds is sound
-widened_settles setting rows plan header placed finds (suc n) is sound =
-    by_test (is_independent placed.0.region placed.0.rules finds.place (free_of before n)) refl
-    (widened_settles setting rows plan header placed finds n is sound)
+widened_settles setting rows plan header hosted finds (suc n) is sound =
+    by_test (is_independent hosted.0.region hosted.0.rules finds.place (free_of before n)) refl
+    (widened_settles setting rows plan header hosted finds n is sound)
   where
     before : WordValue
-    before = widened (number_of header) placed.0.region placed.0.rules finds.place n
+    before = widened (number_of header) hosted.0.region hosted.0.rules finds.place n
 
     by_test : (b : Bool)
-        → is_independent placed.0.region placed.0.rules finds.place (free_of before n) ≡ b
+        → is_independent hosted.0.region hosted.0.rules finds.place (free_of before n) ≡ b
         → Settles rows finds.rule before →
         Settles rows finds.rule (if b then free_of before n else before)
     by_test true independent settled =
-        independent_settles setting rows plan header placed finds (free_of before n) is
-        (test_true placed.0.region placed.0.rules finds.place (free_of before n) independent)
+        independent_settles setting rows plan header hosted finds (free_of before n) is
+        (test_true hosted.0.region hosted.0.rules finds.place (free_of before n) independent)
     by_test false other settled = settled
 
 -- ---- the cache rule
 
-pub cache_rule_right : (setting : Setting) (rows : List Row) (plan : List Placed)
-    (header : Header) (placed : Placed) (finds : Finds rows plan header placed)
+pub cache_rule_right : (setting : Setting) (rows : List Row) (plan : List Hosted)
+    (header : Header) (hosted : Hosted) (finds : Finds rows plan header hosted)
     → IsPlanned setting rows plan → IsHeader header
     → Settles rows finds.rule
-    (widen (number_of header) placed.0.region placed.0.rules finds.place)
+    (widen (number_of header) hosted.0.region hosted.0.rules finds.place)
 unfolding widen
-cache_rule_right setting rows plan header placed finds is sound =
-    widened_settles setting rows plan header placed finds 104 is sound
+cache_rule_right setting rows plan header hosted finds is sound =
+    widened_settles setting rows plan header hosted finds 104 is sound

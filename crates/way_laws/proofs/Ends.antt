@@ -16,7 +16,7 @@ use Rattle.policy_rules.specs.declared.packet.Leg.{Leg}
 use Rattle.policy_rules.specs.declared.packet.Leg.TheVariants.{Seek, Exit}
 use Rattle.policy_rules.specs.declared.policy.Action.{Action}
 use Rattle.policy_rules.specs.declared.policy.Action.TheVariants as action
-use Rattle.switch_table.specs.Tables.{Placed}
+use Rattle.switch_table.specs.Tables.{Hosted}
 use Rattle.journal.specs.declared.item.Item.{Item}
 use Rattle.journal.specs.declared.item.Item.TheVariants as item
 use Rattle.update_machine.specs.LinkMasks.{adverts_of_others, links_known, near}
@@ -111,15 +111,15 @@ seeks_part : (setting : Setting) (before : List Item) (i s version partition : �
     → Knows setting before i (stage_of before i) → (here : IsHere setting before i s)
     → TakesLeg setting before i s (Seek version partition)
     ⊎ IsBlockedOn before i (Seek version partition)
-    → (placed : Placed)
-    × IsPartitionOf setting before here.under.header version partition placed
+    → (hosted : Hosted)
+    × IsPartitionOf setting before here.under.header version partition hosted
 seeks_part setting before i s version partition knows here (inl takes) =
     redirected_to setting before i s version partition here takes
 seeks_part setting before i s version partition knows here (inr blocked) =
     let on = seeking_of setting before (what_is_known before i) here.under.header version partition
     (knows.kept.on_way here.travelling (inr blocked.blocked)) here.under.entered
     (leg_in before i (Some (Seek version partition)) blocked.takes) in
-    (on.placed, on.own)
+    (on.hosted, on.own)
 
 -- its decision, by the port to which it exits
 exits_by : (setting : Setting) (before : List Item) (i s port : ℕ)
@@ -142,7 +142,7 @@ own_leg setting before i s (Seek version partition) knows here on =
     let part = seeks_part setting before i s version partition knows here on in (
       here.under.header,
       entered_as setting before i s here,
-      ap (option_map (λ (p : Placed). p.0.number)) part.1.first ∙ ap Some part.1.number,
+      ap (option_map (λ (p : Hosted). p.0.number)) part.1.first ∙ ap Some part.1.number,
     )
 own_leg setting before i s (Exit port) knows here on =
     exits_by setting before i s port knows here on
@@ -218,12 +218,12 @@ finds_down setting before i one two knows meets =
         absurd cc
 
 -- a partition of a plan stands in it
-part_in : (plan : List Placed) (k : ℕ) (placed : Placed) → slice_get plan k ≡ Some placed
-    → Contains plan placed
-part_in plan k placed there = (
+part_in : (plan : List Hosted) (k : ℕ) (hosted : Hosted) → slice_get plan k ≡ Some hosted
+    → Contains plan hosted
+part_in plan k hosted there = (
   k,
-  slice_get_within plan k placed there,
-  get_or_from_slice_get plan k placed placed there,
+  slice_get_within plan k hosted there,
+  get_or_from_slice_get plan k hosted hosted there,
 )
 
 -- no way leads to any of these targets
@@ -250,24 +250,24 @@ targets_cut_off : (setting : Setting) (before : List Item) (i s : ℕ) (leg : Le
     → HasTargets setting before i s leg
 targets_cut_off setting before i s (Seek version partition) knows here on cut =
     let part = seeks_part setting before i s version partition knows here on in
-    let placed : Placed = part.0 in
-    let plan : List Placed = plan_at setting before version in
+    let hosted : Hosted = part.0 in
+    let plan : List Hosted = plan_at setting before version in
     record {
-      targets = placed.1;
+      targets = hosted.1;
       own_leg = (
         (seeks_rightly setting before i s version partition knows here on).undecided,
         here.under.header,
         entered_as setting before i s here,
         plan,
-        plan_is setting before version placed (part_in plan partition placed part.1.found),
-        placed,
-        part_in plan partition placed part.1.found,
+        plan_is setting before version hosted (part_in plan partition hosted part.1.found),
+        hosted,
+        part_in plan partition hosted part.1.found,
         part.1.holds,
         part.1.number,
         refl,
       );
       cut_off = subst (AreCutOff setting before i s)
-          (ap (λ o. unwrap_or (option_map (λ (p : Placed). p.1) o) []) part.1.found) cut;
+          (ap (λ o. unwrap_or (option_map (λ (p : Hosted). p.1) o) []) part.1.found) cut;
     }
 targets_cut_off setting before i s (Exit port) knows here on cut =
     let by = exits_by setting before i s port knows here on in

@@ -6,7 +6,7 @@ use Rattle.policy_rules.specs.Scan.{scan}
 use Rattle.policy_rules.specs.declared.packet.Leg.{Leg}
 use Rattle.policy_rules.specs.declared.packet.Leg.TheVariants.{Seek, Exit}
 use Rattle.policy_rules.specs.declared.policy.Action.{Action}
-use Rattle.switch_table.specs.Tables.{Placed}
+use Rattle.switch_table.specs.Tables.{Hosted}
 use Rattle.ternary.specs.Word.{WordValue}
 use Rattle.journal.specs.declared.item.Item.{Item}
 use Rattle.update_machine.specs.Causes.{HaveCauses}
@@ -65,11 +65,11 @@ right_on setting before after version word rule action grow right = record {
 }
 
 part_on : (setting : Setting) (before after : List Item) (header : Header)
-    (version partition : ℕ) (placed : Placed) → Grows setting before after → 1 ≤ version
+    (version partition : ℕ) (hosted : Hosted) → Grows setting before after → 1 ≤ version
     → version ≤ current_mark before
-    → IsPartitionOf setting before header version partition placed
-    → IsPartitionOf setting after header version partition placed
-part_on setting before after header version partition placed grow above below own = record {
+    → IsPartitionOf setting before header version partition hosted
+    → IsPartitionOf setting after header version partition hosted
+part_on setting before after header version partition hosted grow above below own = record {
   found = rw (grow.plan version above below) own.found;
   number = own.number;
   first = rw (grow.plan version above below) own.first;
@@ -83,8 +83,8 @@ sought_on : (setting : Setting) (before after : List Item) (mark : ℕ) (header 
 sought_on setting before after mark header version partition grow sought = record {
   not_retired = sought.not_retired;
   current = omega (arith, sought.current, grow.current);
-  placed = sought.placed;
-  own = part_on setting before after header version partition sought.placed grow
+  hosted = sought.hosted;
+  own = part_on setting before after header version partition sought.hosted grow
       (omega (arith, sought.not_retired)) sought.current sought.own;
 }
 

@@ -6,7 +6,7 @@ use Rattle.five_tuple.specs.declared.header.Header.{Header}
 use Rattle.policy_rules.specs.Rules.{is_held}
 use Rattle.policy_rules.specs.declared.packet.Leg.{Leg}
 use Rattle.policy_rules.specs.declared.packet.Leg.TheVariants.{Seek, Exit}
-use Rattle.switch_table.specs.Tables.{Placed}
+use Rattle.switch_table.specs.Tables.{Hosted}
 use Rattle.journal.specs.declared.item.Item.{Item}
 use Rattle.update_machine.specs.Caches.{lookup_at}
 use Rattle.update_machine.specs.Causes.{HaveCauses}
@@ -127,9 +127,9 @@ pub record Rules (setting : Setting) (before : List Item) (facts : PacketFacts) 
   pub current : version ≤ current_mark before
   pub planned : IsPlanned setting (policy_at setting before version)
       (plan_at setting before version)
-  pub placed : Placed
+  pub hosted : Hosted
   pub finds : Finds (policy_at setting before version) (plan_at setting before version) header
-      placed
+      hosted
   pub same : found ≡ deciding version finds
 
 rule_is : (o : Option AuthorityRule) (one other : AuthorityRule) → o ≡ Some one → o ≡ Some other
@@ -159,11 +159,11 @@ rules_of setting before i s version found is have here sought finds = elim finds
         not_retired = omega (arith, here.under.mark, here.stamped.retired);
         current = here.stamped.current;
         planned = here.stamped.planned;
-        placed = own.part.placed;
+        hosted = own.part.hosted;
         finds = own.part.finds;
         same = rule_is (authority_rule setting before stamp finds.partition
             own.part.finds.place) found (deciding stamp own.part.finds) rule
-            (rule_there setting before here.under.header own.part.placed stamp finds.partition
+            (rule_there setting before here.under.header own.part.hosted stamp finds.partition
             own.part.finds own.part.number);
       })
   | inr by ↦
@@ -175,24 +175,24 @@ rules_of setting before i s version found is have here sought finds = elim finds
       (plan_at setting before version) =
       current_planned setting before version is have (omega (arith, leg.not_retired)) leg.current in
       let own : Finds (policy_at setting before version) (plan_at setting before version)
-      here.under.header leg.placed =
+      here.under.header leg.hosted =
       in_plan setting (policy_at setting before version) (plan_at setting before version)
-      here.under.header leg.placed planned here.under.sound leg.own.first in
+      here.under.header leg.hosted planned here.under.sound leg.own.first in
       let place : finds.place ≡ own.place =
       by.first ∙ ap (first_place setting before version finds.partition) here.header
-      ∙ ap (λ (o : Option Placed). unwrap_or (option_and_then
-      (λ (p : Placed). position (is_held (number_of here.under.header)) p.0.rules) o) 0)
+      ∙ ap (λ (o : Option Hosted). unwrap_or (option_and_then
+      (λ (p : Hosted). position (is_held (number_of here.under.header)) p.0.rules) o) 0)
       leg.own.found ∙ own.position in
       record {
         not_retired = leg.not_retired;
         current = leg.current;
         planned = planned;
-        placed = leg.placed;
+        hosted = leg.hosted;
         finds = own;
         same = rule_is (authority_rule setting before version finds.partition own.place) found
             (deciding version own)
             (ap (authority_rule setting before version finds.partition) (sym place) ∙ finds.rule)
-            (rule_there setting before here.under.header leg.placed version finds.partition own
+            (rule_there setting before here.under.header leg.hosted version finds.partition own
             leg.own.number);
       }
 ]

@@ -12,7 +12,7 @@ use Rattle.net_file.specs.declared.net.LinkRow.{LinkRow}
 use Rattle.net_file.specs.Joins.{are_linked, joins, owner_of}
 use Rattle.std.specs.List.{Any}
 use Rattle.std.proofs.lemmas.List.Folds.{Any-from_list_any}
-use Rattle.policy_rules.specs.Placed.{is_in}
+use Rattle.policy_rules.specs.Hosted.{is_in}
 use Rattle.policy_rules.specs.Scan.{scan}
 use Rattle.policy_rules.specs.declared.packet.How.{How}
 use Rattle.policy_rules.specs.declared.packet.How.TheVariants as how
@@ -23,7 +23,7 @@ use Rattle.policy_rules.specs.declared.policy.Action.TheVariants as action
 use Rattle.policy_rules.specs.declared.rules.Partition.{Partition}
 use Rattle.switch_table.specs.Cache.{first_entry}
 use Rattle.switch_table.specs.Lookup.{authority_of, redirect_of, table_lookup}
-use Rattle.switch_table.specs.Tables.{Placed}
+use Rattle.switch_table.specs.Tables.{Hosted}
 use Rattle.switch_table.specs.declared.cache.CacheEntry.{CacheEntry}
 use Rattle.switch_table.specs.declared.search.Found.TheVariants as found
 use Rattle.switch_table.specs.declared.tables.Tables.{Tables}
@@ -169,15 +169,15 @@ stage_alone (inr x) = inr x.0
 -- the partition to which a lookup sends it
 pub redirected_to : (setting : Setting) (before : List Item) (i s version partition : ℕ)
     → (here : IsHere setting before i s) → IsRedirected setting before i s version partition
-    → (placed : Placed)
-    × IsPartitionOf setting before here.under.header version partition placed
+    → (hosted : Hosted)
+    × IsPartitionOf setting before here.under.header version partition hosted
 redirected_to setting before i s version partition here takes =
     let leads : FindsTargets setting before s here.under.header partition takes.targets =
     redirect_found setting before s here.under.header partition takes.targets here.stamped
     here.under.sound (ap (lookup_at setting before s) (sym here.header) ∙ takes.answer) in
-    let placed : Placed = leads.part.placed in (
-      placed,
-      subst (λ v. IsPartitionOf setting before here.under.header v partition placed)
+    let hosted : Hosted = leads.part.hosted in (
+      hosted,
+      subst (λ v. IsPartitionOf setting before here.under.header v partition hosted)
           (sym takes.stamp) (record {
             found = ap (slice_get (plan_at setting before (stamp_of before s)))
                 (sym leads.part.number) ∙ leads.part.finds.at;
@@ -189,11 +189,11 @@ redirected_to setting before i s version partition here takes =
 
 -- whose targets the leg to it has
 seek_targets : (setting : Setting) (before : List Item) (header : Header)
-    (version partition : ℕ) (placed : Placed)
-    → IsPartitionOf setting before header version partition placed
-    → targets_of setting before (Seek version partition) ≡ placed.1
-seek_targets setting before header version partition placed own =
-    ap (λ o. unwrap_or (option_map (λ (p : Placed). p.1) o) []) own.found
+    (version partition : ℕ) (hosted : Hosted)
+    → IsPartitionOf setting before header version partition hosted
+    → targets_of setting before (Seek version partition) ≡ hosted.1
+seek_targets setting before header version partition hosted own =
+    ap (λ o. unwrap_or (option_map (λ (p : Hosted). p.1) o) []) own.found
 
 -- a packet that takes a route where it stands
 sets_out : (setting : Setting) (before : List Item) (i s : ℕ) (taken : Option Leg) (leg : Leg)
@@ -224,21 +224,21 @@ seeking_after setting before i mark version partition route knows takes =
     let s : ℕ = takes.switch in
     let here : IsHere setting before i s = here_known setting before i s knows takes.at in
     let part = redirected_to setting before i s version partition here takes.takes in
-    let placed : Placed = part.0 in
-    let targets : targets_of setting before (Seek version partition) ≡ placed.1 =
-    seek_targets setting before here.under.header version partition placed part.1 in
-    let way : IsWay setting s placed.1 facts.found route =
-    route_way setting before s placed.1 facts.found route knows.links
-    (subst (λ down. route_from setting before s placed.1 down ≡ Some route) (found_in before i)
+    let hosted : Hosted = part.0 in
+    let targets : targets_of setting before (Seek version partition) ≡ hosted.1 =
+    seek_targets setting before here.under.header version partition hosted part.1 in
+    let way : IsWay setting s hosted.1 facts.found route =
+    route_way setting before s hosted.1 facts.found route knows.links
+    (subst (λ down. route_from setting before s hosted.1 down ≡ Some route) (found_in before i)
     (ap (λ all. route_from setting before s all (found_down before i)) (sym targets)
     ∙ takes.leads)) in
-    sets_out setting before i s _ (Seek version partition) placed.1 route here refl way (record {
+    sets_out setting before i s _ (Seek version partition) hosted.1 route here refl way (record {
       undecided = undecided_of setting before i s (stage_of before i) knows.kept here
           (stage_when before i s 0 (inl takes.takes.looked_up));
       sought = record {
         not_retired = omega (arith, here.under.mark, here.stamped.retired, takes.takes.stamp);
         current = omega (arith, here.stamped.current, takes.takes.stamp);
-        placed = placed;
+        hosted = hosted;
         own = part.1;
       };
       leads = way.leads;
@@ -293,7 +293,7 @@ leg_by setting before facts route header (Seek version partition) on leads = rec
   undecided = on.undecided;
   sought = on.sought;
   leads = subst (λ targets. LeadsTo setting targets route)
-      (seek_targets setting before header version partition on.placed on.own) leads;
+      (seek_targets setting before header version partition on.hosted on.own) leads;
 }
 leg_by setting before facts route header (Exit port) on leads = record {
   decision = on.decision;

@@ -9,7 +9,7 @@ use Rattle.policy_rules.specs.declared.policy.Row.{Row}
 use Rattle.policy_rules.specs.declared.rules.Rule.{Rule}
 use Rattle.switch_table.specs.Cache.{first_entry}
 use Rattle.switch_table.specs.Lookup.{authority_of, lookup_in, table_lookup}
-use Rattle.switch_table.specs.Tables.{Placed, has_target, part_of}
+use Rattle.switch_table.specs.Tables.{Hosted, has_target, part_of}
 use Rattle.switch_table.specs.declared.cache.CacheEntry.{CacheEntry}
 use Rattle.switch_table.specs.declared.search.Found.{Found}
 use Rattle.switch_table.specs.declared.search.Found.TheVariants as found
@@ -64,10 +64,10 @@ stamped setting journal s is have there serving =
 -- a partition of the plan of the stamp holds the header
 pub record FindsPart (setting : Setting) (journal : List Item) (s : ℕ) (header : Header)
     (partition : ℕ) : Type 0 where
-  pub placed : Placed
+  pub hosted : Hosted
   pub finds : Finds (policy_at setting journal (stamp_of journal s))
-      (plan_at setting journal (stamp_of journal s)) header placed
-  pub number : placed.0.number ≡ partition
+      (plan_at setting journal (stamp_of journal s)) header hosted
+  pub number : hosted.0.number ≡ partition
 
 by_tables : (entries : Option CacheEntry) (said other : Found)
     → option_map_or found.Cached entries said ≡ other
@@ -94,7 +94,7 @@ LooksUpAt setting journal s header =
 record SaysOf (setting : Setting) (journal : List Item) (s : ℕ) (header : Header) (what : Found)
     : Type 0 where
   looks : LooksUpAt setting journal s header
-  is : lookup_in s header looks.placed ≡ what
+  is : lookup_in s header looks.hosted ≡ what
 
 says_of : (setting : Setting) (journal : List Item) (s : ℕ) (header : Header) (what : Found)
     → IsStamped setting journal s → IsHeader header → lookup_at setting journal s header ≡ what
@@ -113,7 +113,7 @@ pub record FindsRule (setting : Setting) (journal : List Item) (s : ℕ) (header
     (partition place : ℕ) : Type 0 where
   pub part : FindsPart setting journal s header partition
   pub found_at : part.finds.place ≡ place
-  pub target : IsTrue (has_target s part.placed)
+  pub target : IsTrue (has_target s part.hosted)
 
 pub authority_found : (setting : Setting) (journal : List Item) (s : ℕ) (header : Header)
     (partition place : ℕ) → IsStamped setting journal s → IsHeader header
@@ -121,17 +121,17 @@ pub authority_found : (setting : Setting) (journal : List Item) (s : ℕ) (heade
     → FindsRule setting journal s header partition place
 authority_found setting journal s header partition at stamped sound answer =
     let says = says_of setting journal s header _ stamped sound answer (λ entry e. absurd cc) in
-    by_target says.looks (has_target s says.looks.placed) refl says.is
+    by_target says.looks (has_target s says.looks.hosted) refl says.is
   where
     by_target : (looks : LooksUpAt setting journal s header) (b : Bool)
-        → has_target s looks.placed ≡ b → (if b then authority_of header (part_of looks.placed)
-        else found.Redirect looks.placed.0.number looks.placed.1) ≡ found.Authority partition at
+        → has_target s looks.hosted ≡ b → (if b then authority_of header (part_of looks.hosted)
+        else found.Redirect looks.hosted.0.number looks.hosted.1) ≡ found.Authority partition at
         → FindsRule setting journal s header partition at
     by_target looks true is e =
-        let place : unwrap_or (position (is_held (number_of header)) looks.placed.0.rules) 0 ≡ at =
+        let place : unwrap_or (position (is_held (number_of header)) looks.hosted.0.rules) 0 ≡ at =
         cc in
         record {
-          part = record { placed = looks.placed; finds = looks.finds; number = cc };
+          part = record { hosted = looks.hosted; finds = looks.finds; number = cc };
           found_at = sym looks.finds.position ∙ place;
           target = is;
         }
@@ -140,7 +140,7 @@ authority_found setting journal s header partition at stamped sound answer =
 pub record FindsTargets (setting : Setting) (journal : List Item) (s : ℕ) (header : Header)
     (partition : ℕ) (targets : List ℕ) : Type 0 where
   pub part : FindsPart setting journal s header partition
-  pub own : part.placed.1 ≡ targets
+  pub own : part.hosted.1 ≡ targets
 
 pub redirect_found : (setting : Setting) (journal : List Item) (s : ℕ) (header : Header)
     (partition : ℕ) (targets : List ℕ) → IsStamped setting journal s → IsHeader header
@@ -148,41 +148,41 @@ pub redirect_found : (setting : Setting) (journal : List Item) (s : ℕ) (header
     → FindsTargets setting journal s header partition targets
 redirect_found setting journal s header partition targets stamped sound answer =
     let says = says_of setting journal s header _ stamped sound answer (λ entry e. absurd cc) in
-    by_target says.looks (has_target s says.looks.placed) says.is
+    by_target says.looks (has_target s says.looks.hosted) says.is
   where
     by_target : (looks : LooksUpAt setting journal s header) (b : Bool)
-        → (if b then authority_of header (part_of looks.placed)
-        else found.Redirect looks.placed.0.number looks.placed.1)
+        → (if b then authority_of header (part_of looks.hosted)
+        else found.Redirect looks.hosted.0.number looks.hosted.1)
         ≡ found.Redirect partition targets
         → FindsTargets setting journal s header partition targets
     by_target looks true e = absurd cc
     by_target looks false e = record {
-      part = record { placed = looks.placed; finds = looks.finds; number = cc };
+      part = record { hosted = looks.hosted; finds = looks.finds; number = cc };
       own = cc;
     }
 
 -- ---- the rule of a partition
 
-abbrev pub deciding : {rows : List Row} {plan : List Placed} {header : Header} {placed : Placed} → ℕ
-    → Finds rows plan header placed → AuthorityRule
-deciding {placed = placed} version finds = record {
+abbrev pub deciding : {rows : List Row} {plan : List Hosted} {header : Header} {hosted : Hosted} → ℕ
+    → Finds rows plan header hosted → AuthorityRule
+deciding {hosted = hosted} version finds = record {
   version = version;
-  part = part_of placed;
+  part = part_of hosted;
   place = finds.place;
   rule = finds.rule;
 }
 
-pub rule_there : (setting : Setting) (journal : List Item) (header : Header) (placed : Placed)
+pub rule_there : (setting : Setting) (journal : List Item) (header : Header) (hosted : Hosted)
     (version partition : ℕ)
     (finds : Finds (policy_at setting journal version) (plan_at setting journal version) header
-    placed)
-    → placed.0.number ≡ partition
+    hosted)
+    → hosted.0.number ≡ partition
     → authority_rule setting journal version partition finds.place ≡ Some (deciding version finds)
-rule_there setting journal header placed version partition finds number =
-    let rule_of : Placed → Rule → AuthorityRule = λ p rule.
+rule_there setting journal header hosted version partition finds number =
+    let rule_of : Hosted → Rule → AuthorityRule = λ p rule.
     record { version = version; part = part_of p; place = finds.place; rule = rule } in
-    ap (λ (o : Option Placed). elim o as (λ _. Option AuthorityRule) [
+    ap (λ (o : Option Hosted). elim o as (λ _. Option AuthorityRule) [
       | None ↦ None
       | Some p ↦ option_map (rule_of p) (slice_get p.0.rules finds.place)
     ]) (ap (slice_get (plan_at setting journal version)) (sym number) ∙ finds.at)
-    ∙ ap (option_map (rule_of placed)) finds.ruled
+    ∙ ap (option_map (rule_of hosted)) finds.ruled

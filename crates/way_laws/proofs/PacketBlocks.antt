@@ -15,7 +15,7 @@ use Rattle.policy_rules.specs.declared.policy.Action.TheVariants as action
 use Rattle.switch_table.specs.declared.search.Found.{Found}
 use Rattle.switch_table.specs.declared.search.Found.TheVariants as found
 use Rattle.policy_rules.specs.declared.rules.Rule.{Rule}
-use Rattle.switch_table.specs.Tables.{Placed, part_of}
+use Rattle.switch_table.specs.Tables.{Hosted, part_of}
 use Rattle.journal.specs.declared.item.Item.{Item}
 use Rattle.journal.specs.declared.item.Item.TheVariants as item
 use Rattle.steps.specs.declared.step.Step.TheVariants.{Lose}
@@ -333,24 +333,24 @@ rule_version : (setting : Setting) (journal : List Item) (version partition plac
 rule_version setting journal version partition place found is =
     by_part (slice_get (plan_at setting journal version) partition) is
   where
-    by_rule : (placed : Placed) (o : Option Rule)
+    by_rule : (hosted : Hosted) (o : Option Rule)
         → option_map (λ rule.
-        record { version = version; part = part_of placed; place = place; rule = rule }) o
+        record { version = version; part = part_of hosted; place = place; rule = rule }) o
         ≡ Some found → found.version ≡ version
-    by_rule placed None e = absurd cc
-    by_rule placed (Some rule) e =
-        let same : record { version = version; part = part_of placed; place = place; rule = rule }
+    by_rule hosted None e = absurd cc
+    by_rule hosted (Some rule) e =
+        let same : record { version = version; part = part_of hosted; place = place; rule = rule }
         ≡ found = cc in
         ap (λ (f : AuthorityRule). f.version) (sym same)
 
-    by_part : (o : Option Placed) → (elim o as (λ _. Option AuthorityRule) [
+    by_part : (o : Option Hosted) → (elim o as (λ _. Option AuthorityRule) [
       | None ↦ None
-      | Some placed ↦ option_map (λ rule.
-          record { version = version; part = part_of placed; place = place; rule = rule })
-          (slice_get placed.0.rules place)
+      | Some hosted ↦ option_map (λ rule.
+          record { version = version; part = part_of hosted; place = place; rule = rule })
+          (slice_get hosted.0.rules place)
     ]) ≡ Some found → found.version ≡ version
     by_part None e = absurd cc
-    by_part (Some placed) e = by_rule placed (slice_get placed.0.rules place) e
+    by_part (Some hosted) e = by_rule hosted (slice_get hosted.0.rules place) e
 
 found_ways : (setting : Setting) (journal : List Item) (i s : ℕ) (what : Found)
     → IsAt journal i s → IsLookedUp journal i s

@@ -9,7 +9,7 @@ use Rattle.five_tuple.specs.Header.{IsHeader, fields_of, number_of}
 use Rattle.five_tuple.specs.declared.header.Header.{Header}
 use Rattle.partition.specs.Plan.{IsPlan, plan_of}
 use Rattle.partition.proofs.CallerLemmas.{plan_holds}
-use Rattle.policy_rules.specs.Placed.{is_in, NoPlan}
+use Rattle.policy_rules.specs.Hosted.{is_in, NoPlan}
 use Rattle.policy_rules.specs.Policy.{IsPolicy, row_matches}
 use Rattle.policy_rules.specs.RuleList.{hit_of_rule}
 use Rattle.policy_rules.specs.Rules.{first_rule, is_held}
@@ -19,22 +19,22 @@ use Rattle.policy_rules.specs.declared.rules.Rule.{Rule}
 use Rattle.policy_rules.specs.Scan.{highest, hit_of, is_highest, scan}
 use Rattle.policy_rules.proofs.CallerLemmas.{find-position}
 use Rattle.switch_table.specs.Lookup.{lookup_in, plan_lookup, table_lookup}
-use Rattle.switch_table.specs.Tables.{Placed, part_of, tables_of}
+use Rattle.switch_table.specs.Tables.{Hosted, part_of, tables_of}
 use Rattle.switch_table.proofs.TableLemmas.{find-there, tables_planned}
 use Rattle.journal.specs.declared.item.Item.{Item}
 use Rattle.update_machine.specs.Setting.{Setting, plan_of_file, policy_of_file, IsSetting, NamesOwnPort}
-use Rattle.update_machine.specs.Versions.{policy_at, placed_in, plan_at}
+use Rattle.update_machine.specs.Versions.{policy_at, hosted_in, plan_at}
 use Rattle.update_machine.proofs.CallerLemmas.{of_its_file}
 use Rattle.version_laws.specs.Planned.{HasPlan}
 
 -- ---- policies and their plans
 
 -- rows that name ports of the network alone, and their plan on it
-pub record IsPlanned (setting : Setting) (rows : List Row) (plan : List Placed) : Type 0 where
+pub record IsPlanned (setting : Setting) (rows : List Row) (plan : List Hosted) : Type 0 where
   pub parts : IsPlan rows setting.net plan
   pub ports : All (λ row. NamesOwnPort setting row.action) rows
 
-is_ok : (r : Result (List Placed) NoPlan) → IsOk r → r ≡ Ok (placed_in r)
+is_ok : (r : Result (List Hosted) NoPlan) → IsOk r → r ≡ Ok (hosted_in r)
 is_ok (Ok plan) ok = refl
 is_ok (Err why) ok = absurd cc
 
@@ -68,7 +68,7 @@ version_planned setting journal version is has =
         let made : setting.plan rows ≡ plan_of rows setting.net =
         ap (λ (s : Setting). s.plan rows) is.made in
         let ok : IsOk (setting.plan rows) = rw (there, plan_of_file) at has.planned in
-        let plan : List Placed = plan_at setting journal version in
+        let plan : List Hosted = plan_at setting journal version in
         let planned : plan_of rows setting.net ≡ Ok plan =
         sym made ∙ is_ok (setting.plan rows) ok ∙ ap Ok (sym own.1) in
         let policy : IsPolicy rows = subst IsPolicy at (is.sound k [] within) in
@@ -91,7 +91,7 @@ hit_named setting rows (Some row) all e =
     subst (λ (r : Row). NamesOwnPort setting r.action) there.2 (all there.0 row there.1)
 
 -- the action of a first match names a port of the network, if it names one
-pub scan_named : (setting : Setting) (rows : List Row) (plan : List Placed) (header : Header)
+pub scan_named : (setting : Setting) (rows : List Row) (plan : List Hosted) (header : Header)
     → IsPlanned setting rows plan → NamesOwnPort setting (scan rows header).action
 scan_named setting rows plan header is =
     hit_named setting (rows_that_match rows header) (highest (rows_that_match rows header))
@@ -101,14 +101,14 @@ scan_named setting rows plan header is =
 -- ---- the partition of a header
 
 -- the partition of a plan that holds the header, and its rule that decides it
-pub record Finds (rows : List Row) (plan : List Placed) (header : Header) (placed : Placed) : Type 0 where
+pub record Finds (rows : List Row) (plan : List Hosted) (header : Header) (hosted : Hosted) : Type 0 where
   pub place : ℕ
   pub rule : Rule
-  pub first : find (λ other. is_in header (part_of other)) plan ≡ Some placed
-  pub holds : IsTrue (is_in header (part_of placed))
-  pub at : slice_get plan placed.0.number ≡ Some placed
-  pub position : unwrap_or (position (is_held (number_of header)) placed.0.rules) 0 ≡ place
-  pub ruled : slice_get placed.0.rules place ≡ Some rule
+  pub first : find (λ other. is_in header (part_of other)) plan ≡ Some hosted
+  pub holds : IsTrue (is_in header (part_of hosted))
+  pub at : slice_get plan hosted.0.number ≡ Some hosted
+  pub position : unwrap_or (position (is_held (number_of header)) hosted.0.rules) 0 ≡ place
+  pub ruled : slice_get hosted.0.rules place ≡ Some rule
   pub decides : hit_of_rule rule ≡ scan rows header
 
 some_of : {X Y : Type 0} (f : X → Y) (o : Option X) (y : Y) → option_map f o ≡ Some y → (x : X)
@@ -122,44 +122,44 @@ then_of f None y e = absurd cc
 then_of f (Some x) y e = (x, refl, e)
 
 -- a partition of a plan that holds the header
-abbrev pub OfPlan : List Placed → Header → Placed → Type 0
-OfPlan plan header placed = Contains plan placed
-    × IsTrue (is_in header (part_of placed))
+abbrev pub OfPlan : List Hosted → Header → Hosted → Type 0
+OfPlan plan header hosted = Contains plan hosted
+    × IsTrue (is_in header (part_of hosted))
 
-pub in_plan : (setting : Setting) (rows : List Row) (plan : List Placed) (header : Header)
-    (placed : Placed) → IsPlanned setting rows plan
+pub in_plan : (setting : Setting) (rows : List Row) (plan : List Hosted) (header : Header)
+    (hosted : Hosted) → IsPlanned setting rows plan
     → IsHeader header →
-    find (λ other. is_in header (part_of other)) plan ≡ Some placed
-    → Finds rows plan header placed
-in_plan setting rows plan header placed is sound found =
-    let there : Contains plan placed × (is_in header (part_of placed) ≡ true) =
-    find-there (λ other. is_in header (part_of other)) plan placed found in
+    find (λ other. is_in header (part_of other)) plan ≡ Some hosted
+    → Finds rows plan header hosted
+in_plan setting rows plan header hosted is sound found =
+    let there : Contains plan hosted × (is_in header (part_of hosted) ≡ true) =
+    find-there (λ other. is_in header (part_of other)) plan hosted found in
     let k : ℕ = there.0.0 in
     let long : length (map part_of plan) ≡ length plan =
     length-map plan part_of in
     let within : k < length (map part_of plan) = omega (arith, long, there.0.1) in
-    let mapped : get_or (map part_of plan) k (part_of placed) ≡ part_of placed =
-    get_or-map part_of plan k placed (part_of placed) there.0.1
+    let mapped : get_or (map part_of plan) k (part_of hosted) ≡ part_of hosted =
+    get_or-map part_of plan k hosted (part_of hosted) there.0.1
     ∙ ap part_of there.0.2 in
-    let number : placed.0.number ≡ k = sym (ap (λ (p : Partition). p.number) mapped)
-    ∙ is.parts.sound.numbers k (part_of placed) within in
-    let got : slice_get plan k ≡ Some placed = slice_get-get_or plan
-    k placed there.0.1 ∙ ap Some there.0.2 in
-    let decided : option_map hit_of_rule (first_rule placed.0.rules header) ≡ Some
+    let number : hosted.0.number ≡ k = sym (ap (λ (p : Partition). p.number) mapped)
+    ∙ is.parts.sound.numbers k (part_of hosted) within in
+    let got : slice_get plan k ≡ Some hosted = slice_get-get_or plan
+    k hosted there.0.1 ∙ ap Some there.0.2 in
+    let decided : option_map hit_of_rule (first_rule hosted.0.rules header) ≡ Some
     (scan rows header) =
     subst (λ (p : Partition). IsTrue (is_in header p)
     → option_map hit_of_rule (first_rule p.rules header) ≡ Some
     (scan rows header)) mapped
-    (is.parts.sound.decides header sound k (part_of placed) within) there.1 in
-    let rule : (rule : Rule) × (first_rule placed.0.rules header ≡ Some rule)
+    (is.parts.sound.decides header sound k (part_of hosted) within) there.1 in
+    let rule : (rule : Rule) × (first_rule hosted.0.rules header ≡ Some rule)
     × (hit_of_rule rule ≡ scan rows header) =
-    some_of hit_of_rule (first_rule placed.0.rules header) (scan rows header)
+    some_of hit_of_rule (first_rule hosted.0.rules header) (scan rows header)
     decided in
     let position_of : (place : ℕ)
-    × (position (is_held (number_of header)) placed.0.rules ≡ Some place)
-    × (slice_get placed.0.rules place ≡ Some rule.0) =
-    then_of (slice_get placed.0.rules) (position (is_held (number_of header)) placed.0.rules) rule.0
-    (find-position (is_held (number_of header)) placed.0.rules ∙ rule.1) in
+    × (position (is_held (number_of header)) hosted.0.rules ≡ Some place)
+    × (slice_get hosted.0.rules place ≡ Some rule.0) =
+    then_of (slice_get hosted.0.rules) (position (is_held (number_of header)) hosted.0.rules) rule.0
+    (find-position (is_held (number_of header)) hosted.0.rules ∙ rule.1) in
     record {
       place = position_of.0;
       rule = rule.0;
@@ -172,24 +172,24 @@ in_plan setting rows plan header placed is sound found =
     }
 
 -- what the tables of a switch say of a header, by the partition that holds it
-pub record LooksUp (rows : List Row) (plan : List Placed) (version switch : ℕ) (header : Header) : Type 0 where
-  pub placed : Placed
-  pub finds : Finds rows plan header placed
+pub record LooksUp (rows : List Row) (plan : List Hosted) (version switch : ℕ) (header : Header) : Type 0 where
+  pub hosted : Hosted
+  pub finds : Finds rows plan header hosted
   pub says : table_lookup (tables_of plan version switch) header ≡ lookup_in switch header
-      placed
+      hosted
 
-pub looks_up : (setting : Setting) (rows : List Row) (plan : List Placed) (version switch : ℕ)
+pub looks_up : (setting : Setting) (rows : List Row) (plan : List Hosted) (version switch : ℕ)
     (header : Header) → IsPlanned setting rows plan → IsHeader header
     → LooksUp rows plan version switch header
 looks_up setting rows plan version switch header is sound =
     let planned : plan_lookup plan switch header ≡ Some
     (table_lookup (tables_of plan version switch) header) =
     tables_planned rows plan version switch header is.parts.sound sound in
-    let own : (placed : Placed)
-    × (find (λ other. is_in header (part_of other)) plan ≡ Some placed)
-    × (lookup_in switch header placed ≡ table_lookup (tables_of plan version switch)
+    let own : (hosted : Hosted)
+    × (find (λ other. is_in header (part_of other)) plan ≡ Some hosted)
+    × (lookup_in switch header hosted ≡ table_lookup (tables_of plan version switch)
     header) =
     some_of (lookup_in switch header)
     (find (λ other. is_in header (part_of other)) plan)
     (table_lookup (tables_of plan version switch) header) planned in
-    record { placed = own.0; finds = in_plan setting rows plan header own.0 is sound own.1; says = sym own.2 }
+    record { hosted = own.0; finds = in_plan setting rows plan header own.0 is sound own.1; says = sym own.2 }

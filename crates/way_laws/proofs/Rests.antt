@@ -273,7 +273,7 @@ rules_there setting journal i s header is have there sound serving partition pla
     (have_append (HasItemCause setting) [] journal (next ∷ []) have (tt, tt)) there
     (rw (serving_more journal next s) serving)) sound
     (ap (lookup_at setting entered s) (sym own_header) ∙ answer) in
-    let rule = rule_there setting entered header finds.part.placed (stamp_of entered s) partition
+    let rule = rule_there setting entered header finds.part.hosted (stamp_of entered s) partition
     finds.part.finds finds.part.number in
     let clash : Some _ ≡ None =
     sym rule ∙ ap (authority_rule setting entered (stamp_of entered s) partition) finds.found_at

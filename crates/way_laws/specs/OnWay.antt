@@ -8,11 +8,11 @@ use Rattle.five_tuple.specs.Header.{IsHeader}
 use Rattle.five_tuple.specs.declared.header.Header.{Header}
 use Rattle.net_file.specs.Joins.{owner_of}
 use Rattle.net_file.specs.Owners.{links_of}
-use Rattle.policy_rules.specs.Placed.{is_in}
+use Rattle.policy_rules.specs.Hosted.{is_in}
 use Rattle.policy_rules.specs.declared.packet.Leg.{Leg}
 use Rattle.policy_rules.specs.declared.packet.Leg.TheVariants.{Seek, Exit}
 use Rattle.policy_rules.specs.declared.policy.Action.TheVariants.{Out}
-use Rattle.switch_table.specs.Tables.{Placed, part_of}
+use Rattle.switch_table.specs.Tables.{Hosted, part_of}
 use Rattle.journal.specs.declared.item.Item.{Item}
 use Rattle.update_machine.specs.Marks.{current_mark, retired_mark}
 use Rattle.update_machine.specs.Packets.{Decision}
@@ -48,12 +48,12 @@ StartsAt switch route = slice_get route 0 ≡ Some switch
 -- a partition of a version's plan, by its place there, which is its number, whose region holds the
 -- header
 pub record IsPartitionOf (setting : Setting) (journal : List Item) (header : Header)
-    (version partition : ℕ) (placed : Placed) : Type 0 where
-  pub found : slice_get (plan_at setting journal version) partition ≡ Some placed
-  pub number : placed.0.number ≡ partition
+    (version partition : ℕ) (hosted : Hosted) : Type 0 where
+  pub found : slice_get (plan_at setting journal version) partition ≡ Some hosted
+  pub number : hosted.0.number ≡ partition
   pub first : find (λ other. is_in header (part_of other)) (plan_at setting journal version)
-      ≡ Some placed
-  pub holds : IsTrue (is_in header (part_of placed))
+      ≡ Some hosted
+  pub holds : IsTrue (is_in header (part_of hosted))
 
 -- a packet of this mark seeks the partition whose region holds its header, by a version that wasn't
 -- retired as it came in and is at most the current one
@@ -61,8 +61,8 @@ pub record IsSought (setting : Setting) (journal : List Item) (mark : ℕ) (head
     (version partition : ℕ) : Type 0 where
   pub not_retired : mark < version
   pub current : version ≤ current_mark journal
-  pub placed : Placed
-  pub own : IsPartitionOf setting journal header version partition placed
+  pub hosted : Hosted
+  pub own : IsPartitionOf setting journal header version partition hosted
 
 -- on its way to an authority switch it is undecided
 pub record IsSeeking (setting : Setting) (journal : List Item) (held : Option Decision) (mark : ℕ)
@@ -70,7 +70,7 @@ pub record IsSeeking (setting : Setting) (journal : List Item) (held : Option De
   pub undecided : held ≡ None
   pub sought : IsSought setting journal mark header version partition
   pub open sought use *
-  pub leads : LeadsTo setting placed.1 route
+  pub leads : LeadsTo setting hosted.1 route
 
 -- on its way out it was decided, by its port, whose switch its route leads to
 pub record IsExiting (setting : Setting) (held : Option Decision) (route : List ℕ) (port : ℕ)

@@ -27,7 +27,7 @@ pub fn switches_of(
     requires first { IsFirstController net.now controller.now }
     ensures { IfOk result (λ switches. (plan : PlanValue)
         → controller.now ≡ first_controller (length net.now.switches) plan
-        → switches.items ≡ map (switch_begun net.now plan.placed)
+        → switches.items ≡ map (switch_begun net.now plan.hosted)
         (range_with_len 0 (length net.now.switches))) }
 {
     let count = net.switches.items().len();

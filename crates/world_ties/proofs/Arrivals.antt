@@ -20,7 +20,7 @@ use Rattle.switch_core.specs.State.{SwitchValue, held_tables}
 use Rattle.switch_core.specs.declared.answers.Arrived.{Arrived}
 use Rattle.switch_core.specs.declared.answers.Arrived.TheVariants as arrived
 use Rattle.switch_core.specs.declared.packet.Packet.{Packet}
-use Rattle.switch_table.specs.Tables.{Placed}
+use Rattle.switch_table.specs.Tables.{Hosted}
 use Rattle.switch_table.specs.declared.tables.Tables.{Tables}
 use Rattle.update_machine.specs.Concerns.{NoneConcern, concerns_policies}
 use Rattle.update_machine.specs.Messages.{next_message}
@@ -65,7 +65,7 @@ IsAtEnd setting journal s header (Exit port) = owner_of setting.net.switches por
 pub ours_of : (setting : Setting) (journal : List Item) (s : ℕ) (facts : PacketFacts)
     (header : Header) (version partition : ℕ) → Known setting journal → IsHeader header
     → (seeks : IsOnLeg setting journal facts header (Seek version partition))
-    → IsTrue (list_any (nat_eq s) seeks.placed.1)
+    → IsTrue (list_any (nat_eq s) seeks.hosted.1)
     → IsOurs setting journal s header version partition
 ours_of setting journal s facts header version partition knows sound seeks target =
     let planned : IsPlanned setting (policy_at setting journal version)
@@ -74,9 +74,9 @@ ours_of setting journal s facts header version partition knows sound seeks targe
     (omega (arith, seeks.not_retired)) seeks.current in
     record {
       planned = planned;
-      placed = seeks.placed;
+      hosted = seeks.hosted;
       finds = in_plan setting (policy_at setting journal version)
-          (plan_at setting journal version) header seeks.placed planned sound seeks.own.first;
+          (plan_at setting journal version) header seeks.hosted planned sound seeks.own.first;
       number = seeks.own.number;
       target = target;
     }
@@ -93,7 +93,7 @@ end_of_route setting journal s facts header (Seek version partition) knows sound
     let target : on.leads.ends.target ≡ s =
     sym (last_here facts.route facts.hops s on.leads.ends.target stands last on.leads.ends.last) in
     ours_of setting journal s facts header version partition knows sound on
-    (subst (λ at. IsTrue (list_any (nat_eq at) on.placed.1)) target on.leads.ends.own)
+    (subst (λ at. IsTrue (list_any (nat_eq at) on.hosted.1)) target on.leads.ends.own)
 
 -- items by which no policy comes keep the plan
 pub at_end_on : (setting : Setting) (before items : List Item) (s : ℕ) (header : Header)
@@ -110,10 +110,10 @@ at_end_on setting before items s header (Seek version partition) none end =
       planned = subst (λ rows. IsPlanned setting rows (plan_at setting (before ++ items) version))
           same_policy (subst (IsPlanned setting (policy_at setting before version)) same_plan
           end.planned);
-      placed = end.placed;
+      hosted = end.hosted;
       finds = subst (λ rows. Finds rows (plan_at setting (before ++ items) version) header
-          end.placed) same_policy
-          (subst (λ plan. Finds (policy_at setting before version) plan header end.placed) same_plan
+          end.hosted) same_policy
+          (subst (λ plan. Finds (policy_at setting before version) plan header end.hosted) same_plan
           end.finds);
       number = end.number;
       target = end.target;
@@ -139,8 +139,8 @@ module _ (setting : Setting) (journal : List Item) (s : ℕ) (w : SwitchValue) (
   place_in_plan version partition ours =
       ap (first_place_in setting journal version partition)
       (header_is journal packet.number packet.header asked.of_packet.entered)
-      ∙ ap (λ (o : Option Placed). unwrap_or (option_and_then
-      (λ (p : Placed). position (is_held (number_of packet.header)) p.0.rules) o) 0)
+      ∙ ap (λ (o : Option Hosted). unwrap_or (option_and_then
+      (λ (p : Hosted). position (is_held (number_of packet.header)) p.0.rules) o) 0)
       (ap (slice_get (plan_at setting journal version)) (sym ours.number) ∙ ours.finds.at)
       ∙ ours.finds.position
 
@@ -151,7 +151,7 @@ module _ (setting : Setting) (journal : List Item) (s : ℕ) (w : SwitchValue) (
       ≡ ours.finds.place
   place_in_tables version partition ours =
       ap (place_of_first packet.header)
-      (own_numbered (plan_at setting journal version) s version partition ours.placed
+      (own_numbered (plan_at setting journal version) s version partition ours.hosted
       ours.planned.parts.sound.numbers
       (ap (slice_get (plan_at setting journal version)) (sym ours.number) ∙ ours.finds.at)
       ours.number ours.target)

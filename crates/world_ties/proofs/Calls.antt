@@ -4,7 +4,7 @@ use Rattle.std.specs.Prelude.{IsTrue, IsFalse, nat_lt}
 use Rattle.std.proofs.lemmas.List.{get_or-set_same, length-map, length-set}
 use Rattle.std.specs.List.{range_with_len}
 use Rattle.policy_rules.specs.declared.policy.Row.{Row}
-use Rattle.partition.specs.Plan.{Placed}
+use Rattle.partition.specs.Plan.{Hosted}
 use Rattle.ctrl_msg.specs.declared.message.Body.{Body}
 use Rattle.ctrl_msg.specs.declared.message.Body.TheVariants.{Hello}
 use Rattle.ctrl_msg.specs.Kinds.{to_controller}
@@ -20,7 +20,7 @@ use Rattle.update_machine.specs.Moves.{put}
 use Rattle.update_machine.specs.Pieces.{confirm_items, deliver_items, nothing, piece}
 use Rattle.update_machine.specs.Setting.{Setting}
 use Rattle.update_machine.specs.Settling.{install_for, installs_to, settling, versions_from_current}
-use Rattle.update_machine.specs.Versions.{policy_at, version_count, placed_in, file_of}
+use Rattle.update_machine.specs.Versions.{policy_at, version_count, hosted_in, file_of}
 use Rattle.update_machine.specs.Links.{message_of}
 use Rattle.update_machine.proofs.CallerLemmas.{controller_keeps, have_append, of_its_file, start_laws}
 use Rattle.version_laws.specs.ItemCauses.{HasItemCause}
@@ -60,15 +60,15 @@ begins setting plan is =
     let own = of_its_file setting [] 1 1 plan.policy first_file is.policy in
     record {
       marks = marks_begun setting;
-      plans = ap (λ policy. kept policy plan.placed) (sym own.0)
-          ∙ ap (kept (policy_at setting [] 1)) (sym (own.1 ∙ ap placed_in is.placed))
+      plans = ap (λ policy. kept policy plan.hosted) (sym own.0)
+          ∙ ap (kept (policy_at setting [] 1)) (sym (own.1 ∙ ap hosted_in is.hosted))
           ∙ ap (λ c. map (planned setting []) (range_with_len c 1)) (sym start_laws.current)
           ∙ ap (λ n. map (planned setting []) (range_with_len (current_mark []) n)) one;
     }
   where
-    kept : List Row → List Placed → List KeptPlan
-    kept policy placed =
-        (record { version = 1; plan = record { policy = policy; placed = placed } }) ∷ []
+    kept : List Row → List Hosted → List KeptPlan
+    kept policy hosted =
+        (record { version = 1; plan = record { policy = policy; hosted = hosted } }) ∷ []
 
     one : 1 ≡ version_count [] + 1 - current_mark []
     one =

@@ -54,8 +54,8 @@ stands_at setting journal i t standing =
 ends_at : (setting : Setting) (journal : List Item) (s : ℕ) (header : Header) (leg : Leg)
     → IsAtEnd setting journal s header leg → EndsAt setting journal s header leg
 ends_at setting journal s header (Seek version partition) end = record {
-  placed = end.placed;
-  found = subst (λ k. slice_get (plan_at setting journal version) k ≡ Some end.placed) end.number
+  hosted = end.hosted;
+  found = subst (λ k. slice_get (plan_at setting journal version) k ≡ Some end.hosted) end.number
       end.finds.at;
   number = end.number;
   holds = end.finds.holds;

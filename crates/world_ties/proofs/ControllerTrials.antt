@@ -42,13 +42,13 @@ numbered = refl
 
 -- the first file lets out, the second one drops
 abbrev outs : PlanValue
-outs = record { policy = all_to (Out 2) ∷ []; placed = plan_p }
+outs = record { policy = all_to (Out 2) ∷ []; hosted = plan_p }
 
 abbrev drops : PlanValue
-drops = record { policy = all_to Drop ∷ []; placed = plan_q }
+drops = record { policy = all_to Drop ∷ []; hosted = plan_q }
 
 of_first : IsPlanOfFile open_net 1 outs
-of_first = record { policy = refl; placed = refl }
+of_first = record { policy = refl; hosted = refl }
 
 lets_out : List Row → Bool
 lets_out [] = false

@@ -70,8 +70,8 @@ first_near net near sound are =
 -- the first controller's tables of version 1 are those of its plan
 pub first_tables : (net : Net) (controller : ControllerValue) (plan : PlanValue)
     (tables : Tables) (s : ℕ) → controller ≡ first_controller (length net.switches) plan
-    → kept_tables controller 1 s ≡ Some tables → tables ≡ tables_of plan.placed 1 s
+    → kept_tables controller 1 s ≡ Some tables → tables ≡ tables_of plan.hosted 1 s
 first_tables net controller plan tables s is found =
-    let same : Some tables ≡ Some (tables_of plan.placed 1 s) =
+    let same : Some tables ≡ Some (tables_of plan.hosted 1 s) =
     sym found ∙ ap (λ (c : ControllerValue). kept_tables c 1 s) is in
     cc

@@ -164,7 +164,7 @@ module _ (setting : Setting) (journal : List Item) (s : ℕ) (w : SwitchValue) (
       seek_goes leads packet s version partition to
       (cause_of w mask packet.down (Seek version partition) to)
       (route_of w.database w.number to mask packet.down)
-      (targets_are setting journal version partition to own.part.placed own.part.finds.at
+      (targets_are setting journal version partition to own.part.hosted own.part.finds.at
       own.part.number own.own)
 
   pub looked_goes : IsComing (targets_of setting journal) (at_switch s packet)

@@ -20,7 +20,7 @@ use Rattle.switch_core.specs.State.{SwitchValue, stamp_tables}
 use Rattle.switch_core.specs.declared.answers.Answer.TheVariants.{Decided}
 use Rattle.switch_core.specs.declared.answers.Decision.{Decision}
 use Rattle.switch_core.specs.declared.packet.Packet.{Packet}
-use Rattle.switch_table.specs.Tables.{Placed, has_target, part_of}
+use Rattle.switch_table.specs.Tables.{Hosted, has_target, part_of}
 use Rattle.switch_table.specs.declared.cache.CacheEntry.{CacheEntry}
 use Rattle.switch_table.specs.declared.search.Found.{Found}
 use Rattle.switch_table.specs.declared.search.Found.TheVariants as found
@@ -62,11 +62,11 @@ pub record IsOurs (setting : Setting) (journal : List Item) (s : ℕ) (header : 
     (version partition : ℕ) : Type 0 where
   pub planned : IsPlanned setting (policy_at setting journal version)
       (plan_at setting journal version)
-  pub placed : Placed
+  pub hosted : Hosted
   pub finds : Finds (policy_at setting journal version) (plan_at setting journal version) header
-      placed
-  pub number : placed.0.number ≡ partition
-  pub target : IsTrue (has_target s placed)
+      hosted
+  pub number : hosted.0.number ≡ partition
+  pub target : IsTrue (has_target s hosted)
 
 -- the switch sets out for the targets of a partition
 seek_answers : (number : ℕ) (at : Standing) (leg : Leg) (way : Result TunnelValue Cause)
@@ -76,12 +76,12 @@ seek_answers number at leg (Err cause) = refl
 
 -- the targets of a partition of a plan
 pub targets_are : (setting : Setting) (journal : List Item) (version partition : ℕ)
-    (targets : List ℕ) (placed : Placed)
-    → slice_get (plan_at setting journal version) placed.0.number ≡ Some placed
-    → placed.0.number ≡ partition → placed.1 ≡ targets
+    (targets : List ℕ) (hosted : Hosted)
+    → slice_get (plan_at setting journal version) hosted.0.number ≡ Some hosted
+    → hosted.0.number ≡ partition → hosted.1 ≡ targets
     → targets_of setting journal (Seek version partition) ≡ targets
-targets_are setting journal version partition targets placed at number own =
-    ap (λ (o : Option Placed). unwrap_or (option_map (λ p. p.1) o) [])
+targets_are setting journal version partition targets hosted at number own =
+    ap (λ (o : Option Hosted). unwrap_or (option_map (λ p. p.1) o) [])
     (ap (slice_get (plan_at setting journal version)) (sym number) ∙ at)
     ∙ own
 
@@ -126,21 +126,21 @@ module _ (setting : Setting) (journal : List Item) (s : ℕ) (w : SwitchValue) (
   unfolding decided_at
   ruled_law version partition ours =
       let place : ℕ = ours.finds.place in
-      let part : Partition = part_of ours.placed in
+      let part : Partition = part_of ours.hosted in
       let items_of : ℕ → Partition → Rule → List Item = λ number part rule.
       answer_items (next_message journal) at (Decided (by_rule number version part.number rule)
       (rule_for_cache number packet version part place) (next_of w site packet rule.action)) in
       let own : part_numbered (tables_at setting journal version s) partition ≡ part =
-      own_numbered (plan_at setting journal version) s version partition ours.placed
+      own_numbered (plan_at setting journal version) s version partition ours.hosted
       ours.planned.parts.sound.numbers
       (ap (slice_get (plan_at setting journal version)) (sym ours.number) ∙ ours.finds.at)
       ours.number ours.target in
       ap (λ part. items_of w.number part (rule_in part place)) own
       ∙ ap (items_of w.number part)
-      (get_or_from_slice_get ours.placed.0.rules place ours.finds.rule no_rule ours.finds.ruled)
+      (get_or_from_slice_get ours.hosted.0.rules place ours.finds.rule no_rule ours.finds.ruled)
       ∙ ap (λ number. items_of number part ours.finds.rule) asked.sees.number
       ∙ sym (ap (λ r. authority_items setting packet.number s r journal)
-      (rule_there setting journal packet.header ours.placed version partition ours.finds ours.number)
+      (rule_there setting journal packet.header ours.hosted version partition ours.finds ours.number)
       ∙ authority_law setting journal s w mask asked.sees below ports asked.owners packet
       asked.of_packet (deciding version ours.finds) ours.finds.ruled)
 
@@ -158,7 +158,7 @@ module _ (setting : Setting) (journal : List Item) (s : ℕ) (w : SwitchValue) (
       authority_found setting journal s packet.header partition place its_stamp asked.sound answer in
       let ours : IsOurs setting journal s packet.header version partition = record {
         planned = its_stamp.planned;
-        placed = own.part.placed;
+        hosted = own.part.hosted;
         finds = own.part.finds;
         number = own.part.number;
         target = own.target;
@@ -174,7 +174,7 @@ module _ (setting : Setting) (journal : List Item) (s : ℕ) (w : SwitchValue) (
       let own : FindsTargets setting journal s packet.header partition targets =
       redirect_found setting journal s packet.header partition targets its_stamp asked.sound answer in
       let are : targets_of setting journal leg ≡ targets =
-      targets_are setting journal version partition targets own.part.placed own.part.finds.at
+      targets_are setting journal version partition targets own.part.hosted own.part.finds.at
       own.part.number own.own in
       seek_answers (next_message journal) at leg (set_out w mask packet leg targets)
       ∙ ap (λ these. set_item at leg (set_out w mask packet leg these) ∷ []) (sym are)

@@ -22,7 +22,7 @@ use Rattle.switch_core.specs.declared.answers.Arrived.{Arrived}
 use Rattle.switch_core.specs.declared.answers.HopEnd.{HopEnd}
 use Rattle.switch_core.specs.declared.answers.HopEnd.TheVariants as hop
 use Rattle.switch_core.specs.declared.packet.Packet.{Packet}
-use Rattle.switch_table.specs.Tables.{Placed}
+use Rattle.switch_table.specs.Tables.{Hosted}
 use Rattle.tunnel.specs.Moves.{here, next}
 use Rattle.tunnel.specs.Tunnel.{TunnelValue}
 use Rattle.update_machine.specs.Adverts.{route_from}
@@ -483,8 +483,8 @@ module _ (setting : Setting) (journal : List Item) (row i s : ℕ) (header : Hea
       (sym (hops.sees.route (targets (Seek version partition)) (down two)) ∙ is) in
       let target : way.leads.ends.target ≡ s =
       sym (last_here route 0 s way.leads.ends.target way.begins last way.leads.ends.last) in
-      let of : targets (Seek version partition) ≡ on.placed.1 =
-      ap (λ (o : Option Placed). unwrap_or (option_map (λ p. p.1) o) []) on.own.found in
+      let of : targets (Seek version partition) ≡ on.hosted.1 =
+      ap (λ (o : Option Hosted). unwrap_or (option_map (λ p. p.1) o) []) on.own.found in
       ours_of setting journal s facts header version partition hops.stands.knows
       hops.stands.sound on
       (subst (λ all. IsTrue (list_any (nat_eq s) all)) of

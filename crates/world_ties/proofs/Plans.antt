@@ -5,7 +5,7 @@ use Rattle.std.specs.List.{range_with_len}
 use Rattle.std.proofs.lemmas.Bool.Decides.{nat_tests}
 use Rattle.std.proofs.lemmas.List.FromFn.{map-range_with_len_more}
 use Rattle.policy_rules.specs.declared.policy.Row.{Row}
-use Rattle.partition.specs.Plan.{Placed}
+use Rattle.partition.specs.Plan.{Hosted}
 use Rattle.journal.specs.declared.item.Item.{Item}
 use Rattle.update_machine.specs.Laws.{ControllerKeeps}
 use Rattle.update_machine.specs.Marks.{current_mark}
@@ -90,9 +90,9 @@ planned_on setting before items v there =
     ∙ ap (of (policy_at setting (before ++ items) v))
     (sym (plan_kept setting before items v there))
   where
-    of : List Row → List Placed → KeptPlan
-    of policy placed =
-        record { version = v; plan = record { policy = policy; placed = placed } }
+    of : List Row → List Hosted → KeptPlan
+    of policy hosted =
+        record { version = v; plan = record { policy = policy; hosted = hosted } }
 
 -- the versions from the current one on are there
 there_from : (setting : Setting) (journal : List Item) (v : ℕ) → AreCaused setting journal

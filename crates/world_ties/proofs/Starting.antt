@@ -12,7 +12,7 @@ use Rattle.net_file.specs.Net.{IsNet}
 use Rattle.net_file.specs.declared.net.LinkRow.{LinkRow}
 use Rattle.net_file.specs.declared.net.Net.{Net}
 use Rattle.net_file.specs.Owners.{links_of}
-use Rattle.partition.specs.Plan.{Placed, plan_of}
+use Rattle.partition.specs.Plan.{Hosted, plan_of}
 use Rattle.policy_rules.specs.Policy.{IsPolicy}
 use Rattle.policy_rules.specs.declared.policy.Row.{Row}
 use Rattle.steps.specs.Steps.{IsStep}
@@ -21,7 +21,7 @@ use Rattle.switch_ties.specs.SwitchOf.{switch_of}
 use Rattle.update_machine.specs.Packets.{next_packet}
 use Rattle.update_machine.specs.Setting.{Setting, plan_of_file, setting_of, IsSetting, NamesOwnPort}
 use Rattle.update_machine.specs.Travels.{travels}
-use Rattle.update_machine.specs.Versions.{placed_in, plan_at}
+use Rattle.update_machine.specs.Versions.{hosted_in, plan_at}
 use Rattle.update_machine.proofs.CallerLemmas.{of_its_file, start_laws}
 use Rattle.usable_links.specs.Linking.{AreNear}
 use Rattle.world_ties.specs.Begun.{switch_begun}
@@ -34,7 +34,7 @@ planned_first : (net : Net) (policies : List (List Row)) → 1 ≤ length polici
 planned_first net [] some = absurd (omega arith)
 planned_first net (rows ∷ policies) some = refl
 
-pub setting_begun : (net : Net) (policies : List (List Row)) (plan : List Placed) → IsNet net
+pub setting_begun : (net : Net) (policies : List (List Row)) (plan : List Hosted) → IsNet net
     → 1 ≤ length policies → All IsPolicy policies
     → All (All (λ row. NamesOwnPort (setting_of net policies) row.action)) policies
     → plan_of (get_or policies 0 []) net ≡ Ok plan → IsSetting (setting_of net policies)
@@ -50,13 +50,13 @@ setting_begun net policies plan sound some rows ports is =
     }
 
 -- the plan of the first version is that of the first policy
-first_plan_is : (net : Net) (policies : List (List Row)) (plan : List Placed)
+first_plan_is : (net : Net) (policies : List (List Row)) (plan : List Hosted)
     → 1 ≤ length policies → plan_of (get_or policies 0 []) net ≡ Ok plan
     → plan_at (setting_of net policies) [] 1 ≡ plan
 first_plan_is net [] plan some is = absurd (omega arith)
 first_plan_is net (rows ∷ policies) plan some is =
     (of_its_file (setting_of net (rows ∷ policies)) [] 1 1 rows (start_laws.file 1) refl).1
-    ∙ ap placed_in is
+    ∙ ap hosted_in is
 
 -- a switch before the first item
 switch_first : (setting : Setting) (s : ℕ) → s < length setting.net.switches
@@ -79,12 +79,12 @@ switch_first setting s there few =
 
 -- the controller's plan is that of the first file
 of_first : (net : Net) (policies : List (List Row)) (plan : PlanValue) → 1 ≤ length policies
-    → plan.policy ≡ get_or policies 0 [] → plan_of (get_or policies 0 []) net ≡ Ok plan.placed
+    → plan.policy ≡ get_or policies 0 [] → plan_of (get_or policies 0 []) net ≡ Ok plan.hosted
     → IsPlanOfFile (setting_of net policies) 1 plan
 of_first net [] plan some own is = absurd (omega arith)
 of_first net (rows ∷ policies) plan some own is = record {
   policy = ap Some (sym own);
-  placed = ap (λ these. plan_of these net) own ∙ is;
+  hosted = ap (λ these. plan_of these net) own ∙ is;
 }
 
 -- all links are up
@@ -99,8 +99,8 @@ pub begun_tied : (net : Net) (policies : List (List Row)) (plan : PlanValue)
     (switches : List SwitchValue) (controller : ControllerValue) (near : List ℕ) → IsNet net
     → 1 ≤ length policies → All IsPolicy policies
     → All (All (λ row. NamesOwnPort (setting_of net policies) row.action)) policies
-    → plan.policy ≡ get_or policies 0 [] → plan_of (get_or policies 0 []) net ≡ Ok plan.placed
-    → switches ≡ map (switch_begun net plan.placed) (range_with_len 0 (length net.switches))
+    → plan.policy ≡ get_or policies 0 [] → plan_of (get_or policies 0 []) net ≡ Ok plan.hosted
+    → switches ≡ map (switch_begun net plan.hosted) (range_with_len 0 (length net.switches))
     → controller ≡ first_controller (length net.switches) plan → AreNear net near
     → AreTied (setting_of net policies) [] switches [] 0
     (record { controller = controller; posts = []; links = near; near = near })
@@ -108,12 +108,12 @@ unfolding AreTied traveller_in travels next_packet
 begun_tied net policies plan switches controller near sound some rows ports of_policy is made
     first_is masks =
     let setting : Setting = setting_of net policies in
-    let own : IsSetting setting = setting_begun net policies plan.placed sound some rows ports is in
-    let first : plan_at setting [] 1 ≡ plan.placed =
-    first_plan_is net policies plan.placed some is in
+    let own : IsSetting setting = setting_begun net policies plan.hosted sound some rows ports is in
+    let first : plan_at setting [] 1 ≡ plan.hosted =
+    first_plan_is net policies plan.hosted some is in
     let many : length switches ≡ length net.switches =
     ap length made
-    ∙ length-map-range_with_len (switch_begun net plan.placed) 0 (length net.switches) in
+    ∙ length-map-range_with_len (switch_begun net plan.hosted) 0 (length net.switches) in
     record {
       sound = own;
       reached = record {
@@ -126,10 +126,10 @@ begun_tied net policies plan switches controller near sound some rows ports of_p
       each = λ s d there.
           let own : s < length net.switches = omega (arith, there, many) in
           ap (λ all. get_or all s d) made
-          ∙ get_or-map-range_with_len (switch_begun net plan.placed) 0 (length net.switches) s s d
+          ∙ get_or-map-range_with_len (switch_begun net plan.hosted) 0 (length net.switches) s s d
           own (omega arith)
           ∙ sym (switch_first setting s own sound.few_switches
-          ∙ ap (λ placed. switch_begun net placed s) first);
+          ∙ ap (λ hosted. switch_begun net hosted s) first);
       packet = λ i. refl;
       counted = refl;
       controller = subst (IsControllerOf setting []) (sym first_is)

@@ -5,9 +5,9 @@ use Rattle.std.specs.Option.{option_or}
 use Rattle.std.proofs.lemmas.Bool.{eq-eqb, ne_eqb}
 use Rattle.journal.specs.declared.item.Item.{Item}
 use Rattle.journal.specs.declared.item.Item.TheVariants as item
-use Rattle.partition.specs.Plan.{Placed}
+use Rattle.partition.specs.Plan.{Hosted}
 use Rattle.policy_rules.specs.declared.policy.Row.{Row}
-use Rattle.policy_rules.specs.Placed.{TooManyLeaves}
+use Rattle.policy_rules.specs.Hosted.{TooManyLeaves}
 use Rattle.steps.specs.declared.step.Step.TheVariants.{Update}
 use Rattle.update_machine.specs.Marks as machine
 use Rattle.update_machine.specs.Marks.{current_mark, known_boot, most_live, most_versions, retired_mark}
@@ -15,7 +15,7 @@ use Rattle.update_machine.specs.Moves.{put}
 use Rattle.update_machine.specs.Pieces.{marks_code, piece, plan_code, update_code, update_items}
 use Rattle.update_machine.specs.Setting.{Setting, plan_of_file, switches_of}
 use Rattle.update_machine.specs.Settling.{install_for, installs_to_all, settling, submitted_items, versions_from_current}
-use Rattle.update_machine.specs.Versions.{policy_at, version_count, placed_in, file_of, plan_at}
+use Rattle.update_machine.specs.Versions.{policy_at, version_count, hosted_in, file_of, plan_at}
 use Rattle.update_machine.proofs.CallerLemmas.{controller_keeps, file_append, have_append, of_its_file}
 use Rattle.version_laws.specs.ItemCauses.{HasItemCause, SubmitsRightly}
 use Rattle.version_laws.proofs.ControllerBlocks.{submitted_have}
@@ -45,10 +45,10 @@ use Rattle.world_ties.proofs.Written.{written_in_two}
 -- ---- a plan that is refused
 
 file_planned : (setting : Setting) (file : ℕ) (plan : PlanValue)
-    → IsPlanOfFile setting file plan → plan_of_file setting file ≡ Ok plan.placed
+    → IsPlanOfFile setting file plan → plan_of_file setting file ≡ Ok plan.hosted
 file_planned setting file plan of =
     ap (λ o. elim o [ None ↦ Err TooManyLeaves | Some rows ↦ setting.plan rows ]) of.policy
-    ∙ of.placed
+    ∙ of.hosted
 
 -- the code of a refusal by the marks
 abbrev code_of : ℕ → ℕ → Option ℕ
@@ -178,19 +178,19 @@ module _ (setting : Setting) (before : List Item) (row file : ℕ) (old new : Co
           absurd (omega (arith, past, number))
 
   own : (policy_at setting now version ≡ plan.policy)
-      × (plan_at setting now version ≡ placed_in (setting.plan plan.policy))
+      × (plan_at setting now version ≡ hosted_in (setting.plan plan.policy))
   own = of_its_file setting now version file plan.policy
       (file_append here (item.Submitted file version ∷ []) version
       ∙ ap (λ o. option_or o (file_of (item.Submitted file version ∷ []) version)) none_before
       ∙ own_file file version not_first) of.policy
 
   kept_is : kept ≡ planned setting now version
-  kept_is = ap (λ policy. make policy plan.placed) (sym own.0)
-      ∙ ap (make (policy_at setting now version)) (sym (own.1 ∙ ap placed_in of.placed))
+  kept_is = ap (λ policy. make policy plan.hosted) (sym own.0)
+      ∙ ap (make (policy_at setting now version)) (sym (own.1 ∙ ap hosted_in of.hosted))
     where
-      make : List Row → List Placed → KeptPlan
-      make policy placed =
-          record { version = version; plan = record { policy = policy; placed = placed } }
+      make : List Row → List Hosted → KeptPlan
+      make policy hosted =
+          record { version = version; plan = record { policy = policy; hosted = hosted } }
 
   now_plans : old.plans ++ kept ∷ [] ≡ map (planned setting now) (versions_from_current now)
   now_plans = plans_pushed setting here (item.Submitted file version ∷ []) old.plans kept here_have

@@ -14,9 +14,9 @@ use Rattle.controller.specs.declared.sends.Act.{Act}
 use Rattle.journal.specs.declared.item.Item.{Item}
 use Rattle.journal.specs.declared.item.Item.TheVariants as item
 use Rattle.net_file.specs.declared.net.Net.{Net}
-use Rattle.partition.specs.Plan.{Placed, plan_of}
+use Rattle.partition.specs.Plan.{Hosted, plan_of}
 use Rattle.policy_rules.specs.declared.policy.Row.{Row}
-use Rattle.policy_rules.specs.Placed.{NoPlan, TooManyLeaves}
+use Rattle.policy_rules.specs.Hosted.{NoPlan, TooManyLeaves}
 use Rattle.steps.specs.declared.step.Step.TheVariants.{Update}
 use Rattle.switch_core.specs.State.{SwitchValue}
 use Rattle.update_machine.specs.Moves.{put}
@@ -50,11 +50,11 @@ file_there net policies file first last =
 
 pub planned_file : (net : Net) (policies : List (List Row)) (file : ℕ) (plan : PlanValue)
     → 1 ≤ file → file ≤ length policies → plan.policy ≡ get_or policies (file - 1) []
-    → plan_of (get_or policies (file - 1) []) net ≡ Ok plan.placed
+    → plan_of (get_or policies (file - 1) []) net ≡ Ok plan.hosted
     → IsPlanOfFile (setting_of net policies) file plan
 planned_file net policies file plan first last own is = record {
   policy = file_there net policies file first last ∙ ap Some (sym own);
-  placed = ap (λ rows. plan_of rows net) own ∙ is;
+  hosted = ap (λ rows. plan_of rows net) own ∙ is;
 }
 
 -- a file whose policy has no plan is refused with the code of the cause
@@ -67,7 +67,7 @@ unplanned_code net policies journal file code why first last none is =
     let refused : plan_of_file setting file ≡ Err why =
     ap (λ o. elim o [ None ↦ Err TooManyLeaves | Some rows ↦ setting.plan rows ])
     (file_there net policies file first last) ∙ none in
-    ap (λ (r : Result (List Placed) NoPlan). elim r [
+    ap (λ (r : Result (List Hosted) NoPlan). elim r [
       | Err cause ↦ Some (plan_code cause)
       | Ok plan ↦ marks_code journal
     ]) refused ∙ ap Some is

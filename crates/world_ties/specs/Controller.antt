@@ -16,7 +16,7 @@ planned setting journal version = record {
   version = version;
   plan = record {
     policy = policy_at setting journal version;
-    placed = plan_at setting journal version;
+    hosted = plan_at setting journal version;
   };
 }
 
@@ -30,4 +30,4 @@ pub record IsControllerOf (setting : Setting) (journal : List Item)
 -- the plan is that of the policy of a file
 pub record IsPlanOfFile (setting : Setting) (file : ℕ) (plan : PlanValue) : Type 0 where
   pub policy : policy_of_file setting file ≡ Some plan.policy
-  pub placed : setting.plan plan.policy ≡ Ok plan.placed
+  pub hosted : setting.plan plan.policy ≡ Ok plan.hosted

@@ -3,7 +3,7 @@
 ghost use Rattle.std.specs.Prelude.{◌≡◌, [], ◌∷◌, IfOk, IsSomeAnd, IsTrue};
 ghost use Rattle.five_tuple.specs.declared.header.Header.{Header};
 ghost use Rattle.ternary.specs.Meets.{any_word};
-ghost use Rattle.policy_rules.specs.Placed.{is_in};
+ghost use Rattle.policy_rules.specs.Hosted.{is_in};
 ghost use Rattle.policy_rules.specs.declared.packet.Leg.TheVariants.{Seek};
 ghost use Rattle.switch_table.specs.Tables.{AreSoundTables};
 ghost use Rattle.switch_core.specs.Answering.{CanLookUp, IsAtAuthority};

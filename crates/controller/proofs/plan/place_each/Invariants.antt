@@ -3,4 +3,4 @@ use Rattle.std.specs.List.{zip}
 use Rattle.controller.proofs.plan.place_each.Given as goal
 
 abbrev pub invariant-loop-place : goal.invariant-loop-place
-invariant-loop-place l = l.placed.items ≡ take l.place (zip l.parts l.targets)
+invariant-loop-place l = l.hosted.items ≡ take l.place (zip l.parts l.targets)

@@ -3,4 +3,4 @@ use Rattle.switch_table.specs.Tables.{row_of}
 use Rattle.controller.proofs.plan.rows_of.Given as goal
 
 abbrev pub invariant-loop-part : goal.invariant-loop-part
-invariant-loop-part l = l.rows.items ≡ map row_of (take l.part-index l.placed)
+invariant-loop-part l = l.rows.items ≡ map row_of (take l.part-index l.hosted)

@@ -59,7 +59,7 @@ pub returns-clause-plan : goal.returns-clause-plan
 returns-clause-plan c =
     let ready = ready_to_place (goal.at.returns-clause-plan c).After-place in
     rw (
-      c.in_ok-plan.ensures.placed,
+      c.in_ok-plan.ensures.hosted,
       c.deref-5.ensures.value,
       c.deref-6.ensures.value,
       c.in_ok-parts.ensures.parts,

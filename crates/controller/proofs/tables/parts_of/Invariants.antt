@@ -4,4 +4,4 @@ use Rattle.controller.proofs.tables.parts_of.Given as goal
 
 abbrev pub invariant-loop-part : goal.invariant-loop-part
 invariant-loop-part l = l.parts.items ≡ map part_of
-    (filter (has_target l.s) (take l.part-index l.placed))
+    (filter (has_target l.s) (take l.part-index l.hosted))

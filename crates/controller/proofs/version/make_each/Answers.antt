@@ -11,6 +11,6 @@ loop-s-preserved c =
       c.loop-s.invariant,
       c.in_ok-new.ensures,
       c.in_ok-tables.ensures.tables,
-      map-range_with_len_more (tables_of c.args.plan.now.placed c.args.version) 0 c.loop-s.s
+      map-range_with_len_more (tables_of c.args.plan.now.hosted c.args.version) 0 c.loop-s.s
           c.loop-s.s first,
     )

@@ -1,6 +1,6 @@
 use Rattle.std.proofs.Common.{◌≡◌, drop, find}
 use Rattle.std.specs.List.{count_by}
-use Rattle.policy_rules.specs.Placed.{is_in}
+use Rattle.policy_rules.specs.Hosted.{is_in}
 use Rattle.partition.proofs.parts.find.Given as goal
 
 abbrev pub invariant-loop-part : goal.invariant-loop-part

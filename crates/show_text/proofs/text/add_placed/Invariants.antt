@@ -1,8 +1,8 @@
 use Rattle.std.proofs.Common.{◌≡◌, ◌++◌, take}
 use Rattle.std.specs.List.{flat_map}
-use Rattle.show_text.specs.Text.{placed_lines}
-use Rattle.show_text.proofs.text.add_placed.Given as goal
+use Rattle.show_text.specs.Text.{hosted_lines}
+use Rattle.show_text.proofs.text.add_hosted.Given as goal
 
 abbrev pub invariant-loop-part : goal.invariant-loop-part
 invariant-loop-part l = l.text.items ≡ l.initial.text.items ++ flat_map
-    (placed_lines l.net) (take l.part-index l.placed)
+    (hosted_lines l.net) (take l.part-index l.hosted)

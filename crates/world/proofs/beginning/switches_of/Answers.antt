@@ -28,7 +28,7 @@ pub loop-number-preserved : goal.loop-number-preserved
 loop-number-preserved c = λ plan is.
     let number = c.loop-number.number in
     let net = c.args.net.now in
-    let each : ℕ → SwitchValue = switch_begun net plan.placed in
+    let each : ℕ → SwitchValue = switch_begun net plan.hosted in
     let many : length c.items-count.result.now ≡ length net.switches =
     ap length c.items-count.ensures in
     let told : c.begin-base.result ≡ first_adverts (map (links_of net.links)
@@ -40,7 +40,7 @@ loop-number-preserved c = λ plan is.
     c.in_ok-begin.ensures
     ∙ ap (λ (tables : Tables). begun number net.cache tables c.begin-base.result)
     (first_tables net c.args.controller.now plan _ number is c.in_ok-tables.ensures.tables)
-    ∙ ap (begun number net.cache (tables_of plan.placed 1 number)) told in
+    ∙ ap (begun number net.cache (tables_of plan.hosted 1 number)) told in
     c.in_ok-push.ensures.items
     ∙ ap (λ all. all ++ c.in_ok-begin.field-0 ∷ []) (c.loop-number.invariant plan is)
     ∙ ap (λ s. map each (range_with_len 0 number) ++ s ∷ []) one

@@ -8,4 +8,4 @@ use Rattle.world.proofs.beginning.switches_of.Given as goal
 abbrev pub invariant-loop-number : goal.invariant-loop-number
 invariant-loop-number l = (plan : PlanValue)
     → l.controller ≡ first_controller (length l.net.switches) plan
-    → l.switches.items ≡ map (switch_begun l.net plan.placed) (range_with_len 0 l.number)
+    → l.switches.items ≡ map (switch_begun l.net plan.hosted) (range_with_len 0 l.number)

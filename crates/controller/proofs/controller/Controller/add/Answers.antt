@@ -17,7 +17,7 @@ pushed c = pushed_next c.self.inside.versions.items c.push.new.self.items _ c.co
 whole : (c : After-settle) → IsWhole c.add_version-settled.new.marks
     c.settle.new.versions.items
 whole c = whole_more c.self.inside.marks c.self.inside.versions.items c.args.plan _ _ _ _
-    c.placed.ensures.sound c.self.invariant c.add_version-settled.ensures.rule
+    c.hosted.ensures.sound c.self.invariant c.add_version-settled.ensures.rule
     c.add_version-settled.ensures.settled (pushed c) c.settle.ensures.versions
 
 stays : (c : After-settle) → StaysController c.args.self.now (record {
@@ -25,7 +25,7 @@ stays : (c : After-settle) → StaysController c.args.self.now (record {
   plans = c.settle.new.versions.items;
 })
 stays c = stays_more c.self.inside.marks c.self.inside.versions.items c.args.plan _ _ _ _
-    c.placed.ensures.sound _ c.self.view_is c.self.invariant c.add_version-settled.ensures.rule
+    c.hosted.ensures.sound _ c.self.view_is c.self.invariant c.add_version-settled.ensures.rule
     c.add_version-settled.ensures.settled (pushed c) c.settle.ensures.versions
 
 pub invariant_of-self-in_err-settle : goal.invariant_of-self-in_err-settle

@@ -51,5 +51,5 @@ returns-clause-sound c =
     let kept : KeptPlan = c.index.result.now in
     let is = kept_sound own c.self.invariant c.args.version (first c) (last c) kept (kept_is c) in
     IfOk-weaker c.tables.result _ _ (λ tables same. subst AreSoundTables (sym same)
-    (c.tables_laws.ensures.sound kept.plan.policy kept.plan.placed kept.version c.args.s is.sound
+    (c.tables_laws.ensures.sound kept.plan.policy kept.plan.hosted kept.version c.args.s is.sound
     is.covers is.few is.few_rules)) c.tables.ensures

@@ -11,7 +11,7 @@ returns-in-Some c =
     let within : c.args.s < length inside.made.items =
     omega (arith, lookup.3.0, ap length c.deref.ensures.value) in
     c.in_ok-tables.ensures.cases
-    ∙ read_map (tables_of inside.plan.placed inside.version) inside.made.items c.args.s _
+    ∙ read_map (tables_of inside.plan.hosted inside.version) inside.made.items c.args.s _
     c.self.invariant within (lookup.1 ∙ ap (λ l. get_or l c.args.s c.in-Some.tables.now)
     c.deref.ensures.value)
-    ∙ ap (λ (kept : KeptPlan). tables_of kept.plan.placed kept.version c.args.s) c.self.view_is
+    ∙ ap (λ (kept : KeptPlan). tables_of kept.plan.hosted kept.version c.args.s) c.self.view_is

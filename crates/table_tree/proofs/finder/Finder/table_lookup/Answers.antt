@@ -2,7 +2,7 @@ use Rattle.std.proofs.Common.{◌<◌, ◌==◌, ◌∙◌, List, length, get_or
 use Rattle.std.specs.Bool.{IsTrue}
 use Rattle.std.specs.Option.{IsSomeAnd, option_and_then}
 use Rattle.ternary.specs.Meets.{any_word}
-use Rattle.policy_rules.specs.Placed.{is_in}
+use Rattle.policy_rules.specs.Hosted.{is_in}
 use Rattle.policy_rules.specs.declared.rules.Partition.{Partition}
 use Rattle.switch_table.specs.Lookup.{table_lookup}
 use Rattle.switch_table.specs.declared.search.Found.TheVariants.{Authority, Redirect}

@@ -17,7 +17,7 @@ invariant_of-result c =
     let first : c.index.result.now ≡ get_or policies 0 [] =
     c.index.ensures
     ∙ get_or_default policies 0 c.index.result.now [] (omega (arith, c.requires.some)) in
-    let planned : plan_of (get_or policies 0 []) net ≡ Ok c.in_ok-plan.plan.placed =
+    let planned : plan_of (get_or policies 0 []) net ≡ Ok c.in_ok-plan.plan.hosted =
     ap (λ rows. plan_of rows net) (sym first) ∙ c.in_ok-plan.ensures.plan in
     let of_net : files.net ≡ net = c.in_ok-files.ensures.net ∙ c.in_ok-clone.ensures.cases in
     record {

@@ -11,8 +11,8 @@ abbrev pub is_in : Header → Partition → Bool
 is_in header part = holds part.region (number_of header)
 
 -- a partition with its targets: the switches that decide its headers
-abbrev pub Placed : Type 0
-Placed = Partition × List ℕ
+abbrev pub Hosted : Type 0
+Hosted = Partition × List ℕ
 
 -- why a policy has no plan on a network
 pub data NoPlan : Type 0 where

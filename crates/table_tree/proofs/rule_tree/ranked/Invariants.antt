@@ -1,0 +1,11 @@
+use Rattle.std.proofs.Common.{◌≡◌, ◌++◌, length, drop}
+use Rattle.cut_tree.specs.Nodes.{AreWords}
+use Rattle.table_tree.specs.Ruling.{ranked_by_place}
+use Rattle.table_tree.proofs.rule_tree.ranked.Given as goal
+
+abbrev pub invariant-loop-rule : goal.invariant-loop-rule
+invariant-loop-rule l = record {
+  rules : ranked_by_place 0 l.rules ≡ l.ranked.items ++ ranked_by_place l.rule-index (drop l.rule-index l.rules);
+  count : length l.ranked.items ≡ l.rule-index;
+  words : AreWords l.ranked.items;
+}
