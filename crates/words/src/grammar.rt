@@ -1,5 +1,5 @@
 //! The test of the grammar, before any memory is taken.
-ghost use Rattle.std.specs.Prelude.{◌≡◌, ◌≤◌, ◌⊎◌, true, IfSome, IfNone, None, codes, drop, is_some, length, map, option_map, string_bytes};
+ghost use Rattle.std.specs.Prelude.{◌≡◌, ◌≤◌, ◌⊎◌, true, IfSome, IfNone, None, drop, is_some, length, map, option_map, string_bytes};
 ghost use Rattle.std.specs.List.{prefix_len};
 ghost use Rattle.words.specs.Named.{command_in, cut_seen, kind_name, net_named, pair_seen, parts_seen};
 ghost use Rattle.words.specs.Words.{Line as Stated, command_by, command_of, cut_net, cut_options, cut_pair, cut_quiet, end_together, is_file_name, joined_net, line_from, line_of, load_of, net_and_quiet, print_of, quiet_and_net, replay_from};

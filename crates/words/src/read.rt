@@ -1,8 +1,8 @@
 //! The reading of words of the grammar with the crate `clap`.
 ghost use Rattle.std.specs.Prelude.{◌≡◌, Bool, true, false, IfOk, Some, codes, drop, is_some, map, option_map, string_bytes};
-ghost use Rattle.clap.specs.Words.{app_of, first_value, found_of, kind_of, matched_of, one_text, raw_values, rule_of};
+ghost use Rattle.clap.specs.Words.{app_of, first_value, found_of, matched_of, one_text, raw_values, rule_of};
 ghost use Rattle.words.specs.Line.{IsFlagRead, IsNetRead, app_with, line_app, names_arg, net_and, net_arg, none, options_of, quiet_arg};
-ghost use Rattle.words.specs.Named.{command_in, kind_name, line_seen, names_seen, net_named};
+ghost use Rattle.words.specs.Named.{command_in, line_seen, names_seen, net_named};
 ghost use Rattle.words.specs.Words.{line_of};
 
 use crate::grammar::Kind;
