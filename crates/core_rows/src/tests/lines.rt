@@ -35,20 +35,18 @@ fn push(journal: &mut Journal, item: Item) -> Result<(), Fail> {
     Ok(())
 }
 
-fn header() -> Header {
-    Header::pack(&Fields {
-        src: 0x0102_0304,
-        dst: 0x0a02_0001,
-        sport: 5000,
-        dport: 80,
-        proto: 6,
-    })
-}
+const FIELDS: Fields = Fields {
+    src: 0x0102_0304,
+    dst: 0x0a02_0001,
+    sport: 5000,
+    dport: 80,
+    proto: 6,
+};
 
 fn packet_row() -> Item {
     let step = Step::Packet {
         switch: 0,
-        header: header(),
+        header: Header::pack(&FIELDS),
     };
     Item::Row { row: 1, step }
 }
@@ -57,7 +55,7 @@ fn entered() -> Item {
     Item::Entered {
         packet: 1,
         switch: 0,
-        header: header(),
+        header: Header::pack(&FIELDS),
     }
 }
 
@@ -78,7 +76,7 @@ fn decided() -> Item {
 fn left() -> Item {
     let leaving = Leaving {
         packet: 1,
-        header: header(),
+        header: Header::pack(&FIELDS),
         version: 1,
         rule: None,
     };
