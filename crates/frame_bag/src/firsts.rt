@@ -21,7 +21,7 @@ pub struct Firsts {
 }
 
 impl Model for Firsts {
-    ghost use Rattle.std.specs.Prelude.{List, ℕ, Option, All, map};
+    ghost use Rattle.std.specs.Prelude.{List, Option, All, map};
     ghost use Rattle.frame_bag.specs.Kept.{First, IsWithin, first_in};
 
     ghost Value = { List First };

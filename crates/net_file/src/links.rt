@@ -1,6 +1,6 @@
 ghost use Rattle.std.specs.Prelude.{◌≡◌, ◌≤◌, ◌<◌, Ok, [], IfOk, IfErr, length, map, Err};
 ghost use Rattle.toml.specs.View.{table_view, view};
-ghost use Rattle.net_file.specs.Nets.{are_linked, end_read, ends_in, joins, link_array, link_of, links_in};
+ghost use Rattle.net_file.specs.Nets.{are_linked, end_read, ends_in, link_array, link_of, links_in};
 ghost use Rattle.net_file.specs.Outcomes.{IsRead, seen_values};
 ghost use Rattle.failure.specs.Refusals.{IsRefusal};
 

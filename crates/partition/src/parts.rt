@@ -1,10 +1,7 @@
 ghost use Rattle.std.specs.Prelude.{ℕ, ◌≡◌, ◌+◌, ◌<◌, ◌^◌, ◌++◌, All, IfOk, OnOk, IsTrue, List, Some, count_by, find, length, option_map};
-ghost use Rattle.policy_rules.specs.Partitions.{AreSoundPartitions, LastCovers};
-ghost use Rattle.policy_rules.specs.Policy.{IsPolicy};
-ghost use Rattle.policy_rules.specs.RuleList.{rules_of};
+ghost use Rattle.policy_rules.specs.Policies.{AreSoundPartitions, IsPolicy, LastCovers, is_in, rules_of};
 ghost use Rattle.policy_rules.specs.declared.policy.Row.{Row};
 ghost use Rattle.policy_rules.specs.declared.rules.Rule.{Rule};
-ghost use Rattle.policy_rules.specs.Hosted.{is_in};
 ghost use Rattle.cut_tree.specs.DefinedTree.{IsDefinedTree};
 ghost use Rattle.cut_tree.specs.Shape.{leaf_count, leaves_of, shape_of};
 ghost use Rattle.partition.specs.Parts.{DecideAs, numbered_from, parts_of};

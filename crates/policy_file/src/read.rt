@@ -1,6 +1,5 @@
 ghost use Rattle.std.specs.Prelude.{◌≡◌, ◌≤◌, Ok, IfOk, IfErr, All, length};
-ghost use Rattle.policy_rules.specs.Policy.{IsPolicy};
-ghost use Rattle.policy_rules.specs.Read.{HasSmallPort};
+ghost use Rattle.policy_rules.specs.Policies.{HasSmallPort, IsPolicy};
 ghost use Rattle.policy_file.specs.Reading.{IsReadUpTo, policy_of};
 ghost use Rattle.failure.specs.Refusals.{IsRefusal};
 

@@ -1,4 +1,4 @@
-ghost use Rattle.std.specs.Prelude.{◌≡◌, ◌<◌, ◌^◌, ◌++◌, length, All, OnOk};
+ghost use Rattle.std.specs.Prelude.{◌<◌, ◌^◌, length, All, OnOk};
 ghost use Rattle.wire.specs.Format.{Format, list_of, read_items};
 ghost use Rattle.wire.specs.Reading.{Reads, Gives, AppendsForm};
 ghost use Rattle.wire.specs.Fields.{n4};

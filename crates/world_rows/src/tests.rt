@@ -1,5 +1,4 @@
-ghost use Rattle.std.specs.Prelude.{◌≡◌, ◌≤◌, All, IfOk, length};
-ghost use Rattle.five_tuple.specs.Header.{IsHeader};
+ghost use Rattle.std.specs.Prelude.{◌≡◌, ◌≤◌, IfOk, length};
 ghost use Rattle.net_file.specs.Net.{IsNet};
 ghost use Rattle.steps.specs.Steps.{IsStep};
 ghost use Rattle.world.specs.State.{setting_at};

@@ -1,5 +1,4 @@
 //! Frames of messages, put together in another order than theirs.
-ghost use Rattle.std.specs.Prelude.{IfOk, OnOk};
 ghost use Rattle.wire.specs.Messages.{HasSpelling};
 
 use crate::tests::messages::{collect, install};
