@@ -31,14 +31,14 @@ use Rattle.table_tree.specs.Regions.{AreNodeSpots, has_number, spots_of_side, sp
 use Rattle.table_tree.specs.Ruling.{RegionTree, part_tree, rule_shape, rule_tree, seen_tree}
 use Rattle.table_tree.specs.declared.rule_tree.RuleTree.{RuleTree}
 use Rattle.table_tree.specs.Finding.{AreTreesOf, IsEnd, IsFinderTree, IsGrownShape, IsSpotTreeOf, spot_shape_of}
-use Rattle.table_tree.specs.Shape.{Shape, CutsHeaderBits, Leaf, Sides, leaf_at}
+use Rattle.table_tree.specs.LookupTrees.{LookupTree, CutsHeaderBits, Leaf, Sides, leaf_at}
 use Rattle.table_tree.specs.declared.node.Spot.{Spot}
 use Rattle.table_tree.specs.declared.trees.Trees.{Trees}
 use Rattle.table_tree.proofs.NodeLemmas.{count-cons, cut_is_free, found_from_count, half_node, never_stuck, root_node, several_spots, side_finds, spot_at, spots_count, weight}
 
 -- ---- the cut bit
 
-pub cuts_bits : (tree : Shape ℕ) (spots : List Spot) (region : WordValue) → IsSpotTreeOf spots region tree
+pub cuts_bits : (tree : LookupTree ℕ) (spots : List Spot) (region : WordValue) → IsSpotTreeOf spots region tree
     → CutsHeaderBits tree
 cuts_bits (Leaf place) spots region is = tt
 cuts_bits (Sides bit low high) spots region is = (
@@ -60,7 +60,7 @@ end_is (first ∷ []) spot place one is same = record {
 end_is (first ∷ second ∷ rest) spot place one is same = absurd (omega (arith, one))
 
 -- a tree that is grown of regions that meet a region of the header space is theirs
-pub grown_tree : HoldsLaws → MeetLaws → (tree : Shape ℕ) (spots : List Spot) (region : WordValue)
+pub grown_tree : HoldsLaws → MeetLaws → (tree : LookupTree ℕ) (spots : List Spot) (region : WordValue)
     → AreNodeSpots spots region → IsGrownShape spots region tree → IsSpotTreeOf spots region tree
 grown_tree holds_laws meet_laws (Leaf place) spots region node (inl end) = end
 grown_tree holds_laws meet_laws (Leaf place) spots region node (inr stuck) =
@@ -93,7 +93,7 @@ in_half region bit number one free held is =
     ∙ eq-eqb (bit_at number bit) (from_bool one) is
 
 -- the bits of a header lead to the place of the region that has it
-pub leads : (tree : Shape ℕ) (spots : List Spot) (region : WordValue) (number : ℕ) (spot : Spot)
+pub leads : (tree : LookupTree ℕ) (spots : List Spot) (region : WordValue) (number : ℕ) (spot : Spot)
     → IsSpotTreeOf spots region tree → IsTrue (holds region number)
     → find (has_number number) spots ≡ Some spot → leaf_at number tree ≡ spot.place
 leads (Leaf place) spots region number spot is held found =
@@ -148,7 +148,7 @@ spot_place place number (row ∷ rows) spot found =
         (omega (arith, later.0), omega (arith, later.1))
 
 -- the tree of the rows leads each header to the first row that holds it
-pub leads_to_row : (rows : List PartRow) (tree : Shape ℕ) (header : Header)
+pub leads_to_row : (rows : List PartRow) (tree : LookupTree ℕ) (header : Header)
     → IsSpotTreeOf (spots_of rows) any_word tree → count_by (row_has header) rows ≡ 1
     → position (row_has header) rows ≡ Some (leaf_at (number_of header) tree)
 leads_to_row rows tree header is one =

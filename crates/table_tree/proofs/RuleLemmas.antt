@@ -21,7 +21,7 @@ use Rattle.cut_tree.proofs.CallerLemmas.{narrow_first}
 use Rattle.cut_tree.proofs.CutLemmas.{least_cuts}
 use Rattle.cut_tree.proofs.NarrowLemmas.{met_joined, narrow_apart, narrow_covered, narrow_more, narrow_none}
 use Rattle.table_tree.specs.Ruling.{is_held_at, if_pays, parted, paying_cut, pays, ranked_by_place, rule_tree, rule_tree_within}
-use Rattle.table_tree.specs.Shape.{Shape, CutsHeaderBits, Leaf, Sides, leaf_at}
+use Rattle.table_tree.specs.LookupTrees.{LookupTree, CutsHeaderBits, Leaf, Sides, leaf_at}
 use Rattle.table_tree.proofs.FindLemmas.{find_agree, in_half}
 
 abbrev pub rank_of : Rule → ℕ
@@ -37,7 +37,7 @@ within_end zero rules region none = refl
 within_end (suc cuts) rules region none = ap (parted (rule_tree_within cuts) rules region) none
 
 pub within_cut : (cuts : ℕ) (rules : List Rule) (region : WordValue) (cost : Cost)
-    (low high : List Rule) (lower higher : WordValue) (a b : Shape (List ℕ)) → 0 < cuts
+    (low high : List Rule) (lower higher : WordValue) (a b : LookupTree (List ℕ)) → 0 < cuts
     → Some cost ≡ paying_cut cuts rules region → low ≡ side_of rules region cost.bit false
     → lower ≡ fix_of region cost.bit false → high ≡ side_of rules region cost.bit true
     → higher ≡ fix_of region cost.bit true → a ≡ rule_tree_within (cuts - 1) low lower
@@ -315,7 +315,7 @@ unfolding rule_tree
 root_cuts list region = cuts_header 12 (narrow (ranked_by_place 0 list) region) region
 
 -- as `first` reads it
-pub first_is : (list : List Rule) (region : WordValue) (shape : Shape (List ℕ)) (number h : ℕ)
+pub first_is : (list : List Rule) (region : WordValue) (shape : LookupTree (List ℕ)) (number h : ℕ)
     (places : List ℕ) (found : Option ℕ) → shape ≡ rule_tree list region
     → IsTrue (holds region h) → number ≡ h → places ≡ leaf_at number shape
     → found ≡ find (is_held_at list number) places → found ≡ position (is_held h) list

@@ -11,14 +11,14 @@ use Rattle.policy_rules.specs.declared.rules.Partition.{Partition}
 use Rattle.table_tree.specs.Cutting.{NoneFree}
 use Rattle.table_tree.specs.Regions.{AreRegions, IsCutBit, spots_of_side, some_fix, spots_of}
 use Rattle.table_tree.specs.Ruling.{part_tree, seen_tree}
-use Rattle.table_tree.specs.Shape.{Shape, Leaf, Sides}
+use Rattle.table_tree.specs.LookupTrees.{LookupTree, Leaf, Sides}
 use Rattle.table_tree.specs.declared.rule_tree.RuleTree.{RuleTree}
 use Rattle.table_tree.specs.declared.node.Spot.{Spot}
 use Rattle.table_tree.specs.declared.tree.Tree.{Tree, At, Cut'}
 use Rattle.table_tree.specs.declared.trees.Trees.{Trees}
 
 -- the shape of a tree, which leads to places of the partition rules
-abbrev pub spot_shape_of : Tree → Shape ℕ
+abbrev pub spot_shape_of : Tree → LookupTree ℕ
 spot_shape_of (At place) = Leaf place
 spot_shape_of (Cut' bit p low q high) = Sides bit (spot_shape_of low) (spot_shape_of high)
 
@@ -28,7 +28,7 @@ pub record IsEnd (spots : List Spot) (place : ℕ) : Type 0 where
   pub there : All (λ spot. spot.place ≡ place) spots
 
 -- the tree of these regions within a region: more than one are parted at their cut bit
-abbrev pub IsSpotTreeOf : List Spot → WordValue → Shape ℕ → Type 0
+abbrev pub IsSpotTreeOf : List Spot → WordValue → LookupTree ℕ → Type 0
 IsSpotTreeOf spots region (Leaf place) = IsEnd spots place
 IsSpotTreeOf spots region (Sides bit low high) =
     (1 < length spots) × IsCutBit spots region bit
@@ -41,7 +41,7 @@ pub record IsStuck (spots : List Spot) (region : WordValue) : Type 0 where
   pub none : NoneFree region (some_fix spots)
 
 -- a tree that is grown in the same way of regions of any kind, some of which can't be parted
-abbrev pub IsGrownShape : List Spot → WordValue → Shape ℕ → Type 0
+abbrev pub IsGrownShape : List Spot → WordValue → LookupTree ℕ → Type 0
 IsGrownShape spots region (Leaf place) = IsEnd spots place ⊎ IsStuck spots region
 IsGrownShape spots region (Sides bit low high) =
     (length spots ≢ 1) × IsCutBit spots region bit
@@ -49,7 +49,7 @@ IsGrownShape spots region (Sides bit low high) =
     × IsGrownShape (spots_of_side spots region bit true) (fix_of region bit true) high
 
 -- the tree of the partition rules
-abbrev pub IsFinderTree : List PartRow → Shape ℕ → Type 0
+abbrev pub IsFinderTree : List PartRow → LookupTree ℕ → Type 0
 IsFinderTree rows tree = IsSpotTreeOf (spots_of rows) any_word tree
 
 -- the trees that are grown of these partition rules and authority partitions

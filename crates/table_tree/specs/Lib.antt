@@ -1,5 +1,5 @@
 pub mod Cutting
 pub mod Regions
-pub mod Shape
+pub mod LookupTrees
 pub mod Finding
 pub mod Ruling

@@ -10,12 +10,12 @@ use Rattle.policy_rules.specs.declared.rules.Rule.{Rule}
 use Rattle.cut_tree.specs.Cuts.{least_below, side_of}
 use Rattle.cut_tree.specs.Narrow.{narrow}
 use Rattle.cut_tree.specs.declared.choice.Cost.{Cost}
-use Rattle.table_tree.specs.Shape.{Shape, Leaf, Sides}
+use Rattle.table_tree.specs.LookupTrees.{LookupTree, Leaf, Sides}
 use Rattle.table_tree.specs.declared.rule_node.RuleNode.{RuleNode, End, Cut'}
 use Rattle.table_tree.specs.declared.rule_tree.RuleTree.{RuleTree}
 
 -- the shape of a tree, which leads to the places of the rules that are left, in order
-abbrev pub rule_shape : RuleNode → Shape (List ℕ)
+abbrev pub rule_shape : RuleNode → LookupTree (List ℕ)
 rule_shape (End places) = Leaf places.items
 rule_shape (Cut' bit p low q high) = Sides bit (rule_shape low) (rule_shape high)
 
@@ -46,8 +46,8 @@ paying_cut zero rules region = None
 paying_cut (suc cuts) rules region = if_pays (length rules) (least_below 104 rules region)
 
 -- the places of these rules, where there is no cut; both sides of it, grown in this way
-abbrev pub parted : (List Rule → WordValue → Shape (List ℕ)) → List Rule → WordValue → Option Cost
-    → Shape (List ℕ)
+abbrev pub parted : (List Rule → WordValue → LookupTree (List ℕ)) → List Rule → WordValue → Option Cost
+    → LookupTree (List ℕ)
 parted grow rules region None = Leaf (map (λ (rule : Rule). rule.rank) rules)
 parted grow rules region (Some cost) =
     Sides cost.bit
@@ -55,19 +55,19 @@ parted grow rules region (Some cost) =
     (grow (side_of rules region cost.bit true) (fix_of region cost.bit true))
 
 -- the tree of the rules of a region, with at most so many cuts one below another
-unfoldable pub rule_tree_within : ℕ → List Rule → WordValue → Shape (List ℕ)
+unfoldable pub rule_tree_within : ℕ → List Rule → WordValue → LookupTree (List ℕ)
 rule_tree_within zero rules region = parted (λ rs r. Leaf []) rules region None
 rule_tree_within (suc cuts) rules region =
     parted (rule_tree_within cuts) rules region (paying_cut (suc cuts) rules region)
 
 -- the tree of a list of rules in a region: at most 12 cuts one below another
-unfoldable pub rule_tree : List Rule → WordValue → Shape (List ℕ)
+unfoldable pub rule_tree : List Rule → WordValue → LookupTree (List ℕ)
 rule_tree rules region = rule_tree_within 12 (narrow (ranked_by_place 0 rules) region) region
 
 -- a region with its tree
 pub record RegionTree : Type 0 where
   pub region : WordValue
-  pub shape : Shape (List ℕ)
+  pub shape : LookupTree (List ℕ)
 
 abbrev pub seen_tree : RuleTree → RegionTree
 seen_tree tree = record { region = tree.region; shape = rule_shape tree.root }

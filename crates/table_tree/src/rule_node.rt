@@ -2,7 +2,7 @@ ghost use Rattle.std.specs.Prelude.{◌≡◌, ◌<◌, IfOk, IfSome, map};
 ghost use Rattle.policy_rules.specs.declared.rules.Rule.{Rule};
 ghost use Rattle.cut_tree.specs.Cuts.{IsFreeBit};
 ghost use Rattle.table_tree.specs.Ruling.{paying_cut, rule_shape, rule_tree_within};
-ghost use Rattle.table_tree.specs.Shape.{CutsHeaderBits, leaf_at};
+ghost use Rattle.table_tree.specs.LookupTrees.{CutsHeaderBits, leaf_at};
 
 use cut_tree::{Cost, Node};
 use policy_rules::Rule;

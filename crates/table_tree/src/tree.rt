@@ -1,6 +1,6 @@
 ghost use Rattle.std.specs.Prelude.{◌≡◌, IfOk};
 ghost use Rattle.table_tree.specs.Finding.{IsGrownShape, spot_shape_of};
-ghost use Rattle.table_tree.specs.Shape.{CutsHeaderBits, leaf_at};
+ghost use Rattle.table_tree.specs.LookupTrees.{CutsHeaderBits, leaf_at};
 
 use crate::bits::cut_bit;
 use crate::node::Node;

@@ -75,26 +75,26 @@ kind_number (Installed _ _ _) = 8
 kind_number (Stamped _ _ _) = 9
 
 -- a value in its format: the spelling, and whether it has one
-abbrev pub written : {A : Type 0} → Format A → A → List ℕ × Bool
-written f x = (f.spell x, f.fits x)
+abbrev pub in_format : {A : Type 0} → Format A → A → List ℕ × Bool
+in_format f x = (f.spell x, f.fits x)
 
-abbrev pub written_fields : Body → List ℕ × Bool
-written_fields (Install boot tables) = written install_form (boot, tables)
-written_fields (OpenAt boot version) = written of_version (boot, version)
-written_fields (Stamp boot version) = written of_version (boot, version)
-written_fields (Collect boot version) = written of_version (boot, version)
-written_fields (CacheRule version word rule action) =
-    written cache_rule_form (version, (word, (rule, action)))
-written_fields (Advertise news) = written advert news
-written_fields (Hello switch boot) = written hello (switch, boot)
-written_fields (Installed switch boot version) = written acknowledged (switch, (boot, version))
-written_fields (Stamped switch boot version) = written acknowledged (switch, (boot, version))
+abbrev pub fields_in_format : Body → List ℕ × Bool
+fields_in_format (Install boot tables) = in_format install_form (boot, tables)
+fields_in_format (OpenAt boot version) = in_format of_version (boot, version)
+fields_in_format (Stamp boot version) = in_format of_version (boot, version)
+fields_in_format (Collect boot version) = in_format of_version (boot, version)
+fields_in_format (CacheRule version word rule action) =
+    in_format cache_rule_form (version, (word, (rule, action)))
+fields_in_format (Advertise news) = in_format advert news
+fields_in_format (Hello switch boot) = in_format hello (switch, boot)
+fields_in_format (Installed switch boot version) = in_format acknowledged (switch, (boot, version))
+fields_in_format (Stamped switch boot version) = in_format acknowledged (switch, (boot, version))
 
 abbrev pub spelled_fields : Body → List ℕ
-spelled_fields body = (written_fields body).0
+spelled_fields body = (fields_in_format body).0
 
 abbrev pub fields_fit : Body → Bool
-fields_fit body = (written_fields body).1
+fields_fit body = (fields_in_format body).1
 
 -- the body that the fields make
 abbrev pub made : {A : Type 0} → (A → Body) → Option (A × List ℕ) → Option (Body × List ℕ)

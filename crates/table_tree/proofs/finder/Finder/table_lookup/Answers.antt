@@ -11,7 +11,7 @@ use Rattle.switch_table.specs.declared.tables.Tables.{Tables}
 use Rattle.table_tree.specs.declared.trees.Trees.{Trees}
 use Rattle.table_tree.specs.Finding.{FinderValue, spot_shape_of}
 use Rattle.table_tree.specs.Regions.{spots_of}
-use Rattle.table_tree.specs.Shape.{CutsHeaderBits}
+use Rattle.table_tree.specs.LookupTrees.{CutsHeaderBits}
 use Rattle.table_tree.proofs.FindLemmas.{cuts_bits, first_in, none_there, own_decides, own_has, place_is, place_within, row_decides}
 use Rattle.table_tree.proofs.finder.Finder.table_lookup.Goals as goal
 

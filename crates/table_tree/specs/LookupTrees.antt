@@ -3,17 +3,17 @@ use Rattle.std.specs.Prelude.{⊤, ℕ, ◌<◌, ◌==◌, if◌then◌else◌}
 use Rattle.std.specs.Int.{bit_at}
 
 -- where it leads, or a cut of a bit with the side of its zeros and that of its ones
-pub data Shape (A : Type 0) : Type 0 where
-  Leaf : A → Shape A
-  Sides : ℕ → Shape A → Shape A → Shape A
+pub data LookupTree (A : Type 0) : Type 0 where
+  Leaf : A → LookupTree A
+  Sides : ℕ → LookupTree A → LookupTree A → LookupTree A
 
 -- where the bits of a header number lead
-abbrev pub leaf_at : {A : Type 0} → ℕ → Shape A → A
+abbrev pub leaf_at : {A : Type 0} → ℕ → LookupTree A → A
 leaf_at number (Leaf x) = x
 leaf_at number (Sides bit low high) =
     if bit_at number bit == 1 then leaf_at number high else leaf_at number low
 
 -- each cut is at a bit of a header number
-abbrev pub CutsHeaderBits : {A : Type 0} → Shape A → Type 0
+abbrev pub CutsHeaderBits : {A : Type 0} → LookupTree A → Type 0
 CutsHeaderBits (Leaf x) = ⊤
 CutsHeaderBits (Sides bit low high) = (bit < 104) × CutsHeaderBits low × CutsHeaderBits high
