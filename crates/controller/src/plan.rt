@@ -62,7 +62,7 @@ impl Plan {
         ensures policy { IfOk result (λ plan. plan.policy ≡ policy) }
         ensures hosted { IfOk result (λ plan. plan.hosted ≡ zip parts.now targets.now) }
     {
-        let hosted = place_each(alloc, parts, targets)?;
+        let hosted = host_each(alloc, parts, targets)?;
         let rows = rows_of(alloc, &hosted)?;
         let shared = Rc::new(
             alloc,
@@ -108,7 +108,7 @@ impl Clone for Plan {
 }
 
 // The partitions with their targets.
-fn place_each(
+fn host_each(
     alloc: Global,
     parts: &[Partition],
     targets: &[Targets],

@@ -20,15 +20,15 @@ and_false : (b : Bool) → (b && false) ≡ false
 and_false true = refl
 and_false false = refl
 
--- before the only partition nothing is hosted
+-- before the only partition the only switch holds nothing
 no_load : (size : ℕ) → load_before (size ∷ []) ([] ∷ []) 0 0 ≡ 0
 unfolding load_before
 no_load size = rw (and_false (is_earlier (size ∷ []) 0 0)) refl
 
 -- it goes to the only switch, which has room for it
-hosted : (size : ℕ) → size ≤ 8192 → placement_of (size ∷ []) (8192 ∷ []) 0 ≡ Ok ((0 ∷ []) ∷ [])
+only_target : (size : ℕ) → size ≤ 8192 → placement_of (size ∷ []) (8192 ∷ []) 0 ≡ Ok ((0 ∷ []) ∷ [])
 unfolding placement_of in_order has_room
-hosted size few =
+only_target size few =
     let room : leb (0 + size) 8192 ≡ true = grind (arith, nat_tests) in
     rw (no_load size, room) refl
 
@@ -48,4 +48,4 @@ one_partition lists trees rows policy few =
     let tree : End any_word rules ≡ tree_of rules 8192 = trees.only rules 8192 (End any_word rules)
     (tree_of rules 8192) leaf defined in
     planned rows solo_net (End any_word rules) ((0 ∷ []) ∷ []) few tree (omega arith)
-    (hosted (length rules) small)
+    (only_target (length rules) small)

@@ -32,7 +32,8 @@ IsAfterWork (status.Full row) = ⊤
 IsAfterWork status.NoMemory = ⊤
 IsAfterWork _ = ⊥
 
--- the status is one of work that was begun, and tells a fault of the output exactly if there was one
+-- the status is one of work that was begun, and tells of a fault of the output exactly if there was
+-- one
 pub record EndsWork (ended : Status) (before now : SinkState) : Type 0 where
   pub worked : IsAfterWork ended
   pub failed : ended ≡ status.WriteFault → Rose before.faults now.faults

@@ -50,7 +50,7 @@ is_sent _ = false
 
 -- ---- the summary
 
--- how many items of each kind there are, and the marks at the end; each packet that came in travels
+-- how many items of each kind there are, and the marks at the end; as travelling, all that came in
 abbrev pub counts_of : List Item → Summary
 counts_of journal = record {
   packets = count_of is_packet journal;
@@ -67,11 +67,11 @@ counts_of journal = record {
 }
 
 -- a packet that came in and neither left, nor was dropped or lost, nor is stuck, still travels
-abbrev pub less_ended : Summary → Summary
-less_ended s = record s { travelling = s.travelling - (s.delivered + s.dropped + s.lost + s.stuck) }
+abbrev pub with_travelling : Summary → Summary
+with_travelling s = record s { travelling = s.travelling - (s.delivered + s.dropped + s.lost + s.stuck) }
 
 abbrev pub summary_of : List Item → Summary
-summary_of journal = less_ended (counts_of journal)
+summary_of journal = with_travelling (counts_of journal)
 
 -- ---- one more item
 

@@ -1,5 +1,5 @@
 ghost use Rattle.std.specs.Prelude.{◌≡◌};
-ghost use Rattle.load_text.specs.Summary.{CountsHaveRoom, counted_with, counts_of, less_ended, summary_of};
+ghost use Rattle.load_text.specs.Summary.{CountsHaveRoom, counted_with, counts_of, with_travelling, summary_of};
 
 use journal::{How, Item, Journal};
 
@@ -31,10 +31,10 @@ pub struct Summary {
 pub fn summarize(journal: &Journal) -> Summary
     ensures { result ≡ summary_of journal.now }
 {
-    count(journal.items()).less_ended()
+    count(journal.items()).with_travelling()
 }
 
-// Counts the items in one pass, where each packet that came in still travels.
+// Counts the items in one pass: as travelling, all that came in.
 fn count(items: &[Item]) -> Summary
     ensures { result ≡ counts_of items.now }
 {
@@ -87,9 +87,9 @@ impl Summary {
         }
     }
 
-    // The counts, where the packets that came to an end travel no more.
-    fn less_ended(self) -> Summary
-        ensures { result ≡ less_ended self }
+    // The counts, with the packets that still travel: less those that came to an end.
+    fn with_travelling(self) -> Summary
+        ensures { result ≡ with_travelling self }
     {
         let travelling = self
             .travelling

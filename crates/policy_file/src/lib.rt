@@ -7,7 +7,7 @@
 //!
 //! ```text
 //! fn tidy(alloc: Global, text: &[u8], ports: u64) -> anyhow::Result<Vec<u8>> {
-//!     let policy = read_policy(alloc, text)?;  // Refused { refusal, row }: the first refusal
+//!     let policy = read_policy(alloc, text)?;  // Refused(InRow { refusal, row }), the first
 //!     check_ports(&policy, ports)?;            // NoPort { row }: the first row without its port
 //!     Ok(write_policy(alloc, &policy)?)        // read back, it gives the same policy
 //! }

@@ -1,20 +1,27 @@
 -- Faults that are ordered beforehand, and counts of many calls.
-use Rattle.std.specs.Prelude.{ℕ, Bool, if◌then◌else◌, Contains, Vec, zero, suc}
-use Rattle.std.specs.Global.{Global}
+use Rattle.std.specs.Prelude.{ℕ, Bool, if◌then◌else◌, List, Contains, zero, suc}
 use Rattle.shelf.specs.Sink.{counted}
-use Rattle.shelf.specs.declared.scripted.Script.{Script}
+
+-- Faults that were ordered beforehand: the numbers of the calls that are to fail, counted from 1,
+-- how many calls there were, and how often a fault was counted. Both counts stand still at their
+-- last value.
+pub record CallScript : Type 0 where
+  pub failing : List ℕ
+  pub calls : ℕ
+  pub faults : ℕ
 
 -- nothing was called yet
-abbrev pub script_of : Vec ℕ Global → Script
+abbrev pub script_of : List ℕ → CallScript
 script_of failing = record { failing = failing; calls = 0; faults = 0 }
 
 -- the number of the next call is one of those that are to fail
-abbrev pub FailsNext : Script → Type 0
-FailsNext script = Contains script.failing.items (counted script.calls)
+abbrev pub FailsNext : CallScript → Type 0
+FailsNext script = Contains script.failing (counted script.calls)
 
 -- after one more call, which was a fault or not
-abbrev pub after_call : Script → Bool → Script
-after_call script fault = record script {
+abbrev pub after_call : CallScript → Bool → CallScript
+after_call script fault = record {
+  failing = script.failing;
   calls = counted script.calls;
   faults = if fault then counted script.faults else script.faults;
 }

@@ -5,7 +5,7 @@ use Rattle.std.specs.Option.{option_map}
 use Rattle.std.specs.Str.{bytes_eq}
 use Rattle.shelf.specs.declared.source.ShelfError.{ShelfError}
 use Rattle.shelf.specs.declared.source.ShelfError.TheVariants.{Failed, NoMemory}
-use Rattle.shelf.specs.Scripts.{counted_up}
+use Rattle.shelf.specs.Scripts.{CallScript, counted_up}
 
 -- files by name: the bytes of each name, and those of the file
 abbrev pub Files : Type 0
@@ -66,6 +66,16 @@ abbrev pub is_refusal : {T : Type 0} → Result T ShelfError → Bool
 is_refusal (Ok content) = false
 is_refusal (Err NoMemory) = false
 is_refusal _ = true
+
+-- files, with the calls that are to fail
+pub record ScriptedFiles : Type 0 where
+  pub files : Files
+  pub script : CallScript
+
+-- files, and how often they were read
+pub record CalmFiles : Type 0 where
+  pub files : Files
+  pub reads : ℕ
 
 -- the counts of a shelf whose files are not known
 pub record ReadCounts : Type 0 where

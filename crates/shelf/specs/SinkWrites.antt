@@ -3,7 +3,7 @@ use Rattle.std.specs.Prelude.{⊤, ◌≡◌, ◌≢◌, ◌≤◌, ℕ, Bool, I
 use Rattle.std.proofs.Common.{refl, ap, append_assoc}
 use Rattle.shelf.specs.declared.output.SinkError.{SinkError}
 use Rattle.shelf.specs.declared.output.SinkError.TheVariants.{Failed, NoMemory}
-use Rattle.shelf.specs.declared.scripted.Script.{Script}
+use Rattle.shelf.specs.Scripts.{CallScript}
 use Rattle.shelf.specs.Sink.{SinkState, gained, GainedPart, Rose}
 
 -- two gains are one of the bytes together
@@ -42,4 +42,4 @@ is_write_fault piece (Err NoMemory) = false
 pub record ScriptedBytes : Type 0 where
   pub bytes : List ℕ
   pub most : ℕ
-  pub script : Script
+  pub script : CallScript

@@ -19,13 +19,12 @@ pub struct Block {
 
 impl Model for Block {
     ghost use Rattle.std.specs.Prelude.{List, ℕ, take, ◌≤◌};
-    ghost use Rattle.shelf.specs.declared.block.TheConstants.{BLOCK_BYTES};
 
     ghost Value = { List ℕ };
 
     ghost view = { λ block. take block.len block.bytes };
 
-    ghost invariant = { λ block. block.len ≤ BLOCK_BYTES };
+    ghost invariant = { λ block. block.len ≤ 65536 };
 }
 
 impl Block {

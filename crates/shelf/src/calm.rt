@@ -14,6 +14,14 @@ pub struct CalmShelf {
     reads: u64,
 }
 
+impl Model for CalmShelf {
+    ghost use Rattle.shelf.specs.Shelf.{CalmFiles};
+
+    ghost Value = { CalmFiles };
+
+    ghost view = { λ s. record { files = s.files; reads = s.reads } };
+}
+
 impl CalmShelf {
     ghost use Rattle.shelf.specs.Shelf.{files_of};
 

@@ -8,9 +8,7 @@ use crate::source::{HeldFiles, Shelf, ShelfError};
 use std::alloc::Global;
 use std::marker::Model;
 
-/// Faults that are ordered beforehand: the numbers of the calls that are to fail, counted from 1,
-/// how many calls there were, and how often a fault was counted. Both counts stand still at their
-/// last value.
+/// Which calls are to fail, how many there were, and how many faults.
 #[derive(Drop)]
 struct Script {
     failing: Vec<u64>,
@@ -18,9 +16,17 @@ struct Script {
     faults: u64,
 }
 
+impl Model for Script {
+    ghost use Rattle.shelf.specs.Scripts.{CallScript};
+
+    ghost Value = { CallScript };
+
+    ghost view = { λ s. record { failing = s.failing.items; calls = s.calls; faults = s.faults } };
+}
+
 impl Script {
     fn new(failing: Vec<u64>) -> Self
-        ensures { result ≡ script_of failing }
+        ensures { result ≡ script_of failing.items }
     {
         Script {
             failing,
@@ -61,6 +67,14 @@ pub struct MemShelf {
     script: Script,
 }
 
+impl Model for MemShelf {
+    ghost use Rattle.shelf.specs.Shelf.{ScriptedFiles};
+
+    ghost Value = { ScriptedFiles };
+
+    ghost view = { λ s. record { files = s.files; script = s.script } };
+}
+
 impl MemShelf {
     ghost use Rattle.shelf.specs.Shelf.{files_of};
 
@@ -68,7 +82,8 @@ impl MemShelf {
     ///
     /// Of two files of one name the first counts.
     pub fn new(alloc: Global, files: Vec<(String, Vec<u8>)>, failing: Vec<u64>) -> Self
-        ensures { result ≡ record { files = files_of files.items; script = script_of failing } }
+        ensures { result
+            ≡ record { files = files_of files.items; script = script_of failing.items } }
     {
         MemShelf {
             files: HeldFiles::new(alloc, files),
@@ -129,7 +144,7 @@ impl MemSink {
     /// An empty sink that takes at most `most` bytes a call, and at which the calls with these
     /// numbers fail.
     pub fn new(alloc: Global, most: u64, failing: Vec<u64>) -> Self
-        ensures { result ≡ record { bytes = []; most = most; script = script_of failing } }
+        ensures { result ≡ record { bytes = []; most = most; script = script_of failing.items } }
     {
         MemSink {
             bytes: Vec::new(alloc),

@@ -94,7 +94,7 @@ fn find_named<'a>(files: &'a [(String, Vec<u8>)], name: &str) -> Option<&'a (Str
     files.iter().find(|file| file.0.as_str() == name)
 }
 
-/// Its content.
+/// The content of the first of these files with this name.
 #[tactic(auto, using(crate::proofs::Lookups::file_named_kept))]
 fn content_of<'a>(files: &'a [(String, Vec<u8>)], name: &str) -> Option<&'a [u8]>
     ensures { option_copied result ≡ file_named (files_of files.now) name.now }

@@ -36,7 +36,7 @@ use Rattle.version_update.specs.declared.record.SwitchRecord.{SwitchRecord}
 use Rattle.controller.specs.Controller.{ControllerValue, KeptPlan, SettlesWith, first_controller, plans_from}
 use Rattle.controller.specs.Plan.{PlanValue}
 use Rattle.controller.specs.Sends as acts
-use Rattle.controller.specs.Sends.{NamesThere, marks_after, boot_recorded, hearing, install_act, installs_after}
+use Rattle.controller.specs.Sends.{NamesThere, marks_after, hearing, install_act, installs_after}
 use Rattle.controller.specs.declared.sends.Act.{Act}
 use Rattle.controller.specs.declared.sends.Act.TheVariants.{Post}
 use Rattle.world_ties.specs.Controller.{IsControllerOf, IsPlanOfFile, planned}

@@ -10,7 +10,7 @@ use Rattle.policy_rules.specs.declared.policy.Row.{Row}
 use Rattle.policy_rules.specs.Hosted.{TooManyLeaves}
 use Rattle.steps.specs.declared.step.Step.TheVariants.{Update}
 use Rattle.update_machine.specs.Marks as machine
-use Rattle.update_machine.specs.Marks.{current_mark, known_boot, most_live, most_versions, retired_mark}
+use Rattle.update_machine.specs.Marks.{known_boot}
 use Rattle.update_machine.specs.Moves.{put}
 use Rattle.update_machine.specs.Pieces.{marks_code, piece, plan_code, update_code, update_items}
 use Rattle.update_machine.specs.Setting.{Setting, plan_of_file, switches_of}

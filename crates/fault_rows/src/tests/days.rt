@@ -77,6 +77,9 @@ fn did_nothing(recorded: &Recorded, status: u8, line: &str) -> bool {
     *items == 0 && ended(ran, status, "", line)
 }
 
+/// What the day ends with, behind its journal.
+const DAY_END: &[u8] = b"meter port 2 notes 2\nmeter port 3 notes 1\n";
+
 const READ_FAULT: &str = "difane: read fault\n";
 
 /// What goes wrong before the day is played, and the status and the line of errors that the run
@@ -127,7 +130,7 @@ fn answers_each_fault_of_a_day(rt: HostRuntime) -> Result<(), Fail> {
         assert!(rt; did_nothing(&recorded, *status, line), "{status} {line}");
     }
     let ((status, whole, _), _) = played(rt.alloc(), &Fault::Write(0))?;
-    assert!(rt; status == 0);
+    assert!(rt; status == 0 && whole.bytes().ends_with(DAY_END));
     for write in 1..1_000 {
         let recorded = played(rt.alloc(), &Fault::Write(write))?;
         let (status, out, errs) = &recorded.0;

@@ -1,7 +1,7 @@
 use Rattle.std.proofs.Common.{◌≡◌, ◌∙◌, ◌<◌, length, take, ap, arith}
 use Rattle.std.specs.List.{zip}
 use Rattle.controller.proofs.PlanLemmas.{zip_all, zip_read}
-use Rattle.controller.proofs.plan.place_each.Goals as goal
+use Rattle.controller.proofs.plan.host_each.Goals as goal
 
 pub loop-place-preserved : goal.loop-place-preserved
 loop-place-preserved c =
