@@ -78,7 +78,7 @@ fn did_nothing(recorded: &Recorded, status: u8, line: &str) -> bool {
 }
 
 /// What the day ends with, behind its journal.
-const DAY_END: &[u8] = b"meter port 2 notes 2\nmeter port 3 notes 1\n";
+const DAY_END: &[u8] = b"meter port 2 notes 2\nmeter port 3 notes 1\nquiet yes\n";
 
 const READ_FAULT: &str = "difane: read fault\n";
 
