@@ -17,8 +17,8 @@ pub enum PlanError {
     TooManyWords { words: u64 },
     #[error("the tree has too many leaves")]
     TooManyLeaves,
-    /// Too few switches have room for this partition, counted from 0; it is the first, in the order
-    /// of placing.
+    /// Too few switches have room for this partition, counted from 0: the first such one, by
+    /// falling size and then by number.
     #[error("too few switches have room for partition {partition}")]
     NoRoom { partition: u32 },
     #[error("no memory")]

@@ -8,7 +8,7 @@ use crate::plan_error::PlanError;
 use cut_tree::build;
 use net_file::Net;
 use partition::{list, plan_laws};
-use placement::place;
+use placement::choose_targets;
 use policy_rules::{Partition, Policy, to_rules};
 use std::alloc::{AllocError, Global};
 
@@ -17,8 +17,8 @@ use std::alloc::{AllocError, Global};
 ///
 /// # Errors
 /// `TooManyWords` where its rows have more than 4,096 words; otherwise `TooManyLeaves` where its
-/// tree has more than 512 leaves; otherwise `NoRoom` with the first partition, in the order of
-/// placing, that finds too few switches.
+/// tree has more than 512 leaves; otherwise `NoRoom` with the first partition, by falling size and
+/// then by number, that finds too few switches.
 pub fn compile(alloc: Global, policy: &Policy, net: &Net) -> Result<Plan, PlanError>
     requires { IsNet net.now }
     ensures plan { IfOk result (λ plan. plan_of policy.now net.now ≡ Ok plan.hosted) }
@@ -31,7 +31,7 @@ pub fn compile(alloc: Global, policy: &Policy, net: &Net) -> Result<Plan, PlanEr
     let parts = list(alloc, &tree)?;
     let sizes = sizes_of(alloc, &parts)?;
     let rooms = rooms_of(alloc, net)?;
-    let targets = place(alloc, &sizes, &rooms, net.backups)?;
+    let targets = choose_targets(alloc, &sizes, &rooms, net.backups)?;
     let policy = policy.clone()?;
     let plan = Plan::new(alloc, policy, &parts, &targets)?;
     Ok(plan)

@@ -10,7 +10,8 @@ use std::alloc::{AllocError, Global};
 use std::marker::Model;
 
 /// A version with its plan. The tables of each switch are made once, and shared by each `Install`
-/// that carries them and by each switch that begins with them. Contracts see the version and the plan.
+/// that carries them and by each switch that begins with them. Contracts see the version and the
+/// plan.
 #[derive(Drop)]
 pub struct Version {
     version: u32,

@@ -61,7 +61,7 @@ small_parts most number (leaf ∷ leaves) all =
 record IsMadeOf (rows : List Row) (net : Net) (plan : List Hosted) (tree : Shape) : Type 0 where
   pub few : leaf_count tree ≤ 512
   pub targets : List (List ℕ)
-  pub hosted : placement_of (sizes_of (parts_of tree)) (rooms_of net) net.backups ≡ Ok targets
+  pub chosen : placement_of (sizes_of (parts_of tree)) (rooms_of net) net.backups ≡ Ok targets
   pub pairs : zip (parts_of tree) targets ≡ plan
 
 hosted_by : (parts : List Partition) (plan : List Hosted) (answer : Result (List (List ℕ)) ℕ)
@@ -78,7 +78,7 @@ made_by rows net plan tree true test is = cc
 made_by rows net plan tree false test is =
     let made = hosted_by (parts_of tree) plan
     (placement_of (sizes_of (parts_of tree)) (rooms_of net) net.backups) is in
-    record { few = grind (arith, nat_tests); targets = made.0; hosted = made.1; pairs = made.2 }
+    record { few = grind (arith, nat_tests); targets = made.0; chosen = made.1; pairs = made.2 }
 
 worded_by : (rows : List Row) (net : Net) (plan : List Hosted) (tree : Shape) (many : Bool)
     → cond many (Err (TooManyWords (word_total rows))) (plan_of_tree net tree) ≡ Ok plan
@@ -108,11 +108,11 @@ targets_there : (net : Net) (sizes : List ℕ) (targets : List (List ℕ))
     → IsPlacement sizes (rooms_of net) net.backups targets → All (AreThere net) targets
 targets_there net sizes targets placement =
     All-from_get_or (AreThere net) targets [] (λ i within.
-    let placed = placement.placed i (omega (arith, within, placement.number)) in
+    let hosted = placement.hosted i (omega (arith, within, placement.number)) in
     All-weaker (λ s. s < length (rooms_of net)) (λ s. s < length net.switches)
     (λ s here. omega (arith, here, length-map net.switches (λ row. row.room)))
     _ (first_there (load_before sizes targets i) (rooms_of net) (get_or sizes i 0) (1 + net.backups)
-    _ placed))
+    _ hosted))
 
 -- pairs of these partitions with these targets are a plan
 zip_holds : (rows : List Row) (net : Net) (tree : Shape) (targets : List (List ℕ)) → IsPolicy rows
@@ -156,7 +156,7 @@ plan_holds rows net plan policy network is =
     let defined = tree_defined (rules_of rows) net.leaf_rules some
     (IsRuleList-rules_of rows policy).words in
     let placement = placement_there (sizes_of (parts_of tree)) (rooms_of net) net.backups
-    made.targets made.hosted in
+    made.targets made.chosen in
     let P : List Hosted → Type 0 = IsPlan rows net in
     subst P made.pairs (zip_holds rows net tree made.targets policy defined made.few placement)
 

@@ -8,7 +8,7 @@ use Rattle.std.proofs.lemmas.List.{append-nil, get_or_past, get_or-set_other, ge
 use Rattle.std.proofs.lemmas.List.Elements.{filter_agree}
 use Rattle.std.proofs.lemmas.List.Sums.{sum_by-cons, sum_by-append, sum_by_push}
 use Rattle.placement.specs.Order.{in_order}
-use Rattle.placement.specs.Placement.{is_earlier, targets_placed, is_target, load_before, is_lighter, with_room, AreFirst, IsPlaced, IsPlacement, LacksRoom, placed_from, placement_of, MeetsPlacement}
+use Rattle.placement.specs.Placement.{is_earlier, targets_at, is_target, load_before, is_lighter, with_room, AreFirst, HasDueTargets, IsPlacement, LacksRoom, placement_from, placement_of, MeetsPlacement}
 use Rattle.placement.proofs.OrderLemmas.{Rises, one_of, one_of-same, one_of-other, count, count-range-le, count-range_within, range-within, sum-in_order, length-in_order, rises-in_order, each_from_count}
 use Rattle.placement.proofs.FirstLemmas.{earlier_order, first_in_order, same_first, room_for_first}
 
@@ -113,7 +113,7 @@ earlier-within sizes o p earlier within =
 -- ---- loads
 
 loads_agree : (sizes : List ℕ) (P Q : List (List ℕ)) (p : ℕ)
-    → ((o : ℕ) → is_earlier sizes o p ≡ true → targets_placed P o ≡ targets_placed Q o)
+    → ((o : ℕ) → is_earlier sizes o p ≡ true → targets_at P o ≡ targets_at Q o)
     → load_before sizes P p ≡ load_before sizes Q p
 unfolding load_before
 loads_agree sizes P Q p same =
@@ -210,94 +210,94 @@ running_load sizes P done p left split s =
 -- ---- one turn
 
 -- the partitions of the turns so far have their targets
-pub record Placing (sizes rooms : List ℕ) (backups : ℕ) (placement : List (List ℕ))
+pub record TakenTurns (sizes rooms : List ℕ) (backups : ℕ) (placement : List (List ℕ))
     (done left : List ℕ) : Type 0 where
   pub split : turns sizes ≡ done ++ left
   pub number : length placement ≡ length sizes
-  pub placed : AllByRecursion (IsPlaced sizes rooms backups placement) done
+  pub hosted : AllByRecursion (HasDueTargets sizes rooms backups placement) done
 
-pub placing_none : (sizes rooms : List ℕ) (backups : ℕ) (placement : List (List ℕ))
-    → length placement ≡ length sizes → Placing sizes rooms backups placement [] (turns sizes)
-placing_none sizes rooms backups placement len = record { split = refl; number = len; placed = tt }
+pub taken_none : (sizes rooms : List ℕ) (backups : ℕ) (placement : List (List ℕ))
+    → length placement ≡ length sizes → TakenTurns sizes rooms backups placement [] (turns sizes)
+taken_none sizes rooms backups placement len = record { split = refl; number = len; hosted = tt }
 
-placed-set : (sizes rooms : List ℕ) (backups : ℕ) (P : List (List ℕ)) (p q : ℕ) (chosen : List ℕ)
-    → is_earlier sizes q p ≡ true → IsPlaced sizes rooms backups P q
-    → IsPlaced sizes rooms backups (set P p chosen) q
-placed-set sizes rooms backups P p q chosen earlier placed =
+hosted-set : (sizes rooms : List ℕ) (backups : ℕ) (P : List (List ℕ)) (p q : ℕ) (chosen : List ℕ)
+    → is_earlier sizes q p ≡ true → HasDueTargets sizes rooms backups P q
+    → HasDueTargets sizes rooms backups (set P p chosen) q
+hosted-set sizes rooms backups P p q chosen earlier hosted =
     let later : is_earlier sizes p q ≡ false = false_from_ne_true _
     (λ flipped. not_both sizes q p earlier flipped) in
     let other : q ≢ p = λ same.
     false≢true (sym ((earlier_order sizes).never p) ∙ subst (λ z. is_earlier sizes z p ≡ true)
     same earlier) in
     subst (λ load. AreFirst load rooms (get_or sizes q 0) (1 + backups)
-    (targets_placed (set P p chosen) q)) (sym (loads-set sizes P p q chosen later))
+    (targets_at (set P p chosen) q)) (sym (loads-set sizes P p q chosen later))
     (subst (AreFirst (load_before sizes P q) rooms (get_or sizes q 0) (1 + backups))
-    (sym (get_or-set_other P p q chosen [] other)) placed)
+    (sym (get_or-set_other P p q chosen [] other)) hosted)
 
-pub placing_more : (sizes rooms : List ℕ) (backups : ℕ) (P : List (List ℕ)) (done : List ℕ) (p : ℕ)
-    (left chosen : List ℕ) → Placing sizes rooms backups P done (p ∷ left)
+pub taken_more : (sizes rooms : List ℕ) (backups : ℕ) (P : List (List ℕ)) (done : List ℕ) (p : ℕ)
+    (left chosen : List ℕ) → TakenTurns sizes rooms backups P done (p ∷ left)
     → AreFirst (load_before sizes P p) rooms (get_or sizes p 0) (1 + backups) chosen
-    → Placing sizes rooms backups (set P p chosen) (done ++ p ∷ []) left
-placing_more sizes rooms backups P done p left chosen placing first =
-    let parts = split_of sizes done p left placing.split in
-    let within : p < length P = omega (arith, parts.within, placing.number) in
-    let here : IsPlaced sizes rooms backups (set P p chosen) p =
+    → TakenTurns sizes rooms backups (set P p chosen) (done ++ p ∷ []) left
+taken_more sizes rooms backups P done p left chosen taken first =
+    let parts = split_of sizes done p left taken.split in
+    let within : p < length P = omega (arith, parts.within, taken.number) in
+    let here : HasDueTargets sizes rooms backups (set P p chosen) p =
     subst (λ load. AreFirst load rooms (get_or sizes p 0) (1 + backups)
-    (targets_placed (set P p chosen) p))
+    (targets_at (set P p chosen) p))
     (sym (loads-set sizes P p p chosen ((earlier_order sizes).never p)))
     (subst (AreFirst (load_before sizes P p) rooms (get_or sizes p 0) (1 + backups))
     (sym (get_or-set_same P p chosen [] within)) first) in
     record {
-      split = placing.split ∙ sym (append_assoc done (p ∷ []) left);
-      number = length-set P p chosen ∙ placing.number;
-      placed = each-append (IsPlaced sizes rooms backups (set P p chosen)) done (p ∷ [])
-          (both done parts.before placing.placed) (here, tt);
+      split = taken.split ∙ sym (append_assoc done (p ∷ []) left);
+      number = length-set P p chosen ∙ taken.number;
+      hosted = each-append (HasDueTargets sizes rooms backups (set P p chosen)) done (p ∷ [])
+          (both done parts.before taken.hosted) (here, tt);
     }
   where
     both : (xs : List ℕ) → AllByRecursion (λ o. is_earlier sizes o p ≡ true) xs
-        → AllByRecursion (IsPlaced sizes rooms backups P) xs
-        → AllByRecursion (IsPlaced sizes rooms backups (set P p chosen)) xs
-    both [] earlier placed = tt
-    both (x ∷ xs) earlier placed =
-        (placed-set sizes rooms backups P p x chosen earlier.0 placed.0, both xs earlier.1 placed.1)
+        → AllByRecursion (HasDueTargets sizes rooms backups P) xs
+        → AllByRecursion (HasDueTargets sizes rooms backups (set P p chosen)) xs
+    both [] earlier hosted = tt
+    both (x ∷ xs) earlier hosted =
+        (hosted-set sizes rooms backups P p x chosen earlier.0 hosted.0, both xs earlier.1 hosted.1)
 
-pub placing_within : (sizes rooms : List ℕ) (backups : ℕ) (P : List (List ℕ)) (done : List ℕ)
-    (p : ℕ) (left : List ℕ) → Placing sizes rooms backups P done (p ∷ left) → p < length P
-placing_within sizes rooms backups P done p left placing =
-    omega (arith, (split_of sizes done p left placing.split).within, placing.number)
+pub taken_within : (sizes rooms : List ℕ) (backups : ℕ) (P : List (List ℕ)) (done : List ℕ)
+    (p : ℕ) (left : List ℕ) → TakenTurns sizes rooms backups P done (p ∷ left) → p < length P
+taken_within sizes rooms backups P done p left taken =
+    omega (arith, (split_of sizes done p left taken.split).within, taken.number)
 
-pub placing_all : (sizes rooms : List ℕ) (backups : ℕ) (P : List (List ℕ)) (done : List ℕ)
-    → Placing sizes rooms backups P done [] → IsPlacement sizes rooms backups P
-placing_all sizes rooms backups P done placing =
-    let whole : turns sizes ≡ done = placing.split ∙ append-nil done in
+pub taken_all : (sizes rooms : List ℕ) (backups : ℕ) (P : List (List ℕ)) (done : List ℕ)
+    → TakenTurns sizes rooms backups P done [] → IsPlacement sizes rooms backups P
+taken_all sizes rooms backups P done taken =
+    let whole : turns sizes ≡ done = taken.split ∙ append-nil done in
     record {
-      number = placing.number;
-      placed = λ p within. each_from_count (IsPlaced sizes rooms backups P) p done placing.placed
+      number = taken.number;
+      hosted = λ p within. each_from_count (HasDueTargets sizes rooms backups P) p done taken.hosted
           (subst (λ xs. 0 < count p xs) whole (in_turns sizes p within));
     }
 
-pub placing_refused : (sizes rooms : List ℕ) (backups : ℕ) (P : List (List ℕ)) (done : List ℕ)
-    (p : ℕ) (left : List ℕ) → Placing sizes rooms backups P done (p ∷ left)
+pub taken_refused : (sizes rooms : List ℕ) (backups : ℕ) (P : List (List ℕ)) (done : List ℕ)
+    (p : ℕ) (left : List ℕ) → TakenTurns sizes rooms backups P done (p ∷ left)
     → length (with_room (load_before sizes P p) rooms (get_or sizes p 0)) < 1 + backups
     → LacksRoom sizes rooms backups p
-placing_refused sizes rooms backups P done p left placing fewer =
-    let parts = split_of sizes done p left placing.split in
+taken_refused sizes rooms backups P done p left taken fewer =
+    let parts = split_of sizes done p left taken.split in
     record {
       there = parts.within;
       placement = P;
-      earlier = λ o within earlier. each_from_count (IsPlaced sizes rooms backups P) o done
-          placing.placed (parts.others o within earlier);
+      earlier = λ o within earlier. each_from_count (HasDueTargets sizes rooms backups P) o done
+          taken.hosted (parts.others o within earlier);
       fewer = fewer;
     }
 
 -- what a turn adds to the running loads
 pub held_load_more : (sizes rooms : List ℕ) (backups : ℕ) (P : List (List ℕ)) (done : List ℕ)
-    (p : ℕ) (left chosen : List ℕ) → Placing sizes rooms backups P done (p ∷ left) → (s : ℕ)
+    (p : ℕ) (left chosen : List ℕ) → TakenTurns sizes rooms backups P done (p ∷ left) → (s : ℕ)
     → held_load sizes (set P p chosen) (done ++ p ∷ []) s ≡ held_load sizes P done s + cond
     (list_any (eqb s) chosen) (get_or sizes p 0) 0
-held_load_more sizes rooms backups P done p left chosen placing s =
-    let parts = split_of sizes done p left placing.split in
-    let within : p < length P = omega (arith, parts.within, placing.number) in
+held_load_more sizes rooms backups P done p left chosen taken s =
+    let parts = split_of sizes done p left taken.split in
+    let within : p < length P = omega (arith, parts.within, taken.number) in
     let after : ℕ → ℕ = λ o. cond (is_target (set P p chosen) o s) (get_or sizes o 0) 0 in
     let before : ℕ → ℕ = λ o. cond (is_target P o s) (get_or sizes o 0) 0 in
     let same : AllByRecursion (λ o. after o ≡ before o) done =
@@ -317,7 +317,7 @@ held_load_more sizes rooms backups P done p left chosen placing s =
 -- the turns so far are done, and the running loads are what they put on the switches
 pub record Loaded (sizes rooms : List ℕ) (backups : ℕ) (loads : List ℕ) (placement : List (List ℕ))
     (done left : List ℕ) : Type 0 where
-  pub placing : Placing sizes rooms backups placement done left
+  pub taken : TakenTurns sizes rooms backups placement done left
   pub held : (s : ℕ) → get_or loads s 0 ≡ held_load sizes placement done s
   pub switches : length loads ≡ length rooms
 
@@ -326,13 +326,13 @@ loads_before : (sizes rooms : List ℕ) (backups : ℕ) (loads : List ℕ) (P : 
     (done : List ℕ) (p : ℕ) (left : List ℕ) → Loaded sizes rooms backups loads P done (p ∷ left)
     → (λ s. get_or loads s 0) ≡ load_before sizes P p
 loads_before sizes rooms backups loads P done p left loaded =
-    fun_ext (λ s. loaded.held s ∙ sym (running_load sizes P done p left loaded.placing.split s))
+    fun_ext (λ s. loaded.held s ∙ sym (running_load sizes P done p left loaded.taken.split s))
 
 pub loaded_none : (sizes rooms : List ℕ) (backups : ℕ) (loads : List ℕ) (P : List (List ℕ))
     → length P ≡ length sizes → ((s : ℕ) → get_or loads s 0 ≡ 0) → length loads ≡ length rooms
     → Loaded sizes rooms backups loads P [] (turns sizes)
 loaded_none sizes rooms backups loads P len none switches = record {
-  placing = placing_none sizes rooms backups P len;
+  taken = taken_none sizes rooms backups P len;
   held = none;
   switches = switches;
 }
@@ -344,7 +344,7 @@ pub loaded_more : (sizes rooms : List ℕ) (backups : ℕ) (loads : List ℕ) (P
     (get_or sizes p 0) 0) → length more ≡ length loads
     → Loaded sizes rooms backups more (set P p chosen) (done ++ p ∷ []) left
 loaded_more sizes rooms backups loads P done p left chosen more loaded first added len = record {
-  placing = placing_more sizes rooms backups P done p left chosen loaded.placing
+  taken = taken_more sizes rooms backups P done p left chosen loaded.taken
       (subst (λ load. AreFirst load rooms (get_or sizes p 0) (1 + backups) chosen)
       (loads_before sizes rooms backups loads P done p left loaded) first);
   held = λ s. omega (
@@ -352,7 +352,7 @@ loaded_more sizes rooms backups loads P done p left chosen more loaded first add
     added s,
     loaded.held s,
     held_load_more sizes rooms backups P done p left
-        chosen loaded.placing s,
+        chosen loaded.taken s,
   );
   switches = len ∙ loaded.switches;
 }
@@ -362,22 +362,22 @@ pub loaded_refused : (sizes rooms : List ℕ) (backups : ℕ) (loads : List ℕ)
     → length (with_room (λ s. get_or loads s 0) rooms (get_or sizes p 0)) < 1 + backups
     → LacksRoom sizes rooms backups p
 loaded_refused sizes rooms backups loads P done p left loaded fewer =
-    placing_refused sizes rooms backups P done p left loaded.placing
+    taken_refused sizes rooms backups P done p left loaded.taken
     (subst (λ load. length (with_room load rooms (get_or sizes p 0)) < 1 + backups)
     (loads_before sizes rooms backups loads P done p left loaded) fewer)
 
 -- ---- all turns
 
 turns_meet : (sizes rooms : List ℕ) (backups : ℕ) (left done : List ℕ) (P : List (List ℕ))
-    → Placing sizes rooms backups P done left → MeetsPlacement sizes rooms backups
-    (placed_from sizes rooms backups P left)
-turns_meet sizes rooms backups [] done P placing = placing_all sizes rooms backups P done placing
-turns_meet sizes rooms backups (p ∷ left) done P placing =
+    → TakenTurns sizes rooms backups P done left → MeetsPlacement sizes rooms backups
+    (placement_from sizes rooms backups P left)
+turns_meet sizes rooms backups [] done P taken = taken_all sizes rooms backups P done taken
+turns_meet sizes rooms backups (p ∷ left) done P taken =
     let load = load_before sizes P p in
     let found = in_order (is_lighter load) (with_room load rooms (get_or sizes p 0)) in
     by_case (ltb (length found) (1 + backups))
-    (placed_from sizes rooms backups (set P p (take (1 + backups) found)) left)
-    (λ few. placing_refused sizes rooms backups P done p left placing
+    (placement_from sizes rooms backups (set P p (take (1 + backups) found)) left)
+    (λ few. taken_refused sizes rooms backups P done p left taken
     (omega (
       arith,
       ltb-true (length found) (1 + backups) few,
@@ -386,55 +386,55 @@ turns_meet sizes rooms backups (p ∷ left) done P placing =
     )))
     (λ many. turns_meet sizes rooms backups left (done ++ p ∷ [])
     (set P p (take (1 + backups) found))
-    (placing_more sizes rooms backups P done p left (take (1 + backups) found) placing
+    (taken_more sizes rooms backups P done p left (take (1 + backups) found) taken
     (first_in_order load rooms (get_or sizes p 0) (1 + backups)
     (ltb-false (length found) (1 + backups) many))))
   where
-    by_case : (b : Bool) (placed : Result (List (List ℕ)) ℕ)
+    by_case : (b : Bool) (hosted : Result (List (List ℕ)) ℕ)
         → (b ≡ true → LacksRoom sizes rooms backups p)
-        → (b ≡ false → MeetsPlacement sizes rooms backups placed)
-        → MeetsPlacement sizes rooms backups (cond b (Err p) placed)
-    by_case true placed refused meets = refused refl
-    by_case false placed refused meets = meets refl
+        → (b ≡ false → MeetsPlacement sizes rooms backups hosted)
+        → MeetsPlacement sizes rooms backups (cond b (Err p) hosted)
+    by_case true hosted refused meets = refused refl
+    by_case false hosted refused meets = meets refl
 
 pub placement_meets : (sizes rooms : List ℕ) (backups : ℕ) → MeetsPlacement sizes rooms backups
     (placement_of sizes rooms backups)
 unfolding placement_of
 placement_meets sizes rooms backups = turns_meet sizes rooms backups (turns sizes) []
     (replicate (length sizes) [])
-    (placing_none sizes rooms backups (replicate (length sizes) [])
+    (taken_none sizes rooms backups (replicate (length sizes) [])
     (length-replicate (length sizes) []))
 
 -- ---- one placement
 
 -- two placements give these partitions the same targets
 abbrev Agree : List (List ℕ) → List (List ℕ) → List ℕ → Type 0
-Agree P Q xs = AllByRecursion (λ o. targets_placed P o ≡ targets_placed Q o) xs
+Agree P Q xs = AllByRecursion (λ o. targets_at P o ≡ targets_at Q o) xs
 
 agree_next : (sizes rooms : List ℕ) (backups : ℕ) (P Q : List (List ℕ)) (done : List ℕ) (p : ℕ)
     (left : List ℕ) → turns sizes ≡ done ++ p ∷ left → Agree P Q done
     → load_before sizes P p ≡ load_before sizes Q p
 agree_next sizes rooms backups P Q done p left split agree =
     let parts = split_of sizes done p left split in
-    loads_agree sizes P Q p (λ o earlier. each_from_count (λ z. targets_placed P z ≡ targets_placed Q z) o
+    loads_agree sizes P Q p (λ o earlier. each_from_count (λ z. targets_at P z ≡ targets_at Q z) o
     done agree (parts.others o (earlier-within sizes o p earlier parts.within) earlier))
 
 agree_from : (sizes rooms : List ℕ) (backups : ℕ) (P Q : List (List ℕ)) (now done left : List ℕ)
     → turns sizes ≡ done ++ (now ++ left) → Agree P Q done
-    → AllByRecursion (IsPlaced sizes rooms backups P) now
-    → AllByRecursion (IsPlaced sizes rooms backups Q) now → Agree P Q (done ++ now)
+    → AllByRecursion (HasDueTargets sizes rooms backups P) now
+    → AllByRecursion (HasDueTargets sizes rooms backups Q) now → Agree P Q (done ++ now)
 agree_from sizes rooms backups P Q [] done left split agree p q = subst (Agree P Q)
     (sym (append-nil done)) agree
 agree_from sizes rooms backups P Q (x ∷ xs) done left split agree p q =
     let loads = agree_next sizes rooms backups P Q done x (xs ++ left) split agree in
     let here = same_first (load_before sizes Q x) rooms (get_or sizes x 0) (1 + backups)
-    (targets_placed P x) (targets_placed Q x)
-    (subst (λ load. AreFirst load rooms (get_or sizes x 0) (1 + backups) (targets_placed P x)) loads
+    (targets_at P x) (targets_at Q x)
+    (subst (λ load. AreFirst load rooms (get_or sizes x 0) (1 + backups) (targets_at P x)) loads
     p.0) q.0 in
     subst (Agree P Q) (append_assoc done (x ∷ []) xs)
     (agree_from sizes rooms backups P Q xs (done ++ x ∷ []) left
     (split ∙ sym (append_assoc done (x ∷ []) (xs ++ left)))
-    (each-append (λ o. targets_placed P o ≡ targets_placed Q o) done (x ∷ []) agree (here, tt)) p.1 q.1)
+    (each-append (λ o. targets_at P o ≡ targets_at Q o) done (x ∷ []) agree (here, tt)) p.1 q.1)
 
 each_within : (P : ℕ → Type 0) (sizes : List ℕ) → ((p : ℕ) → p < length sizes → P p) → (xs : List ℕ)
     → ((z : ℕ) → 0 < count z xs → z < length sizes) → AllByRecursion P xs
@@ -448,12 +448,12 @@ each_within P sizes all (x ∷ xs) within = (
 same_placement : (sizes rooms : List ℕ) (backups : ℕ) (P Q : List (List ℕ))
     → IsPlacement sizes rooms backups P → IsPlacement sizes rooms backups Q → P ≡ Q
 same_placement sizes rooms backups P Q p q =
-    let placed = λ (R : List (List ℕ)) (r : IsPlacement sizes rooms backups R). each_within
-    (IsPlaced sizes rooms backups R) sizes r.placed (turns sizes) (turns-within sizes) in
+    let hosted = λ (R : List (List ℕ)) (r : IsPlacement sizes rooms backups R). each_within
+    (HasDueTargets sizes rooms backups R) sizes r.hosted (turns sizes) (turns-within sizes) in
     let agree = agree_from sizes rooms backups P Q (turns sizes) [] []
-    (sym (append-nil (turns sizes))) tt (placed P p) (placed Q q) in
+    (sym (append-nil (turns sizes))) tt (hosted P p) (hosted Q q) in
     same_lists P Q (omega (arith, p.number, q.number)) (λ k d within.
-    let here = each_from_count (λ z. targets_placed P z ≡ targets_placed Q z) k (turns sizes) agree
+    let here = each_from_count (λ z. targets_at P z ≡ targets_at Q z) k (turns sizes) agree
     (in_turns sizes k (omega (arith, p.number))) in
     get_or_default P k d [] within ∙ here
     ∙ get_or_default Q k [] d (omega (arith, p.number, q.number)))
@@ -461,29 +461,29 @@ same_placement sizes rooms backups P Q p q =
 -- a partition that is refused has no targets in any placement of the earlier ones
 refused_clash : (sizes rooms : List ℕ) (backups p : ℕ) → LacksRoom sizes rooms backups p
     → (Q : List (List ℕ)) → ((o : ℕ) → o < length sizes → is_earlier sizes o p ≡ true
-    → IsPlaced sizes rooms backups Q o) → IsPlaced sizes rooms backups Q p → ⊥
-refused_clash sizes rooms backups p refused Q earlier placed =
+    → HasDueTargets sizes rooms backups Q o) → HasDueTargets sizes rooms backups Q p → ⊥
+refused_clash sizes rooms backups p refused Q earlier hosted =
     let cut = split_at p (turns sizes) (in_turns sizes p refused.there) in
     let parts = split_of sizes cut.0 p cut.1 cut.2 in
     let within : (z : ℕ) → 0 < count z cut.0 → z < length sizes = λ z there. turns-within sizes z
     (omega (arith, ap (count z) cut.2, sum_by-append (one_of z) cut.0 (p ∷ cut.1))) in
     let all = λ (R : List (List ℕ)) (r : (o : ℕ) → o < length sizes → is_earlier sizes o p ≡ true
-    → IsPlaced sizes rooms backups R o). each_both sizes p R r cut.0 parts.before within in
+    → HasDueTargets sizes rooms backups R o). each_both sizes p R r cut.0 parts.before within in
     let agree = agree_from sizes rooms backups refused.placement Q cut.0 [] (p ∷ cut.1) cut.2 tt
     (all refused.placement refused.earlier) (all Q earlier) in
     let loads = agree_next sizes rooms backups refused.placement Q cut.0 p cut.1 cut.2 agree in
     let room = room_for_first (load_before sizes Q p) rooms (get_or sizes p 0) (1 + backups)
-    (targets_placed Q p) placed in
+    (targets_at Q p) hosted in
     let fewer = subst (λ load. length (with_room load rooms (get_or sizes p 0)) < 1 + backups) loads
     refused.fewer in
     omega (arith, room, fewer)
   where
     each_both : (sizes : List ℕ) (p : ℕ) (R : List (List ℕ))
         → ((o : ℕ) → o < length sizes → is_earlier sizes o p ≡ true
-        → IsPlaced sizes rooms backups R o) → (xs : List ℕ)
+        → HasDueTargets sizes rooms backups R o) → (xs : List ℕ)
         → AllByRecursion (λ o. is_earlier sizes o p ≡ true) xs
         → ((z : ℕ) → 0 < count z xs → z < length sizes)
-        → AllByRecursion (IsPlaced sizes rooms backups R) xs
+        → AllByRecursion (HasDueTargets sizes rooms backups R) xs
     each_both sizes p R all [] before within = tt
     each_both sizes p R all (x ∷ xs) before within = (
       all x (within x (omega (arith, sum_by-cons (one_of x) x xs, one_of-same x))) before.0,
@@ -511,10 +511,10 @@ same_refusal sizes rooms backups p q at_p at_q =
           ]
     ]
 
-placed_or_refused : (sizes rooms : List ℕ) (backups p : ℕ) (Q : List (List ℕ))
+hosted_or_refused : (sizes rooms : List ℕ) (backups p : ℕ) (Q : List (List ℕ))
     → IsPlacement sizes rooms backups Q → LacksRoom sizes rooms backups p → ⊥
-placed_or_refused sizes rooms backups p Q placement refused = refused_clash sizes rooms backups p
-    refused Q (λ o within _. placement.placed o within) (placement.placed p refused.there)
+hosted_or_refused sizes rooms backups p Q placement refused = refused_clash sizes rooms backups p
+    refused Q (λ o within _. placement.hosted o within) (placement.hosted p refused.there)
 
 pub placement_is : (sizes rooms : List ℕ) (backups : ℕ) (Q : List (List ℕ))
     → IsPlacement sizes rooms backups Q → placement_of sizes rooms backups ≡ Ok Q
@@ -524,7 +524,7 @@ placement_is sizes rooms backups Q placement = by_case (placement_of sizes rooms
     by_case : (answer : Result (List (List ℕ)) ℕ) → MeetsPlacement sizes rooms backups answer
         → answer ≡ Ok Q
     by_case (Ok P) meets = ap Ok (same_placement sizes rooms backups P Q meets placement)
-    by_case (Err p) meets = absurd (placed_or_refused sizes rooms backups p Q placement meets)
+    by_case (Err p) meets = absurd (hosted_or_refused sizes rooms backups p Q placement meets)
 
 pub refusal_is : (sizes rooms : List ℕ) (backups p : ℕ) → LacksRoom sizes rooms backups p
     → placement_of sizes rooms backups ≡ Err p
@@ -533,5 +533,5 @@ refusal_is sizes rooms backups p refused = by_case (placement_of sizes rooms bac
   where
     by_case : (answer : Result (List (List ℕ)) ℕ) → MeetsPlacement sizes rooms backups answer
         → answer ≡ Err p
-    by_case (Ok P) meets = absurd (placed_or_refused sizes rooms backups p P meets refused)
+    by_case (Ok P) meets = absurd (hosted_or_refused sizes rooms backups p P meets refused)
     by_case (Err q) meets = ap Err (same_refusal sizes rooms backups q p meets refused)

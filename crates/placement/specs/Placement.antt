@@ -7,7 +7,7 @@ use Rattle.std.specs.List.{list_any, range_with_len}
 use Rattle.placement.specs.Order.{in_order}
 use Rattle.placement.specs.declared.NoRoom.{NoRoom}
 
--- ---- which partition is placed first, and what the switches hold then
+-- ---- which partition comes first, and what the switches hold then
 
 -- partitions stand by falling size, then by number
 unfoldable pub is_earlier : List ℕ → ℕ → ℕ → Bool
@@ -15,11 +15,11 @@ is_earlier sizes a b =
     nat_lt (slice_index sizes b) (slice_index sizes a)
     || ((slice_index sizes b == slice_index sizes a) && nat_lt a b)
 
-abbrev pub targets_placed : List (List ℕ) → ℕ → List ℕ
-targets_placed placement partition = slice_index_or placement partition []
+abbrev pub targets_at : List (List ℕ) → ℕ → List ℕ
+targets_at placement partition = slice_index_or placement partition []
 
 abbrev pub is_target : List (List ℕ) → ℕ → ℕ → Bool
-is_target placement partition switch = list_any (nat_eq switch) (targets_placed placement partition)
+is_target placement partition switch = list_any (nat_eq switch) (targets_at placement partition)
 
 -- the load of a switch before a partition: the sum of the sizes of the earlier partitions whose
 -- targets contain it
@@ -56,46 +56,46 @@ pub record AreFirst (load : ℕ → ℕ) (rooms : List ℕ) (size count : ℕ) (
 -- ---- a placement, and why there is none
 
 -- the partition has the targets that its turn gives it: one and the backups
-abbrev pub IsPlaced : List ℕ → List ℕ → ℕ → List (List ℕ) → ℕ → Type 0
-IsPlaced sizes rooms backups placement partition =
+abbrev pub HasDueTargets : List ℕ → List ℕ → ℕ → List (List ℕ) → ℕ → Type 0
+HasDueTargets sizes rooms backups placement partition =
     AreFirst (load_before sizes placement partition) rooms (slice_index sizes partition)
-    (1 + backups) (targets_placed placement partition)
+    (1 + backups) (targets_at placement partition)
 
 -- each partition has its targets
 pub record IsPlacement (sizes rooms : List ℕ) (backups : ℕ) (placement : List (List ℕ))
     : Type 0 where
   pub number : length placement ≡ length sizes
-  pub placed : (partition : ℕ) → partition < length sizes
-      → IsPlaced sizes rooms backups placement partition
+  pub hosted : (partition : ℕ) → partition < length sizes
+      → HasDueTargets sizes rooms backups placement partition
 
 -- the earlier partitions have their targets, and for this one too few switches have room
 pub record LacksRoom (sizes rooms : List ℕ) (backups : ℕ) (partition : ℕ) : Type 0 where
   pub there : partition < length sizes
   pub placement : List (List ℕ)
   pub earlier : (other : ℕ) → other < length sizes → IsTrue (is_earlier sizes other partition)
-      → IsPlaced sizes rooms backups placement other
+      → HasDueTargets sizes rooms backups placement other
   pub fewer : (let load = load_before sizes placement partition in
       length (with_room load rooms (slice_index sizes partition)) < 1 + backups)
 
 -- ---- the one placement
 
 -- partitions take their targets one after another
-abbrev pub placed_from : List ℕ → List ℕ → ℕ → List (List ℕ) → List ℕ → Result (List (List ℕ)) ℕ
-placed_from sizes rooms backups placement [] = Ok placement
-placed_from sizes rooms backups placement (partition ∷ later) =
+abbrev pub placement_from : List ℕ → List ℕ → ℕ → List (List ℕ) → List ℕ → Result (List (List ℕ)) ℕ
+placement_from sizes rooms backups placement [] = Ok placement
+placement_from sizes rooms backups placement (partition ∷ later) =
     let load = load_before sizes placement partition in
     let found = in_order (is_lighter load) (with_room load rooms (slice_index sizes partition)) in
     let chosen = take (1 + backups) found in
     if nat_lt (length found) (1 + backups)
     then Err partition
-    else placed_from sizes rooms backups (slice_set placement partition chosen) later
+    else placement_from sizes rooms backups (slice_set placement partition chosen) later
 
 -- the placement of partitions of these sizes on switches of these rooms, or the first partition
 -- that finds too few
 unfoldable pub placement_of : List ℕ → List ℕ → ℕ → Result (List (List ℕ)) ℕ
 placement_of sizes rooms backups =
     let turns = in_order (is_earlier sizes) (range_with_len 0 (length sizes)) in
-    placed_from sizes rooms backups (replicate (length sizes) []) turns
+    placement_from sizes rooms backups (replicate (length sizes) []) turns
 
 -- the definition by turns meets the one by loads
 abbrev pub MeetsPlacement : List ℕ → List ℕ → ℕ → Result (List (List ℕ)) ℕ → Type 0

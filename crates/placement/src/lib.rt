@@ -1,10 +1,10 @@
 //! Placement of partitions on authority switches: each goes to the switches of least load that have
 //! room for it.
 //!
-//! `place` promises the defined placement, by a relation on loads that knows no order of work, and
-//! refuses exactly at the first partition that finds too few switches. `placement_laws` says that
-//! there is one such placement at most, and that the function which definitions of plans use gives
-//! it.
+//! `choose_targets` promises the defined placement, by a relation on loads that knows no order of
+//! work, and refuses exactly at the first partition that finds too few switches. `placement_laws`
+//! says that there is one such placement at most, and that the function which definitions of plans
+//! use gives it.
 #![tactic(auto)]
 
 ghost use Rattle.std.specs.Prelude.{ℕ, ◌≡◌, ◌+◌, ◌<◌, ◌≤◌, ◌^◌, Ok, Err, List, length, slice_index, All, AllPairs, MatchOption, IfOk, IfErr, if◌then◌else◌, nat_eq};
@@ -19,8 +19,8 @@ use std::alloc::{AllocError, Global};
 use std::cmp::Reverse;
 use thiserror::Error;
 
-/// Why partitions have no placement: too few switches have room for this one, counted from 0; it
-/// is the first, in the order of placing.
+/// Why partitions have no placement: too few switches have room for this one, counted from 0. It
+/// is the first such one, by falling size and then by number.
 #[derive(Clone, Copy, Debug, PartialEq, Eq, Error)]
 #[error("too few switches have room for partition {partition}")]
 pub struct NoRoom {
@@ -30,13 +30,14 @@ pub struct NoRoom {
 /// The targets of partitions of these sizes, in rules, on switches of these rooms, in rules: for
 /// each partition an authority switch and so many backups.
 ///
-/// Partitions are placed by falling size, then by number. Each goes to the switches of least load,
-/// and then of least number, among those whose room holds it beside the partitions that they have.
+/// Partitions come by falling size, then by number. Each goes to the switches of least load, and
+/// then of least number, among those whose room holds it beside the partitions that they
+/// have.
 ///
 /// # Errors
-/// `NoRoom` with the first partition, in the order of placing, that finds fewer switches than it
-/// needs.
-pub fn place(
+/// `NoRoom` with the first partition, by falling size and then by number, that finds fewer switches
+/// than it needs.
+pub fn choose_targets(
     alloc: Global,
     sizes: &[u32],
     rooms: &[u32],
@@ -52,8 +53,8 @@ pub fn place(
     ensures refused { IfErr result (IfRefused
         (RefusesPlacement sizes.now rooms.now backups)) }
 {
-    let unplaced = Targets::new(&[0]).unwrap();
-    let mut placement = vec![in alloc; unplaced; sizes.len()]?;
+    let none_yet = Targets::new(&[0]).unwrap();
+    let mut placement = vec![in alloc; none_yet; sizes.len()]?;
     let mut loads = vec![in alloc; 0; rooms.len()]?;
     let order = by_falling_size(alloc, sizes)?;
     for partition in &order {
@@ -81,7 +82,7 @@ pub fn placement_laws()
         LacksRoom sizes rooms backups partition → placement_of sizes rooms backups ≡ Err partition }
 {}
 
-// The numbers of the partitions in the order of placing.
+// The numbers of the partitions, by falling size and then by number.
 fn by_falling_size(alloc: Global, sizes: &[u32]) -> Result<Vec<u32>, AllocError>
     requires { length sizes.now < 2 ^ 32 }
     ensures { IfOk result (λ order.

@@ -21,11 +21,11 @@ module _ (rows : List Row) (net : Net) (plan : List Hosted) (version s : ℕ)
       let parts = map (λ (hosted : Hosted). hosted.0) plan in
       let sizes : length (map (λ (part : _). length part.rules) parts) ≡ length plan =
       length-map parts _ ∙ length-map plan _ in
-      let placed = is.placement.placed k (omega (arith, within, sizes)) in
+      let due = is.placement.hosted k (omega (arith, within, sizes)) in
       omega (
         arith,
         net_is.backups,
-        placed.number,
+        due.number,
         ap length (get_or-map (λ (hosted : Hosted). hosted.1) plan k d [] within),
       )
 

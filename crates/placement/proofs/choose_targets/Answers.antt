@@ -4,9 +4,9 @@ use Rattle.std.proofs.lemmas.Grind.{common_steps}
 use Rattle.std.proofs.lemmas.List.{take_more, drop_more, drop_all, append-nil, take_all}
 use Rattle.placement.specs.Placement.{AreFirst}
 use Rattle.placement.proofs.FirstLemmas.{first_there, first_fits, first_distinct}
-use Rattle.placement.proofs.TurnLemmas.{Loaded, loaded_none, loaded_more, loaded_refused, placing_within, placing_all, placement_is, refusal_is}
-use Rattle.placement.proofs.place.Goals as goal
-use Rattle.placement.proofs.place.Goals.{After-items, After-number_at-size}
+use Rattle.placement.proofs.TurnLemmas.{Loaded, loaded_none, loaded_more, loaded_refused, taken_within, taken_all, placement_is, refusal_is}
+use Rattle.placement.proofs.choose_targets.Goals as goal
+use Rattle.placement.proofs.choose_targets.Goals.{After-items, After-number_at-size}
 
 -- the turn that the loop has come to
 turn : (c : After-number_at-size)
@@ -87,9 +87,9 @@ index_mut-requires c =
     let order = c.deref-partition-items.result.now in
     let k = c.loop-partition.partition-index in
     let here = turn (goal.at.index_mut-requires c).After-number_at-size in
-    let within = placing_within c.args.sizes.now c.args.rooms.now c.args.backups
+    let within = taken_within c.args.sizes.now c.args.rooms.now c.args.backups
     c.loop-partition.placement.items (take k order) (get_or order k 0) (drop (k + 1) order)
-    here.placing in
+    here.taken in
     omega (arith, within, c.loop-partition.placement.ok.0)
 
 overwritten : (n : ℕ) (new old : List ℕ) → length new ≡ length old → n ≡ length old
@@ -127,10 +127,10 @@ pub returns-clause-placement : goal.returns-clause-placement
 returns-clause-placement c =
     let order = c.deref-partition-items.result.now in
     let k = c.loop-partition.partition-index in
-    placing_all c.args.sizes.now c.args.rooms.now c.args.backups c.loop-partition.placement.items
+    taken_all c.args.sizes.now c.args.rooms.now c.args.backups c.loop-partition.placement.items
     (take k order) (subst (λ left. Loaded c.args.sizes.now c.args.rooms.now c.args.backups
     c.loop-partition.loads.items c.loop-partition.placement.items (take k order) left)
-    (drop_all k order c.loop-partition-test.false) c.loop-partition.invariant).placing
+    (drop_all k order c.loop-partition-test.false) c.loop-partition.invariant).taken
 
 pub returns-clause-value : goal.returns-clause-value
 returns-clause-value c = placement_is c.args.sizes.now c.args.rooms.now c.args.backups
