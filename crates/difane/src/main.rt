@@ -12,18 +12,18 @@ use std::process::ExitCode;
 use std::rt::Env;
 use std::{env, io, mem};
 
-/// The words of the command line, without the program's name.
-fn read_words<R: Env + AllocGlobal>(rt: &R) -> io::Result<Vec<String>> {
-    let mut words = Vec::new(rt.alloc());
-    for word in env::args(rt)?.skip(1) {
-        words.push(word)?;
+/// The arguments of the command line, without the program's name.
+fn read_args<R: Env + AllocGlobal>(rt: &R) -> io::Result<Vec<String>> {
+    let mut args = Vec::new(rt.alloc());
+    for arg in env::args(rt)?.skip(1) {
+        args.push(arg)?;
     }
-    Ok(words)
+    Ok(args)
 }
 
-/// Does what the words ask, with a recorder for each port, and says how it ended. Where there is no
-/// memory for the recorders, it prints nothing.
-fn do_words(rt: HostRuntime, words: &Vec<String>) -> Result<Status, AllocError> {
+/// Does what the arguments ask, with a recorder for each port, and says how it ended. Where there
+/// is no memory for the recorders, it prints nothing.
+fn run_with(rt: HostRuntime, args: &Vec<String>) -> Result<Status, AllocError> {
     let alloc = rt.alloc();
     let mut meters: Vec<Box<dyn Meter>> = Vec::new(alloc);
     for port in 0..64 {
@@ -32,7 +32,7 @@ fn do_words(rt: HostRuntime, words: &Vec<String>) -> Result<Status, AllocError> 
     let mut errs = StdSink::new(rt.stderr());
     let mut out = StdSink::new(rt.stdout());
     let mut shelf = DiskShelf::new(rt);
-    let finished = run(alloc, words, &mut shelf, &mut out, &mut errs, meters);
+    let finished = run(alloc, args, &mut shelf, &mut out, &mut errs, meters);
     // The process ends here: the system takes the journal's memory back at once.
     mem::forget(finished.journal);
     Ok(finished.status)
@@ -40,17 +40,17 @@ fn do_words(rt: HostRuntime, words: &Vec<String>) -> Result<Status, AllocError> 
 
 fn main(rt: HostRuntime) -> ExitCode {
     let mut errs = StdSink::new(rt.stderr());
-    match read_words(&rt) {
-        Ok(words) => match do_words(rt, &words) {
+    match read_args(&rt) {
+        Ok(args) => match run_with(rt, &args) {
             Ok(status) => ExitCode::from(status.number()),
             Err(_) => ExitCode::from(Status::NoMemory.number()),
         },
         Err(error) => {
             let status = match error.kind() {
                 ErrorKind::OutOfMemory => Status::NoMemory,
-                _ => Status::Words,
+                _ => Status::Usage,
             };
-            if let Status::Words = status {
+            if let Status::Usage = status {
                 tell(&status, &mut errs);
             }
             ExitCode::from(status.number())

@@ -22,7 +22,7 @@ use Rattle.world_ties.specs.Tied.{AreTied}
 use Rattle.shelf.specs.Shelf.{Files}
 use Rattle.difane_cli.specs.Inputs.{and_then, first_plan, inputs_of, plan_from, read_net, read_policies, read_schedule}
 use Rattle.difane_cli.specs.Run.{IsReplayOf}
-use Rattle.words.specs.Commands.{ReplayCommand}
+use Rattle.command_line.specs.Commands.{ReplayCommand}
 use Rattle.difane_cli.specs.declared.report.Report.TheVariants as report
 use Rattle.difane_cli.specs.declared.status.Refusal.{Refusal}
 use Rattle.difane_cli.specs.Tasks.{IsNetOf}
@@ -86,13 +86,13 @@ all_are_events net policies count setting events same many may =
 -- ---- the inputs of a replay
 
 -- they are as the command asks for them
-pub asked_for : (words : ReplayCommand) (net : Net) (policies : List (List Row))
-    (events : List Event) (setting : Setting) → IsNetOf words.net net
-    → setting ≡ setting_of net policies → length policies ≡ length words.policies
-    → IsReplayOf words
-    (record { setting = setting; events = events; report = report.Lines words.quiet })
-asked_for words net policies events setting named own many = record {
-  net = subst (λ s. IsNetOf words.net s.net) (sym own) named;
+pub asked_for : (args : ReplayCommand) (net : Net) (policies : List (List Row))
+    (events : List Event) (setting : Setting) → IsNetOf args.net net
+    → setting ≡ setting_of net policies → length policies ≡ length args.policies
+    → IsReplayOf args
+    (record { setting = setting; events = events; report = report.Lines args.quiet })
+asked_for args net policies events setting named own many = record {
+  net = subst (λ s. IsNetOf args.net s.net) (sym own) named;
   policies = ap (λ s. length s.policies) own ∙ many;
   report = refl;
 }
@@ -103,39 +103,39 @@ and_then_ok : {X Y : Type 0} (read : Result X Refusal) (result : Result Y Refusa
 and_then_ok (Ok x) result is = refl
 and_then_ok (Err refusal) result is = cc is
 
-inputs_from : (files : Files) (words : ReplayCommand) (net : Net) (policies : List (List Row))
-    (events : List Event) → read_net files words.net ≡ Ok net
-    → read_schedule net (length words.policies) files words.schedule ≡ Ok events
-    → read_policies (port_mask net.switches) files words.policies ≡ Ok policies
-    → IsOk (first_plan words.policies net policies)
-    → inputs_of files words ≡ Ok (record {
+inputs_from : (files : Files) (args : ReplayCommand) (net : Net) (policies : List (List Row))
+    (events : List Event) → read_net files args.net ≡ Ok net
+    → read_schedule net (length args.policies) files args.schedule ≡ Ok events
+    → read_policies (port_mask net.switches) files args.policies ≡ Ok policies
+    → IsOk (first_plan args.policies net policies)
+    → inputs_of files args ≡ Ok (record {
       setting = setting_of net policies;
       events = events;
-      report = report.Lines words.quiet;
+      report = report.Lines args.quiet;
     })
-inputs_from files words net policies events net_is events_are policies_are planned =
+inputs_from files args net policies events net_is events_are policies_are planned =
     rw (net_is, events_are, policies_are)
-    (and_then_ok (first_plan words.policies net policies) _ planned)
+    (and_then_ok (first_plan args.policies net policies) _ planned)
 
 -- and they are what the files state, where these are known
-pub inputs_are : (known middle later : Option Files) (words : ReplayCommand) (net : Net)
+pub inputs_are : (known middle later : Option Files) (args : ReplayCommand) (net : Net)
     (policies : List (List Row)) (events : List Event) (setting : Setting) (count ports : ℕ)
-    → middle ≡ known → later ≡ known → count ≡ length words.policies
+    → middle ≡ known → later ≡ known → count ≡ length args.policies
     → ports ≡ port_mask net.switches
-    → ForSome known (λ files. read_net files words.net ≡ Ok net)
-    → ForSome middle (λ files. read_schedule net count files words.schedule ≡ Ok events)
-    → ForSome later (λ files. read_policies ports files words.policies ≡ Ok policies)
-    → IsOk (first_plan words.policies net policies) → setting ≡ setting_of net policies
-    → ForSome known (λ files. inputs_of files words
-    ≡ Ok (record { setting = setting; events = events; report = report.Lines words.quiet }))
-inputs_are known middle later words net policies events setting count ports first second many mask
+    → ForSome known (λ files. read_net files args.net ≡ Ok net)
+    → ForSome middle (λ files. read_schedule net count files args.schedule ≡ Ok events)
+    → ForSome later (λ files. read_policies ports files args.policies ≡ Ok policies)
+    → IsOk (first_plan args.policies net policies) → setting ≡ setting_of net policies
+    → ForSome known (λ files. inputs_of files args
+    ≡ Ok (record { setting = setting; events = events; report = report.Lines args.quiet }))
+inputs_are known middle later args net policies events setting count ports first second many mask
     net_is events_are policies_are planned own = λ files is.
     let own_events =
-    subst (λ (n : ℕ). read_schedule net n files words.schedule ≡ Ok events) many
+    subst (λ (n : ℕ). read_schedule net n files args.schedule ≡ Ok events) many
     (events_are files (first ∙ is)) in
     let own_policies =
-    subst (λ (p : ℕ). read_policies p files words.policies ≡ Ok policies) mask
+    subst (λ (p : ℕ). read_policies p files args.policies ≡ Ok policies) mask
     (policies_are files (second ∙ is)) in
-    inputs_from files words net policies events (net_is files is) own_events own_policies planned
-    ∙ ap (λ s. Ok (record { setting = s; events = events; report = report.Lines words.quiet }))
+    inputs_from files args net policies events (net_is files is) own_events own_policies planned
+    ∙ ap (λ s. Ok (record { setting = s; events = events; report = report.Lines args.quiet }))
     (sym own)

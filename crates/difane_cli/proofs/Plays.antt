@@ -24,7 +24,7 @@ use Rattle.difane_cli.proofs.Verdicts.{verdict}
 use Rattle.difane_cli.specs.Run.{IsAnswer, IsPlayOf, MayBePlayed, PlayOutcome, Played, Unfinished, WantsMemory, is_made}
 use Rattle.difane_cli.specs.Ending.{status_after}
 use Rattle.difane_cli.specs.Prints.{IsAfterText}
-use Rattle.words.specs.Commands.{Command}
+use Rattle.command_line.specs.Commands.{Command}
 use Rattle.replay.specs.Leavings.{kept_by}
 
 begins : (inputs : Inputs) (journal : List Item) (full : Option ℕ)

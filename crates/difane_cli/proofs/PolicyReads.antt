@@ -7,7 +7,7 @@ use Rattle.std.specs.Option.{ForSome}
 use Rattle.policy_rules.specs.declared.policy.Row.{Row}
 use Rattle.shelf.specs.Shelf.{Files, IsAfterReads, ShelfState}
 use Rattle.difane_cli.proofs.ShelfReads.{reads_then}
-use Rattle.words.specs.Named.{names_seen}
+use Rattle.command_line.specs.Named.{names_seen}
 use Rattle.difane_cli.specs.Inputs.{Stops, and_then, policy_reads, read_policies, read_policy, up_to_refusal}
 use Rattle.difane_cli.specs.declared.status.Refusal.{Refusal}
 use Rattle.difane_cli.specs.declared.status.Stop.{Stop}

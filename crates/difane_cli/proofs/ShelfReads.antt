@@ -8,7 +8,7 @@ use Rattle.shelf.specs.Sink.{counted}
 use Rattle.shelf.specs.Shelf.{Files, ShelfState, IsAfterReads}
 use Rattle.shelf.specs.Scripts.{counted_up}
 use Rattle.difane_cli.specs.Inputs.{most_reads, net_reads, policy_reads, read_net, read_schedule, switch_on, up_to_refusal}
-use Rattle.words.specs.Commands.{Print, PrintCommand, Replay, ReplayCommand}
+use Rattle.command_line.specs.Commands.{Print, PrintCommand, Replay, ReplayCommand}
 
 counted_up-counted_up : (n m x : ℕ) → counted_up n (counted_up m x) ≡ counted_up (n + m) x
 counted_up-counted_up zero m x = ap (λ k. counted_up k x) (omega arith)

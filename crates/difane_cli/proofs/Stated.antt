@@ -16,8 +16,8 @@ use Rattle.schedule.specs.Reading.{schedule_of}
 use Rattle.schedule.specs.Refusals.{schedule_code}
 use Rattle.shelf.specs.Shelf.{Files, file_named}
 use Rattle.steps.specs.declared.step.Event.{Event}
-use Rattle.words.specs.Commands.{Command, ReplayCommand}
-use Rattle.words.specs.Commands as words
+use Rattle.command_line.specs.Commands.{Command, ReplayCommand}
+use Rattle.command_line.specs.Commands as asked
 use Rattle.difane_cli.specs.Codes.{most_bytes, too_long}
 use Rattle.difane_cli.specs.Inputs.{and_then, content_from, content_of, first_plan, inputs_of, known_task, net_stated, play_task, policy_stated, read_from, read_net, read_policies, read_policy, read_schedule, refused_whole, schedule_in, task_of, with_ports}
 use Rattle.difane_cli.specs.Run.{AreStatedBy, AreStated, States}
@@ -136,8 +136,8 @@ play_is (Err refusal) inputs is = absurd (cc is)
 pub stated_by : (files : Option Files) (command : Command) (inputs : Inputs)
     → ForSome (known_task files (Some command)) (λ read. read ≡ Ok (Play inputs))
     → AreStatedBy files command inputs
-stated_by files (words.Replay replay) inputs accepted = λ all known.
+stated_by files (asked.Replay replay) inputs accepted = λ all known.
     inputs_state all replay inputs (play_is (inputs_of all replay) inputs
-    (accepted _ (ap (λ held. task_of held (words.Replay replay)) known)))
-stated_by files (words.Print print) inputs accepted = tt
-stated_by files (words.Load n) inputs accepted = tt
+    (accepted _ (ap (λ held. task_of held (asked.Replay replay)) known)))
+stated_by files (asked.Print print) inputs accepted = tt
+stated_by files (asked.Load n) inputs accepted = tt

@@ -11,8 +11,8 @@ use Rattle.difane_cli.specs.Tasks.{Inputs}
 use Rattle.difane_cli.specs.Verdict.{asks_quiet, is_asked}
 use Rattle.difane_cli.specs.declared.report.Report.{Report}
 use Rattle.difane_cli.specs.declared.status.Status.TheVariants as status
-use Rattle.words.specs.Commands.{Command}
-use Rattle.words.specs.Commands as words
+use Rattle.command_line.specs.Commands.{Command}
+use Rattle.command_line.specs.Commands as asked
 
 pub after_work : (written : Result (⊤) SinkError) (full : Option ℕ)
     → IsAfterWork (status_after written full)
@@ -48,18 +48,18 @@ of_failed (Err sink.NoMemory) full is = absurd (cc is)
 
 wants_to_judge : (command : Command) (inputs : Inputs) (full : Option ℕ) → IsPlayOf command inputs
     → IsTrue (is_asked (asks_quiet inputs.report) full) → MayWantMemory (Some command)
-wants_to_judge (words.Replay named) inputs None own is =
+wants_to_judge (asked.Replay named) inputs None own is =
     subst (λ (report : Report). IsTrue (asks_quiet report)) own.report is
-wants_to_judge (words.Replay named) inputs (Some row) own is = absurd (cc is)
-wants_to_judge (words.Print named) inputs full own is = absurd own
-wants_to_judge (words.Load n) inputs full own is = tt
+wants_to_judge (asked.Replay named) inputs (Some row) own is = absurd (cc is)
+wants_to_judge (asked.Print named) inputs full own is = absurd own
+wants_to_judge (asked.Load n) inputs full own is = tt
 
 wants_to_make : (command : Command) (inputs : Inputs) (full : Option ℕ) → IsPlayOf command inputs
     → IsTrue (is_made inputs.report full) → MayWantMemory (Some command)
-wants_to_make (words.Replay named) inputs full own is =
+wants_to_make (asked.Replay named) inputs full own is =
     absurd (cc (subst (λ (report : Report). IsTrue (is_made report full)) own.report is))
-wants_to_make (words.Print named) inputs full own is = absurd own
-wants_to_make (words.Load n) inputs full own is = tt
+wants_to_make (asked.Print named) inputs full own is = absurd own
+wants_to_make (asked.Load n) inputs full own is = tt
 
 -- what holds at an error
 pub on_err : {T E : Type 0} (r : Result T E) (P : Type 0) → OnErr r P

@@ -1,11 +1,11 @@
 -- What the files that a command read are to the definitions.
 use Rattle.std.specs.Prelude.{◌≡◌, ◌≤◌, length}
 use Rattle.net_file.specs.Net.{IsNet}
-use Rattle.steps.specs.Steps.{max_events}
+use Rattle.steps.specs.Limits.{max_events}
 use Rattle.world.specs.State.{IsBegun, setting_at}
 use Rattle.difane_cli.specs.Run.{IsPlayOf, MayBePlayed}
 use Rattle.difane_cli.specs.Tasks.{Inputs, Printing, Task, Play, Print}
-use Rattle.words.specs.Commands as grammar
+use Rattle.command_line.specs.Commands as grammar
 use Rattle.difane_cli.specs.declared.inputs.PlayInputs.{PlayInputs}
 use Rattle.difane_cli.specs.declared.printing.PrintInputs.{PrintInputs}
 use Rattle.difane_cli.specs.Prints.{IsPrintingOf}
@@ -48,5 +48,5 @@ IsReadyTask (asked.Print inputs) = IsNet inputs.net
 -- the task is of the kind that the command asks for, and as it asks for it
 abbrev pub IsTaskOf : grammar.Command → Task → Type 0
 IsTaskOf command (Play inputs) = IsPlayOf command inputs
-IsTaskOf (grammar.Print words) (Print printing) = IsPrintingOf words printing
+IsTaskOf (grammar.Print args) (Print printing) = IsPrintingOf args printing
 IsTaskOf _ (Print printing) = ⊥

@@ -42,7 +42,7 @@ pub record EndsWork (ended : Status) (before now : SinkState) : Type 0 where
 
 abbrev pub status_number : Status → ℕ
 status_number status.Ok = 0
-status_number status.Words = 2
+status_number status.Usage = 2
 status_number (status.Input file code row) = 3
 status_number status.ReadFault = 4
 status_number status.WriteFault = 5

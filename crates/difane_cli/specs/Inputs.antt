@@ -22,8 +22,8 @@ use Rattle.steps.specs.declared.step.Event.{Event}
 use Rattle.shelf.specs.Shelf.{Files, file_named}
 use Rattle.update_machine.specs.Pieces.{plan_code}
 use Rattle.update_machine.specs.Setting.{setting_of}
-use Rattle.words.specs.Commands.{Command, PrintCommand, ReplayCommand}
-use Rattle.words.specs.Commands as asked
+use Rattle.command_line.specs.Commands.{Command, PrintCommand, ReplayCommand}
+use Rattle.command_line.specs.Commands as asked
 use Rattle.difane_cli.specs.Codes.{missing_file, most_bytes, no_port, no_such_switch, too_long}
 use Rattle.difane_cli.specs.declared.report.Report.TheVariants as report
 use Rattle.difane_cli.specs.declared.status.Refusal.{Refusal}
@@ -186,11 +186,11 @@ print_task read = and_then read (λ printing. Ok (Print printing))
 -- the task or the refusal, where it is known: that of a load case always is, since it reads no
 -- files, and that of another command where the files are known
 abbrev pub task_of : Option Files → Command → Option (Result Task Refusal)
-task_of files (asked.Replay words) = option_map (λ all. play_task (inputs_of all words)) files
-task_of files (asked.Print words) = option_map (λ all. print_task (printing_of all words)) files
+task_of files (asked.Replay args) = option_map (λ all. play_task (inputs_of all args)) files
+task_of files (asked.Print args) = option_map (λ all. print_task (printing_of all args)) files
 task_of files (asked.Load n) = Some (play_task (load_inputs n))
 
--- the same, where the words are a command
+-- the same, where the arguments are a command
 abbrev pub known_task : Option Files → Option Command → Option (Result Task Refusal)
 known_task files None = None
 known_task files (Some command) = task_of files command
@@ -223,21 +223,21 @@ policy_reads ports (Some files) names = up_to_refusal (are_accepted ports files 
 
 -- how many reads a replay makes at most behind that of its network
 abbrev pub replay_reads : Files → ReplayCommand → Result Net Refusal → ℕ
-replay_reads files words (Err refusal) = 0
-replay_reads files words (Ok net) =
-    up_to_refusal (is_ok (read_schedule net (length words.policies) files words.schedule)
-    ∷ are_accepted (port_mask net.switches) files words.policies)
+replay_reads files args (Err refusal) = 0
+replay_reads files args (Ok net) =
+    up_to_refusal (is_ok (read_schedule net (length args.policies) files args.schedule)
+    ∷ are_accepted (port_mask net.switches) files args.policies)
 
 -- how many reads a command makes at most
 abbrev pub most_reads : Option Files → Option Command → ℕ
 most_reads files None = 0
-most_reads None (Some (asked.Replay words)) = net_reads words.net + 1 + length words.policies
-most_reads None (Some (asked.Print words)) = net_reads words.net + 1
+most_reads None (Some (asked.Replay args)) = net_reads args.net + 1 + length args.policies
+most_reads None (Some (asked.Print args)) = net_reads args.net + 1
 most_reads None (Some (asked.Load n)) = 0
-most_reads (Some files) (Some (asked.Replay words)) =
-    net_reads words.net + replay_reads files words (read_net files words.net)
-most_reads (Some files) (Some (asked.Print words)) =
-    net_reads words.net + (if is_ok (net_asked files words) then 1 else 0)
+most_reads (Some files) (Some (asked.Replay args)) =
+    net_reads args.net + replay_reads files args (read_net files args.net)
+most_reads (Some files) (Some (asked.Print args)) =
+    net_reads args.net + (if is_ok (net_asked files args) then 1 else 0)
 most_reads (Some files) (Some (asked.Load n)) = 0
 
 -- what a stop says of what was to be read: a refusal is the one that stands there
@@ -270,7 +270,7 @@ StopsSwitch read stop.ReadFault = ⊥
 abbrev pub Accounts : Result Task Refusal → Status → Type 0
 Accounts read (status.Input file code row) =
     read ≡ Err (record { file = file; code = code; row = row })
-Accounts read status.Words = ⊥
+Accounts read status.Usage = ⊥
 Accounts read status.Ok = IsOk read
 Accounts read status.WriteFault = IsOk read
 Accounts read (status.Full row) = IsOk read

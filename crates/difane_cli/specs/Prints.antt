@@ -17,8 +17,8 @@ use Rattle.difane_cli.specs.Inputs.{known_task}
 use Rattle.difane_cli.specs.Tasks.{Print, Printing, IsNetOf}
 use Rattle.difane_cli.specs.declared.status.Status.{Status}
 use Rattle.difane_cli.specs.Writes.{Wrote, Unplayed, WrotePart}
-use Rattle.words.specs.Commands.{PrintCommand}
-use Rattle.words.specs.Commands as asked
+use Rattle.command_line.specs.Commands.{PrintCommand}
+use Rattle.command_line.specs.Commands as asked
 use Rattle.difane_cli.specs.declared.status.Status.TheVariants as status
 
 -- the switch has the name that was asked for

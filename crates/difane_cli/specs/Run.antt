@@ -20,8 +20,8 @@ use Rattle.load_case.specs.Case.{load_case}
 use Rattle.difane_cli.specs.Inputs.{case_inputs, known_task}
 use Rattle.difane_cli.specs.Texts.{play_text}
 use Rattle.difane_cli.specs.Verdict.{IsVerdict, asks_quiet, is_asked}
-use Rattle.words.specs.Commands.{Command, ReplayCommand}
-use Rattle.words.specs.Commands as asked
+use Rattle.command_line.specs.Commands.{Command, ReplayCommand}
+use Rattle.command_line.specs.Commands as asked
 use Rattle.difane_cli.specs.declared.report.Report.{Report}
 use Rattle.difane_cli.specs.declared.report.Report.TheVariants as report
 use Rattle.difane_cli.specs.declared.status.Status.{Status}
@@ -41,9 +41,9 @@ pub record IsReplayOf (command : ReplayCommand) (inputs : Inputs) : Type 0 where
 
 -- the inputs are as a command asks for them: those of a replay, or the load case
 abbrev pub IsPlayOf : Command → Inputs → Type 0
-IsPlayOf (asked.Replay words) inputs = IsReplayOf words inputs
+IsPlayOf (asked.Replay args) inputs = IsReplayOf args inputs
 IsPlayOf (asked.Load n) inputs = inputs ≡ case_inputs (load_case n)
-IsPlayOf (asked.Print words) inputs = ⊥
+IsPlayOf (asked.Print args) inputs = ⊥
 
 -- the bytes of the file of this name are read as this value
 abbrev pub States : {V E : Type 0} → Files → (List ℕ → Result V E) → List ℕ → V → Type 0
@@ -60,7 +60,7 @@ pub record AreStated (files : Files) (command : ReplayCommand) (inputs : Inputs)
 
 -- those of a replay are what its files state, where these are known
 abbrev pub AreStatedBy : Option Files → Command → Inputs → Type 0
-AreStatedBy files (asked.Replay words) inputs = ForSome files (λ all. AreStated all words inputs)
+AreStatedBy files (asked.Replay args) inputs = ForSome files (λ all. AreStated all args inputs)
 AreStatedBy files _ inputs = ⊤
 
 -- the first policy has a plan on the network, all name its ports alone, and the events name its
@@ -166,10 +166,10 @@ abbrev pub Outcome : Option Command → Option Files → (takes_memory : Bool) �
     → (taken given : List Seen) → (before now : SinkState) → Type 0
 Outcome None files takes_memory status journal taken given before now =
     Unplayed journal before now
-Outcome (Some (asked.Replay words)) files takes_memory status journal taken given before now =
-    PlayOutcome (asked.Replay words) files takes_memory status journal taken given before now
-Outcome (Some (asked.Print words)) files takes_memory status journal taken given before now =
-    PrintOutcome words files status journal before now
+Outcome (Some (asked.Replay args)) files takes_memory status journal taken given before now =
+    PlayOutcome (asked.Replay args) files takes_memory status journal taken given before now
+Outcome (Some (asked.Print args)) files takes_memory status journal taken given before now =
+    PrintOutcome args files status journal before now
 Outcome (Some (asked.Load n)) files takes_memory status journal taken given before now =
     PlayOutcome (asked.Load n) files takes_memory status journal taken given before now
 
@@ -177,8 +177,8 @@ Outcome (Some (asked.Load n)) files takes_memory status journal taken given befo
 -- say so, and for the summary of a load case. To write the lines of a play it wants none
 abbrev pub MayWantMemory : Option Command → Type 0
 MayWantMemory None = ⊥
-MayWantMemory (Some (asked.Replay words)) = IsTrue words.quiet
-MayWantMemory (Some (asked.Print words)) = ⊥
+MayWantMemory (Some (asked.Replay args)) = IsTrue args.quiet
+MayWantMemory (Some (asked.Print args)) = ⊥
 MayWantMemory (Some (asked.Load n)) = ⊤
 
 -- memory ran out in the output's own writes, if they take any. Or the output wasn't touched, and
@@ -188,9 +188,9 @@ abbrev pub RanOut : Option Command → (takes_memory : Bool) → List Item → (
 RanOut command takes_memory journal before now =
     IsTrue takes_memory ⊎ ((now ≡ before) × ((journal ≡ []) ⊎ MayWantMemory command))
 
--- words off the grammar, and a command that plays nothing
+-- arguments off the grammar, and a command that plays nothing
 abbrev pub PlaysNothing : Option Command → Type 0
 PlaysNothing None = ⊤
-PlaysNothing (Some (asked.Print words)) = ⊤
-PlaysNothing (Some (asked.Replay words)) = ⊥
+PlaysNothing (Some (asked.Print args)) = ⊤
+PlaysNothing (Some (asked.Replay args)) = ⊥
 PlaysNothing (Some (asked.Load n)) = ⊥

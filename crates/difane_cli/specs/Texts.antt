@@ -37,8 +37,8 @@ quiet_line (Some false) = codes "quiet no\n"
 abbrev pub last_lines : List Seen → Option Bool → List ℕ
 last_lines meters answer = meter_lines meters ++ quiet_line answer
 
--- the text of the journal, and behind its last line those of the meters and the one of the answer; a
--- play that stopped full has the journal's alone
+-- the text of the journal, and behind its last line those of the meters and the one of the answer;
+-- a play that stopped full has the journal's alone
 abbrev pub replay_text : Net → List Item → Option ℕ → List Seen → Option Bool → List ℕ
 replay_text net journal None meters answer = journal_text net journal ++ last_lines meters answer
 replay_text net journal (Some row) meters answer = journal_text net journal
@@ -61,7 +61,7 @@ full_line row = concat (codes "difane: full row " ∷ decimal row ∷ codes "\n"
 -- the line of a status, with its line feed; a command that did its work says nothing
 abbrev pub status_line : Status → List ℕ
 status_line status.Ok = []
-status_line status.Words = codes "difane: words\n"
+status_line status.Usage = codes "difane: words\n"
 status_line (status.Input file code row) = input_line file code row
 status_line status.ReadFault = codes "difane: read fault\n"
 status_line status.WriteFault = codes "difane: write fault\n"

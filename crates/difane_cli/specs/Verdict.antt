@@ -1,5 +1,5 @@
--- What a replay says of its network where it is asked to: whether it is quiet behind the journal, and
--- what all switches came to where it is.
+-- What a replay says of its network where it is asked to: whether it is quiet behind the journal,
+-- and what all switches came to where it is.
 use Rattle.std.specs.Prelude.{⊤, ℕ, ◌≡◌, ◌↔◌, Bool, true, false, Option, Some, None, is_some, IsTrue, List}
 use Rattle.journal.specs.declared.item.Item.{Item}
 use Rattle.quiet_laws.specs.Converged.{HasConverged}

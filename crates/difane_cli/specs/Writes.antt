@@ -18,8 +18,8 @@ pub record Unplayed (journal : List Item) (before now : SinkState) : Type 0 wher
   pub nothing_played : journal ≡ []
   pub untouched : now ≡ before
 
--- a sink gained the line, and counted no fault; or it gained a proper part of it, where it failed or
--- where its writes take memory
+-- a sink gained the line, and counted no fault; or it gained a proper part of it, where it failed
+-- or where its writes take memory
 pub record TellsLine (whole : List ℕ) (takes_memory : Bool) (old new : SinkState) : Type 0 where
   pub faults : old.faults ≤ new.faults
   pub line : ((new.bytes ≡ gained old.bytes whole) × (new.faults ≡ old.faults))

@@ -8,20 +8,20 @@ ghost use Rattle.schedule.specs.Reading.{AreSoundEvents};
 ghost use Rattle.shelf.specs.Sink.{Rose};
 ghost use Rattle.shelf.specs.Shelf.{IsAfterReads};
 ghost use Rattle.difane_cli.specs.Work.{AreReadyToPlay, IsReplayOf, NeedsReadFault, RefusesInput, Stops, StopsContent, content_of, inputs_of, inputs_stated, most_reads, policy_reads, read_policies, read_policy, read_schedule, schedule_in, status_of};
-ghost use Rattle.words.specs.Named.{HasPolicies, names_seen, replay_named};
-ghost use Rattle.words.specs.Commands.{Replay};
+ghost use Rattle.command_line.specs.Named.{HasPolicies, names_seen, replay_named};
+ghost use Rattle.command_line.specs.Commands.{Replay};
 
 use crate::networks::take_network;
 use crate::policies::{begin_world, check_policy};
 use crate::report::Report;
 use crate::status::{FileName, Refusal, Stop};
+use command_line::ReplayArgs;
 use net_file::Net;
 use policy_rules::Policy;
 use schedule::ScheduleError;
 use shelf::{Shelf, ShelfError};
 use std::alloc::Global;
 use steps::Event;
-use words::ReplayWords;
 use world::World;
 
 /// The most bytes of a file.
@@ -171,32 +171,32 @@ pub struct PlayInputs {
 pub fn read_inputs<F: Shelf>(
     alloc: Global,
     shelf: &mut F,
-    words: &ReplayWords<'_>,
+    args: &ReplayArgs<'_>,
 ) -> Result<PlayInputs, Stop>
-    requires { HasPolicies words.now }
+    requires { HasPolicies args.now }
     ensures value { IfOk result (λ inputs. ForSome (F.state shelf.old).files (λ files.
-        inputs_of files (replay_named words.now) ≡ Ok (inputs_stated inputs))) }
+        inputs_of files (replay_named args.now) ≡ Ok (inputs_stated inputs))) }
     ensures stopped { IfErr result (λ stop. ForSome (F.state shelf.old).files (λ files.
-        Stops (inputs_of files (replay_named words.now)) stop)) }
+        Stops (inputs_of files (replay_named args.now)) stop)) }
     ensures faults { IfErr result (λ stop. NeedsReadFault (F.state shelf.old).files (status_of stop)
         → Rose (F.state shelf.old).faults (F.state shelf.new).faults) }
     ensures shelf { IsAfterReads
-        (most_reads (F.state shelf.old).files (Some (Replay (replay_named words.now))))
+        (most_reads (F.state shelf.old).files (Some (Replay (replay_named args.now))))
         (F.state shelf.old) (F.state shelf.new) }
     ensures ready { IfOk result AreReadyToPlay }
     ensures asked { IfOk result (λ inputs.
-        IsReplayOf (replay_named words.now) (inputs_stated inputs)) }
+        IsReplayOf (replay_named args.now) (inputs_stated inputs)) }
 {
-    let net = take_network(alloc, shelf, words.net)?;
-    let names: &[&str] = &words.policies;
+    let net = take_network(alloc, shelf, args.net)?;
+    let names: &[&str] = &args.policies;
     let count = names.len() as u32;
-    let events = read_schedule(alloc, shelf, words.schedule, &net, count)?;
+    let events = read_schedule(alloc, shelf, args.schedule, &net, count)?;
     let policies = read_policies(alloc, shelf, names, net.port_mask())?;
     let world = begin_world(alloc, names, policies, &net)?;
     Ok(PlayInputs {
         events,
         net,
         world,
-        report: Report::Lines { quiet: words.quiet },
+        report: Report::Lines { quiet: args.quiet },
     })
 }

@@ -4,7 +4,7 @@ ghost use Rattle.std.specs.Option.{ForSome};
 ghost use Rattle.net_file.specs.Net.{IsNet};
 ghost use Rattle.shelf.specs.Sink.{Rose};
 ghost use Rattle.shelf.specs.Shelf.{IsAfterReads};
-ghost use Rattle.words.specs.Named.{net_named};
+ghost use Rattle.command_line.specs.Named.{net_named};
 ghost use Rattle.difane_cli.specs.Work.{IsNetOf, IsSwitchOf, NeedsReadFault, Stops, StopsContent, StopsSwitch, net_reads, net_stated, read_net, status_of, switch_on};
 
 use crate::inputs::{read_bytes, refused};

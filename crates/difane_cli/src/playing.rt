@@ -5,7 +5,7 @@ ghost use Rattle.net_file.specs.Net.{IsNet};
 ghost use Rattle.shelf.specs.Shelf.{Files};
 ghost use Rattle.shelf.specs.SinkWrites.{IsAfterWrite};
 ghost use Rattle.difane_cli.specs.Work.{AnswerLaws, AreReadyToPlay, EndsWork, IsAfterText, IsPlayOf, Play, PlayOutcome, RanOut, inputs_stated, is_made, known_task, last_lines, play_text, replay_text};
-ghost use Rattle.words.specs.Commands.{Command};
+ghost use Rattle.command_line.specs.Commands.{Command};
 ghost use Rattle.difane_cli.specs.declared.report.Report.TheVariants.{Summary};
 ghost use Rattle.load_text.specs.Summary.{counts_text};
 ghost use Rattle.difane_cli.specs.declared.status.Status.TheVariants as status;
@@ -29,9 +29,9 @@ use shelf::{Sink, SinkError, write_whole};
 use std::alloc::Global;
 use way_laws::{answers_are_runs, causes_are_strong, ends_have_causes, packet_rows_are_entered};
 
-/// Plays the inputs, to their end or as far as there is room, while the meters note the packets that
-/// leave; writes the journal, and behind its last line, where it didn't stop full, those of the
-/// meters and the one that says whether the network is quiet. Nothing is written before that is
+/// Plays the inputs, to their end or as far as there is room, while the meters note the packets
+/// that leave; writes the journal, and behind its last line, where it didn't stop full, those of
+/// the meters and the one that says whether the network is quiet. Nothing is written before that is
 /// known. What comes of it is told for whatever is known of the files.
 pub fn play<M: Meter, K: Sink>(
     alloc: Global,

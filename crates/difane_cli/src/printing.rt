@@ -5,20 +5,20 @@ ghost use Rattle.net_file.specs.Net.{IsNet};
 ghost use Rattle.shelf.specs.Sink.{Rose};
 ghost use Rattle.shelf.specs.Shelf.{Files, IsAfterReads};
 ghost use Rattle.difane_cli.specs.Work.{IsPrintingOf, NeedsReadFault, Print, PrintOutcome, Stops, known_task, most_reads, printing_of, printing_stated, printing_text, status_after, status_of};
-ghost use Rattle.words.specs.Named.{print_named};
-ghost use Rattle.words.specs.Commands as grammar;
-ghost use Rattle.words.specs.Commands.{PrintCommand};
+ghost use Rattle.command_line.specs.Named.{print_named};
+ghost use Rattle.command_line.specs.Commands as grammar;
+ghost use Rattle.command_line.specs.Commands.{PrintCommand};
 
 use crate::inputs::read_policy;
 use crate::networks::{find_switch, take_network};
 use crate::policies::plan_policy;
 use crate::status::Stop;
+use command_line::PrintArgs;
 use controller::Plan;
 use net_file::Net;
 use shelf::{Shelf, Sink, SinkError, write_whole};
 use show_text::{compile_text, table_text};
 use std::alloc::{AllocError, Global};
-use words::PrintWords;
 
 /// A plan on its network, and the switch whose tables are asked for.
 #[derive(Drop)]
@@ -33,25 +33,25 @@ pub struct PrintInputs {
 pub fn read_printing<F: Shelf>(
     alloc: Global,
     shelf: &mut F,
-    words: &PrintWords<'_>,
+    args: &PrintArgs<'_>,
 ) -> Result<PrintInputs, Stop>
     ensures value { IfOk result (λ inputs. ForSome (F.state shelf.old).files (λ files.
-        printing_of files (print_named words.now) ≡ Ok (printing_stated inputs))) }
+        printing_of files (print_named args.now) ≡ Ok (printing_stated inputs))) }
     ensures stopped { IfErr result (λ stop. ForSome (F.state shelf.old).files (λ files.
-        Stops (printing_of files (print_named words.now)) stop)) }
+        Stops (printing_of files (print_named args.now)) stop)) }
     ensures faults { IfErr result (λ stop. NeedsReadFault (F.state shelf.old).files (status_of stop)
         → Rose (F.state shelf.old).faults (F.state shelf.new).faults) }
     ensures shelf { IsAfterReads
-        (most_reads (F.state shelf.old).files (Some (grammar.Print (print_named words.now))))
+        (most_reads (F.state shelf.old).files (Some (grammar.Print (print_named args.now))))
         (F.state shelf.old) (F.state shelf.new) }
     ensures sound { IfOk result (λ inputs. IsNet inputs.net) }
     ensures planned { IfOk result (λ inputs.
-        IsPrintingOf (print_named words.now) (printing_stated inputs)) }
+        IsPrintingOf (print_named args.now) (printing_stated inputs)) }
 {
-    let net = take_network(alloc, shelf, words.net)?;
-    let switch = find_switch(alloc, &net, words.switch)?;
-    let policy = read_policy(alloc, shelf, words.policy, net.port_mask())?;
-    let plan = plan_policy(alloc, words.policy, &policy, &net)?;
+    let net = take_network(alloc, shelf, args.net)?;
+    let switch = find_switch(alloc, &net, args.switch)?;
+    let policy = read_policy(alloc, shelf, args.policy, net.port_mask())?;
+    let plan = plan_policy(alloc, args.policy, &policy, &net)?;
     Ok(PrintInputs { plan, net, switch })
 }
 

@@ -5,8 +5,8 @@ ghost use Rattle.shelf.specs.Sink.{Rose};
 ghost use Rattle.shelf.specs.Shelf.{Files, IsAfterReads};
 ghost use Rattle.difane_cli.specs.Work.{Accounts, EndsWork, IsReadyTask, IsTaskOf, NeedsReadFault, Outcome, PlaysNothing, RanOut, Task as Stated, known_task, most_reads, status_of, task_stated};
 ghost use Rattle.difane_cli.specs.declared.status.Refusal.{Refusal};
-ghost use Rattle.words.specs.Named.{NamesPolicies, command_named};
-ghost use Rattle.words.specs.Commands as grammar;
+ghost use Rattle.command_line.specs.Named.{NamesPolicies, command_named};
+ghost use Rattle.command_line.specs.Commands as grammar;
 ghost use Rattle.difane_cli.specs.declared.status.Status.TheVariants as status;
 
 use crate::inputs::{PlayInputs, read_inputs};
@@ -14,11 +14,11 @@ use crate::load::draw_inputs;
 use crate::playing::play;
 use crate::printing::{PrintInputs, print, read_printing};
 use crate::status::{Ended, Status, Stop};
+use command_line::Command;
 use journal::Journal;
 use meters::Meter;
 use shelf::{Shelf, Sink};
 use std::alloc::Global;
-use words::Command;
 
 /// What a command is to do.
 #[derive(Drop)]
@@ -51,12 +51,12 @@ pub fn read_task<F: Shelf>(
         IsTaskOf (command_named command.now) (task_stated task)) }
 {
     match command {
-        Command::Replay(words) => {
-            let inputs = read_inputs(alloc, shelf, words)?;
+        Command::Replay(args) => {
+            let inputs = read_inputs(alloc, shelf, args)?;
             Ok(Task::Play(inputs))
         }
-        Command::Print(words) => {
-            let inputs = read_printing(alloc, shelf, words)?;
+        Command::Print(args) => {
+            let inputs = read_printing(alloc, shelf, args)?;
             Ok(Task::Print(inputs))
         }
         Command::Load(n) => {

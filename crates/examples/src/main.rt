@@ -1,7 +1,7 @@
 //! Runs the examples of the repository, and compares what each writes with the file that says it.
 //!
 //! Each line of `index.txt` has the name of that file, or `-` where nothing is to be written, and
-//! then the words of a command, with blanks between. The folder of the examples is `data`, and
+//! then the arguments of a command, with blanks between. The folder of the examples is `data`, and
 //! `examples` at the top of the repository leads there.
 #![tactic(auto)]
 
@@ -22,14 +22,14 @@ struct Answer {
 }
 
 /// What the program answers, with a recorder for each port as its `main` has them.
-fn ask<F: Shelf>(alloc: Global, shelf: &mut F, words: &Vec<String>) -> Result<Answer, AllocError> {
+fn ask<F: Shelf>(alloc: Global, shelf: &mut F, args: &Vec<String>) -> Result<Answer, AllocError> {
     let mut meters: Vec<Box<dyn Meter>> = Vec::new(alloc);
     for port in 0..64 {
         meters.push(Box::new(alloc, Recorder::new(alloc, port))?)?;
     }
     let mut out = MemSink::new(alloc, u64::MAX, Vec::new(alloc));
     let mut errs = MemSink::new(alloc, u64::MAX, Vec::new(alloc));
-    let finished = run(alloc, words, shelf, &mut out, &mut errs, meters);
+    let finished = run(alloc, args, shelf, &mut out, &mut errs, meters);
     Ok(Answer {
         status: finished.status.number(),
         out,
@@ -45,20 +45,20 @@ fn expected<F: Shelf>(alloc: Global, shelf: &mut F, name: &str) -> Result<Vec<u8
     shelf.read(name, LIMIT)
 }
 
-fn words_of(alloc: Global, line: &str) -> Result<Vec<String>, AllocError> {
-    let mut words = Vec::new(alloc);
-    for word in line.split(' ') {
-        words.push(String::from_str(alloc, word)?)?;
+fn args_of(alloc: Global, line: &str) -> Result<Vec<String>, AllocError> {
+    let mut args = Vec::new(alloc);
+    for arg in line.split(' ') {
+        args.push(String::from_str(alloc, arg)?)?;
     }
-    Ok(words)
+    Ok(args)
 }
 
 /// What is to be told of a line of the index.
 fn told<F: Shelf>(alloc: Global, shelf: &mut F, line: &str) -> anyhow::Result<String> {
-    let Some((name, words)) = line.split_once(' ') else {
+    let Some((name, args)) = line.split_once(' ') else {
         return Ok(String::from_str(alloc, "no command\n")?);
     };
-    let answer = ask(alloc, shelf, &words_of(alloc, words)?)?;
+    let answer = ask(alloc, shelf, &args_of(alloc, args)?)?;
     let wanted = expected(alloc, shelf, name)?;
     let same = if answer.out.bytes() == wanted.as_slice() {
         "as"
@@ -66,10 +66,7 @@ fn told<F: Shelf>(alloc: Global, shelf: &mut F, line: &str) -> anyhow::Result<St
         "NOT AS"
     };
     let errs = String::from_utf8_lossy(alloc, answer.errs.bytes())?;
-    Ok(format!(in alloc;
-        "{words}\n  status {}, {same} {name}\n{errs}",
-        answer.status
-    )?)
+    Ok(format!(in alloc; "{args}\n  status {}, {same} {name}\n{errs}", answer.status)?)
 }
 
 fn main(rt: HostRuntime) -> anyhow::Result<()> {

@@ -7,11 +7,11 @@ use std::alloc::{AllocError, Global};
 /// The status of a run, its output and its line of errors.
 pub type Ran = (u8, MemSink, MemSink);
 
-/// These words, each of which owns its text.
-pub fn owned(alloc: Global, words: &[&str]) -> Result<Vec<String>, AllocError> {
+/// These arguments, each of which owns its text.
+pub fn owned(alloc: Global, args: &[&str]) -> Result<Vec<String>, AllocError> {
     let mut all = Vec::new(alloc);
-    for word in words {
-        all.push(String::from_str(alloc, word)?)?;
+    for arg in args {
+        all.push(String::from_str(alloc, arg)?)?;
     }
     Ok(all)
 }
@@ -19,17 +19,17 @@ pub fn owned(alloc: Global, words: &[&str]) -> Result<Vec<String>, AllocError> {
 /// A run, the journal of what it played, and how many of its meters are still there.
 pub type Metered = (Ran, Journal, usize);
 
-/// A run with these words over this shelf and these sinks, with these meters.
+/// A run with these arguments over this shelf and these sinks, with these meters.
 pub fn metered(
     alloc: Global,
-    words: &[&str],
+    args: &[&str],
     mut shelf: MemShelf,
     mut out: MemSink,
     mut errs: MemSink,
     meters: Vec<Box<dyn Meter>>,
 ) -> Result<Metered, AllocError> {
-    let words = owned(alloc, words)?;
-    let finished = run(alloc, &words, &mut shelf, &mut out, &mut errs, meters);
+    let args = owned(alloc, args)?;
+    let finished = run(alloc, &args, &mut shelf, &mut out, &mut errs, meters);
     let still = finished.meters.len();
     let ran = (finished.status.number(), out, errs);
     Ok((ran, finished.journal, still))
@@ -38,30 +38,31 @@ pub fn metered(
 /// The same without meters.
 pub fn ran(
     alloc: Global,
-    words: &[&str],
+    args: &[&str],
     shelf: MemShelf,
     out: MemSink,
     errs: MemSink,
 ) -> Result<Ran, AllocError> {
-    let (ran, _, _) = metered(alloc, words, shelf, out, errs, Vec::new(alloc))?;
+    let (ran, _, _) = metered(alloc, args, shelf, out, errs, Vec::new(alloc))?;
     Ok(ran)
 }
 
-/// A run with these words over these files, without meters.
-pub fn run_over(alloc: Global, words: &[&str], files: &[(&str, &str)]) -> Result<Ran, AllocError> {
+/// A run with these arguments over these files, without meters.
+pub fn run_over(alloc: Global, args: &[&str], files: &[(&str, &str)]) -> Result<Ran, AllocError> {
     ran(
         alloc,
-        words,
+        args,
         shelf_of(alloc, files)?,
         sink(alloc),
         sink(alloc),
     )
 }
 
-/// A run with these words over these files, with a recorder for each port as the program has them.
-pub fn recorded(alloc: Global, words: &[&str], files: &[(&str, &str)]) -> Result<Ran, AllocError> {
+/// A run with these arguments over these files, with a recorder for each port as the program has
+/// them.
+pub fn recorded(alloc: Global, args: &[&str], files: &[(&str, &str)]) -> Result<Ran, AllocError> {
     let shelf = shelf_of(alloc, files)?;
-    let (ran, _) = recorded_over(alloc, words, shelf, sink(alloc), sink(alloc))?;
+    let (ran, _) = recorded_over(alloc, args, shelf, sink(alloc), sink(alloc))?;
     Ok(ran)
 }
 
@@ -71,7 +72,7 @@ pub type Recorded = (Ran, usize);
 /// The same over this shelf and these sinks.
 pub fn recorded_over(
     alloc: Global,
-    words: &[&str],
+    args: &[&str],
     shelf: MemShelf,
     out: MemSink,
     errs: MemSink,
@@ -80,7 +81,7 @@ pub fn recorded_over(
     for port in 0..64 {
         meters.push(Box::new(alloc, Recorder::new(alloc, port))?)?;
     }
-    let (ran, journal, _) = metered(alloc, words, shelf, out, errs, meters)?;
+    let (ran, journal, _) = metered(alloc, args, shelf, out, errs, meters)?;
     Ok((ran, journal.items().len()))
 }
 

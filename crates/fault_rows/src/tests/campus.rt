@@ -41,8 +41,8 @@ pub const DAY: &str = "event,arguments\n\
     drain\n\
     flush\n";
 
-/// The words of its replay.
-pub const DAY_WORDS: [&str; 7] = [
+/// The arguments of its replay.
+pub const DAY_ARGS: [&str; 7] = [
     "replay",
     "day.csv",
     "one.csv",

@@ -1,5 +1,5 @@
 //! The day of a campus, at which reads and writes fail and whose files are cut short.
-use crate::tests::campus::{DAY_FILES, DAY_WORDS};
+use crate::tests::campus::{DAY_ARGS, DAY_FILES};
 use shelf::{MemShelf, MemSink};
 use std::alloc::{AllocError, Global};
 use std::test::Fail;
@@ -12,7 +12,7 @@ enum Fault<'a> {
     Read(u64),
     /// This write of the output fails, or none at 0.
     Write(u64),
-    /// The words are `replay` alone, and the line of errors isn't taken.
+    /// The arguments are `replay` alone, and the line of errors isn't taken.
     Line,
     /// The file of this name has only its first bytes, so many.
     Cut(&'a str, usize),
@@ -40,10 +40,10 @@ impl Fault<'_> {
         }
     }
 
-    fn words(&self) -> &'static [&'static str] {
+    fn args(&self) -> &'static [&'static str] {
         match self {
             Fault::Line => &["replay"],
-            _ => &DAY_WORDS,
+            _ => &DAY_ARGS,
         }
     }
 
@@ -68,7 +68,7 @@ fn shelf(alloc: Global, fault: &Fault<'_>) -> Result<MemShelf, AllocError> {
 fn played(alloc: Global, fault: &Fault<'_>) -> Result<Recorded, AllocError> {
     let out = MemSink::new(alloc, u64::MAX, calls(alloc, fault.failing_write())?);
     let errs = MemSink::new(alloc, u64::MAX, calls(alloc, fault.failing_line())?);
-    recorded_over(alloc, fault.words(), shelf(alloc, fault)?, out, errs)
+    recorded_over(alloc, fault.args(), shelf(alloc, fault)?, out, errs)
 }
 
 /// Whether nothing was played or printed, and the run has this status and this line of errors.

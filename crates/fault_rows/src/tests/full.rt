@@ -6,7 +6,7 @@ use std::test::Fail;
 use worked_rows::files::DROP;
 use worked_rows::runs::{Ran, calls, ended, ran, shelf_of};
 
-const WORDS: [&str; 5] = ["replay", "s.csv", "p.csv", "--net", "n.toml"];
+const ARGS: [&str; 5] = ["replay", "s.csv", "p.csv", "--net", "n.toml"];
 
 /// A hub that decides, with a link to each of 63 other switches.
 fn star(alloc: Global) -> Result<String, Fail> {
@@ -36,7 +36,7 @@ fn told_again(alloc: Global, rows: u32, failing_write: u64) -> Result<Ran, Fail>
     ];
     let out = MemSink::new(alloc, u64::MAX, calls(alloc, failing_write)?);
     let errs = MemSink::new(alloc, u64::MAX, Vec::new(alloc));
-    Ok(ran(alloc, &WORDS, shelf_of(alloc, &files)?, out, errs)?)
+    Ok(ran(alloc, &ARGS, shelf_of(alloc, &files)?, out, errs)?)
 }
 
 /// The hub's Hello, 64 adverts to each of 63 switches, and its Open.

@@ -1,4 +1,4 @@
-//! Words off the grammar.
+//! Arguments off the grammar.
 use crate::files::{NO_ROW, PAIR};
 use crate::runs::{ended, recorded};
 use std::test::Fail;
@@ -7,7 +7,7 @@ const ONE_PACKET: &str = "event,arguments\npacket,b,10.1.1.1,9.9.9.9,5000,80,tcp
 
 const FILES: [(&str, &str); 3] = [("n.toml", PAIR), ("s.csv", ONE_PACKET), ("p.csv", NO_ROW)];
 
-/// Words off the grammar, whatever files there are.
+/// Arguments off the grammar, whatever files there are.
 const OFF: [&[&str]; 18] = [
     &[],
     &["load"],
@@ -37,9 +37,9 @@ const OFF: [&[&str]; 18] = [
 ];
 
 #[test]
-fn refuses_words_off_the_grammar(rt: HostRuntime) -> Result<(), Fail> {
-    for words in &OFF {
-        let off = recorded(rt.alloc(), words, &FILES)?;
+fn refuses_arguments_off_the_grammar(rt: HostRuntime) -> Result<(), Fail> {
+    for args in &OFF {
+        let off = recorded(rt.alloc(), args, &FILES)?;
         assert!(rt; ended(&off, 2, "", "difane: words\n"));
     }
     Ok(())

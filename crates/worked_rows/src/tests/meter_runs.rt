@@ -65,9 +65,9 @@ impl Meter for Pair {
 #[test]
 fn recorders_tell_what_left(rt: HostRuntime) -> Result<(), Fail> {
     let alloc = rt.alloc();
-    let words = ["replay", "s.csv", "p.csv"];
+    let args = ["replay", "s.csv", "p.csv"];
     let files = [("s.csv", ONE_PACKET), ("p.csv", TWO_ROWS)];
-    let one = recorded(alloc, &words, &files)?;
+    let one = recorded(alloc, &args, &files)?;
     assert!(rt; ended(&one, 0, FIRST_LINES, ""));
     Ok(())
 }
@@ -81,16 +81,16 @@ fn meters_leave_at_their_time(rt: HostRuntime) -> Result<(), Fail> {
     meters.push(Box::new(alloc, Recorder::new(alloc, 3))?)?;
     let held = Vec::new(alloc);
     meters.push(Box::new(alloc, Pair { port: 3, held })?)?;
-    let words = ["replay", "s.csv", "p.csv"];
+    let args = ["replay", "s.csv", "p.csv"];
     let files = [("s.csv", TWO_PACKETS), ("p.csv", TWO_ROWS)];
     let shelf = shelf_of(alloc, &files)?;
-    let (two, _, still) = metered(alloc, &words, shelf, sink(alloc), sink(alloc), meters)?;
+    let (two, _, still) = metered(alloc, &args, shelf, sink(alloc), sink(alloc), meters)?;
     assert!(rt; ended(&two, 0, TWICE, ""));
     assert_eq!(rt; still, 1);
     Ok(())
 }
 
-/// A meter of a port that the network lacks comes back where the words are off the grammar, and
+/// A meter of a port that the network lacks comes back where the arguments are off the grammar, and
 /// with a plan; it is dropped by a play and where a file of one is refused.
 #[test]
 fn meters_come_back_where_nothing_is_played(rt: HostRuntime) -> Result<(), Fail> {
@@ -102,11 +102,11 @@ fn meters_come_back_where_nothing_is_played(rt: HostRuntime) -> Result<(), Fail>
         (&["replay", "s.csv", "p.csv"], 0, 0),
         (&["replay", "no.csv", "p.csv"], 3, 0),
     ];
-    for (words, status, left) in &cases {
+    for (args, status, left) in &cases {
         let mut meters: Vec<Box<dyn Meter>> = Vec::new(alloc);
         meters.push(Box::new(alloc, FirstN::new(alloc, 90, 1))?)?;
         let shelf = shelf_of(alloc, &files)?;
-        let (ran, _, still) = metered(alloc, words, shelf, sink(alloc), sink(alloc), meters)?;
+        let (ran, _, still) = metered(alloc, args, shelf, sink(alloc), sink(alloc), meters)?;
         assert_eq!(rt; ran.0, *status);
         assert_eq!(rt; still, *left);
     }

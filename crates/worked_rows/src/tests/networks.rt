@@ -40,13 +40,13 @@ const REFUSED: [(&str, &str, &str, &str); 4] = [
     ),
 ];
 
-const WORDS: [&str; 5] = ["replay", "--net", "n.toml", "s.csv", "p.csv"];
+const ARGS: [&str; 5] = ["replay", "--net", "n.toml", "s.csv", "p.csv"];
 
 #[test]
 fn refuses_in_order(rt: HostRuntime) -> Result<(), Fail> {
     for (schedule, policy, net, line) in &REFUSED {
         let files = [("s.csv", *schedule), ("p.csv", *policy), ("n.toml", *net)];
-        let ran = run_over(rt.alloc(), &WORDS, &files)?;
+        let ran = run_over(rt.alloc(), &ARGS, &files)?;
         assert!(rt; ended(&ran, 3, "", line), "{line}");
     }
     Ok(())

@@ -21,12 +21,12 @@ const MATCHED: &str = "row 1: packet s0 10.1.1.1 9.9.9.9 5000 80 tcp\n\
     \x20 decided 1 v1 rule 100 out:3 authority s0 part 0\n\
     \x20 out 1 port 3\n";
 
-/// A run of `replay s.csv p.csv`, or of other words, with so many bytes of padding after the
+/// A run of `replay s.csv p.csv`, or of other arguments, with so many bytes of padding after the
 /// policy; the call of a number in `failing_read`, `failing_write` or `failing_line` fails, counted
 /// from 1, and none fails at 0.
 #[derive(Clone, Copy)]
 struct Case<'a> {
-    words: &'a [&'a str],
+    args: &'a [&'a str],
     schedule: &'a str,
     policy: &'a str,
     padding: usize,
@@ -37,7 +37,7 @@ struct Case<'a> {
 }
 
 const PLAIN: Case<'static> = Case {
-    words: &["replay", "s.csv", "p.csv"],
+    args: &["replay", "s.csv", "p.csv"],
     schedule: ONE_PACKET,
     policy: TWO_ROWS,
     padding: 0,
@@ -62,7 +62,7 @@ fn played(alloc: Global, case: &Case<'_>) -> Result<Ran, AllocError> {
     let shelf = MemShelf::new(alloc, files, calls(alloc, case.failing_read)?);
     let out = MemSink::new(alloc, case.most_written, calls(alloc, case.failing_write)?);
     let errs = MemSink::new(alloc, u64::MAX, calls(alloc, case.failing_line)?);
-    ran(alloc, case.words, shelf, out, errs)
+    ran(alloc, case.args, shelf, out, errs)
 }
 
 const DROPPED: &str = "row 1: packet s0 10.1.1.1 9.9.9.9 5000 80 tcp\n\
@@ -156,8 +156,8 @@ fn answers_each_fault(rt: HostRuntime) -> Result<(), Fail> {
     Ok(())
 }
 
-/// A file that isn't there, and words off the grammar.
-const WORDS: [(&[&str], u8, &str); 2] = [
+/// A file that isn't there, and arguments off the grammar.
+const ARGS: [(&[&str], u8, &str); 2] = [
     (
         &["replay", "s.csv", "none.csv"],
         3,
@@ -167,9 +167,9 @@ const WORDS: [(&[&str], u8, &str); 2] = [
 ];
 
 #[test]
-fn answers_wrong_words(rt: HostRuntime) -> Result<(), Fail> {
-    for (words, status, line) in &WORDS {
-        let case = Case { words, ..PLAIN };
+fn answers_wrong_arguments(rt: HostRuntime) -> Result<(), Fail> {
+    for (args, status, line) in &ARGS {
+        let case = Case { args, ..PLAIN };
         let ran = played(rt.alloc(), &case)?;
         assert!(rt; ended(&ran, *status, "", line), "{status} {line}");
     }

@@ -27,9 +27,9 @@ const ALONE: &str = "leaf_rules = 8\nbackups = 1\n\
 
 const TWICE: &str = "switch = [{ name = \"s0\" }, { name = \"s0\" }]\n";
 
-/// A run with these words over the files `p.csv` and `n.toml`.
-fn printed(alloc: Global, words: &[&str], policy: &str, net: &str) -> Result<Ran, AllocError> {
-    run_over(alloc, words, &[("p.csv", policy), ("n.toml", net)])
+/// A run with these arguments over the files `p.csv` and `n.toml`.
+fn printed(alloc: Global, args: &[&str], policy: &str, net: &str) -> Result<Ran, AllocError> {
+    run_over(alloc, args, &[("p.csv", policy), ("n.toml", net)])
 }
 
 const COMPILE: [&str; 4] = ["compile", "p.csv", "--net", "n.toml"];
@@ -38,7 +38,7 @@ const SHOW_OTHER: [&str; 5] = ["show", "p.csv", "s1", "--net", "n.toml"];
 
 const OTHER_PORT: &str = "priority,src,dst,sport,dport,proto,action\n7,any,any,any,any,any,out:4\n";
 
-/// Words, policies and networks, the status of each run, and its line of errors.
+/// Arguments, policies and networks, the status of each run, and its line of errors.
 const REFUSED: [(&[&str], &str, &str, u8, &str); 7] = [
     (
         &COMPILE,
@@ -87,8 +87,8 @@ const REFUSED: [(&[&str], &str, &str, u8, &str); 7] = [
 
 #[test]
 fn refuses_plans_with_a_cause(rt: HostRuntime) -> Result<(), Fail> {
-    for (words, policy, net, status, line) in &REFUSED {
-        let ran = printed(rt.alloc(), words, policy, net)?;
+    for (args, policy, net, status, line) in &REFUSED {
+        let ran = printed(rt.alloc(), args, policy, net)?;
         assert!(rt; ended(&ran, *status, "", line), "{line}");
     }
     Ok(())

@@ -19,13 +19,13 @@ const FILES: [(&str, &str); 4] = [
     ("wide.csv", WIDE),
 ];
 
-/// A run with these words; where a number isn't 0, the read of that number fails.
-fn played(alloc: Global, words: &[&str], failing_read: u64) -> Result<Ran, AllocError> {
+/// A run with these arguments; where a number isn't 0, the read of that number fails.
+fn played(alloc: Global, args: &[&str], failing_read: u64) -> Result<Ran, AllocError> {
     let shelf = shelf_with_fault(alloc, &FILES, failing_read)?;
-    ran(alloc, words, shelf, sink(alloc), sink(alloc))
+    ran(alloc, args, shelf, sink(alloc), sink(alloc))
 }
 
-/// Words, the read that fails, and how the run ends: its status, its output and its line of errors.
+/// Arguments, the read that fails, and how the run ends: its status, its output and its line of errors.
 /// Each policy is read and checked before the next one is read, and the first one is planned last;
 /// a later one may have no plan.
 const READ: [(&[&str], u64, u8, &str, &str); 5] = [
@@ -68,22 +68,22 @@ const READ: [(&[&str], u64, u8, &str, &str); 5] = [
 
 #[test]
 fn reads_policies_in_order(rt: HostRuntime) -> Result<(), Fail> {
-    for (words, failing_read, status, out, line) in &READ {
-        let ran = played(rt.alloc(), words, *failing_read)?;
+    for (args, failing_read, status, out, line) in &READ {
+        let ran = played(rt.alloc(), args, *failing_read)?;
         assert!(rt; ended(&ran, *status, out, line), "{line}");
     }
     Ok(())
 }
 
-/// The words of a replay with so many policies.
+/// The arguments of a replay with so many policies.
 fn many(alloc: Global, count: u32) -> Result<Vec<&'static str>, AllocError> {
-    let mut words = Vec::new(alloc);
-    words.push("replay")?;
-    words.push("s.csv")?;
+    let mut args = Vec::new(alloc);
+    args.push("replay")?;
+    args.push("s.csv")?;
     for _ in 0..count {
-        words.push("row.csv")?;
+        args.push("row.csv")?;
     }
-    Ok(words)
+    Ok(args)
 }
 
 #[test]

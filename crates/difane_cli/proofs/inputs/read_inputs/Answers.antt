@@ -3,8 +3,8 @@ use Rattle.std.specs.Borrow.{Bor}
 use Rattle.std.proofs.Common.{◌≡◌, ◌∙◌, ℕ, Some, List, ap, length, refl, sym}
 use Rattle.std.proofs.lemmas.List.{length-map}
 use Rattle.shelf.specs.Shelf.{IsAfterReads}
-use Rattle.words.specs.Commands.{Replay}
-use Rattle.words.specs.Named.{names_seen, replay_named}
+use Rattle.command_line.specs.Commands.{Replay}
+use Rattle.command_line.specs.Named.{names_seen, replay_named}
 use Rattle.difane_cli.specs.Inputs.{most_reads, net_reads}
 use Rattle.difane_cli.proofs.Begun.{all_are_events, asked_for, inputs_are}
 use Rattle.difane_cli.proofs.ShelfReads.{all_reads, reads_then, schedule_read}
@@ -19,14 +19,14 @@ as_many names owned same = ap length same ∙ sym (length-map owned (λ name. na
 
 pub returns-in_err-events-clause-shelf : goal.returns-in_err-events-clause-shelf
 returns-in_err-events-clause-shelf g c =
-    let words = replay_named c.args.words.now in
-    let one = schedule_read _ words c.in_ok-net.net c.in_ok-net.ensures.value in
-    reads_then (net_reads words.net) 1 _ _ (g.F.Shelf.state c.take_network.new.shelf) _ one
+    let args = replay_named c.args.args.now in
+    let one = schedule_read _ args c.in_ok-net.net c.in_ok-net.ensures.value in
+    reads_then (net_reads args.net) 1 _ _ (g.F.Shelf.state c.take_network.new.shelf) _ one
     c.in_ok-net.ensures.shelf c.in_err-events.ensures.shelf
 
 pub returns-in_err-policies-clause-shelf : goal.returns-in_err-policies-clause-shelf
 returns-in_err-policies-clause-shelf g c =
-    all_reads (replay_named c.args.words.now) c.in_ok-net.net c.in_ok-events.events.items _ _ _ _ _ _
+    all_reads (replay_named c.args.args.now) c.in_ok-net.net c.in_ok-events.events.items _ _ _ _ _ _
     (as_many _ _ c.deref-names.ensures.value) c.port_mask.ensures
     c.in_ok-net.ensures.value c.in_ok-events.ensures.value c.in_ok-net.ensures.shelf
     c.in_ok-events.ensures.shelf (rw c.deref-names.ensures.value at c.in_err-policies.ensures.shelf)
@@ -34,10 +34,10 @@ returns-in_err-policies-clause-shelf g c =
 -- the network, the schedule and the policies are all that is read
 policies_read : (g : Over) (c : In_ok-policies g)
     → IsAfterReads (most_reads (g.F.Shelf.state c.args.shelf.now).files
-    (Some (Replay (replay_named c.args.words.now))))
+    (Some (Replay (replay_named c.args.args.now))))
     (g.F.Shelf.state c.args.shelf.now) (g.F.Shelf.state c.read_policies.new.shelf)
 policies_read g c =
-    all_reads (replay_named c.args.words.now) c.in_ok-net.net c.in_ok-events.events.items _ _ _ _ _ _
+    all_reads (replay_named c.args.args.now) c.in_ok-net.net c.in_ok-events.events.items _ _ _ _ _ _
     (as_many _ _ c.deref-names.ensures.value) c.port_mask.ensures
     c.in_ok-net.ensures.value c.in_ok-events.ensures.value c.in_ok-net.ensures.shelf
     c.in_ok-events.ensures.shelf (rw c.deref-names.ensures.value at c.in_ok-policies.ensures.shelf)
@@ -52,7 +52,7 @@ returns-clause-shelf g c = policies_read g (goal.at.returns-clause-shelf g c).In
 pub returns-clause-value : goal.returns-clause-value
 returns-clause-value g c =
     let net_files = c.in_ok-net.ensures.shelf.same_files in
-    inputs_are _ _ _ (replay_named c.args.words.now) c.in_ok-net.net c.in_ok-policies.policies.items
+    inputs_are _ _ _ (replay_named c.args.args.now) c.in_ok-net.net c.in_ok-policies.policies.items
     c.in_ok-events.events.items (setting_at c.in_ok-world.world) _ _ net_files
     (c.in_ok-events.ensures.shelf.same_files ∙ net_files)
     (as_many _ _ c.deref-names.ensures.value) c.port_mask.ensures
@@ -76,7 +76,7 @@ returns-clause-ready g c =
 
 pub returns-clause-asked : goal.returns-clause-asked
 returns-clause-asked g c =
-    asked_for (replay_named c.args.words.now) c.in_ok-net.net c.in_ok-policies.policies.items
+    asked_for (replay_named c.args.args.now) c.in_ok-net.net c.in_ok-policies.policies.items
     c.in_ok-events.events.items (setting_at c.in_ok-world.world) c.in_ok-net.ensures.named
     c.in_ok-world.ensures.begun.own
     (c.in_ok-policies.ensures.many ∙ as_many _ _ c.deref-names.ensures.value)

@@ -5,7 +5,7 @@ use Rattle.policy_file.specs.Ports.{names_port_of}
 use Rattle.policy_rules.specs.Policy.{IsPolicy}
 use Rattle.policy_rules.specs.declared.policy.Row.{Row}
 use Rattle.std.specs.Option.{ForSome}
-use Rattle.words.specs.Named.{names_seen}
+use Rattle.command_line.specs.Named.{names_seen}
 use Rattle.difane_cli.specs.Inputs.{Stops, read_policies, read_policy}
 use Rattle.difane_cli.proofs.PolicyReads.{HasRead, at_next, handed_on, name_there, one_read, reads_at, stops_at}
 use Rattle.difane_cli.proofs.inputs.read_policies.Goals as goal

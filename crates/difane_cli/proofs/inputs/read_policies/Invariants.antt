@@ -2,7 +2,7 @@ use Rattle.std.proofs.Common.{◌≡◌, All, drop, length}
 use Rattle.std.specs.Prelude.{IsTrue}
 use Rattle.policy_file.specs.Ports.{names_port_of}
 use Rattle.policy_rules.specs.Policy.{IsPolicy}
-use Rattle.words.specs.Named.{names_seen}
+use Rattle.command_line.specs.Named.{names_seen}
 use Rattle.difane_cli.proofs.PolicyReads.{HasRead}
 use Rattle.difane_cli.proofs.inputs.read_policies.Given as goal
 

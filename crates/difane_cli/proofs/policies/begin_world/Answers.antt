@@ -1,6 +1,6 @@
 use Rattle.std.proofs.Common.{ℕ, ◌<◌, List, [], arith, get_or, length, subst, sym}
 use Rattle.std.proofs.lemmas.List.{get_or-map}
-use Rattle.words.specs.Named.{names_seen}
+use Rattle.command_line.specs.Named.{names_seen}
 use Rattle.difane_cli.specs.Inputs.{StopsContent, plan_on}
 use Rattle.difane_cli.proofs.Begun.{has_plan, planned_by, sound_by_tie}
 use Rattle.difane_cli.proofs.policies.begin_world.Goals as goal

@@ -5,20 +5,20 @@ use Rattle.journal.specs.declared.item.Item.{Item}
 use Rattle.meters.specs.Seen.{Seen}
 use Rattle.shelf.specs.Shelf.{Files}
 use Rattle.shelf.specs.Sink.{SinkState}
-use Rattle.words.specs.Named.{command_named}
+use Rattle.command_line.specs.Named.{command_named}
 use Rattle.difane_cli.specs.Run.{Outcome, RanOut}
-use Rattle.words.specs.Words.{command_of}
-use Rattle.words.specs.Commands as grammar
+use Rattle.command_line.specs.Grammar.{command_of}
+use Rattle.command_line.specs.Commands as grammar
 use Rattle.difane_cli.specs.declared.status.Ended.{Ended}
 use Rattle.difane_cli.specs.declared.status.Status.{Status}
-use Rattle.words.specs.declared.command.Command.{Command}
+use Rattle.command_line.specs.declared.command.Command.{Command}
 use Rattle.difane_cli.proofs.top_call.run.Goals as goal
 
--- the command that was read is that of the words
-command_is : (command : Command) (found : Option Command) (words owned : List (String Global))
-    → found ≡ Some command → option_map command_named found ≡ command_of (map string_bytes words)
-    → words ≡ owned → Some (command_named command) ≡ command_of (map string_bytes owned)
-command_is command found words owned is read same =
+-- the command that was read is that of the arguments
+command_is : (command : Command) (found : Option Command) (args owned : List (String Global))
+    → found ≡ Some command → option_map command_named found ≡ command_of (map string_bytes args)
+    → args ≡ owned → Some (command_named command) ≡ command_of (map string_bytes owned)
+command_is command found args owned is read same =
     sym (ap (option_map command_named) is) ∙ read
     ∙ ap (λ (all : List (String Global)). command_of (map string_bytes all)) same
 

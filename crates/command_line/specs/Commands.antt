@@ -1,4 +1,4 @@
--- The commands, by their words.
+-- The commands, by their arguments.
 use Rattle.std.specs.Prelude.{ℕ, Bool, Option, List, map, string_bytes, String, Vec}
 use Rattle.std.specs.Global.{Global}
 
@@ -23,6 +23,6 @@ pub data Command : Type 0 where
   Print : PrintCommand → Command
   Load : ℕ → Command
 
--- the bytes of the words
+-- the bytes of the arguments
 abbrev pub texts : Vec (String Global) Global → List (List ℕ)
-texts words = map string_bytes words.items
+texts args = map string_bytes args.items

@@ -1,7 +1,7 @@
 ghost use Rattle.std.specs.Prelude.{◌≡◌, ◌≤◌, true, IfOk, IfErr, IfSome, Some, is_some, map, string_bytes, option_map};
-ghost use Rattle.words.specs.Named.{HasPolicies, NamesPolicies, command_named, kind_name, line_seen, names_seen, replay_named};
-ghost use Rattle.words.specs.Commands as grammar;
-ghost use Rattle.words.specs.Words.{command_by, command_of, load_from, replay_from};
+ghost use Rattle.command_line.specs.Named.{HasPolicies, NamesPolicies, command_named, kind_name, line_seen, names_seen, replay_named};
+ghost use Rattle.command_line.specs.Commands as grammar;
+ghost use Rattle.command_line.specs.Grammar.{command_by, command_of, load_from, replay_from};
 ghost use Rattle.five_tuple.specs.Texts.{number_up_to};
 
 use crate::grammar::{Kind, kind_of};
@@ -11,7 +11,7 @@ use std::alloc::{AllocError, Global};
 
 /// The files of a replay.
 #[derive(Drop)]
-pub struct ReplayWords<'a> {
+pub struct ReplayArgs<'a> {
     /// The name of the schedule's file.
     pub schedule: &'a str,
     /// The names of the policies' files; an update names one of them by its place, from 1.
@@ -24,7 +24,7 @@ pub struct ReplayWords<'a> {
 
 /// What is to be printed: the plan of a policy, or the tables that it gives to a switch.
 #[derive(Clone, Copy)]
-pub struct PrintWords<'a> {
+pub struct PrintArgs<'a> {
     /// The name of the policy's file.
     pub policy: &'a str,
     /// The name of the switch whose tables are asked for.
@@ -39,30 +39,30 @@ pub const MAX_POLICIES: usize = 64;
 /// The greatest number of a load case.
 pub const MAX_LOAD: u32 = 1000;
 
-/// What the words ask for.
+/// What the arguments ask for.
 #[derive(Drop)]
 pub enum Command<'a> {
-    Replay(ReplayWords<'a>),
-    Print(PrintWords<'a>),
+    Replay(ReplayArgs<'a>),
+    Print(PrintArgs<'a>),
     /// The load case of this number is to be played.
     Load(u32),
 }
 
-/// The command that the words are, or `None` exactly where they are off the grammar.
+/// The command that the arguments are, or `None` exactly where they are off the grammar.
 ///
 /// # Errors
-/// Want of memory alone, and only for words of the grammar.
-pub fn read_words(alloc: Global, words: &[String]) -> Result<Option<Command<'_>>, AllocError>
+/// Want of memory alone, and only for arguments of the grammar.
+pub fn read_command(alloc: Global, args: &[String]) -> Result<Option<Command<'_>>, AllocError>
     ensures value { IfOk result (λ found.
-        option_map command_named found ≡ command_of (map string_bytes words.now)) }
+        option_map command_named found ≡ command_of (map string_bytes args.now)) }
     ensures named { IfOk result (λ found. IfSome found NamesPolicies) }
     ensures needless { IfErr result (λ _.
-        is_some (command_of (map string_bytes words.now)) ≡ true) }
+        is_some (command_of (map string_bytes args.now)) ≡ true) }
 {
-    let Some(kind) = kind_of(words) else {
+    let Some(kind) = kind_of(args) else {
         return Ok(None);
     };
-    let line = read_line(alloc, kind, words)?;
+    let line = read_line(alloc, kind, args)?;
     Ok(Some(command_from(kind, line)))
 }
 
@@ -75,7 +75,7 @@ fn command_from<'a>(kind: Kind, line: Line<'a>) -> Command<'a>
 {
     match kind {
         Kind::Replay => Command::Replay(replay_from(line)),
-        Kind::Compile | Kind::Show => Command::Print(PrintWords {
+        Kind::Compile | Kind::Show => Command::Print(PrintArgs {
             policy: line.names[0],
             switch: line.names.get(1).copied(),
             net: line.net,
@@ -84,15 +84,15 @@ fn command_from<'a>(kind: Kind, line: Line<'a>) -> Command<'a>
     }
 }
 
-fn replay_from<'a>(line: Line<'a>) -> ReplayWords<'a>
+fn replay_from<'a>(line: Line<'a>) -> ReplayArgs<'a>
     requires { is_some (replay_from (line_seen line) (names_seen line.names.items)) ≡ true }
-    ensures words { Some (grammar.Replay (replay_named result))
+    ensures args { Some (grammar.Replay (replay_named result))
         ≡ replay_from (line_seen line.entry) (names_seen line.entry.names.items) }
     ensures few { HasPolicies result }
 {
     let mut names = line.names;
     let schedule = names.remove(0);
-    ReplayWords {
+    ReplayArgs {
         schedule,
         policies: names,
         net: line.net,

@@ -1,6 +1,6 @@
 use Rattle.std.specs.Prelude.{is_some}
 use Rattle.std.proofs.Common.{◌∙◌, ap}
-use Rattle.words.proofs.command.read_words.Goals as goal
+use Rattle.command_line.proofs.command.read_command.Goals as goal
 
 pub read_line-requires : goal.read_line-requires
 read_line-requires c =

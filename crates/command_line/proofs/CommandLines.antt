@@ -7,13 +7,13 @@ use Rattle.clap.specs.Takes.{takes}
 use Rattle.clap.specs.Walk.{rows_of}
 use Rattle.clap.specs.declared.parser.matches.ArgMatches.{ArgMatches}
 use Rattle.clap.proofs.WalkLemmas.{both}
-use Rattle.words.specs.Line.{line_app, net_and, none, options_of}
-use Rattle.words.specs.Named.{command_in, kind_name}
-use Rattle.words.specs.Words.{Line, command_by, line_of, load_from, load_number, load_of, print_of, replay_from}
-use Rattle.words.proofs.Parses.{Found, IsWithin, WalksTo, is_not, matches_found, reads, taken}
-use Rattle.words.specs.declared.grammar.Kind.{Kind}
-use Rattle.words.specs.Commands.{Command}
-use Rattle.words.specs.declared.grammar.Kind.TheVariants as kind
+use Rattle.command_line.specs.Line.{line_app, net_and, none, options_of}
+use Rattle.command_line.specs.Named.{command_in, kind_name}
+use Rattle.command_line.specs.Grammar.{Line, command_by, line_of, load_from, load_number, load_of, print_of, replay_from}
+use Rattle.command_line.proofs.Parses.{Found, IsWithin, WalksTo, is_not, matches_found, reads, taken}
+use Rattle.command_line.specs.declared.grammar.Kind.{Kind}
+use Rattle.command_line.specs.Commands.{Command}
+use Rattle.command_line.specs.declared.grammar.Kind.TheVariants as kind
 
 -- a name, and not too many
 abbrev pub HaveNames : List (List ℕ) → Type 0
@@ -84,29 +84,29 @@ line_within kind.Compile line e = print_within 1 line e
 line_within kind.Show line e = print_within 2 line e
 line_within kind.Load line e = load_within line e
 
--- the line of words that are a command of this kind, and the walk of that command over them
-pub record Walked (k : Kind) (words : List (List ℕ)) : Type 0 where
+-- the line of arguments that are a command of this kind, and the walk of that command over them
+pub record Walked (k : Kind) (args : List (List ℕ)) : Type 0 where
   pub line : Line
-  pub is : line_of words ≡ Some line
-  pub walks : WalksTo (kind_name k) (options_of k) words line
+  pub is : line_of args ≡ Some line
+  pub walks : WalksTo (kind_name k) (options_of k) args line
 
-pub line_walked : (k : Kind) (words : List (List ℕ)) → is_some (command_in k words) ≡ true
-    → Walked k words
-line_walked k words e = go (line_of words) refl e
+pub line_walked : (k : Kind) (args : List (List ℕ)) → is_some (command_in k args) ≡ true
+    → Walked k args
+line_walked k args e = go (line_of args) refl e
   where
-    go : (o : Option Line) → line_of words ≡ o
-        → is_some (option_and_then (command_by (kind_name k)) o) ≡ true → Walked k words
+    go : (o : Option Line) → line_of args ≡ o
+        → is_some (option_and_then (command_by (kind_name k)) o) ≡ true → Walked k args
     go None is e = absurd (true≢false (sym e))
     go (Some line) is e =
         let names = line_names k line e in
         record {
           line = line;
           is = is;
-          walks = reads (kind_name k) (options_of k) words line is names.0 names.1
+          walks = reads (kind_name k) (options_of k) args line is names.0 names.1
               (line_within k line e);
         }
 
--- that command takes the words, and what it matches is the line
+-- that command takes the arguments, and what it matches is the line
 module _ (k : Kind) (app : App) (all : List (List ℕ)) (is : app ≡ line_app k)
     (w : Walked k (drop 1 all)) where
   pub takes_line : takes app all ≡ true

@@ -1,8 +1,8 @@
--- The grammar of words, tried on literals by computing.
+-- The grammar of arguments, tried on literals by computing.
 use Rattle.std.proofs.Common.{◌≡◌, true, false, Some, None, [], ◌∷◌, codes, refl, replicate}
 use Rattle.five_tuple.specs.Texts.{number_up_to}
-use Rattle.words.specs.Words.{command_of}
-use Rattle.words.specs.Commands.{Print, Replay}
+use Rattle.command_line.specs.Grammar.{command_of}
+use Rattle.command_line.specs.Commands.{Print, Replay}
 
 two_names : command_of (codes "replay" ∷ codes "s.csv" ∷ codes "p.csv" ∷ []) ≡ Some
     (Replay (record {

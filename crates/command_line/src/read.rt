@@ -1,16 +1,16 @@
-//! The reading of words of the grammar with the crate `clap`.
+//! The reading of arguments of the grammar with the crate `clap`.
 ghost use Rattle.std.specs.Prelude.{◌≡◌, Bool, true, false, IfOk, Some, codes, drop, is_some, map, option_map, string_bytes};
 ghost use Rattle.clap.specs.Words.{app_of, first_value, found_of, matched_of, one_text, raw_values, rule_of};
-ghost use Rattle.words.specs.Line.{IsFlagRead, IsNetRead, app_with, line_app, names_arg, net_and, net_arg, none, options_of, quiet_arg};
-ghost use Rattle.words.specs.Named.{command_in, line_seen, names_seen, net_named};
-ghost use Rattle.words.specs.Words.{line_of};
+ghost use Rattle.command_line.specs.Line.{IsFlagRead, IsNetRead, app_with, line_app, names_arg, net_and, net_arg, none, options_of, quiet_arg};
+ghost use Rattle.command_line.specs.Named.{command_in, line_seen, names_seen, net_named};
+ghost use Rattle.command_line.specs.Grammar.{line_of};
 
 use crate::grammar::Kind;
 use clap::error::ErrorKind;
 use clap::{Arg, ArgAction, ArgMatches, Command};
 use std::alloc::{AllocError, Global};
 
-/// What the words behind a command say: names, and options.
+/// What the arguments behind a command say: names, and options.
 #[derive(Drop)]
 pub(crate) struct Line<'a> {
     pub(crate) names: Vec<&'a str>,
@@ -18,21 +18,21 @@ pub(crate) struct Line<'a> {
     pub(crate) quiet: bool,
 }
 
-/// The line of the words behind the first one, which are a command of this kind.
+/// The line of the arguments behind the first one, which are a command of this kind.
 ///
 /// # Errors
 /// Want of memory alone.
 pub(crate) fn read_line<'a>(
     alloc: Global,
     kind: Kind,
-    words: &'a [String],
+    args: &'a [String],
 ) -> Result<Line<'a>, AllocError>
-    requires { is_some (command_in kind (drop 1 (map string_bytes words.now))) ≡ true }
+    requires { is_some (command_in kind (drop 1 (map string_bytes args.now))) ≡ true }
     ensures { IfOk result (λ line.
-        line_of (drop 1 (map string_bytes words.now)) ≡ Some (line_seen line)) }
+        line_of (drop 1 (map string_bytes args.now)) ≡ Some (line_seen line)) }
 {
     let command = line_command(alloc, kind)?;
-    match command.try_get_matches_from(words) {
+    match command.try_get_matches_from(args) {
         Ok(matches) => line_in(alloc, kind, &matches),
         Err(error) => {
             if error.kind() == ErrorKind::OutOfMemory {

@@ -1,4 +1,4 @@
--- The crate `clap` takes the words of a line, and gives what they are to the grammar.
+-- The crate `clap` takes the arguments of a line, and gives what they are to the grammar.
 use Rattle.std.specs.Prelude.{codes, option_map, slice_index, fold, unwrap_or}
 use Rattle.std.specs.List.{list_all, prefix_len}
 use Rattle.std.specs.Option.{option_or}
@@ -15,10 +15,10 @@ use Rattle.clap.specs.Walk.{Row, Walk, all_of, finished, first_of, nothing_held,
 use Rattle.clap.proofs.OnLiterals.{clap_on_literals}
 use Rattle.clap.proofs.TakesLemmas.{leaf_takes}
 use Rattle.clap.proofs.WalkLemmas.{both, first_value-rows, one_text-rows, raw_values-rows}
-use Rattle.words.specs.Line.{IsFlagRead, IsNetRead, Options, app_with, net_and, none}
-use Rattle.words.specs.Words.{Cut, Line, cut_options, end_together, is_file_name, line_of}
-use Rattle.words.proofs.Shapes.{IsCut, cut_is, given_in, names_good, spelled}
-use Rattle.words.proofs.Walks.{At, Goes, IsFew, MayStand, apart, goes_far, may_give, name_first, named, names_rule, names_walk, net_rule, options_walk, quiet_rule, rows_at, rules, settles, shape, shape_is, takes_flag, takes_net, use_all, valued, walk_at}
+use Rattle.command_line.specs.Line.{IsFlagRead, IsNetRead, Options, app_with, net_and, none}
+use Rattle.command_line.specs.Grammar.{Cut, Line, cut_options, end_together, is_file_name, line_of}
+use Rattle.command_line.proofs.Shapes.{IsCut, cut_is, given_in, names_good, spelled}
+use Rattle.command_line.proofs.Walks.{At, Goes, IsFew, MayStand, apart, goes_far, may_give, name_first, named, names_rule, names_walk, net_rule, options_walk, quiet_rule, rows_at, rules, settles, shape, shape_is, takes_flag, takes_net, use_all, valued, walk_at}
 
 -- what is found in the matches
 pub record Found (o : Options) (rows : List Row) (line : Line) : Type 0 where
@@ -86,7 +86,7 @@ uses_are true false (Some net) true rows = refl
 uses_are false true (Some net) true rows = refl
 uses_are false false (Some net) true rows = refl
 
--- the rows at the end of the words
+-- the rows at the end of the arguments
 pub rows_of_line : Options → List Row → List Row
 rows_of_line o rows = fold with_default rows (rules o)
 
@@ -167,7 +167,7 @@ module _ (n : List ℕ) (ns : List (List ℕ)) where
   found none f s None false None true a b w v =
       absurd (true≢false (sym (v.has_flag refl)))
 
--- ---- the words of a line
+-- ---- the arguments of a line
 
 joined_by : (k : ℕ) (xs : List (List ℕ)) → xs ≡ take k xs ++ drop k xs
 joined_by zero xs = refl
@@ -178,46 +178,46 @@ pub is_not : (b : Bool) → not b ≡ true → b ≡ false
 is_not true e = absurd (true≢false (sym e))
 is_not false e = refl
 
-no_words : (xs : List (List ℕ)) → (length xs == 0) ≡ true → xs ≡ []
-no_words [] e = refl
-no_words (x ∷ xs) e = absurd (omega (arith, eqb-true _ _ e))
+no_args : (xs : List (List ℕ)) → (length xs == 0) ≡ true → xs ≡ []
+no_args [] e = refl
+no_args (x ∷ xs) e = absurd (omega (arith, eqb-true _ _ e))
 
 -- options, names and options, none of them twice
-pub record HasParts (words : List (List ℕ)) (line : Line) : Type 0 where
+pub record HasParts (args : List (List ℕ)) (line : Line) : Type 0 where
   pub front : Cut
   pub back : Cut
-  pub front_cut : IsCut words front
-  pub back_cut : IsCut (drop (length line.names) front.words) back
-  pub names : front.words ≡ line.names ++ drop (length line.names) front.words
+  pub front_cut : IsCut args front
+  pub back_cut : IsCut (drop (length line.names) front.args) back
+  pub names : front.args ≡ line.names ++ drop (length line.names) front.args
   pub good : list_all is_file_name line.names ≡ true
-  pub ends : back.words ≡ []
+  pub ends : back.args ≡ []
   pub net : line.net ≡ option_or front.net back.net
   pub quiet : line.quiet ≡ (front.quiet || back.quiet)
   pub one_net : (is_some front.net && is_some back.net) ≡ false
   pub one_flag : (front.quiet && back.quiet) ≡ false
 
-parts_of : (words : List (List ℕ)) (line : Line) → line_of words ≡ Some line
-    → HasParts words line
-parts_of words line e = go (end_together front back) refl e
+parts_of : (args : List (List ℕ)) (line : Line) → line_of args ≡ Some line
+    → HasParts args line
+parts_of args line e = go (end_together front back) refl e
   where
     front : Cut
-    front = cut_options words
+    front = cut_options args
 
     count : ℕ
-    count = prefix_len is_file_name front.words
+    count = prefix_len is_file_name front.args
 
     back : Cut
-    back = cut_options (drop count front.words)
+    back = cut_options (drop count front.args)
 
     names : List (List ℕ)
-    names = take count front.words
+    names = take count front.args
 
     go : (b : Bool) → end_together front back ≡ b
         → cond b (Some (record {
           names = names;
           net = option_or front.net back.net;
           quiet = front.quiet || back.quiet;
-        })) None ≡ Some line → HasParts words line
+        })) None ≡ Some line → HasParts args line
     go false s e = absurd (true≢false (ap is_some (sym e)))
     go true s e =
         let line_is : record {
@@ -228,17 +228,17 @@ parts_of words line e = go (end_together front back) refl e
         let q = both (not (is_some front.net && is_some back.net)
         && not (front.quiet && back.quiet)) _ s in
         let p = both (not (is_some front.net && is_some back.net)) _ q.0 in
-        let size : length names ≡ count = length-prefix_len is_file_name front.words in
-        subst (HasParts words) line_is (record {
+        let size : length names ≡ count = length-prefix_len is_file_name front.args in
+        subst (HasParts args) line_is (record {
           front = front;
           back = back;
-          front_cut = cut_is words;
-          back_cut = subst (λ k. IsCut (drop k front.words) back) (sym size)
-              (cut_is (drop count front.words));
-          names = joined_by count front.words
-              ∙ ap (λ k. names ++ drop k front.words) (sym size);
-          good = names_good front.words;
-          ends = no_words back.words q.1;
+          front_cut = cut_is args;
+          back_cut = subst (λ k. IsCut (drop k front.args) back) (sym size)
+              (cut_is (drop count front.args));
+          names = joined_by count front.args
+              ∙ ap (λ k. names ++ drop k front.args) (sym size);
+          good = names_good front.args;
+          ends = no_args back.args q.1;
           net = refl;
           quiet = refl;
           one_net = is_not _ p.0;
@@ -246,19 +246,19 @@ parts_of words line e = go (end_together front back) refl e
         })
 
 -- the walk over them, to its end
-pub record WalksTo (name : List ℕ) (o : Options) (words : List (List ℕ))
+pub record WalksTo (name : List ℕ) (o : Options) (args : List (List ℕ))
     (line : Line) : Type 0 where
   pub at : At
   pub left : List Row
-  pub goes : Goes name o (walk_at apart []) words (walk_at at left)
+  pub goes : Goes name o (walk_at apart []) args (walk_at at left)
   pub stands : MayStand o at
   pub found : Found o (rows_of_line o (rows_at at left)) line
 
-module _ (name : List ℕ) (o : Options) (words : List (List ℕ))
+module _ (name : List ℕ) (o : Options) (args : List (List ℕ))
     (n : List ℕ) (ns : List (List ℕ)) (net : Option (List ℕ)) (quiet : Bool) where
-  walks : HasParts words (record { names = n ∷ ns; net = net; quiet = quiet })
+  walks : HasParts args (record { names = n ∷ ns; net = net; quiet = quiet })
       → IsFew (n ∷ ns) → IsWithin o net quiet
-      → WalksTo name o words (record { names = n ∷ ns; net = net; quiet = quiet })
+      → WalksTo name o args (record { names = n ∷ ns; net = net; quiet = quiet })
   walks parts few allowed =
       let by_net : IsWithin o (option_or parts.front.net parts.back.net) quiet =
       subst (λ x. IsWithin o x quiet) parts.net allowed in
@@ -286,10 +286,10 @@ module _ (name : List ℕ) (o : Options) (words : List (List ℕ))
       let all_names = goes_far name o _ _ _ (n ∷ []) ns first more in
       let behind = goes_far name o _ _ _ (n ∷ ns) (spelled back) all_names two.goes in
       let whole = goes_far name o _ _ _ (spelled front) (n ∷ ns ++ spelled back) one.goes behind in
-      let rest : drop (length (n ∷ ns)) parts.front.words ≡ spelled back =
-      parts.back_cut.words ∙ ap (λ ws. spelled back ++ ws) parts.ends ∙ append-nil (spelled back) in
-      let is : words ≡ spelled front ++ (n ∷ ns ++ spelled back) =
-      parts.front_cut.words
+      let rest : drop (length (n ∷ ns)) parts.front.args ≡ spelled back =
+      parts.back_cut.args ∙ ap (λ ws. spelled back ++ ws) parts.ends ∙ append-nil (spelled back) in
+      let is : args ≡ spelled front ++ (n ∷ ns ++ spelled back) =
+      parts.front_cut.args
       ∙ ap (λ ws. spelled front ++ ws) (parts.names ∙ ap (λ ws. (n ∷ ns) ++ ws) rest) in
       let used_rows : rows_at two.at two.left
       ≡ uses parts.back_cut.first parts.back.net parts.back.quiet
@@ -318,12 +318,12 @@ module _ (name : List ℕ) where
   simple (net_and true) = refl
   simple (net_and false) = refl
 
-  passes : (o : Options) (words : List (List ℕ)) (line : Line) → WalksTo name o words line
-      → level_passes (shape name o) [] nothing_held words false ≡ true
-  passes none words line w = rw (w.goes.passes, w.goes.walk, settles none w.at w.left w.stands) refl
-  passes (net_and true) words line w =
+  passes : (o : Options) (args : List (List ℕ)) (line : Line) → WalksTo name o args line
+      → level_passes (shape name o) [] nothing_held args false ≡ true
+  passes none args line w = rw (w.goes.passes, w.goes.walk, settles none w.at w.left w.stands) refl
+  passes (net_and true) args line w =
       rw (w.goes.passes, w.goes.walk, settles (net_and true) w.at w.left w.stands) refl
-  passes (net_and false) words line w =
+  passes (net_and false) args line w =
       rw (w.goes.passes, w.goes.walk, settles (net_and false) w.at w.left w.stands) refl
 
   pub taken : (o : Options) (all : List (List ℕ)) (line : Line) → WalksTo name o (drop 1 all) line
@@ -351,7 +351,7 @@ module _ (name : List ℕ) where
   no_names (net_and true) = refl
   no_names (net_and false) = refl
 
-  -- the first word is the program's name
+  -- the first argument is the program's name
   no_program : (o : Options) (all : List (List ℕ))
       → argument_words (app_with name o) all ≡ drop 1 all
   no_program none all = refl
@@ -373,19 +373,19 @@ module _ (name : List ℕ) where
           ∙ settled_at o w.at w.left w.stands
 
   -- each line with names is read
-  pub reads : (o : Options) (words : List (List ℕ)) (line : Line) → line_of words ≡ Some line
+  pub reads : (o : Options) (args : List (List ℕ)) (line : Line) → line_of args ≡ Some line
       → 0 < length line.names → IsFew line.names → IsWithin o line.net line.quiet
-      → WalksTo name o words line
-  reads o words line e some few allowed =
-      go line.names line.net line.quiet (parts_of words line e) some few allowed
+      → WalksTo name o args line
+  reads o args line e some few allowed =
+      go line.names line.net line.quiet (parts_of args line e) some few allowed
     where
       go : (names : List (List ℕ)) (net : Option (List ℕ)) (quiet : Bool)
-          → HasParts words (record { names = names; net = net; quiet = quiet })
+          → HasParts args (record { names = names; net = net; quiet = quiet })
           → 0 < length names → IsFew names → IsWithin o net quiet
-          → WalksTo name o words (record { names = names; net = net; quiet = quiet })
+          → WalksTo name o args (record { names = names; net = net; quiet = quiet })
       go [] net quiet parts some few allowed = absurd (omega arith)
       go (n ∷ ns) net quiet parts some few allowed =
-          walks name o words n ns net quiet parts few allowed
+          walks name o args n ns net quiet parts few allowed
 
 -- ---- what was matched
 

@@ -1,4 +1,4 @@
-pub mod Words
+pub mod Grammar
 pub mod Commands
 pub mod Named
 pub mod Line

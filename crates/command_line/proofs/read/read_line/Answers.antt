@@ -3,15 +3,15 @@ use Rattle.std.proofs.Common.{◌∙◌, Some, ap, sym, true≢false}
 use Rattle.std.proofs.lemmas.Result.{IfOk-weaker}
 use Rattle.clap.proofs.WalkLemmas.{IfOk-both}
 use Rattle.clap.specs.Matches.{found_of}
-use Rattle.words.specs.Line.{options_of}
-use Rattle.words.proofs.CommandLines.{finds_line, line_walked, takes_line}
-use Rattle.words.proofs.Parses.{flag_there, line_is, names_there}
-use Rattle.words.proofs.read.read_line.Goals as goal
+use Rattle.command_line.specs.Line.{options_of}
+use Rattle.command_line.proofs.CommandLines.{finds_line, line_walked, takes_line}
+use Rattle.command_line.proofs.Parses.{flag_there, line_is, names_there}
+use Rattle.command_line.proofs.read.read_line.Goals as goal
 
 pub line_in-requires : goal.line_in-requires
 line_in-requires c =
     let k = c.args.kind in
-    let all = map string_bytes c.args.words.now in
+    let all = map string_bytes c.args.args.now in
     let walked = line_walked k _ c.requires in
     let found =
     finds_line k _ all c.in_ok-command.ensures walked _ c.in-Ok.ensures.matches in
@@ -25,7 +25,7 @@ line_in-requires c =
 
 pub unreachable-requires : goal.unreachable-requires
 unreachable-requires c =
-    let all = map string_bytes c.args.words.now in
+    let all = map string_bytes c.args.args.now in
     let walked = line_walked c.args.kind _ c.requires in
     let memory =
     c.in-Err.ensures.passes (takes_line c.args.kind _ all c.in_ok-command.ensures walked) in
@@ -35,7 +35,7 @@ unreachable-requires c =
 pub returns-in-Ok : goal.returns-in-Ok
 returns-in-Ok c =
     let k = c.args.kind in
-    let all = map string_bytes c.args.words.now in
+    let all = map string_bytes c.args.args.now in
     let walked = line_walked k _ c.requires in
     let found =
     finds_line k _ all c.in_ok-command.ensures walked _ c.in-Ok.ensures.matches in

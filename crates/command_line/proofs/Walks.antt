@@ -1,4 +1,4 @@
--- What the crate `clap` makes of the words of a line, one after another.
+-- What the crate `clap` makes of the arguments of a line, one after another.
 use Rattle.std.specs.Prelude.{nat_lt, nat_le, bytes_eq, codes, fold}
 use Rattle.std.specs.Bool.{⊤}
 use Rattle.std.specs.List.{list_all}
@@ -10,9 +10,9 @@ use Rattle.clap.specs.Walk.{Row, Rule, Waiting, Walk, has_row, idle, positional,
 use Rattle.clap.specs.Walk as clap
 use Rattle.clap.specs.declared.builder.value_parser.ValueParser.TheVariants as vp
 use Rattle.clap.proofs.WalkLemmas.{both}
-use Rattle.words.specs.Line.{Options, app_with, names_arg, net_and, net_arg, none, quiet_arg}
-use Rattle.words.specs.Words.{is_file_name}
-use Rattle.words.proofs.Shapes.{Given, is_good, joined, pair, quiet, spell, spelled}
+use Rattle.command_line.specs.Line.{Options, app_with, names_arg, net_and, net_arg, none, quiet_arg}
+use Rattle.command_line.specs.Grammar.{is_file_name}
+use Rattle.command_line.proofs.Shapes.{Given, is_good, joined, pair, quiet, spell, spelled}
 
 -- the arguments as they are built
 abbrev pub names_rule : Rule
@@ -70,9 +70,9 @@ abbrev pub takes_flag : Options → Bool
 takes_flag none = false
 takes_flag (net_and flag) = flag
 
--- ---- where a walk stands between two words of a line
+-- ---- where a walk stands between two arguments of a line
 
--- behind a flag or an option of one word, or nothing; behind an option of two words; behind names
+-- behind a flag or an option of one argument, or nothing; behind an option of two; behind names
 pub data At : Type 0 where
   apart : At
   valued : List ℕ → At
@@ -115,7 +115,7 @@ use_all (g ∷ gs) rows = use_all gs (use_given g rows)
 abbrev pub IsFew : List (List ℕ) → Type 0
 IsFew names = length names < 2 ^ 16
 
--- where a walk may stand by these options, and which of them may stand in the words
+-- where a walk may stand by these options, and which of them may stand in the arguments
 abbrev pub MayStand : Options → At → Type 0
 MayStand o apart = ⊤
 MayStand o (valued net) = takes_net o ≡ true
@@ -133,17 +133,17 @@ IsApart _ = ⊤
 
 -- ---- a name
 
-record IsPlainWord (word : List ℕ) : Type 0 where
-  pub dashes : bytes_eq word (45 ∷ 45 ∷ []) ≡ false
-  pub long : long_of word ≡ None
-  pub short : short_of word ≡ None
+record IsPlainArg (arg : List ℕ) : Type 0 where
+  pub dashes : bytes_eq arg (45 ∷ 45 ∷ []) ≡ false
+  pub long : long_of arg ≡ None
+  pub short : short_of arg ≡ None
 
-plain_word : (word : List ℕ) → is_file_name word ≡ true → IsPlainWord word
-plain_word [] e = absurd (true≢false (sym e))
-plain_word (x ∷ xs) e = go (x == 45) refl e
+plain_arg : (arg : List ℕ) → is_file_name arg ≡ true → IsPlainArg arg
+plain_arg [] e = absurd (true≢false (sym e))
+plain_arg (x ∷ xs) e = go (x == 45) refl e
   where
     go : (b : Bool) → (x == 45) ≡ b → (nat_lt 0 (length (x ∷ xs)) && not b) ≡ true
-        → IsPlainWord (x ∷ xs)
+        → IsPlainArg (x ∷ xs)
     go true s e = absurd (true≢false (sym (both (nat_lt 0 (length (x ∷ xs))) false e).1))
     go false s e = record { dashes = rw s refl; long = rw s refl; short = rw s refl }
 
@@ -180,7 +180,7 @@ abbrev pub after : Given → At
 after (pair net) = valued net
 after _ = apart
 
--- the rows behind an option, where the value of one of two words is still pending
+-- the rows behind an option, where the value of one of two arguments is still pending
 abbrev pub rows_then : Given → List Row → List Row
 rows_then (joined net) rows = used net_rule (net ∷ []) rows
 rows_then (pair net) rows = rows
@@ -234,11 +234,11 @@ apart_after quiet = tt
 
 -- ---- the walk of a command of this name with these options
 
--- the walk takes these words, and then stands there
-pub record Goes (name : List ℕ) (o : Options) (from : Walk) (words : List (List ℕ))
+-- the walk takes these arguments, and then stands there
+pub record Goes (name : List ℕ) (o : Options) (from : Walk) (args : List (List ℕ))
     (to : Walk) : Type 0 where
-  pub walk : fold (walked (rules o) []) from words ≡ to
-  pub passes : walk_passes (shape name o) [] from words ≡ true
+  pub walk : fold (walked (rules o) []) from args ≡ to
+  pub passes : walk_passes (shape name o) [] from args ≡ true
 
 -- options: where the walk stands behind them
 pub record Passed (name : List ℕ) (o : Options) (from : At) (gs : List Given)
@@ -255,12 +255,12 @@ module _ (name : List ℕ) where
   unfolding walk_passes
   goes_nowhere o w = record { walk = refl; passes = refl }
 
-  goes_on : (o : Options) (w v u : Walk) (word : List ℕ) (words : List (List ℕ))
-      → walked (rules o) [] w word ≡ v → turn_passes (shape name o) [] w word ≡ true
-      → Goes name o v words u → Goes name o w (word ∷ words) u
+  goes_on : (o : Options) (w v u : Walk) (arg : List ℕ) (args : List (List ℕ))
+      → walked (rules o) [] w arg ≡ v → turn_passes (shape name o) [] w arg ≡ true
+      → Goes name o v args u → Goes name o w (arg ∷ args) u
   unfolding walk_passes
-  goes_on o w v u word words step turn more = record {
-    walk = ap (λ x. fold (walked (rules o) []) x words) step ∙ more.walk;
+  goes_on o w v u arg args step turn more = record {
+    walk = ap (λ x. fold (walked (rules o) []) x args) step ∙ more.walk;
     passes = rw (turn, step) more.passes;
   }
 
@@ -280,14 +280,14 @@ module _ (name : List ℕ) where
       → Goes name o (walk_at a rows) (n ∷ []) (walk_at (named n []) (rows_at a rows))
   unfolding walked
   name_first o apart rows n good may behind =
-      let word = plain_word n good in
-      goes_on o _ _ _ n [] (rw (word.dashes, word.long, word.short) refl)
-      (rw (word.dashes, word.long, word.short) refl) (goes_nowhere o _)
+      let arg = plain_arg n good in
+      goes_on o _ _ _ n [] (rw (arg.dashes, arg.long, arg.short) refl)
+      (rw (arg.dashes, arg.long, arg.short) refl) (goes_nowhere o _)
   name_first none (valued net) rows n good may behind = absurd (true≢false (sym may))
   name_first (net_and flag) (valued net) rows n good may behind =
-      let word = plain_word n good in
-      goes_on (net_and flag) _ _ _ n [] (rw (word.dashes, word.long, word.short) refl)
-      (rw (word.dashes, word.long, word.short, again_passes (codes "net") rows) refl)
+      let arg = plain_arg n good in
+      goes_on (net_and flag) _ _ _ n [] (rw (arg.dashes, arg.long, arg.short) refl)
+      (rw (arg.dashes, arg.long, arg.short, again_passes (codes "net") rows) refl)
       (goes_nowhere (net_and flag) _)
   name_first o (named m ms) rows n good may behind = absurd behind
 
@@ -300,11 +300,11 @@ module _ (name : List ℕ) where
       rw (append-nil ns) (goes_nowhere o (walk_at (named n ns) rows))
   names_walk o n ns (m ∷ ms) rows good =
       let p = both (is_file_name m) _ good in
-      let word = plain_word m p.0 in
+      let arg = plain_arg m p.0 in
       let more = names_walk o n (ns ++ m ∷ []) ms rows p.1 in
       goes_on o (walk_at (named n ns) rows) (walk_at (named n (ns ++ m ∷ [])) rows) _ m ms
-      (rw (word.dashes, word.long, word.short) refl)
-      (rw (word.dashes, word.long, word.short) refl)
+      (rw (arg.dashes, arg.long, arg.short) refl)
+      (rw (arg.dashes, arg.long, arg.short) refl)
       (subst (λ xs. Goes name o (walk_at (named n (ns ++ m ∷ [])) rows) ms
       (walk_at (named n xs) rows)) (append_assoc ns (m ∷ []) ms) more)
 
@@ -318,9 +318,9 @@ module _ (name : List ℕ) where
       → Goes name (net_and flag) (walk_asking rows) (net ∷ []) (walk_at (valued net) rows)
   unfolding walked
   told flag net rows good =
-      let word = plain_word net good in
-      goes_on (net_and flag) _ _ _ net [] (rw (word.dashes, word.long, word.short) refl)
-      (rw (word.dashes, word.long, word.short) refl) (goes_nowhere (net_and flag) _)
+      let arg = plain_arg net good in
+      goes_on (net_and flag) _ _ _ net [] (rw (arg.dashes, arg.long, arg.short) refl)
+      (rw (arg.dashes, arg.long, arg.short) refl) (goes_nowhere (net_and flag) _)
 
   may_join : (flag : Bool) (net : List ℕ) (a : At) (rows : List Row)
       → MayStand (net_and flag) a

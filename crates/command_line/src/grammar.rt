@@ -1,13 +1,13 @@
 //! The test of the grammar, before any memory is taken.
 ghost use Rattle.std.specs.Prelude.{◌≡◌, ◌≤◌, ◌⊎◌, true, IfSome, IfNone, None, drop, is_some, length, map, option_map, string_bytes};
 ghost use Rattle.std.specs.List.{prefix_len};
-ghost use Rattle.words.specs.Named.{command_in, cut_seen, kind_name, net_named, pair_seen, parts_seen};
-ghost use Rattle.words.specs.Words.{Line as Stated, command_by, command_of, cut_net, cut_options, cut_pair, cut_quiet, end_together, is_file_name, joined_net, line_from, line_of, load_of, net_and_quiet, print_of, quiet_and_net, replay_from};
+ghost use Rattle.command_line.specs.Named.{command_in, cut_seen, kind_name, net_named, pair_seen, parts_seen};
+ghost use Rattle.command_line.specs.Grammar.{Line as Stated, command_by, command_of, cut_net, cut_options, cut_pair, cut_quiet, end_together, is_file_name, joined_net, line_from, line_of, load_of, net_and_quiet, print_of, quiet_and_net, replay_from};
 
 use crate::command::{MAX_LOAD, MAX_POLICIES};
 use five_tuple::read_number;
 
-/// Which command the words are.
+/// Which command the arguments are.
 #[derive(Clone, Copy)]
 pub(crate) enum Kind {
     Replay,
@@ -16,15 +16,15 @@ pub(crate) enum Kind {
     Load,
 }
 
-// The options in front of some words, and the words behind them.
+// The options in front of some arguments, and the arguments behind them.
 #[derive(Clone, Copy)]
 struct Cut<'a> {
     net: Option<&'a str>,
     quiet: bool,
-    words: &'a [String],
+    args: &'a [String],
 }
 
-// The words behind a command: names, and options in front of them or behind them.
+// The arguments behind a command: names, and options in front of them or behind them.
 #[derive(Clone, Copy)]
 struct Parts<'a> {
     names: &'a [String],
@@ -32,15 +32,15 @@ struct Parts<'a> {
     quiet: bool,
 }
 
-/// The kind of the command that the words are, or `None` where they are off the grammar.
-pub(crate) fn kind_of(words: &[String]) -> Option<Kind>
+/// The kind of the command that the arguments are, or `None` where they are off the grammar.
+pub(crate) fn kind_of(args: &[String]) -> Option<Kind>
     ensures some { IfSome result (λ kind.
-        (command_in kind (drop 1 (map string_bytes words.now))
-        ≡ command_of (map string_bytes words.now))
-        × (is_some (command_of (map string_bytes words.now)) ≡ true)) }
-    ensures none { IfNone result (command_of (map string_bytes words.now) ≡ None) }
+        (command_in kind (drop 1 (map string_bytes args.now))
+        ≡ command_of (map string_bytes args.now))
+        × (is_some (command_of (map string_bytes args.now)) ≡ true)) }
+    ensures none { IfNone result (command_of (map string_bytes args.now) ≡ None) }
 {
-    let [name, rest @ ..] = words else {
+    let [name, rest @ ..] = args else {
         return None;
     };
     let parts = parts_of(rest)?;
@@ -49,12 +49,12 @@ pub(crate) fn kind_of(words: &[String]) -> Option<Kind>
 }
 
 impl Kind {
-    // The command that the word names.
-    fn named(word: &str) -> Option<Kind>
-        ensures some { IfSome result (λ kind. word.now ≡ kind_name kind) }
-        ensures none { IfNone result ((line : Stated) → command_by word.now line ≡ None) }
+    // The command that the argument names.
+    fn named(arg: &str) -> Option<Kind>
+        ensures some { IfSome result (λ kind. arg.now ≡ kind_name kind) }
+        ensures none { IfNone result ((line : Stated) → command_by arg.now line ≡ None) }
     {
-        match word {
+        match arg {
             "replay" => Some(Kind::Replay),
             "compile" => Some(Kind::Compile),
             "show" => Some(Kind::Show),
@@ -63,7 +63,7 @@ impl Kind {
         }
     }
 
-    // Whether a line of the words is one of this command.
+    // Whether a line of the arguments is one of this command.
     fn takes(self, parts: &Parts<'_>) -> bool
         ensures { result ≡ is_some (command_by (kind_name self) (parts_seen parts.now)) }
     {
@@ -108,12 +108,12 @@ fn takes_load(parts: &Parts<'_>) -> bool
     }
 }
 
-// The names and the options of the words behind a command.
-fn parts_of(words: &[String]) -> Option<Parts<'_>>
-    ensures { option_map parts_seen result ≡ line_of (map string_bytes words.now) }
+// The names and the options of the arguments behind a command.
+fn parts_of(args: &[String]) -> Option<Parts<'_>>
+    ensures { option_map parts_seen result ≡ line_of (map string_bytes args.now) }
 {
-    let front = cut_options(words);
-    let (names, rest) = front.words.split_at(name_count(front.words));
+    let front = cut_options(args);
+    let (names, rest) = front.args.split_at(name_count(front.args));
     joined_parts(front, names, cut_options(rest))
 }
 
@@ -138,76 +138,76 @@ fn end_together(front: &Cut<'_>, back: &Cut<'_>) -> bool
 {
     !(front.net.is_some() && back.net.is_some())
         && !(front.quiet && back.quiet)
-        && back.words.is_empty()
+        && back.args.is_empty()
 }
 
-// How many words in front may name a file, up to the first that may not.
-fn name_count(words: &[String]) -> usize
-    ensures value { result ≡ prefix_len is_file_name (map string_bytes words.now) }
-    ensures within { result ≤ length words.now }
+// How many arguments in front may name a file, up to the first that may not.
+fn name_count(args: &[String]) -> usize
+    ensures value { result ≡ prefix_len is_file_name (map string_bytes args.now) }
+    ensures within { result ≤ length args.now }
 {
-    words.iter().take_while(|word| is_name(word)).count()
+    args.iter().take_while(|arg| is_name(arg)).count()
 }
 
-// The options in front of the words.
-fn cut_options(words: &[String]) -> Cut<'_>
-    ensures { cut_seen result ≡ cut_options (map string_bytes words.now) }
+// The options in front of the arguments.
+fn cut_options(args: &[String]) -> Cut<'_>
+    ensures { cut_seen result ≡ cut_options (map string_bytes args.now) }
 {
-    if let Some(rest) = cut_quiet(words) {
+    if let Some(rest) = cut_quiet(args) {
         return quiet_and_net(rest);
     }
-    match cut_net(words) {
+    match cut_net(args) {
         None => Cut {
             net: None,
             quiet: false,
-            words,
+            args,
         },
         Some((net, rest)) => net_and_quiet(net, rest),
     }
 }
 
 // A network's option may stand behind the flag.
-fn quiet_and_net(words: &[String]) -> Cut<'_>
-    ensures { cut_seen result ≡ quiet_and_net (map string_bytes words.now) }
+fn quiet_and_net(args: &[String]) -> Cut<'_>
+    ensures { cut_seen result ≡ quiet_and_net (map string_bytes args.now) }
 {
-    match cut_net(words) {
+    match cut_net(args) {
         None => Cut {
             net: None,
             quiet: true,
-            words,
+            args,
         },
         Some((net, rest)) => Cut {
             net: Some(net),
             quiet: true,
-            words: rest,
+            args: rest,
         },
     }
 }
 
 // A flag may stand behind the network's option.
-fn net_and_quiet<'a>(net: &'a str, words: &'a [String]) -> Cut<'a>
-    ensures { cut_seen result ≡ net_and_quiet net.entry.now (map string_bytes words.now) }
+fn net_and_quiet<'a>(net: &'a str, args: &'a [String]) -> Cut<'a>
+    ensures { cut_seen result ≡ net_and_quiet net.entry.now (map string_bytes args.now) }
 {
-    match cut_quiet(words) {
+    match cut_quiet(args) {
         None => Cut {
             net: Some(net),
             quiet: false,
-            words,
+            args,
         },
         Some(rest) => Cut {
             net: Some(net),
             quiet: true,
-            words: rest,
+            args: rest,
         },
     }
 }
 
-// The words behind a flag in front of them.
-fn cut_quiet(words: &[String]) -> Option<&[String]>
+// The arguments behind a flag in front of them.
+fn cut_quiet(args: &[String]) -> Option<&[String]>
     ensures { option_map (λ rest. map string_bytes rest.now) result
-        ≡ cut_quiet (map string_bytes words.now) }
+        ≡ cut_quiet (map string_bytes args.now) }
 {
-    let [option, rest @ ..] = words else {
+    let [option, rest @ ..] = args else {
         return None;
     };
     if option.as_str() == "--quiet" {
@@ -217,11 +217,11 @@ fn cut_quiet(words: &[String]) -> Option<&[String]>
     }
 }
 
-// The network of an option in front of the words, and the words behind it.
-fn cut_net(words: &[String]) -> Option<(&str, &[String])>
-    ensures { option_map pair_seen result ≡ cut_net (map string_bytes words.now) }
+// The network of an option in front of the arguments, and the arguments behind it.
+fn cut_net(args: &[String]) -> Option<(&str, &[String])>
+    ensures { option_map pair_seen result ≡ cut_net (map string_bytes args.now) }
 {
-    let [option, rest @ ..] = words else {
+    let [option, rest @ ..] = args else {
         return None;
     };
     match joined_net(option.as_str()) {
@@ -230,11 +230,11 @@ fn cut_net(words: &[String]) -> Option<(&str, &[String])>
     }
 }
 
-// The network of an option of two words, of which this is the first.
-fn cut_pair<'a>(option: &str, words: &'a [String]) -> Option<(&'a str, &'a [String])>
-    ensures { option_map pair_seen result ≡ cut_pair option.now (map string_bytes words.entry.now) }
+// The network of an option of two arguments, of which this is the first.
+fn cut_pair<'a>(option: &str, args: &'a [String]) -> Option<(&'a str, &'a [String])>
+    ensures { option_map pair_seen result ≡ cut_pair option.now (map string_bytes args.entry.now) }
 {
-    let [net, rest @ ..] = words else {
+    let [net, rest @ ..] = args else {
         return None;
     };
     if option == "--net" && is_name(net) {
@@ -244,17 +244,17 @@ fn cut_pair<'a>(option: &str, words: &'a [String]) -> Option<(&'a str, &'a [Stri
     }
 }
 
-// The network of an option of one word.
-fn joined_net(word: &str) -> Option<&str>
-    ensures { net_named result ≡ joined_net word.now }
+// The network of an option of one argument.
+fn joined_net(arg: &str) -> Option<&str>
+    ensures { net_named result ≡ joined_net arg.now }
 {
-    let net = word.strip_prefix("--net=")?;
+    let net = arg.strip_prefix("--net=")?;
     if is_name(net) { Some(net) } else { None }
 }
 
-// Whether a word may name a file or a switch: it is not empty and does not begin with a dash.
-fn is_name(word: &str) -> bool
-    ensures { result ≡ is_file_name word.now }
+// Whether an argument may name a file or a switch: it is not empty and does not begin with a dash.
+fn is_name(arg: &str) -> bool
+    ensures { result ≡ is_file_name arg.now }
 {
-    !word.is_empty() && word.as_bytes()[0] != b'-'
+    !arg.is_empty() && arg.as_bytes()[0] != b'-'
 }

@@ -1,13 +1,13 @@
--- What the crate `clap` is told of the words behind a command.
+-- What the crate `clap` is told of the arguments behind a command.
 use Rattle.std.specs.Prelude.{◌≡◌, ℕ, Bool, true, false, Option, Some, None, List, [], ◌∷◌, codes, fold}
 use Rattle.clap.specs.Walk.{Rule, Text}
 use Rattle.clap.specs.Simple.{App, new_app, new_rule, on_top, with_rule}
 use Rattle.clap.specs.Lexer.{usize_max}
 use Rattle.clap.specs.Values.{bool_text}
 use Rattle.clap.specs.declared.builder.action.ArgAction.TheVariants.{Append, Set, SetTrue}
-use Rattle.words.specs.Named.{kind_name}
-use Rattle.words.specs.declared.grammar.Kind.{Kind}
-use Rattle.words.specs.declared.grammar.Kind.TheVariants as kind
+use Rattle.command_line.specs.Named.{kind_name}
+use Rattle.command_line.specs.declared.grammar.Kind.{Kind}
+use Rattle.command_line.specs.declared.grammar.Kind.TheVariants as kind
 
 -- names, at least one
 abbrev pub names_arg : Rule

@@ -3,68 +3,68 @@ use Rattle.std.specs.Prelude.{ℕ, Bool, true, false, not, ◌&&◌, ◌||◌, �
 use Rattle.std.specs.List.{prefix_len, starts_with}
 use Rattle.std.specs.Option.{option_map_or, option_or}
 use Rattle.five_tuple.specs.Texts.{number_up_to}
-use Rattle.words.specs.Commands.{Command, Replay, Print, Load}
+use Rattle.command_line.specs.Commands.{Command, Replay, Print, Load}
 
--- a word that may name a file or a switch: it isn't empty and doesn't begin with a dash
+-- an argument that may name a file or a switch: it isn't empty and doesn't begin with a dash
 abbrev pub is_file_name : List ℕ → Bool
-is_file_name word = nat_lt 0 (length word) && not (slice_index word 0 == 45)
+is_file_name arg = nat_lt 0 (length arg) && not (slice_index arg 0 == 45)
 
 -- ---- options
 
 -- the network of an option `--net=NET`
 abbrev pub joined_net : List ℕ → Option (List ℕ)
-joined_net word =
-    if starts_with eqb word (codes "--net=") && is_file_name (drop 6 word)
-    then Some (drop 6 word)
+joined_net arg =
+    if starts_with eqb arg (codes "--net=") && is_file_name (drop 6 arg)
+    then Some (drop 6 arg)
     else None
 
--- the network of an option `--net NET` of these words, and the words behind it
+-- the network of an option `--net NET` of these arguments, and the arguments behind it
 abbrev pub cut_pair : List ℕ → List (List ℕ) → Option (List ℕ × List (List ℕ))
 cut_pair option [] = None
-cut_pair option (net ∷ words) =
-    if bytes_eq option (codes "--net") && is_file_name net then Some (net, words) else None
+cut_pair option (net ∷ args) =
+    if bytes_eq option (codes "--net") && is_file_name net then Some (net, args) else None
 
--- the network of an option in front of the words, in either form, and the words behind it
+-- the network of an option in front of the arguments, in either form, and the arguments behind it
 abbrev pub cut_net : List (List ℕ) → Option (List ℕ × List (List ℕ))
 cut_net [] = None
-cut_net (option ∷ words) =
-    option_map_or (λ net. Some (net, words)) (joined_net option) (cut_pair option words)
+cut_net (option ∷ args) =
+    option_map_or (λ net. Some (net, args)) (joined_net option) (cut_pair option args)
 
--- the words behind a flag `--quiet` in front of them
+-- the arguments behind a flag `--quiet` in front of them
 abbrev pub cut_quiet : List (List ℕ) → Option (List (List ℕ))
 cut_quiet [] = None
-cut_quiet (option ∷ words) = if bytes_eq option (codes "--quiet") then Some words else None
+cut_quiet (option ∷ args) = if bytes_eq option (codes "--quiet") then Some args else None
 
--- the options in front of some words, each at most once, and the words behind them
+-- the options in front of some arguments, each at most once, and the arguments behind them
 pub record Cut : Type 0 where
   pub net : Option (List ℕ)
   pub quiet : Bool
-  pub words : List (List ℕ)
+  pub args : List (List ℕ)
 
 -- a network's option may stand behind the flag
 abbrev pub quiet_and_net : List (List ℕ) → Cut
-quiet_and_net words = elim (cut_net words) [
-  | None ↦ record { net = None; quiet = true; words = words }
-  | Some found ↦ record { net = Some found.0; quiet = true; words = found.1 }
+quiet_and_net args = elim (cut_net args) [
+  | None ↦ record { net = None; quiet = true; args = args }
+  | Some found ↦ record { net = Some found.0; quiet = true; args = found.1 }
 ]
 
 -- a flag may stand behind the network's option
 abbrev pub net_and_quiet : List ℕ → List (List ℕ) → Cut
-net_and_quiet net words = elim (cut_quiet words) [
-  | None ↦ record { net = Some net; quiet = false; words = words }
-  | Some rest ↦ record { net = Some net; quiet = true; words = rest }
+net_and_quiet net args = elim (cut_quiet args) [
+  | None ↦ record { net = Some net; quiet = false; args = args }
+  | Some rest ↦ record { net = Some net; quiet = true; args = rest }
 ]
 
 abbrev pub cut_options : List (List ℕ) → Cut
-cut_options words = elim (cut_quiet words) [
+cut_options args = elim (cut_quiet args) [
   | Some rest ↦ quiet_and_net rest
-  | None ↦ elim (cut_net words) [
-    | None ↦ record { net = None; quiet = false; words = words }
+  | None ↦ elim (cut_net args) [
+    | None ↦ record { net = None; quiet = false; args = args }
     | Some found ↦ net_and_quiet found.0 found.1
   ]
 ]
 
--- ---- the words behind a command
+-- ---- the arguments behind a command
 
 -- names, and options in front of them or behind them
 pub record Line : Type 0 where
@@ -76,7 +76,7 @@ pub record Line : Type 0 where
 abbrev pub end_together : Cut → Cut → Bool
 end_together front back =
     not (is_some front.net && is_some back.net) && not (front.quiet && back.quiet)
-    && length back.words == 0
+    && length back.args == 0
 
 abbrev pub line_from : Cut → List (List ℕ) → Cut → Option Line
 line_from front names back =
@@ -90,10 +90,10 @@ line_from front names back =
 
 -- options, then names up to the next option or the end, then options
 abbrev pub line_of : List (List ℕ) → Option Line
-line_of words =
-    let front = cut_options words in
-    let count = prefix_len is_file_name front.words in
-    line_from front (take count front.words) (cut_options (drop count front.words))
+line_of args =
+    let front = cut_options args in
+    let count = prefix_len is_file_name front.args in
+    line_from front (take count front.args) (cut_options (drop count front.args))
 
 -- ---- the commands
 
@@ -145,7 +145,7 @@ abbrev pub load_of : Line → Option Command
 load_of line =
     if is_some line.net || line.quiet then None else load_from (load_number line.names)
 
--- the command of this name, with these words behind it
+-- the command of this name, with these arguments behind it
 abbrev pub command_by : List ℕ → Line → Option Command
 command_by name line =
     if bytes_eq name (codes "replay") then replay_from line line.names
@@ -154,7 +154,7 @@ command_by name line =
     else if bytes_eq name (codes "load") then load_of line
     else None
 
--- the command that the words are, if they are in the grammar
+-- the command that the arguments are, if they are in the grammar
 abbrev pub command_of : List (List ℕ) → Option Command
 command_of [] = None
-command_of (name ∷ words) = option_and_then (command_by name) (line_of words)
+command_of (name ∷ args) = option_and_then (command_by name) (line_of args)

@@ -1,0 +1,91 @@
+-- What the arguments that were read are to the grammar.
+use Rattle.std.specs.Prelude.{⊤, ℕ, ◌≤◌, Option, option_map, option_and_then, List, length, map, codes, string_bytes, String}
+use Rattle.std.specs.Borrow.{Bor}
+use Rattle.std.specs.Global.{Global}
+use Rattle.command_line.specs.Grammar as grammar
+use Rattle.command_line.specs.Commands as grammar_commands
+use Rattle.command_line.specs.Grammar.{command_by, line_of, most_load, most_policies}
+use Rattle.command_line.specs.declared.command.Command.{Command}
+use Rattle.command_line.specs.declared.command.Command.TheVariants as given
+use Rattle.command_line.specs.declared.command.PrintArgs.{PrintArgs}
+use Rattle.command_line.specs.declared.command.ReplayArgs.{ReplayArgs}
+use Rattle.command_line.specs.declared.grammar.Cut.{Cut}
+use Rattle.command_line.specs.declared.grammar.Kind.{Kind}
+use Rattle.command_line.specs.declared.grammar.Kind.TheVariants as kind
+use Rattle.command_line.specs.declared.grammar.Parts.{Parts}
+use Rattle.command_line.specs.declared.read.Line.{Line}
+
+-- a name that an argument may have given, and names
+abbrev pub net_named : Option (Bor (List ℕ)) → Option (List ℕ)
+net_named name = option_map (λ n. n.now) name
+
+abbrev pub names_seen : List (Bor (List ℕ)) → List (List ℕ)
+names_seen names = map (λ n. n.now) names
+
+abbrev pub replay_named : ReplayArgs → grammar_commands.ReplayCommand
+replay_named args = record {
+  schedule = args.schedule.now;
+  policies = names_seen args.policies.items;
+  net = net_named args.net;
+  quiet = args.quiet;
+}
+
+abbrev pub print_named : PrintArgs → grammar_commands.PrintCommand
+print_named args =
+    record { policy = args.policy.now; switch = net_named args.switch; net = net_named args.net }
+
+-- the command that names these files
+abbrev pub command_named : Command → grammar_commands.Command
+command_named (given.Replay args) = grammar_commands.Replay (replay_named args)
+command_named (given.Print args) = grammar_commands.Print (print_named args)
+command_named (given.Load n) = grammar_commands.Load n
+
+-- the arguments name one policy, or more, but not too many, or a load case
+abbrev pub HasPolicies : ReplayArgs → Type 0
+HasPolicies args =
+    (1 ≤ length args.policies.items) × (length args.policies.items ≤ most_policies)
+
+abbrev pub NamesPolicies : Command → Type 0
+NamesPolicies (given.Replay args) = HasPolicies args
+NamesPolicies (given.Print args) = ⊤
+NamesPolicies (given.Load n) = (1 ≤ n) × (n ≤ most_load)
+
+-- the line that was read
+abbrev pub line_seen : Line → grammar.Line
+line_seen line = record {
+  names = names_seen line.names.items;
+  net = net_named line.net;
+  quiet = line.quiet;
+}
+
+-- ---- the test of the grammar
+
+-- the arguments that were cut, and those that are a line
+abbrev pub cut_seen : Cut → grammar.Cut
+cut_seen cut = record {
+  net = net_named cut.net;
+  quiet = cut.quiet;
+  args = map string_bytes cut.args.now;
+}
+
+abbrev pub parts_seen : Parts → grammar.Line
+parts_seen parts = record {
+  names = map string_bytes parts.names.now;
+  net = net_named parts.net;
+  quiet = parts.quiet;
+}
+
+-- the argument that is this command
+abbrev pub kind_name : Kind → List ℕ
+kind_name kind.Replay = codes "replay"
+kind_name kind.Compile = codes "compile"
+kind_name kind.Show = codes "show"
+kind_name kind.Load = codes "load"
+
+-- the command of this kind that the arguments behind its name are
+abbrev pub command_in : Kind → List (List ℕ) → Option grammar_commands.Command
+command_in kind args = option_and_then (command_by (kind_name kind)) (line_of args)
+
+-- the network of an option, and the arguments behind it
+abbrev pub pair_seen : Bor (List ℕ) × Bor (List (String Global)) → List ℕ × List (List ℕ)
+pair_seen (net, args) = (net.now, map string_bytes args.now)
