@@ -17,9 +17,9 @@ use Rattle.five_tuple.proofs.RoundTrip.{decimal_is_digits}
 abbrev IsPlain : List ℕ → Type 0
 IsPlain text = AllPass is_plain_char text
 
--- a word whose characters are tested one by one
-plain_word : (text : List ℕ) → list_all is_plain_char text ≡ true → IsPlain text
-plain_word text tested = AllPass-from_list_all is_plain_char text tested
+-- a text whose characters are tested one by one
+plain_tested : (text : List ℕ) → list_all is_plain_char text ≡ true → IsPlain text
+plain_tested text tested = AllPass-from_list_all is_plain_char text tested
 
 digit_is_plain : (c : ℕ) → is_ascii_digit c ≡ true → is_plain_char c ≡ true
 digit_is_plain c digit = or_left _ _ (or_left _ _ (or_left _ _ (or_left _ _ digit)))
@@ -48,7 +48,7 @@ plain_address a fits =
 pub plain_prefix : (p : AddressBlock) → IsAddressBlock p → IsPlain (prefix_text p)
 unfolding prefix_text
 plain_prefix p sound =
-    cond_both (p.len == 0) _ _ IsPlain (λ _. plain_word (codes "any") refl)
+    cond_both (p.len == 0) _ _ IsPlain (λ _. plain_tested (codes "any") refl)
     (λ _. plain_pair 47 (address_text p.address) (decimal p.len) refl
     (plain_address p.address sound.address) (plain_number p.len (omega (arith, sound.len))))
 
@@ -56,7 +56,7 @@ pub plain_range : (r : PortRangeValue) → IsPortRange r → IsPlain (range_text
 unfolding range_text
 plain_range r sound =
     let low = plain_number r.low (omega (arith, sound.ordered, sound.bound)) in
-    cond_both (r.low == 0 && r.high == 65535) _ _ IsPlain (λ _. plain_word (codes "any") refl)
+    cond_both (r.low == 0 && r.high == 65535) _ _ IsPlain (λ _. plain_tested (codes "any") refl)
     (λ _. cond_both (r.low == r.high) _ _ IsPlain (λ _. low)
     (λ _. plain_pair 45 (decimal r.low) (decimal r.high) refl low
     (plain_number r.high (omega (arith, sound.bound)))))
@@ -64,12 +64,12 @@ plain_range r sound =
 pub plain_proto_number : (n : ℕ) → n < 2 ^ 8 → IsPlain (proto_number_text n)
 unfolding proto_number_text
 plain_proto_number n fits =
-    cond_both (n == 1) _ _ IsPlain (λ _. plain_word (codes "icmp") refl)
-    (λ _. cond_both (n == 6) _ _ IsPlain (λ _. plain_word (codes "tcp") refl)
-    (λ _. cond_both (n == 17) _ _ IsPlain (λ _. plain_word (codes "udp") refl)
+    cond_both (n == 1) _ _ IsPlain (λ _. plain_tested (codes "icmp") refl)
+    (λ _. cond_both (n == 6) _ _ IsPlain (λ _. plain_tested (codes "tcp") refl)
+    (λ _. cond_both (n == 17) _ _ IsPlain (λ _. plain_tested (codes "udp") refl)
     (λ _. plain_number n (omega arith))))
 
 pub plain_proto : (p : Proto) → IsProtocol p → IsPlain (proto_text p)
 unfolding proto_text
-plain_proto Any sound = plain_word (codes "any") refl
+plain_proto Any sound = plain_tested (codes "any") refl
 plain_proto (Is n) sound = plain_proto_number n sound

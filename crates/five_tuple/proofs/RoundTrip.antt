@@ -47,11 +47,11 @@ number_back most n l h =
     (decimal_is_digits n h) (omega arith) in
     sym e ∙ ap Some value
 
--- a text that begins with a digit is no word
-no_word : (text word : List ℕ) (c : ℕ) → is_ascii_digit (get_or text 0 0) ≡ true
-    → is_ascii_digit c ≡ false → bytes_eq text (c ∷ word) ≡ false
-no_word [] word c digit other = refl
-no_word (x ∷ text) word c digit other =
+-- a text that begins with a digit is no keyword
+no_keyword : (text keyword : List ℕ) (c : ℕ) → is_ascii_digit (get_or text 0 0) ≡ true
+    → is_ascii_digit c ≡ false → bytes_eq text (c ∷ keyword) ≡ false
+no_keyword [] keyword c digit other = refl
+no_keyword (x ∷ text) keyword c digit other =
     and_left _ _ (false_from_ne_true _
     (λ same. both_ways _ (ap is_ascii_digit (eqb-true x c same) ∙ other) digit))
 
@@ -150,7 +150,7 @@ prefix_back p v =
       | inl e ↦ rw e (ap Some (block_at_zero p v (eqb-true p.len 0 e)))
       | inr e ↦
           let text = address_text p.address ++ 47 ∷ decimal p.len in
-          let word = no_word text (110 ∷ 121 ∷ []) 97
+          let keyword = no_keyword text (110 ∷ 121 ∷ []) 97
           (keeps_first (address_text p.address) (47 ∷ decimal p.len)
           (address_first p.address v.address)) refl in
           let parts = slice_split_at (λ b. b == 47) (address_text p.address) 47 (decimal p.len)
@@ -158,7 +158,7 @@ prefix_back p v =
           let read = block_reads text (address_text p.address) (decimal p.len) parts in
           rw (
             e,
-            word,
+            keyword,
             read,
             address_back p.address v.address,
             number_back 32 p.len v.len
@@ -166,16 +166,16 @@ prefix_back p v =
           ) (ap Some (block_same p v))
     ]
 
--- a number is no word, whatever the word
-number_no_word : (n c : ℕ) (word : List ℕ) → n < 2 ^ 64 → is_ascii_digit c ≡ false
-    → bytes_eq (decimal n) (c ∷ word) ≡ false
-number_no_word n c word h other = no_word (decimal n) word c
+-- a number is no keyword, whatever the keyword
+number_no_keyword : (n c : ℕ) (keyword : List ℕ) → n < 2 ^ 64 → is_ascii_digit c ≡ false
+    → bytes_eq (decimal n) (c ∷ keyword) ≡ false
+number_no_keyword n c keyword h other = no_keyword (decimal n) keyword c
     (digit_first (decimal n) (decimal_nonempty n h) (decimal_is_digits n h)) other
 
 one_port_back : (n : ℕ) → n < 2 ^ 16 → range_of (decimal n) ≡ Some (record { low = n; high = n })
 unfolding range_of
 one_port_back n h = rw (
-  number_no_word n 97 (110 ∷ 121 ∷ []) (omega arith) refl,
+  number_no_keyword n 97 (110 ∷ 121 ∷ []) (omega arith) refl,
   whole 45 n (omega arith) refl,
   number_back 65535 n (omega arith) (omega arith),
   le-leb n n (omega arith),
@@ -185,12 +185,12 @@ two_ports_back : (m n : ℕ) → m ≤ n → n < 2 ^ 16 → range_of (decimal m 
     (record { low = m; high = n })
 unfolding range_of
 two_ports_back m n l h =
-    let word = no_word (decimal m ++ 45 ∷ decimal n) (110 ∷ 121 ∷ []) 97
+    let keyword = no_keyword (decimal m ++ 45 ∷ decimal n) (110 ∷ 121 ∷ []) 97
     (first_digit m (45 ∷ decimal n) (omega arith)) refl in
     let read = range_reads (decimal m ++ 45 ∷ decimal n) (decimal m) (decimal n)
     (part_off 45 m (decimal n) (omega arith) refl) in
     rw (
-      word,
+      keyword,
       read,
       number_back 65535 m (omega arith) (omega arith),
       number_back 65535 n (omega arith) (omega arith),
@@ -232,10 +232,10 @@ proto_number_back n h =
             e,
             f,
             g,
-            number_no_word n 105 _ (omega arith) refl,
-            number_no_word n 116 _
+            number_no_keyword n 105 _ (omega arith) refl,
+            number_no_keyword n 116 _
                 (omega arith) refl,
-            number_no_word n 117 _ (omega arith) refl,
+            number_no_keyword n 117 _ (omega arith) refl,
           )
               (number_back 255 n (omega arith) (omega arith))
         ]

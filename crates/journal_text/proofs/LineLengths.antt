@@ -1,4 +1,4 @@
--- How long lines are: each part has a bound, and the bounds of parts in a row are added.
+-- How long lines are: each part has a bound, and those of parts, one behind another, are added.
 use Rattle.std.proofs.Common.{ℕ, ◌+◌, ◌≤◌, ◌==◌, Bool, true, false, List, [], ◌∷◌, length, arith}
 use Rattle.std.specs.Prelude.{Option, codes, filter, if◌then◌else◌, min, max}
 use Rattle.std.specs.List.{range_with_len}
@@ -21,15 +21,15 @@ use Rattle.journal.specs.declared.item.Item.{Item}
 use Rattle.journal.specs.declared.item.Item.TheVariants as item
 use Rattle.journal_text.specs.Lines.{advert_text, body_text, boot_text, cause_text, how_text, item_line, mask_text, named, with_number, packet_at, pair_text, receiver_text, ruled_text, state_text, step_text, two_text, version_text, via_text}
 use Rattle.journal_text.specs.Sizes.{IsBodyOfType, IsHow, IsItemOfType, IsShortRoute, IsStepOfType, LinesFit}
-use Rattle.line_fields.proofs.Lengths.{IsWithin, all_of, row_of, with_word, widened, number, rule_within, action_within, fields_within, word_within, name_within, names_within}
+use Rattle.line_fields.proofs.Lengths.{IsWithin, all_of, joined_within, with_text, widened, number, rule_within, action_within, fields_within, word_within, name_within, names_within}
 use Rattle.line_fields.specs.Sizes.{IsAction, IsNumber, IsRule}
 use Rattle.steps.specs.declared.step.Step.{Step}
 use Rattle.steps.specs.declared.step.Step.TheVariants.{Packet, Hop, Lose, Deliver, Forget, Expire, Update, LinkDown, LinkUp, Crash, Restart, Confirm, Resend}
 
-numbered_within : {m : ℕ} {word : List ℕ} → IsWithin m word → (n : ℕ) → IsNumber n
-    → IsWithin (m + 1 + 10) (with_number word n)
+numbered_within : {m : ℕ} {text : List ℕ} → IsWithin m text → (n : ℕ) → IsNumber n
+    → IsWithin (m + 1 + 10) (with_number text n)
 numbered_within w n small =
-    row_of (with_word w (codes " ")) (number n small)
+    joined_within (with_text w (codes " ")) (number n small)
 
 -- ---- names
 
@@ -42,10 +42,10 @@ few_switches mask = omega (
 )
 
 module _ (laws : NameLaws) (net : Net) (sound : IsNet net) where
-  named_within : {m : ℕ} {word : List ℕ} → IsWithin m word → (s : ℕ)
-      → IsWithin (m + 1 + 16) (named net word s)
+  named_within : {m : ℕ} {text : List ℕ} → IsWithin m text → (s : ℕ)
+      → IsWithin (m + 1 + 16) (named net text s)
   named_within w s =
-      row_of (with_word w (codes " ")) (name_within laws net sound s)
+      joined_within (with_text w (codes " ")) (name_within laws net sound s)
 
   route_within : (route : List ℕ) → IsShortRoute route → IsWithin 1088 (names_text net route)
   route_within route is = widened (names_within laws net sound route) 1088 (omega (arith, is))
@@ -58,32 +58,32 @@ module _ (laws : NameLaws) (net : Net) (sound : IsNet net) where
         | false ↦ route_within (filter (has mask) switches) (few_switches mask)
       ]
 
-  at_within : {m : ℕ} {word : List ℕ} → IsWithin m word → (packet s : ℕ) → IsNumber packet
-      → IsWithin (m + 1 + 10 + 1 + 16) (packet_at net word packet s)
+  at_within : {m : ℕ} {text : List ℕ} → IsWithin m text → (packet s : ℕ) → IsNumber packet
+      → IsWithin (m + 1 + 10 + 1 + 16) (packet_at net text packet s)
   at_within w packet s is =
-      row_of (with_word (numbered_within w packet is) (codes " ")) (name_within laws net sound s)
+      joined_within (with_text (numbered_within w packet is) (codes " ")) (name_within laws net sound s)
 
-  pair_within : {m : ℕ} {word : List ℕ} → IsWithin m word → (one two : ℕ)
-      → IsWithin (m + 1 + 16 + 1 + 16) (pair_text net word one two)
+  pair_within : {m : ℕ} {text : List ℕ} → IsWithin m text → (one two : ℕ)
+      → IsWithin (m + 1 + 16 + 1 + 16) (pair_text net text one two)
   pair_within w one two =
-      row_of (with_word (named_within w one) (codes " ")) (name_within laws net sound two)
+      joined_within (with_text (named_within w one) (codes " ")) (name_within laws net sound two)
 
   -- ---- steps and messages
 
-  boot_within : {m : ℕ} {word : List ℕ} → IsWithin m word → (boot : ℕ) → IsNumber boot
-      → IsWithin (m + 6 + 10) (boot_text word boot)
+  boot_within : {m : ℕ} {text : List ℕ} → IsWithin m text → (boot : ℕ) → IsNumber boot
+      → IsWithin (m + 6 + 10) (boot_text text boot)
   boot_within w boot is =
-      row_of (with_word w (codes " boot ")) (number boot is)
+      joined_within (with_text w (codes " boot ")) (number boot is)
 
-  version_within : {m : ℕ} {word : List ℕ} → IsWithin m word → (boot version : ℕ)
+  version_within : {m : ℕ} {text : List ℕ} → IsWithin m text → (boot version : ℕ)
       → IsNumber boot × IsNumber version
-      → IsWithin (m + 6 + 10 + 9 + 10) (version_text word boot version)
+      → IsWithin (m + 6 + 10 + 9 + 10) (version_text text boot version)
   version_within w boot version is =
-      row_of (with_word (boot_within w boot is.0) (codes " version ")) (number version is.1)
+      joined_within (with_text (boot_within w boot is.0) (codes " version ")) (number version is.1)
 
   step_within : (step : Step) → IsStepOfType step → IsWithin 300 (step_text net step)
   step_within (Packet switch header) is =
-      widened (row_of (with_word (named_within (all_of (codes "packet")) switch) (codes " "))
+      widened (joined_within (with_text (named_within (all_of (codes "packet")) switch) (codes " "))
       (fields_within header is)) 300 (omega arith)
   step_within (Hop packet) is =
       widened (numbered_within (all_of (codes "hop")) packet is) 300 (omega arith)
@@ -94,7 +94,7 @@ module _ (laws : NameLaws) (net : Net) (sound : IsNet net) where
   step_within (Forget message) is =
       widened (numbered_within (all_of (codes "forget")) message is) 300 (omega arith)
   step_within (Expire switch place) is =
-      widened (row_of (with_word (named_within (all_of (codes "expire")) switch) (codes " "))
+      widened (joined_within (with_text (named_within (all_of (codes "expire")) switch) (codes " "))
       (number place is)) 300 (omega arith)
   step_within (Update file) is =
       widened (numbered_within (all_of (codes "update")) file is) 300 (omega arith)
@@ -121,13 +121,13 @@ module _ (laws : NameLaws) (net : Net) (sound : IsNet net) where
       → IsWithin 31 (ruled_text rule action)
   unfolding ruled_text
   ruled_within rule action r a =
-      row_of (with_word (row_of (all_of (codes " rule ")) (rule_within rule r)) (codes " "))
+      joined_within (with_text (joined_within (all_of (codes " rule ")) (rule_within rule r)) (codes " "))
       (action_within action a)
 
   advert_within : (advert : Advert) → IsNumber advert.boot × IsNumber advert.seq
       → IsWithin 1200 (advert_text net advert)
   advert_within advert is =
-      widened (row_of (with_word (row_of (with_word (boot_within (named_within (all_of (codes
+      widened (joined_within (with_text (joined_within (with_text (boot_within (named_within (all_of (codes
       "advert")) advert.origin) advert.boot is.0) (codes " seq ")) (number advert.seq is.1)) (codes
       " up")) (mask_within advert.up)) 1200 (omega arith)
 
@@ -141,7 +141,7 @@ module _ (laws : NameLaws) (net : Net) (sound : IsNet net) where
   body_within (Collect boot version) is =
       widened (version_within (all_of (codes "collect")) boot version is) 1200 (omega arith)
   body_within (CacheRule version word rule action) is =
-      widened (row_of (row_of (with_word (numbered_within (all_of (codes "cache version")) version
+      widened (joined_within (joined_within (with_text (numbered_within (all_of (codes "cache version")) version
       is.0) (codes " word ")) (word_within word)) (ruled_within rule action is.1 is.2)) 1200
       (omega arith)
   body_within (Advertise advert) is = advert_within advert is
@@ -161,7 +161,7 @@ module _ (laws : NameLaws) (net : Net) (sound : IsNet net) where
   how_within (Cached message) is =
       widened (numbered_within (all_of (codes "cache")) message is) 50 (omega arith)
   how_within (Authority switch partition) is =
-      widened (row_of (with_word (named_within (all_of (codes "authority")) switch) (codes
+      widened (joined_within (with_text (named_within (all_of (codes "authority")) switch) (codes
       " part ")) (number partition is)) 50 (omega arith)
 
   cause_within : (cause : Cause) → IsWithin 12 (cause_text cause)
@@ -172,31 +172,31 @@ module _ (laws : NameLaws) (net : Net) (sound : IsNet net) where
   state_within true = widened (all_of (codes "up")) 4 (omega arith)
   state_within false = all_of (codes "down")
 
-  two_within : {m k : ℕ} {word : List ℕ} → IsWithin m word → {next : List ℕ} → IsWithin k next
+  two_within : {m k : ℕ} {text : List ℕ} → IsWithin m text → {next : List ℕ} → IsWithin k next
       → (n p : ℕ) → IsNumber n → IsNumber p
-      → IsWithin (m + 1 + 10 + k + 10) (two_text word n next p)
+      → IsWithin (m + 1 + 10 + k + 10) (two_text text n next p)
   unfolding two_text
   two_within w v n p is also =
-      row_of (row_of (numbered_within w n is) v) (number p also)
+      joined_within (joined_within (numbered_within w n is) v) (number p also)
 
   via_within : (route : List ℕ) → IsShortRoute route → IsWithin 1092 (via_text net route)
   unfolding via_text
-  via_within route is = row_of (all_of (codes " via")) (route_within route is)
+  via_within route is = joined_within (all_of (codes " via")) (route_within route is)
 
   item_within : (item : Item) → IsItemOfType item → IsWithin 2047 (item_line net item)
   item_within (item.Row row step) is =
-      widened (row_of (with_word (numbered_within (all_of (codes "row")) row is.0) (codes ": "))
+      widened (joined_within (with_text (numbered_within (all_of (codes "row")) row is.0) (codes ": "))
       (step_within step is.1)) 2047 (omega arith)
   item_within (item.Entered packet switch header) is =
       widened (at_within (all_of (codes "  entered")) packet switch is) 2047 (omega arith)
   item_within (item.Closed packet switch) is =
       widened (at_within (all_of (codes "  closed")) packet switch is) 2047 (omega arith)
   item_within (item.Seeking packet version partition route) is =
-      widened (row_of (row_of (two_within (all_of (codes "  tunnelled")) (all_of (codes " v"))
+      widened (joined_within (joined_within (two_within (all_of (codes "  tunnelled")) (all_of (codes " v"))
       packet version is.0 is.1) (numbered_within (all_of (codes " part")) partition is.2))
       (via_within route is.3)) 2047 (omega arith)
   item_within (item.Exiting packet route) is =
-      widened (row_of (numbered_within (all_of (codes "  exit")) packet is.0) (via_within route
+      widened (joined_within (numbered_within (all_of (codes "  exit")) packet is.0) (via_within route
       is.1)) 2047 (omega arith)
   item_within (item.Hopped packet switch) is =
       widened (at_within (all_of (codes "  hopped")) packet switch is) 2047 (omega arith)
@@ -204,10 +204,10 @@ module _ (laws : NameLaws) (net : Net) (sound : IsNet net) where
       widened (pair_within (numbered_within (all_of (codes "  found")) packet is) one two) 2047
       (omega arith)
   item_within (item.Rerouted packet route) is =
-      widened (row_of (numbered_within (all_of (codes "  rerouted")) packet is.0) (via_within route
+      widened (joined_within (numbered_within (all_of (codes "  rerouted")) packet is.0) (via_within route
       is.1)) 2047 (omega arith)
   item_within (item.Decided packet version rule action how) is =
-      widened (row_of (with_word (row_of (two_within (all_of (codes "  decided")) (all_of (codes
+      widened (joined_within (with_text (joined_within (two_within (all_of (codes "  decided")) (all_of (codes
       " v")) packet version is.0 is.1) (ruled_within rule action is.2 is.3)) (codes " "))
       (how_within how is.4)) 2047 (omega arith)
   item_within (item.Left packet port leaving) is =
@@ -218,10 +218,10 @@ module _ (laws : NameLaws) (net : Net) (sound : IsNet net) where
   item_within (item.Lost packet) is =
       widened (numbered_within (all_of (codes "  lost")) packet is) 2047 (omega arith)
   item_within (item.Stuck packet switch cause leg down) is =
-      widened (row_of (with_word (at_within (all_of (codes "  stuck")) packet switch is) (codes
+      widened (joined_within (with_text (at_within (all_of (codes "  stuck")) packet switch is) (codes
       " ")) (cause_within cause)) 2047 (omega arith)
   item_within (item.Sent number message) is =
-      widened (row_of (with_word (row_of (with_word (numbered_within (all_of (codes "  sent"))
+      widened (joined_within (with_text (joined_within (with_text (numbered_within (all_of (codes "  sent"))
       number is.0) (codes " ")) (receiver_within message.to)) (codes " ")) (body_within message.body
       is.1)) 2047 (omega arith)
   item_within (item.Delivered number) is =
@@ -229,7 +229,7 @@ module _ (laws : NameLaws) (net : Net) (sound : IsNet net) where
   item_within (item.Forgotten number) is =
       widened (numbered_within (all_of (codes "  forgotten")) number is) 2047 (omega arith)
   item_within (item.Expired switch place message) is =
-      widened (row_of (with_word (row_of (with_word (named_within (all_of (codes "  expired"))
+      widened (joined_within (with_text (joined_within (with_text (named_within (all_of (codes "  expired"))
       switch) (codes " ")) (number place is.0)) (codes " message ")) (number message is.1)) 2047
       (omega arith)
   item_within (item.Submitted file version) is =
@@ -243,21 +243,21 @@ module _ (laws : NameLaws) (net : Net) (sound : IsNet net) where
   item_within (item.Retired version) is =
       widened (numbered_within (all_of (codes "  retired")) version is) 2047 (omega arith)
   item_within (item.Booted switch boot) is =
-      widened (row_of (with_word (named_within (all_of (codes "  booted")) switch) (codes " "))
+      widened (joined_within (with_text (named_within (all_of (codes "  booted")) switch) (codes " "))
       (number boot is)) 2047 (omega arith)
   item_within (item.Opened switch version) is =
-      widened (row_of (with_word (named_within (all_of (codes "  opened")) switch) (codes
+      widened (joined_within (with_text (named_within (all_of (codes "  opened")) switch) (codes
       " version ")) (number version is)) 2047 (omega arith)
   item_within (item.Down switch) is =
       widened (named_within (all_of (codes "  down")) switch) 2047 (omega arith)
   item_within (item.OverNow switch) is =
       widened (named_within (all_of (codes "  over")) switch) 2047 (omega arith)
   item_within (item.LinkIs one two up) is =
-      widened (row_of (with_word (pair_within (all_of (codes "  link")) one two) (codes " "))
+      widened (joined_within (with_text (pair_within (all_of (codes "  link")) one two) (codes " "))
       (state_within up)) 2047 (omega arith)
   item_within item.Nothing is = widened (all_of (codes "  nothing")) 2047 (omega arith)
 
 pub lines_within : NameLaws → LinesFit
 lines_within laws net item sound is =
-    let line = row_of (item_within laws net sound item is) (all_of (10 ∷ [])) in
+    let line = joined_within (item_within laws net sound item is) (all_of (10 ∷ [])) in
     line.size

@@ -22,18 +22,18 @@ use Rattle.journal.specs.declared.item.Item.TheVariants as item
 use Rattle.steps.specs.declared.step.Step.{Step}
 use Rattle.steps.specs.declared.step.Step.TheVariants.{Packet, Hop, Lose, Deliver, Forget, Expire, Update, LinkDown, LinkUp, Crash, Restart, Confirm, Resend}
 
--- ---- words
+-- ---- what lines are made of
 
--- a number behind a word, and a name behind one
+-- a number behind a text, and a name behind one
 abbrev pub with_number : List ℕ → ℕ → List ℕ
-with_number word n = word ++ codes " " ++ decimal n
+with_number text n = text ++ codes " " ++ decimal n
 
 abbrev pub named : Net → List ℕ → ℕ → List ℕ
-named net word s = word ++ codes " " ++ name_of net s
+named net text s = text ++ codes " " ++ name_of net s
 
--- two numbers, each behind a word
+-- two numbers, each behind a text
 unfoldable pub two_text : List ℕ → ℕ → List ℕ → ℕ → List ℕ
-two_text word n next m = with_number word n ++ next ++ decimal m
+two_text text n next m = with_number text n ++ next ++ decimal m
 
 -- the names of a mask's switches, ascending, or a dash for none
 abbrev pub mask_text : Net → ℕ → List ℕ
@@ -42,11 +42,11 @@ mask_text net mask =
 
 -- a packet and a switch, as where the packet came in
 abbrev pub packet_at : Net → List ℕ → ℕ → ℕ → List ℕ
-packet_at net word packet s = with_number word packet ++ codes " " ++ name_of net s
+packet_at net text packet s = with_number text packet ++ codes " " ++ name_of net s
 
 -- two switches, as the ends of a link
 abbrev pub pair_text : Net → List ℕ → ℕ → ℕ → List ℕ
-pair_text net word one two = named net word one ++ codes " " ++ name_of net two
+pair_text net text one two = named net text one ++ codes " " ++ name_of net two
 
 -- ---- steps
 
@@ -75,10 +75,10 @@ receiver_text net (receiver.Switch s) = name_of net s
 receiver_text net receiver.Controller = codes "controller"
 
 abbrev pub boot_text : List ℕ → ℕ → List ℕ
-boot_text word boot = word ++ codes " boot " ++ decimal boot
+boot_text text boot = text ++ codes " boot " ++ decimal boot
 
 abbrev pub version_text : List ℕ → ℕ → ℕ → List ℕ
-version_text word boot version = boot_text word boot ++ codes " version " ++ decimal version
+version_text text boot version = boot_text text boot ++ codes " version " ++ decimal version
 
 abbrev pub advert_text : Net → Advert → List ℕ
 advert_text net advert =

@@ -64,12 +64,12 @@ fn push_row(line: &mut Line, net: &Net, row: u32, step: &Step)
     push_step(line, net, step);
 }
 
-// A packet and a switch behind a word.
+// A packet and a switch behind a text.
 #[tactic(auto, using(text_line::proofs::CallerLemmas::pushed_append))]
-fn push_at(line: &mut Line, net: &Net, word: &str, packet: u32, s: u32)
-    ensures { line.new ≡ pushed line.old (packet_at net.now word.now packet s) }
+fn push_at(line: &mut Line, net: &Net, text: &str, packet: u32, s: u32)
+    ensures { line.new ≡ pushed line.old (packet_at net.now text.now packet s) }
 {
-    push_numbered(line, word, packet);
+    push_numbered(line, text, packet);
     line.push(" ");
     push_name(line, net, s);
 }
@@ -101,14 +101,14 @@ fn push_seeking(
     push_via(line, net, route);
 }
 
-// A packet's route behind a word.
+// A packet's route behind a text.
 #[tactic(auto, using(text_line::proofs::CallerLemmas::pushed_append))]
-fn push_route(line: &mut Line, net: &Net, word: &str, packet: u32, route: &SharedRoute)
+fn push_route(line: &mut Line, net: &Net, text: &str, packet: u32, route: &SharedRoute)
     ensures text { line.new ≡ pushed line.old
-        (with_number word.now packet ++ via_text net.now route.now) }
+        (with_number text.now packet ++ via_text net.now route.now) }
     ensures of_type { IsShortRoute route.now }
 {
-    push_numbered(line, word, packet);
+    push_numbered(line, text, packet);
     push_via(line, net, route);
 }
 
@@ -153,17 +153,17 @@ fn push_decided(
     push_how(line, net, how);
 }
 
-// Two numbers, each behind a word.
+// Two numbers, each behind a text.
 #[tactic(auto, using(text_line::proofs::CallerLemmas::pushed_append), unfolding(crate::specs::Lines::two_text))]
-fn push_two(line: &mut Line, word: &str, n: u32, next: &str, m: u32)
-    ensures { line.new ≡ pushed line.old (two_text word.now n next.now m) }
+fn push_two(line: &mut Line, text: &str, n: u32, next: &str, m: u32)
+    ensures { line.new ≡ pushed line.old (two_text text.now n next.now m) }
 {
-    push_numbered(line, word, n);
+    push_numbered(line, text, n);
     line.push(next);
     line.push_number(u64::from(m));
 }
 
-fn cause_word(cause: Cause) -> &'static str
+fn cause_text(cause: Cause) -> &'static str
     ensures { result.now ≡ cause_text cause }
 {
     match cause {
@@ -179,7 +179,7 @@ fn push_stuck(line: &mut Line, net: &Net, packet: u32, switch: u32, cause: Cause
 {
     push_at(line, net, "  stuck", packet, switch);
     line.push(" ");
-    line.push(cause_word(cause));
+    line.push(cause_text(cause));
 }
 
 #[tactic(auto, using(text_line::proofs::CallerLemmas::pushed_append))]

@@ -26,36 +26,36 @@ pub(crate) fn push_receiver(line: &mut Line, net: &Net, to: Receiver)
 
 // Adds a boot, behind what was said before it.
 #[tactic(auto, using(text_line::proofs::CallerLemmas::pushed_append))]
-fn push_boot(line: &mut Line, word: &str, boot: u32)
-    ensures { line.new ≡ pushed line.old (boot_text word.now boot) }
+fn push_boot(line: &mut Line, text: &str, boot: u32)
+    ensures { line.new ≡ pushed line.old (boot_text text.now boot) }
 {
-    line.push(word);
+    line.push(text);
     line.push(" boot ");
     line.push_number(u64::from(boot));
 }
 
 #[tactic(auto, using(text_line::proofs::CallerLemmas::pushed_append))]
-fn push_version(line: &mut Line, word: &str, boot: u32, version: u32)
-    ensures { line.new ≡ pushed line.old (version_text word.now boot version) }
+fn push_version(line: &mut Line, text: &str, boot: u32, version: u32)
+    ensures { line.new ≡ pushed line.old (version_text text.now boot version) }
 {
-    push_boot(line, word, boot);
+    push_boot(line, text, boot);
     line.push(" version ");
     line.push_number(u64::from(version));
 }
 
 #[tactic(auto, using(text_line::proofs::CallerLemmas::pushed_append))]
-fn push_booted(line: &mut Line, net: &Net, word: &str, switch: u32, boot: u32)
-    ensures { line.new ≡ pushed line.old (boot_text (named net.now word.now switch) boot) }
+fn push_booted(line: &mut Line, net: &Net, text: &str, switch: u32, boot: u32)
+    ensures { line.new ≡ pushed line.old (boot_text (named net.now text.now switch) boot) }
 {
-    push_named_number(line, net, word, switch, " boot ", boot);
+    push_named_number(line, net, text, switch, " boot ", boot);
 }
 
 #[tactic(auto, using(text_line::proofs::CallerLemmas::pushed_append))]
-fn push_answer(line: &mut Line, net: &Net, word: &str, switch: u32, boot: u32, version: u32)
+fn push_answer(line: &mut Line, net: &Net, text: &str, switch: u32, boot: u32, version: u32)
     ensures { line.new
-        ≡ pushed line.old (version_text (named net.now word.now switch) boot version) }
+        ≡ pushed line.old (version_text (named net.now text.now switch) boot version) }
 {
-    push_booted(line, net, word, switch, boot);
+    push_booted(line, net, text, switch, boot);
     line.push(" version ");
     line.push_number(u64::from(version));
 }

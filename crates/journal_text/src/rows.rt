@@ -9,42 +9,42 @@ use line_fields::{Line, push_fields, push_name};
 use net_file::Net;
 use steps::Step;
 
-/// Adds a number behind a word.
+/// Adds a number behind a text.
 #[tactic(auto, using(text_line::proofs::CallerLemmas::pushed_append))]
-pub(crate) fn push_numbered(line: &mut Line, word: &str, n: u32)
-    ensures { line.new ≡ pushed line.old (with_number word.now n) }
+pub(crate) fn push_numbered(line: &mut Line, text: &str, n: u32)
+    ensures { line.new ≡ pushed line.old (with_number text.now n) }
 {
-    line.push(word);
+    line.push(text);
     line.push(" ");
     line.push_number(u64::from(n));
 }
 
-/// Adds a switch's name behind a word.
+/// Adds a switch's name behind a text.
 #[tactic(auto, using(text_line::proofs::CallerLemmas::pushed_append))]
-pub(crate) fn push_named(line: &mut Line, net: &Net, word: &str, s: u32)
-    ensures { line.new ≡ pushed line.old (named net.now word.now s) }
+pub(crate) fn push_named(line: &mut Line, net: &Net, text: &str, s: u32)
+    ensures { line.new ≡ pushed line.old (named net.now text.now s) }
 {
-    line.push(word);
+    line.push(text);
     line.push(" ");
     push_name(line, net, s);
 }
 
-/// Adds a switch's name and a number, each behind a word.
+/// Adds a switch's name and a number, each behind a text.
 #[tactic(auto, using(text_line::proofs::CallerLemmas::pushed_append))]
-pub(crate) fn push_named_number(line: &mut Line, net: &Net, word: &str, s: u32, next: &str, n: u32)
-    ensures { line.new ≡ pushed line.old (named net.now word.now s ++ next.now ++ decimal n) }
+pub(crate) fn push_named_number(line: &mut Line, net: &Net, text: &str, s: u32, next: &str, n: u32)
+    ensures { line.new ≡ pushed line.old (named net.now text.now s ++ next.now ++ decimal n) }
 {
-    push_named(line, net, word, s);
+    push_named(line, net, text, s);
     line.push(next);
     line.push_number(u64::from(n));
 }
 
-/// Adds the names of two switches behind a word.
+/// Adds the names of two switches behind a text.
 #[tactic(auto, using(text_line::proofs::CallerLemmas::pushed_append))]
-pub(crate) fn push_pair(line: &mut Line, net: &Net, word: &str, one: u32, two: u32)
-    ensures { line.new ≡ pushed line.old (pair_text net.now word.now one two) }
+pub(crate) fn push_pair(line: &mut Line, net: &Net, text: &str, one: u32, two: u32)
+    ensures { line.new ≡ pushed line.old (pair_text net.now text.now one two) }
 {
-    push_named(line, net, word, one);
+    push_named(line, net, text, one);
     line.push(" ");
     push_name(line, net, two);
 }

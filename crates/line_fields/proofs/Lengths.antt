@@ -1,4 +1,4 @@
--- How long printed forms are: each has a bound, and the bounds of parts in a row are added.
+-- How long printed forms are: each has a bound, and the bounds of parts, one behind another, are added.
 use Rattle.std.proofs.Common.{ℕ, zero, suc, ◌≡◌, ◌+◌, ◌*◌, ◌/◌, ◌%◌, ◌^◌, ◌<◌, ◌≤◌, ◌==◌, true, false, List, [], ◌∷◌, ◌++◌, length, get_or, subst, inl, inr, arith}
 use Rattle.std.specs.Prelude.{◌⊎◌, Option, Some, None, codes, decimal, if◌then◌else◌, slice_get}
 use Rattle.std.specs.Fmt.{digit_glyph}
@@ -26,13 +26,13 @@ pub record IsWithin (most : ℕ) (text : List ℕ) : Type 0 where
 pub all_of : (text : List ℕ) → IsWithin (length text) text
 all_of text = record { size = omega arith }
 
-pub row_of : {m n : ℕ} {xs ys : List ℕ} → IsWithin m xs → IsWithin n ys → IsWithin (m + n) (xs ++ ys)
-row_of {xs = xs} {ys = ys} a b =
+pub joined_within : {m n : ℕ} {xs ys : List ℕ} → IsWithin m xs → IsWithin n ys → IsWithin (m + n) (xs ++ ys)
+joined_within {xs = xs} {ys = ys} a b =
     record { size = omega (arith, a.size, b.size, length-append xs ys) }
 
-pub with_word : {m : ℕ} {xs : List ℕ} → IsWithin m xs → (word : List ℕ)
-    → IsWithin (m + length word) (xs ++ word)
-with_word a word = row_of a (all_of word)
+pub with_text : {m : ℕ} {xs : List ℕ} → IsWithin m xs → (text : List ℕ)
+    → IsWithin (m + length text) (xs ++ text)
+with_text a text = joined_within a (all_of text)
 
 pub widened : {m : ℕ} {xs : List ℕ} → IsWithin m xs → (n : ℕ) → m ≤ n → IsWithin n xs
 widened a n le = record { size = omega (arith, a.size, le) }
@@ -50,7 +50,7 @@ rule_within None is = widened (all_of (codes "default")) 10 (omega arith)
 
 pub action_within : (action : Action) → IsAction action → IsWithin 14 (action_text action)
 action_within (Out port) is =
-    row_of (all_of (codes "out:")) (number port is)
+    joined_within (all_of (codes "out:")) (number port is)
 action_within Drop is = widened (all_of (codes "drop")) 14 (omega arith)
 
 -- ---- headers and words
@@ -58,9 +58,9 @@ action_within Drop is = widened (all_of (codes "drop")) 14 (omega arith)
 address_within : (a : ℕ) → a < 2 ^ 32 → IsWithin 43 (address_text a)
 unfolding address_text
 address_within a small =
-    row_of (number (a / 2 ^ 24) (omega (arith, small))) (row_of (all_of (46 ∷ []))
-    (row_of (number (a / 2 ^ 16 % 2 ^ 8) (omega arith)) (row_of (all_of (46 ∷ []))
-    (row_of (number (a / 2 ^ 8 % 2 ^ 8) (omega arith)) (row_of (all_of (46 ∷ []))
+    joined_within (number (a / 2 ^ 24) (omega (arith, small))) (joined_within (all_of (46 ∷ []))
+    (joined_within (number (a / 2 ^ 16 % 2 ^ 8) (omega arith)) (joined_within (all_of (46 ∷ []))
+    (joined_within (number (a / 2 ^ 8 % 2 ^ 8) (omega arith)) (joined_within (all_of (46 ∷ []))
     (number (a % 2 ^ 8) (omega arith)))))))
 
 proto_within : (n : ℕ) → n < 2 ^ 8 → IsWithin 10 (proto_number_text n)
@@ -82,10 +82,10 @@ proto_within n small =
 pub fields_within : (header : Header) → IsHeader header → IsWithin 200 (fields_text header.fields)
 unfolding fields_text
 fields_within header is =
-    widened (row_of (address_within header.fields.src is.src) (row_of (all_of (32 ∷ []))
-    (row_of (address_within header.fields.dst is.dst) (row_of (all_of (32 ∷ []))
-    (row_of (number header.fields.sport (omega (arith, is.sport))) (row_of (all_of (32 ∷ []))
-    (row_of (number header.fields.dport (omega (arith, is.dport))) (row_of (all_of (32 ∷ []))
+    widened (joined_within (address_within header.fields.src is.src) (joined_within (all_of (32 ∷ []))
+    (joined_within (address_within header.fields.dst is.dst) (joined_within (all_of (32 ∷ []))
+    (joined_within (number header.fields.sport (omega (arith, is.sport))) (joined_within (all_of (32 ∷ []))
+    (joined_within (number header.fields.dport (omega (arith, is.dport))) (joined_within (all_of (32 ∷ []))
     (proto_within header.fields.proto is.proto))))))))) 200 (omega arith)
 
 one_byte : (byte : ℕ) → IsWithin 1 (byte ∷ [])
@@ -95,14 +95,14 @@ digits_within : (count n : ℕ) → IsWithin count (hex_digits count n)
 unfolding hex_digits
 digits_within zero n = record { size = omega arith }
 digits_within (suc count) n =
-    widened (row_of (digits_within count (n / 16)) (one_byte (digit_glyph false (n % 16))))
+    widened (joined_within (digits_within count (n / 16)) (one_byte (digit_glyph false (n % 16))))
     (suc count) (omega arith)
 
 pub word_within : (w : WordValue) → IsWithin 53 (word_text w)
 unfolding word_text
 word_within w =
-    row_of (digits_within 26 w.value)
-    (row_of (all_of (47 ∷ [])) (digits_within 26 w.mask))
+    joined_within (digits_within 26 w.value)
+    (joined_within (all_of (47 ∷ [])) (digits_within 26 w.mask))
 
 -- ---- names
 
@@ -124,5 +124,5 @@ module _ (laws : NameLaws) (net : Net) (sound : IsNet net) where
   pub names_within : (list : List ℕ) → IsWithin (length list * 17) (names_text net list)
   names_within [] = record { size = omega arith }
   names_within (s ∷ list) =
-      widened (row_of (row_of (all_of (codes " ")) (name_within s)) (names_within list))
+      widened (joined_within (joined_within (all_of (codes " ")) (name_within s)) (names_within list))
       (length (s ∷ list) * 17) (omega arith)

@@ -107,9 +107,9 @@ pub record CountsHaveRoom (s : Summary) : Type 0 where
 
 -- ---- its text
 
--- a word, a blank, a number and a line feed
+-- a title, a blank, a number and a line feed
 abbrev pub count_line : List ℕ → ℕ → List ℕ
-count_line word count = word ++ 32 ∷ decimal count ++ 10 ∷ []
+count_line title count = title ++ 32 ∷ decimal count ++ 10 ∷ []
 
 abbrev pub summary_text : Summary → List ℕ
 summary_text s =

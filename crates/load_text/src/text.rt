@@ -6,7 +6,7 @@ use crate::summary::Summary;
 use std::alloc::{AllocError, Global};
 use std::fmt::Write;
 
-/// The lines of a summary: each a word, a blank and a number.
+/// The lines of a summary: each a title, a blank and a number.
 ///
 /// # Errors
 /// Want of memory alone.
@@ -29,10 +29,10 @@ pub fn summary_text(alloc: Global, summary: &Summary) -> Result<Vec<u8>, AllocEr
 }
 
 // Adds a line.
-fn push_line(text: &mut String, word: &str, count: usize) -> Result<(), AllocError>
+fn push_line(text: &mut String, title: &str, count: usize) -> Result<(), AllocError>
     ensures { OnOk result (string_bytes text.new
-        ≡ string_bytes text.old ++ count_line word.now count) }
+        ≡ string_bytes text.old ++ count_line title.now count) }
 {
-    writeln!(text, "{word} {count}")?;
+    writeln!(text, "{title} {count}")?;
     Ok(())
 }

@@ -4,7 +4,8 @@ use Rattle.std.specs.Prelude.{bit_or, nat_eq, ◌==◌}
 use Rattle.std.specs.Int.{bit_at}
 use Rattle.std.proofs.lemmas.Bool.{cases_eq, eq-eqb, ne_eqb}
 use Rattle.masks.proofs.CallerLemmas as masks
-use Rattle.masks.specs.Masks.{has, mask_of}
+use Rattle.masks.specs.Masks.{has}
+use Rattle.masks.specs.Computed.{mask_of}
 
 abbrev pub in_mask : ℕ → ℕ → Bool
 in_mask mask k = bit_at mask k == 1

@@ -8,7 +8,7 @@ use Rattle.net_file.specs.Net.{IsNet, is_name}
 use Rattle.net_file.specs.Owners.{have_name, port_mask, switch_number, links_of}
 use Rattle.net_file.specs.Joins.{are_linked, has_port, owner_of}
 
--- the byte ends no field of a record, no word and no line
+-- the byte is no comma, no blank and no line feed
 pub record IsPlainByte (byte : ℕ) : Type 0 where
   pub no_comma : byte ≢ 44
   pub no_blank : byte ≢ 32

@@ -11,6 +11,9 @@ use failure::InRow;
 use std::alloc::Global;
 use toml::{Table, Value};
 
+/// The row of a link is its number above this.
+const LINK_ROWS: u32 = 100;
+
 /// The most links of a network.
 const MOST_LINKS: usize = 256;
 
@@ -80,9 +83,6 @@ fn read_link(
     }
     Ok(LinkRow { one, two })
 }
-
-/// The row of a link is its number above this.
-const LINK_ROWS: u32 = 100;
 
 /// The links that the values of the array `link` state.
 ///

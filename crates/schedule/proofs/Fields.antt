@@ -33,15 +33,15 @@ is_heading-other (a ∷ b ∷ c ∷ more) other = grind arith
 
 -- ---- the kind
 
-no_word : kind_of [] ≡ None
+no_keyword : kind_of [] ≡ None
 unfolding kind_of
-no_word = refl
+no_keyword = refl
 
 pub event_of-no_kind : (net : Net) (files : ℕ) (fields : List (List ℕ))
     → kind_of (field fields 0) ≡ None → event_of net files fields ≡ Err why.Kind
 unfolding field_at
 event_of-no_kind net files [] none = refl
-event_of-no_kind net files (word ∷ fields) none = rw none refl
+event_of-no_kind net files (keyword ∷ fields) none = rw none refl
 
 -- ---- the width
 
@@ -49,29 +49,29 @@ pub event_of-known : (net : Net) (files : ℕ) (fields : List (List ℕ)) (k : K
     → kind_of (field fields 0) ≡ Some k
     → event_of net files fields ≡ event_with net files k (drop 1 fields)
 unfolding field_at
-event_of-known net files [] k is = cc (no_word, is)
-event_of-known net files (word ∷ fields) k is = rw is refl
+event_of-known net files [] k is = cc (no_keyword, is)
+event_of-known net files (keyword ∷ fields) k is = rw is refl
 
 none_behind : (fields : List (List ℕ)) → length fields ≡ 1 → drop 1 fields ≡ []
-none_behind (word ∷ []) one = refl
+none_behind (keyword ∷ []) one = refl
 none_behind _ one = absurd (omega arith)
 
 one_behind : (fields : List (List ℕ)) → length fields ≡ 2 → drop 1 fields ≡ field fields 1 ∷ []
 unfolding field_at
-one_behind (word ∷ a ∷ []) two = refl
+one_behind (keyword ∷ a ∷ []) two = refl
 one_behind _ two = absurd (omega arith)
 
 two_behind : (fields : List (List ℕ)) → length fields ≡ 3 → drop 1 fields ≡ field fields 1 ∷ field
     fields 2 ∷ []
 unfolding field_at
-two_behind (word ∷ a ∷ b ∷ []) three = refl
+two_behind (keyword ∷ a ∷ b ∷ []) three = refl
 two_behind _ three = absurd (omega arith)
 
 pub six_behind : (fields : List (List ℕ)) → length fields ≡ 7
     → drop 1 fields ≡ field fields 1 ∷ field fields 2 ∷ field fields 3 ∷ field fields 4 ∷ field
     fields 5 ∷ field fields 6 ∷ []
 unfolding field_at
-six_behind (word ∷ a ∷ b ∷ c ∷ d ∷ e ∷ f ∷ []) seven = refl
+six_behind (keyword ∷ a ∷ b ∷ c ∷ d ∷ e ∷ f ∷ []) seven = refl
 six_behind _ seven = absurd (omega arith)
 
 pub event_of-one : (net : Net) (files : ℕ) (fields : List (List ℕ)) (k : Kind)
@@ -111,9 +111,9 @@ pub event_of-other : (net : Net) (files : ℕ) (fields : List (List ℕ)) (k : K
     → length fields ≢ 1 → length fields ≢ 2 → length fields ≢ 3 → length fields ≢ 7
     → event_of net files fields ≡ Err why.Width
 unfolding field_at
-event_of-other net files [] k is one two three seven = cc (no_word, is)
-event_of-other net files (word ∷ fields) k is one two three seven =
-    event_of-known net files (word ∷ fields) k is
+event_of-other net files [] k is one two three seven = cc (no_keyword, is)
+event_of-other net files (keyword ∷ fields) k is one two three seven =
+    event_of-known net files (keyword ∷ fields) k is
     ∙ other_width net files k fields (λ e. one (omega arith)) (λ e. two (omega arith))
     (λ e. three (omega arith)) (λ e. seven (omega arith))
 

@@ -2,4 +2,4 @@ pub mod Fields
 pub mod Rows
 pub mod Headers
 pub mod Sound
-pub mod Words
+pub mod Keywords

@@ -184,8 +184,8 @@ module _ (net : Net) (files : ℕ) where
 
   row_sound : (fields : List (List ℕ)) → Sound (event_of net files fields)
   row_sound [] = λ event is. cc is
-  row_sound (word ∷ fields) =
-      follows (ok_or (kind_of word) why.Kind) (λ k. event_with net files k fields)
+  row_sound (keyword ∷ fields) =
+      follows (ok_or (kind_of keyword) why.Kind) (λ k. event_with net files k fields)
       (λ k is. with_sound k fields)
 
   -- ---- all rows

@@ -1,37 +1,37 @@
--- The kinds of a schedule's rows, each named by a word.
+-- The kinds of a schedule's rows, each named by a keyword.
 use Rattle.std.specs.Prelude.{ℕ, ◌≡◌, Option, Some, List, [], ◌∷◌, find, codes, bytes_eq}
 use Rattle.schedule.specs.declared.kind.Kind.{Kind}
 use Rattle.schedule.specs.declared.kind.Kind.TheVariants as kind
 
--- the word of a kind
-abbrev pub word_of : Kind → List ℕ
-word_of kind.Packet = codes "packet"
-word_of kind.Hop = codes "hop"
-word_of kind.Lose = codes "lose"
-word_of kind.Deliver = codes "deliver"
-word_of kind.Forget = codes "forget"
-word_of kind.Expire = codes "expire"
-word_of kind.Update = codes "update"
-word_of kind.LinkDown = codes "linkdown"
-word_of kind.LinkUp = codes "linkup"
-word_of kind.Crash = codes "crash"
-word_of kind.Restart = codes "restart"
-word_of kind.Confirm = codes "confirm"
-word_of kind.Resend = codes "resend"
-word_of kind.Flush = codes "flush"
-word_of kind.Drain = codes "drain"
+-- the keyword of a kind
+abbrev pub keyword_of : Kind → List ℕ
+keyword_of kind.Packet = codes "packet"
+keyword_of kind.Hop = codes "hop"
+keyword_of kind.Lose = codes "lose"
+keyword_of kind.Deliver = codes "deliver"
+keyword_of kind.Forget = codes "forget"
+keyword_of kind.Expire = codes "expire"
+keyword_of kind.Update = codes "update"
+keyword_of kind.LinkDown = codes "linkdown"
+keyword_of kind.LinkUp = codes "linkup"
+keyword_of kind.Crash = codes "crash"
+keyword_of kind.Restart = codes "restart"
+keyword_of kind.Confirm = codes "confirm"
+keyword_of kind.Resend = codes "resend"
+keyword_of kind.Flush = codes "flush"
+keyword_of kind.Drain = codes "drain"
 
 abbrev pub kinds : List Kind
 kinds = kind.Packet ∷ kind.Hop ∷ kind.Lose ∷ kind.Deliver ∷ kind.Forget ∷ kind.Expire ∷ kind.Update
     ∷ kind.LinkDown ∷ kind.LinkUp ∷ kind.Crash ∷ kind.Restart ∷ kind.Confirm ∷ kind.Resend
     ∷ kind.Flush ∷ kind.Drain ∷ []
 
--- the kind that a word names
+-- the kind that a keyword names
 unfoldable pub kind_of : List ℕ → Option Kind
-kind_of word = find (λ kind. bytes_eq (word_of kind) word) kinds
+kind_of keyword = find (λ kind. bytes_eq (keyword_of kind) keyword) kinds
 
--- kinds and their words stand for each other
+-- kinds and their keywords stand for each other
 pub record KindLaws : Type 0 where
-  pub kind : (kind : Kind) → kind_of (word_of kind) ≡ Some kind
-  pub word : (word : List ℕ) (kind : Kind) → kind_of word ≡ Some kind
-      → word ≡ word_of kind
+  pub kind : (kind : Kind) → kind_of (keyword_of kind) ≡ Some kind
+  pub keyword : (keyword : List ℕ) (kind : Kind) → kind_of keyword ≡ Some kind
+      → keyword ≡ keyword_of kind

@@ -5,7 +5,8 @@ use Rattle.std.specs.Option.{option_map_or}
 use Rattle.std.specs.Result.{result_err, result_ok}
 use Rattle.csv_records.specs.Texts.{is_heading, records_of}
 use Rattle.net_file.specs.declared.net.Net.{Net}
-use Rattle.steps.specs.Steps.{IsEvent, max_events}
+use Rattle.steps.specs.Steps.{IsEvent}
+use Rattle.steps.specs.Limits.{max_events}
 use Rattle.steps.specs.declared.step.Event.{Event}
 use Rattle.failure.specs.declared.row.InRow.{InRow}
 use Rattle.schedule.specs.Rows.{event_of, schedule_heading}

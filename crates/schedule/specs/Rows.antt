@@ -1,5 +1,5 @@
--- The event that a row states, for a network and so many policy files: a word for its kind, and the
--- fields of that kind.
+-- The event that a row states, for a network and so many policy files: a keyword for its kind, and
+-- the fields of that kind.
 use Rattle.std.specs.Prelude.{ℕ, nat_le, option_map, ok_or, Result, Ok, Err, List, [], ◌∷◌, codes}
 use Rattle.five_tuple.specs.HeaderNumbers.{header_of}
 use Rattle.five_tuple.specs.Texts.{number_up_to, packet_fields_of}
@@ -92,5 +92,5 @@ event_with net files kind fields = Err why.Width
 -- fields from left to right
 abbrev pub event_of : Net → ℕ → List (List ℕ) → Result Event ScheduleRefusal
 event_of net files [] = Err why.Kind
-event_of net files (word ∷ fields) =
-    with_value (ok_or (kind_of word) why.Kind) (λ kind. event_with net files kind fields)
+event_of net files (keyword ∷ fields) =
+    with_value (ok_or (kind_of keyword) why.Kind) (λ kind. event_with net files kind fields)

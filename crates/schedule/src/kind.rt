@@ -1,5 +1,5 @@
 ghost use Rattle.std.specs.Prelude.{◌≡◌, find, bytes_eq};
-ghost use Rattle.schedule.specs.Kinds.{kind_of, word_of};
+ghost use Rattle.schedule.specs.Kinds.{kind_of, keyword_of};
 
 /// The kinds of a schedule's rows, each named as the step or the event that it stands for.
 #[derive(Clone, Copy, Debug, PartialEq, Eq)]
@@ -41,9 +41,9 @@ pub const KINDS: [Kind; 15] = [
 ];
 
 impl Kind {
-    /// The word that names the kind: the first field of its rows.
-    pub fn word(self) -> &'static str
-        ensures { result.now ≡ word_of self }
+    /// The keyword that names the kind: the first field of its rows.
+    pub fn keyword(self) -> &'static str
+        ensures { result.now ≡ keyword_of self }
     {
         match self {
             Kind::Packet => "packet",
@@ -65,17 +65,17 @@ impl Kind {
     }
 }
 
-// The first of the kinds that the word names.
+// The first of the kinds that the keyword names.
 fn first_named(kinds: &[Kind], text: &[u8]) -> Option<Kind>
-    ensures { result ≡ find (λ kind. bytes_eq (word_of kind) text.now) kinds.now }
+    ensures { result ≡ find (λ kind. bytes_eq (keyword_of kind) text.now) kinds.now }
 {
     kinds
         .iter()
         .copied()
-        .find(|kind| kind.word().as_bytes() == text)
+        .find(|kind| kind.keyword().as_bytes() == text)
 }
 
-/// The kind that the word names; `None` for any other text.
+/// The kind that the keyword names; `None` for any other text.
 #[tactic(auto, unfolding(crate::specs::Kinds::kind_of))]
 pub fn read_kind(text: &[u8]) -> Option<Kind>
     ensures { result ≡ kind_of text.now }

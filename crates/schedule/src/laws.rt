@@ -7,7 +7,7 @@ pub fn schedule_laws()
     ensures { ScheduleLaws }
 {}
 
-/// Each kind has a word of its own, and each word that names a kind is the kind's.
+/// Each kind has a keyword of its own, and each keyword that names a kind is the kind's.
 pub fn kind_laws()
     ensures { KindLaws }
 {}

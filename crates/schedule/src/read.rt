@@ -1,6 +1,7 @@
 ghost use Rattle.std.specs.Prelude.{◌≡◌, ◌≤◌, Ok, IfOk, IfErr, All, vec_len};
 ghost use Rattle.net_file.specs.Net.{IsNet};
-ghost use Rattle.steps.specs.Steps.{IsEvent, max_events};
+ghost use Rattle.steps.specs.Steps.{IsEvent};
+ghost use Rattle.steps.specs.Limits.{max_events};
 ghost use Rattle.schedule.specs.Reading.{schedule_of};
 ghost use Rattle.failure.specs.Refusals.{IsRefusal};
 

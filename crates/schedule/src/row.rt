@@ -89,7 +89,7 @@ fn read_header(
 }
 
 // The event of a kind alone.
-fn read_word(net: &Net, files: u32, kind: Kind) -> Result<Event, ScheduleRefusal>
+fn read_keyword(net: &Net, files: u32, kind: Kind) -> Result<Event, ScheduleRefusal>
     ensures { result ≡ event_with net.now files kind [] }
 {
     match kind {
@@ -204,7 +204,7 @@ pub fn read_event(fields: &ByteRecord, net: &Net, files: u32) -> Result<Event, S
 {
     let kind = read_kind(field(fields, 0)).ok_or(ScheduleRefusal::Kind)?;
     match fields.len() {
-        1 => read_word(net, files, kind),
+        1 => read_keyword(net, files, kind),
         2 => read_one(net, files, kind, field(fields, 1)),
         3 => read_two(net, files, kind, field(fields, 1), field(fields, 2)),
         7 => read_six(net, files, kind, fields),

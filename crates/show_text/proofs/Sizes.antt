@@ -2,7 +2,7 @@
 use Rattle.std.proofs.Common.{ℕ, ◌^◌, ◌<◌, ◌≤◌, List, ◌∷◌, [], ◌++◌, length, arith}
 use Rattle.std.specs.Prelude.{codes, decimal}
 use Rattle.std.proofs.lemmas.Fmt.{length-decimal-le}
-use Rattle.line_fields.proofs.Lengths.{IsWithin, action_within, all_of, name_within, names_within, number, row_of, rule_within, widened, with_word, word_within}
+use Rattle.line_fields.proofs.Lengths.{IsWithin, action_within, all_of, name_within, names_within, number, joined_within, rule_within, widened, with_text, word_within}
 use Rattle.line_fields.specs.Sizes.{IsAction, IsNumber, IsRule}
 use Rattle.net_file.specs.Laws.{NameLaws}
 use Rattle.net_file.specs.Net.{IsNet, name_of}
@@ -15,7 +15,7 @@ use Rattle.ternary.specs.Word.{WordValue}
 
 fits : {m : ℕ} {text : List ℕ} → IsWithin m text → m < 2048 → length (with_line_feed text) ≤ 2048
 fits is small =
-    let ended = widened (with_word is (10 ∷ [])) 2048 (omega (arith, small)) in ended.size
+    let ended = widened (with_text is (10 ∷ [])) 2048 (omega (arith, small)) in ended.size
 
 count : (n : ℕ) → n < 2 ^ 64 → IsWithin 20 (decimal n)
 count n small = record {
@@ -25,25 +25,25 @@ count n small = record {
 pub rule_fits : (rule : Rule) → IsNumber rule.rank → IsRule rule.rule → IsAction rule.action
     → length (with_line_feed (rule_text_of rule)) ≤ 2048
 rule_fits rule rank name action = fits
-    (row_of (with_word (row_of (with_word (row_of (with_word (row_of (all_of (codes "  rank "))
+    (joined_within (with_text (joined_within (with_text (joined_within (with_text (joined_within (all_of (codes "  rank "))
     (number rule.rank rank)) (codes " rule ")) (rule_within rule.rule name)) (codes " word "))
     (word_within rule.word)) (codes " ")) (action_within rule.action action)) (omega arith)
 
-pub count_fits : (word : List ℕ) (n : ℕ) → length word ≤ 100 → n < 2 ^ 64
-    → length (with_line_feed (word ++ decimal n)) ≤ 2048
-count_fits word n short small =
-    let before : IsWithin 100 word = record { size = short } in
-    fits (row_of before (count n small)) (omega arith)
+pub count_fits : (title : List ℕ) (n : ℕ) → length title ≤ 100 → n < 2 ^ 64
+    → length (with_line_feed (title ++ decimal n)) ≤ 2048
+count_fits title n short small =
+    let before : IsWithin 100 title = record { size = short } in
+    fits (joined_within before (count n small)) (omega arith)
 
 region_within : (n : ℕ) (region : WordValue) → n < 2 ^ 64 → IsWithin 86 (region_text n region)
 region_within n region small =
-    row_of (with_word (row_of (all_of (codes "part ")) (count n small)) (codes " region "))
+    joined_within (with_text (joined_within (all_of (codes "part ")) (count n small)) (codes " region "))
     (word_within region)
 
 part_within : (part : Partition) → part.number < 2 ^ 64 → length part.rules < 2 ^ 64
     → IsWithin 113 (part_text part)
 part_within part n rules =
-    row_of (with_word (region_within part.number part.region n) (codes " rules "))
+    joined_within (with_text (region_within part.number part.region n) (codes " rules "))
     (count (length part.rules) rules)
 
 pub part_fits : (part : Partition) → part.number < 2 ^ 64 → length part.rules < 2 ^ 64
@@ -54,23 +54,23 @@ module _ (laws : NameLaws) (net : Net) (sound : IsNet net) where
   targets_within : (targets : List ℕ) → length targets ≤ 4
       → IsWithin 76 (targets_text net targets)
   targets_within targets few =
-      widened (row_of (all_of (codes " targets")) (names_within laws net sound targets)) 76
+      widened (joined_within (all_of (codes " targets")) (names_within laws net sound targets)) 76
       (omega (arith, few))
 
   pub switch_fits : (s version : ℕ) → version < 2 ^ 32
       → length (with_line_feed (codes "switch " ++ name_of net s ++ codes " version " ++ decimal version))
       ≤ 2048
   switch_fits s version small = fits
-      (row_of (with_word (row_of (all_of (codes "switch ")) (name_within laws net sound s))
+      (joined_within (with_text (joined_within (all_of (codes "switch ")) (name_within laws net sound s))
       (codes " version ")) (number version small)) (omega arith)
 
   pub hosted_fits : (part : Partition) (targets : List ℕ) → part.number < 2 ^ 64
       → length part.rules < 2 ^ 64 → length targets ≤ 4
       → length (with_line_feed (part_text part ++ targets_text net targets)) ≤ 2048
   hosted_fits part targets n rules few = fits
-      (row_of (part_within part n rules) (targets_within targets few)) (omega arith)
+      (joined_within (part_within part n rules) (targets_within targets few)) (omega arith)
 
   pub row_fits : (n : ℕ) (row : PartRow) → n < 2 ^ 64 → length row.targets ≤ 4
       → length (row_line net (n, row)) ≤ 2048
   row_fits n row small few = fits
-      (row_of (region_within n row.region small) (targets_within row.targets few)) (omega arith)
+      (joined_within (region_within n row.region small) (targets_within row.targets few)) (omega arith)

@@ -83,23 +83,28 @@ fn set_switch(entry: &mut Line, net: &Net, s: u32, version: u32)
     entry.push("\n");
 }
 
-// Makes the line that of a number behind a word.
+// Makes the line that of a number behind its title.
 #[tactic(auto, using(text_line::proofs::CallerLemmas::pushed_append, text_line::proofs::CallerLemmas::pushed_whole, crate::proofs::Sizes::count_fits))]
-fn set_count(entry: &mut Line, word: &str, count: u64)
-    requires { length word.now ≤ 100 }
-    ensures { entry.new ≡ with_line_feed (word.now ++ decimal count) }
+fn set_count(entry: &mut Line, title: &str, count: u64)
+    requires { length title.now ≤ 100 }
+    ensures { entry.new ≡ with_line_feed (title.now ++ decimal count) }
 {
     entry.clear();
-    entry.push(word);
+    entry.push(title);
     entry.push_number(count);
     entry.push("\n");
 }
 
-fn add_count(text: &mut Vec<u8>, entry: &mut Line, word: &str, count: u64) -> Result<(), AllocError>
-    requires { length word.now ≤ 100 }
-    ensures { OnOk result (text.new.items ≡ text.old.items ++ with_line_feed (word.now ++ decimal count)) }
+fn add_count(
+    text: &mut Vec<u8>,
+    entry: &mut Line,
+    title: &str,
+    count: u64,
+) -> Result<(), AllocError>
+    requires { length title.now ≤ 100 }
+    ensures { OnOk result (text.new.items ≡ text.old.items ++ with_line_feed (title.now ++ decimal count)) }
 {
-    set_count(entry, word, count);
+    set_count(entry, title, count);
     text.extend_from_slice(entry.bytes())
 }
 

@@ -103,7 +103,8 @@ fn gives(bag: &FrameBag, alloc: Global, number: u32, message: &Message) -> Resul
 }
 
 // Installations: the number, the version, the switch, the boot, the default rows, and those beside
-// them. The same tables go to two switches in two boots, and tables of two frames under two versions.
+// them. The same tables go to two switches in two boots, and tables of two frames under two
+// versions.
 const INSTALLATIONS: [(u32, u32, u32, u32, u32, u32); 9] = [
     (1, 1, 1, 1, 3, 2),
     (2, 1, 5, 1, 3, 2),
@@ -117,7 +118,9 @@ const INSTALLATIONS: [(u32, u32, u32, u32, u32, u32); 9] = [
 ];
 
 #[test]
-fn installations_of_the_same_tables_are_told_apart(rt: HostRuntime) -> Result<(), Fail> {
+fn installations_of_the_same_tables_each_come_out_as_their_own(
+    rt: HostRuntime,
+) -> Result<(), Fail> {
     let alloc = rt.alloc();
     let mut bag = FrameBag::new(alloc);
     for (number, version, switch, boot, defaults, rows) in &INSTALLATIONS {

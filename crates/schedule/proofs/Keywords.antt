@@ -1,13 +1,13 @@
--- Kinds and their words.
+-- Kinds and their keywords.
 use Rattle.std.proofs.Common.{ℕ, ◌≡◌, Bool, true, false, cond, Some, List, [], ◌∷◌, refl, sym, subst}
 use Rattle.std.specs.Prelude.{bytes_eq, find}
 use Rattle.std.proofs.lemmas.Slice.Eq.{bytes_eq-Decides}
-use Rattle.schedule.specs.Kinds.{kind_of, word_of}
+use Rattle.schedule.specs.Kinds.{kind_of, keyword_of}
 use Rattle.schedule.specs.declared.kind.Kind.{Kind}
 use Rattle.schedule.specs.declared.kind.Kind.TheVariants as kind
 use Rattle.schedule.specs.declared.kind.TheConstants.{KINDS}
 
-pub kind_back : (k : Kind) → kind_of (word_of k) ≡ Some k
+pub kind_back : (k : Kind) → kind_of (keyword_of k) ≡ Some k
 unfolding kind_of
 kind_back kind.Packet = refl
 kind_back _ = refl
@@ -24,8 +24,8 @@ found test (y ∷ ys) x is = first (test y) refl is (found test ys x)
         subst (λ z. test z ≡ true) same passes
     first false fails is later = later is
 
-pub word_back : (word : List ℕ) (k : Kind) → kind_of word ≡ Some k → word ≡ word_of k
+pub keyword_back : (keyword : List ℕ) (k : Kind) → kind_of keyword ≡ Some k → keyword ≡ keyword_of k
 unfolding kind_of
-word_back word k is = sym
-    ((bytes_eq-Decides (word_of k) word).0
-    (found (λ (other : Kind). bytes_eq (word_of other) word) KINDS k is))
+keyword_back keyword k is = sym
+    ((bytes_eq-Decides (keyword_of k) keyword).0
+    (found (λ (other : Kind). bytes_eq (keyword_of other) keyword) KINDS k is))
