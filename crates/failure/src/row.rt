@@ -6,6 +6,8 @@ use thiserror::Error;
 #[error("row {row}: {refusal:?}")]
 #[error_bound(R: Debug)]
 pub struct InRow<R> {
+    /// What it is refused for.
     pub refusal: R,
+    /// In which row, as the reader counts them; 0 for what stands outside of rows.
     pub row: u32,
 }

@@ -1,5 +1,6 @@
-ghost use Rattle.std.specs.Prelude.{◌≡◌, ◌+◌, ◌<◌, ◌≤◌, ◌^◌, ◌∷◌, [], All, IfOk, IfErr, OnOk, Some, map, option_map, length};
+ghost use Rattle.std.specs.Prelude.{◌≡◌, ◌+◌, ◌<◌, ◌≤◌, ◌^◌, ◌∷◌, [], All, Err, IfOk, IfErr, OnOk, Some, map, option_map, length};
 ghost use Rattle.failure.specs.Refusals.{IfRefused};
+ghost use Rattle.failure.specs.declared.error.Failure.TheVariants.{Refused};
 ghost use Rattle.five_tuple.specs.Headers.{IsHeader, IsPortBlock, cover_of};
 ghost use Rattle.five_tuple.specs.declared.header.Header.{Header};
 ghost use Rattle.policy_rules.specs.Policies.{AppendsRanked, IsPolicy, IsRuleList, IsSoundRow, RefusesRules, by_falling_priority, entries_of, first_rule, hit_of_rule, ranked_from, rules_of, scan, with_default, with_hit, word_of_row, word_total};
@@ -30,7 +31,8 @@ pub struct TooManyWords {
 /// whose word holds each header.
 ///
 /// # Errors
-/// `TooManyWords` exactly where the rows have more than 4,096 words together.
+/// `TooManyWords` exactly where the rows have more than 4,096 words together, whatever memory there
+/// is.
 pub fn to_rules(alloc: Global, policy: &Policy) -> Result<Vec<Rule>, Failure<TooManyWords>>
     ensures rules { IfOk result (λ rules. rules.items ≡ rules_of policy.now) }
     ensures first_match { IfOk result (λ rules. (header : Header) → IsHeader header →
@@ -40,6 +42,8 @@ pub fn to_rules(alloc: Global, policy: &Policy) -> Result<Vec<Rule>, Failure<Too
     ensures few { OnOk result (word_total policy.now ≤ 4096) }
     ensures policy { OnOk result (IsPolicy policy.now) }
     ensures refused { IfErr result (IfRefused (RefusesRules policy.now)) }
+    ensures many { 4096 < word_total policy.now
+        → result ≡ Err (Refused (record { words = word_total policy.now })) }
 {
     rule_list_laws();
     let words = count_words(policy);

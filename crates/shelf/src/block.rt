@@ -56,7 +56,7 @@ impl Block {
     }
 
     /// Adds the next piece of a text. Where there is no room for it, what waits is written before;
-    /// at an error the sink gained a part of the text.
+    /// at an error the sink gained a part of the text, and the block is as it was.
     pub fn push<K: Sink>(&mut self, piece: &[u8], sink: &mut K) -> Result<(), SinkError>
         requires { length piece.now ≤ 65536 }
         ensures gathered { (text : List ℕ) (before : Option (List ℕ))
@@ -65,6 +65,7 @@ impl Block {
         ensures part { (text : List ℕ) (before : Option (List ℕ))
             → IsGathered text before (K.state sink.old).bytes self.old
             → OnErr result (GainedPart before (text ++ piece.now) (K.state sink.new).bytes) }
+        ensures unchanged { OnErr result (self.new ≡ self.old) }
         ensures faults { (K.state sink.old).faults ≤ (K.state sink.new).faults }
         ensures calm { result ≢ Err SinkError.Failed
             → (K.state sink.new).faults ≡ (K.state sink.old).faults }

@@ -14,8 +14,11 @@ const MOST_SWITCHES: usize = 64;
 /// The marks, settled or not.
 #[derive(Drop)]
 pub struct Ledger {
+    /// How many versions there are.
     pub count: u32,
+    /// The newest version that each member acknowledged, with all before it.
     pub current: u32,
+    /// The version up to which all are retired.
     pub retired: u32,
     /// How many switches there are; past them the records say nothing.
     number: usize,
