@@ -2,11 +2,12 @@
 """Counts what a sceptic must read, and checks docs/THEOREM.md: `bench/theorem.py [--write] [--list]`.
 
 A definition is reached if a clause of `run` names it, or a definition that is reached does. The first tier is what is reached without
-passing one of STOPS; the core of it is what CORE reaches so. The second tier is what else is reached. The page names a file of specs/
-as `crate/File.antt`. It ends with 1 where the files that the page names in its part on a tier aren't exactly those that are reached, or
-its table of the types declared in src/ isn't exactly of those that the first tier speaks of, where a number of the page is another than
-is counted, or where this page or docs/TRUST.md says "`name` of `crate/File.antt`" and no such definition stands there. With `--write` it
-writes the numbers. With `--list` it prints each file with its lines, how many of them are reached, and what isn't.
+passing one of STOPS; the core of it is what CORE reaches so. The second tier is what else is reached. The page names a file of specs/ as
+`crate/File.antt`. It ends with 1 where the files that the page names in its part on a tier aren't exactly those that are reached, a file of
+the first tier has a definition that this tier doesn't reach, or the page's table of the types declared in src/ isn't exactly of those that the
+first tier speaks of, where a number of the page is another than is counted, or where this page or docs/TRUST.md says "`name` of
+`crate/File.antt`" and no such definition stands there. With `--write` it writes the numbers. With `--list` it prints each file with its
+lines, how many of them are reached, and what isn't.
 """
 import re
 import sys
@@ -26,7 +27,7 @@ STOPS = {
     "IsVerdict": "quiet networks",
     "asks_quiet": "quiet networks",
     "is_asked": "quiet networks",
-    "command_of": "the grammar of the words",
+    "command_of": "the grammar of the arguments",
     "net_file.net_of": "how the bytes of a file are read",
     "schedule.schedule_of": "how the bytes of a file are read",
     "policy_file.policy_of": "how the bytes of a file are read",
@@ -44,11 +45,11 @@ STOPS = {
 }
 CORE = ("IsRun", "HasCause", "AreEntered")
 DEFINES = re.compile(r"(?:abbrev pub|unfoldable pub|pub record|pub data|pub) ([^\s:]+)")
-WORD = re.compile(r"[A-Za-z_][\w-]*(?:\.[A-Za-z_][\w-]*)*")
+TOKEN = re.compile(r"[A-Za-z_][\w-]*(?:\.[A-Za-z_][\w-]*)*")
 # names of fields, which are no definitions
 FIELD = re.compile(r"^  +pub [\w-]+ :|(?<=[{;] )[\w-]+ =|^ +[\w-]+ =(?= .*;$)", re.M)
 DECLARED = re.compile(r"declared\.([a-z_.]+)\.([A-Z]\w*)(?:\.The\w+)?")
-PLACES = re.compile(r"((?:`[\w-]+`(?:,\s+|,?\s+and\s+)?)+)\s+of\s+`([^`\s]*)\.antt`")
+STANDS = re.compile(r"((?:`[\w-]+`(?:,\s+|,?\s+and\s+)?)+)\s+of\s+`([^`\s]*)\.antt`")
 USE = re.compile(r"^(?:pub |ghost )?use Rattle\.(\w+)\.specs\.([\w.]+?)(?:\.\{([^}]*)\}| as (\w+));?$", re.M)
 
 
@@ -63,13 +64,13 @@ class Module:
         self.types = {name: found for name, given in modules if (found := declared(*given))}
         self.definitions, self.variants = {}, {}
         comment, last = None, None
-        for place, line in enumerate(self.lines):
+        for at, line in enumerate(self.lines):
             if line.startswith(("use ", "pub use ", "-- ----")):
                 comment = None
             elif line.startswith("--"):
-                comment = place if comment is None else comment
+                comment = at if comment is None else comment
             elif found := DEFINES.match(line):
-                first = place if comment is None else comment
+                first = at if comment is None else comment
                 if last:
                     self.definitions[last][1] = first
                 last, comment = found.group(1), None
@@ -84,8 +85,8 @@ class Module:
         first, last = self.definitions[name]
         return [line for line in self.lines[first:last] if not line.lstrip().startswith("--")]
 
-    def words(self, name):
-        return WORD.findall(FIELD.sub("", "\n".join(self.body(name))))
+    def tokens(self, name):
+        return TOKEN.findall(FIELD.sub("", "\n".join(self.body(name))))
 
     def size(self, name):
         first, last = self.definitions[name]
@@ -129,8 +130,8 @@ class Specs:
             return found, found.variants[name]
         return self.named(*found.names[name]) if name in found.names else None
 
-    def meant(self, module, word):
-        head, *rest = word.split(".")
+    def meant(self, module, token):
+        head, *rest = token.split(".")
         if head in module.definitions:
             return module, head
         if head in module.variants:
@@ -147,8 +148,8 @@ class Specs:
             if (module.path, name) in seen or name in stops or f"{module.path.parts[-3]}.{name}" in stops:
                 continue
             seen.add((module.path, name))
-            for word in module.words(name):
-                if found := self.meant(module, word):
+            for token in module.tokens(name):
+                if found := self.meant(module, token):
                     waiting.append(found)
         by_file = {}
         for path, name in seen:
@@ -160,14 +161,14 @@ class Specs:
         by_source = {}
         for path, names in by_file.items():
             module = self.modules[path]
-            for head in {word.split(".")[0] for name in names for word in module.words(name)} & set(module.types):
+            for head in {token.split(".")[0] for name in names for token in module.tokens(name)} & set(module.types):
                 source, name = module.types[head]
                 by_source.setdefault(source, set()).add(name)
         return by_source
 
-    def defines(self, place, name):
+    def defines(self, file, name):
         """Whether a file, given as crate/File, defines this name by itself."""
-        crate, _, module = place.rpartition("/")
+        crate, _, module = file.rpartition("/")
         found = self.named(crate, module, name)
         return bool(found) and found[0].path.parts[-3::2] == (crate, f"{module}.antt")
 
@@ -182,8 +183,8 @@ def clauses():
 def tiers(specs):
     """The lines of the contract, the core, the first tier and the second, by file."""
     contract, names = clauses()
-    words = {word.split(".")[0] for line in contract for word in WORD.findall(line)}
-    roots = [found for word in sorted(words) if word in names and (found := specs.named(*names[word]))]
+    tokens = {token.split(".")[0] for line in contract for token in TOKEN.findall(line)}
+    roots = [found for token in sorted(tokens) if token in names and (found := specs.named(*names[token]))]
     every, first = specs.reached(roots), specs.reached(roots, STOPS)
     three = [(specs.modules[path], name) for path in every for name in every[path] if name in CORE]
     second = {path: every[path] for path in every if path not in first}
@@ -210,12 +211,19 @@ def misnamed(files, part):
     return [f"{name} isn't named" for name in sorted(wanted - named)] + [f"{name} isn't reached" for name in sorted(named - wanted)]
 
 
-def misplaced(specs, text):
+def misstated(specs, text):
     """What the text says of where definitions stand, and isn't so."""
-    for names, place in PLACES.findall(text):
+    for names, file in STANDS.findall(text):
         for name in re.findall(r"`([\w-]+)`", names):
-            if not specs.defines(place, name):
-                yield f"`{name}` doesn't stand in `{place}.antt`"
+            if not specs.defines(file, name):
+                yield f"`{name}` doesn't stand in `{file}.antt`"
+
+
+def needless(specs, by_file):
+    """The definitions that stand in these files and aren't reached."""
+    for path in sorted(by_file):
+        for name in sorted(set(specs.modules[path].definitions) - by_file[path]):
+            yield f"`{name}` of {path.parts[-3]}/{path.name} isn't needed"
 
 
 def mistyped(by_source, page):
@@ -259,7 +267,8 @@ def main():
         PAGE.write_text(page)
     one, two = page.split("## The first tier\n")[1].split("## The second tier\n")
     told = [f"{part}: {name}" for part, files, text in (("first tier", first, one), ("second tier", second, two)) for name in misnamed(files, text)]
-    told += [*mistyped(types, page), *misplaced(specs, page), *misplaced(specs, TRUST.read_text())]
+    told += [f"first tier: {name}" for name in needless(specs, first)]
+    told += [*mistyped(types, page), *misstated(specs, page), *misstated(specs, TRUST.read_text())]
     for line in told:
         print(line)
     sys.exit(bool(wrong or told))

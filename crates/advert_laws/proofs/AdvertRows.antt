@@ -7,7 +7,8 @@ use Rattle.ctrl_msg.specs.declared.message.Body.TheVariants.{Hello}
 use Rattle.failover.specs.Adverts.{after_hearing, first_adverts, is_news}
 use Rattle.masks.specs.Masks.{has}
 use Rattle.failover.specs.declared.advert.Advert.{Advert}
-use Rattle.masks.specs.Masks.{mask_of, mask_where, switches}
+use Rattle.masks.specs.Masks.{switches}
+use Rattle.masks.specs.Computed.{mask_of, mask_where}
 use Rattle.journal.specs.declared.item.Item.{Item}
 use Rattle.journal.specs.declared.item.Item.TheVariants as item
 use Rattle.net_file.specs.Net.{IsNet, IsSwitchRow, solo_net}

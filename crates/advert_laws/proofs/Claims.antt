@@ -34,7 +34,8 @@ use Rattle.update_machine.specs.Boots.{boot_of, changes_heard, heard, is_for_boo
 use Rattle.update_machine.specs.Causes.{HaveCauses}
 use Rattle.update_machine.specs.LinkMasks.{adverts_begun, adverts_of_others, near, other_advert}
 use Rattle.update_machine.specs.Links.{Claim, can_use, changes_claim, claim_by, claim_in, claim_of, first_claim, is_end, message_of, newer_of, serves}
-use Rattle.update_machine.specs.Setting.{Setting, switches_of}
+use Rattle.update_machine.specs.Setting.{Setting}
+use Rattle.update_machine.specs.SwitchNumbers.{switches_of}
 use Rattle.update_machine.proofs.CallerLemmas.{folded_append, heard_by_origin, near_usable, start_laws, usable_linked}
 use Rattle.version_laws.specs.ItemCauses.{HasItemCause}
 use Rattle.version_laws.proofs.Boots.{boot_rises}

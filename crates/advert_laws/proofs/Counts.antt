@@ -32,7 +32,8 @@ use Rattle.update_machine.specs.Marks.{acked_stamp, current_mark, has_acked, is_
 use Rattle.update_machine.specs.Messages.{is_sending, next_message, sends, sent_from}
 use Rattle.update_machine.specs.Moves.{AuthorityRule, arrive_items, authority_items, cache_items, end_items, found_items, header_at, in_turn, leg_items, lookup_items, move_items, put, reroute_items}
 use Rattle.update_machine.specs.Pieces.{confirm_items, expire_items, forget_items, hello_of, hop_items, lose_items, nothing, packet_items, resend_items, resent_by_switch, sends_or_nothing, step_items, update_code, update_items}
-use Rattle.update_machine.specs.Setting.{Setting, switches_of}
+use Rattle.update_machine.specs.Setting.{Setting}
+use Rattle.update_machine.specs.SwitchNumbers.{switches_of}
 use Rattle.update_machine.specs.Settling.{collect_for, current_items, install_for, installs_to, installs_to_all, open_items, resent_by_controller, resent_to_member, retired_items, settling, stamp_for, submitted_items, unacked, versions_from_current}
 use Rattle.update_machine.specs.Versions.{version_count}
 use Rattle.update_machine.proofs.CallerLemmas.{count_of_append, policies_keep}

@@ -20,7 +20,8 @@ use Rattle.journal.specs.declared.item.Item.{Item}
 use Rattle.update_machine.specs.Adverts.{adverts_known, held_adverts, own_advert}
 use Rattle.update_machine.specs.Deliveries.{advert_to, has_changed, messages_of, messages_over}
 use Rattle.update_machine.specs.Links.{is_usable}
-use Rattle.update_machine.specs.Setting.{Setting, switches_of}
+use Rattle.update_machine.specs.Setting.{Setting}
+use Rattle.update_machine.specs.SwitchNumbers.{switches_of}
 use Rattle.update_machine.specs.LinkMasks.{near, usable_links}
 use Rattle.advert_laws.proofs.NetLinks.{linked_by_mask}
 use Rattle.advert_laws.proofs.Sums.{length_filter_less, length_given_less, met_once, once, pairs_few, sum_each, sum_filter, sum_plus, sum_some, sum_times}

@@ -10,7 +10,8 @@ use Rattle.std.proofs.lemmas.List.FromFn.{get_or-range_with_len, length-range_wi
 use Rattle.std.proofs.lemmas.List.Sums.{get_or-le-sum_by, sum_by-cons}
 use Rattle.ctrl_msg.specs.declared.message.Message.{Message}
 use Rattle.failover.specs.Adverts.{held}
-use Rattle.masks.specs.Masks.{has, least_in, switches}
+use Rattle.masks.specs.Masks.{has, switches}
+use Rattle.masks.specs.Computed.{least_in}
 use Rattle.masks.proofs.CallerLemmas.{has_least}
 use Rattle.net_file.specs.Net.{IsNet}
 use Rattle.net_file.specs.Joins.{are_linked}
@@ -28,7 +29,8 @@ use Rattle.update_machine.specs.Laws.{LinksKeep}
 use Rattle.update_machine.specs.LinkMasks.{near, usable_links}
 use Rattle.update_machine.specs.Messages.{is_sending}
 use Rattle.update_machine.specs.Pieces.{piece}
-use Rattle.update_machine.specs.Setting.{Setting, switches_of}
+use Rattle.update_machine.specs.Setting.{Setting}
+use Rattle.update_machine.specs.SwitchNumbers.{switches_of}
 use Rattle.update_machine.specs.Steps.{StepItems, changes_steps, steps_in, with_item}
 use Rattle.update_machine.proofs.CallerLemmas.{count_of_append, folded_append, have_append, known_link_laws, links_keep, start_laws}
 use Rattle.version_laws.specs.ItemCauses.{HasItemCause}

@@ -1,7 +1,8 @@
 -- Messages and numbers of small journals, computed.
 use Rattle.std.proofs.Common.{◌≡◌, ◌≤◌, ◌<◌, ◌-◌, ◌^◌, false, List, [], ◌∷◌, refl, arith}
 use Rattle.failover.specs.Adverts.{first_adverts, is_news}
-use Rattle.masks.specs.Masks.{has, mask_of, mask_where, switches}
+use Rattle.masks.specs.Masks.{has, switches}
+use Rattle.masks.specs.Computed.{mask_of, mask_where}
 use Rattle.journal.specs.declared.item.Item.{Item}
 use Rattle.journal.specs.declared.item.Item.TheVariants as item
 use Rattle.steps.specs.declared.step.Step.TheVariants as step

@@ -17,7 +17,8 @@ use Rattle.update_machine.specs.Deliveries.{advert_to, has_changed, link_changes
 use Rattle.update_machine.specs.Laws.{KnownKeeps, LinksKeep, SwitchKeeps}
 use Rattle.update_machine.specs.LinkMasks.{near, other_advert}
 use Rattle.update_machine.specs.Messages.{sends}
-use Rattle.update_machine.specs.Setting.{Setting, switches_of}
+use Rattle.update_machine.specs.Setting.{Setting}
+use Rattle.update_machine.specs.SwitchNumbers.{switches_of}
 use Rattle.update_machine.proofs.CallerLemmas.{known_keeps, links_keep, switch_keeps}
 use Rattle.version_laws.proofs.Sends.{each_append, each_filter, each_flat_map, each_map, sends_kept}
 use Rattle.advert_laws.proofs.LinkCauses.{HasLinkCause, HaveLinkCauses, IsHeard, IsHeld, IsTold, IsToldIn}

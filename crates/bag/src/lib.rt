@@ -2,8 +2,8 @@
 //!
 //! A `Bag` has the frames of each message that was posted, under its number from 1. Until it is
 //! forgotten it may be delivered, in any order and more than once, as by a network that loses,
-//! doubles and reorders what it carries: then the message comes out of its frames again. What became
-//! of each is kept apart from the frames. `post` and `get` alone take memory.
+//! doubles and reorders what it carries: then the message comes out of its frames again. What
+//! became of each is kept apart from the frames. `post` and `get` alone take memory.
 //!
 //! ```text
 //! let mut bag = Bag::new(alloc);

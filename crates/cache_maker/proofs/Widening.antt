@@ -3,7 +3,8 @@ use Rattle.std.proofs.Common.{ℕ, suc, zero, ◌≡◌, ◌<◌, ◌≤◌, ◌
 use Rattle.std.specs.Prelude.{IsTrue}
 use Rattle.std.specs.Int.{bit_at}
 use Rattle.std.proofs.lemmas.Bool.{cases_lt, eq-eqb, eqb-true}
-use Rattle.ternary.specs.Word.{WordValue, IsWord, holds}
+use Rattle.ternary.specs.Word.{WordValue, holds}
+use Rattle.ternary.specs.WordBits.{IsWord}
 use Rattle.ternary.specs.Laws.{CoversLaws, MeetLaws, ExactLaws, FreeLaws}
 use Rattle.ternary.specs.Meets.{covers_of, exact_word, is_fixed_of, free_of}
 use Rattle.policy_rules.specs.declared.rules.Rule.{Rule}

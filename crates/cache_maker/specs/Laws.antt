@@ -1,6 +1,7 @@
 -- The laws of independent words: `independent_laws` of the crate ensures the record.
 use Rattle.std.specs.Prelude.{ℕ, ◌≡◌, ◌↔◌, ◌<◌, ◌^◌, List, All, Some, position, IsTrue}
-use Rattle.ternary.specs.Word.{WordValue, IsWord, holds}
+use Rattle.ternary.specs.Word.{WordValue, holds}
+use Rattle.ternary.specs.WordBits.{IsWord}
 use Rattle.ternary.specs.Meets.{covers_of, is_fixed_of, free_of}
 use Rattle.policy_rules.specs.declared.rules.Rule.{Rule}
 use Rattle.policy_rules.specs.Rules.{is_held}

@@ -1,7 +1,8 @@
 ghost use Rattle.std.specs.Prelude.{ℕ, ◌≡◌, ◌^◌, ◌<◌, ◌==◌, ◌&&◌, not, Some, All, position, IsTrue};
 ghost use Rattle.std.specs.Int.{bit_at, trailing_zeros, w128};
 ghost use Rattle.five_tuple.specs.Header.{number_of};
-ghost use Rattle.ternary.specs.Word.{IsWord, holds};
+ghost use Rattle.ternary.specs.Word.{holds};
+ghost use Rattle.ternary.specs.WordBits.{IsWord};
 ghost use Rattle.ternary.specs.Meets.{is_fixed_of, free_of};
 ghost use Rattle.policy_rules.specs.Rules.{is_held};
 ghost use Rattle.policy_rules.specs.declared.rules.Rule.{Rule};

@@ -1,8 +1,8 @@
 //! The messages of a controller and its switches, as plain values.
 //!
 //! Two messages of equal content are equal: contracts see the tables that an `Install` carries as
-//! their value. Its clones share them, and the trees for lookups in them (`table_tree`), which tables
-//! that differ in their version alone share too.
+//! their value. Its clones share them, and the trees for lookups in them (`table_tree`), which
+//! tables that differ in their version alone share too.
 #![tactic(auto)]
 
 mod message;

@@ -46,9 +46,9 @@ impl SharedTables {
         })
     }
 
-    /// The same tables with trees, which are grown unless there are some. Tables of which a list has
-    /// 2^32 entries or more get none. Regions that overlap, as in no sound tables, may get a tree far
-    /// larger than their list.
+    /// The same tables with trees, which are grown unless there are some. Tables of which a list
+    /// has 2^32 entries or more get none. Regions that overlap, as in no sound tables, may get a
+    /// tree far larger than their list.
     ///
     /// # Errors
     /// Want of memory alone.

@@ -5,7 +5,8 @@ use Rattle.std.specs.List.{All}
 use Rattle.std.proofs.lemmas.Bool.{cases_Bool}
 use Rattle.std.proofs.lemmas.List.{at_drop_all}
 use Rattle.std.proofs.lemmas.List.Elements.{All-nil, All-cons, All-head, All-tail, All-same}
-use Rattle.ternary.specs.Word.{WordValue, IsWord}
+use Rattle.ternary.specs.Word.{WordValue}
+use Rattle.ternary.specs.WordBits.{IsWord}
 use Rattle.ternary.specs.Meets.{meets, joined, meet_of, covers_of}
 use Rattle.ternary.proofs.CallerLemmas.{covers_full, meet_within, meet_word}
 use Rattle.policy_rules.specs.declared.rules.Rule.{Rule}

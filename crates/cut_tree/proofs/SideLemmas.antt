@@ -6,7 +6,8 @@ use Rattle.std.proofs.lemmas.Bool.{cases_eq, cases_Bool, both_ways, false_from_n
 use Rattle.std.proofs.lemmas.Bool.Decides.{nat_tests}
 use Rattle.std.proofs.lemmas.Nat.{pow_below, xor_lt}
 use Rattle.std.proofs.lemmas.Nat.Bits.{bit_at-lt, bit_at-zero, bit_at_and, bit_at_or, bit_at_xor, bit_at_not, bit_at-pow_same, bit_at-pow_other, bit_at-trailing_zeros, same_from_bits}
-use Rattle.ternary.specs.Word.{WordValue, IsWord}
+use Rattle.ternary.specs.Word.{WordValue}
+use Rattle.ternary.specs.WordBits.{IsWord}
 use Rattle.ternary.specs.Meets.{is_fixed_of, admits, meets, covers_of, fix_of, free_of}
 use Rattle.ternary.proofs.CallerLemmas.{covers_decides, covers_half, meets_comm, meets_cover, meets_half, without_bit-other, without_bit-same}
 use Rattle.policy_rules.specs.declared.rules.Rule.{Rule}

@@ -1,6 +1,7 @@
 -- What holds of the rules at a node of a tree.
 use Rattle.std.specs.Prelude.{ℕ, ◌<◌, ◌≤◌, List, length, All, IsTrue}
-use Rattle.ternary.specs.Word.{WordValue, IsWord}
+use Rattle.ternary.specs.Word.{WordValue}
+use Rattle.ternary.specs.WordBits.{IsWord}
 use Rattle.ternary.specs.Meets.{covers_of, is_fixed_of}
 use Rattle.policy_rules.specs.declared.rules.Rule.{Rule}
 

@@ -39,7 +39,8 @@ impl Counters {
         }
     }
 
-    /// How many planes, from the first, hold all the counts of both: no counter has a bit past them.
+    /// How many planes, from the first, hold all the counts of both: no counter has a bit past
+    /// them.
     pub fn height(&self, other: &Counters) -> usize
         ensures here { IsHeight self.now.planes result }
         ensures there { IsHeight other.now.planes result }

@@ -4,7 +4,8 @@ use Rattle.std.proofs.lemmas.Bool.Decides.{nat_tests}
 use Rattle.std.proofs.lemmas.Bool.{cases_lt}
 use Rattle.std.proofs.lemmas.List.{get_or_past, get_or-map, length-map}
 use Rattle.failover.specs.declared.advert.Advert.{Advert}
-use Rattle.masks.specs.Masks.{has, mask_where, switches, mask_of}
+use Rattle.masks.specs.Masks.{has, switches}
+use Rattle.masks.specs.Computed.{mask_where, mask_of}
 use Rattle.failover.specs.Links.{named_links, is_link, links_at, known_links, neighbours_named, has_link}
 use Rattle.failover.specs.Paths.{IsIsolated}
 use Rattle.failover.specs.Isolated.{is_isolated, names, IsDatabase, links_of_each}

@@ -10,7 +10,7 @@ use crate::tables::{TableFrames, spell};
 use ctrl_msg::{Message, SharedTables};
 use std::alloc::{AllocError, Global};
 use std::marker::Model;
-use wire::{append, split};
+use wire::append;
 
 /// The messages that were posted, numbered from 1 in their order. Contracts see the list of their
 /// frames.

@@ -20,8 +20,8 @@ const HEADER_LEN: usize = 8;
 /// How many bits the number of a packet's header has.
 const HEADER_BITS: u32 = 104;
 
-/// The frames of an installation of some tables: those behind its first one say the tables, and each
-/// installation of the same tables that is posted shares them. Contracts see the frames.
+/// The frames of an installation of some tables: those behind its first one say the tables, and
+/// each installation of the same tables that is posted shares them. Contracts see the frames.
 #[derive(Drop)]
 pub struct TableFrames {
     // The tables as they come out of the frames: those of each message that is taken.

@@ -10,8 +10,8 @@ ghost use Rattle.frame_laws.specs.Feeding.{AreAllAmong, AreOf, HasFrames, held_a
 ghost use Rattle.frame_laws.specs.Installing.{install_frames};
 
 /// In whatever order the frames of a message come, and with whatever repeats: an assembler that was
-/// fed with them refuses none; all places are held exactly where each frame of the message has come;
-/// and then what is held is the message's frames.
+/// fed with them refuses none; all places are held exactly where each frame of the message has
+/// come; and then what is held is the message's frames.
 ///
 /// So, as `Assembler::feed` ensures, it answers `None` until the last of them has come, and the
 /// message then and at each repeat.

@@ -16,7 +16,8 @@ use Rattle.net_file.specs.Joins.{owner_of}
 use Rattle.policy_rules.specs.declared.policy.Action.{Action}
 use Rattle.policy_rules.specs.declared.policy.Action.TheVariants.{Drop, Out}
 use Rattle.policy_rules.specs.declared.policy.Row.{Row}
-use Rattle.steps.specs.Steps.{IsEvent, max_events}
+use Rattle.steps.specs.Steps.{IsEvent}
+use Rattle.steps.specs.Limits.{max_events}
 use Rattle.steps.specs.declared.step.Event.{Event}
 use Rattle.steps.specs.declared.step.Event.TheVariants.{Drain, Flush, One}
 use Rattle.steps.specs.declared.step.Step.{Step}

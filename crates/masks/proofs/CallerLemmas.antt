@@ -6,7 +6,8 @@ use Rattle.std.proofs.lemmas.Bool.Decides.{nat_tests}
 use Rattle.std.proofs.lemmas.Nat.{pow_below, pow_pos, or_lt}
 use Rattle.std.proofs.lemmas.Nat.Bits.{bit_at_and, bit_at_or, bit_at-lt, bit_at-zero, bit_at-pow_same, bit_at-pow_other, bit_at_above, same_from_bits, same_from_bits_below, bit_at-trailing_zeros}
 use Rattle.std.proofs.lemmas.List.FromFn.{get_or-range_with_len}
-use Rattle.masks.specs.Masks.{has, mask_of, mask_where, only_if, switches, least_in}
+use Rattle.masks.specs.Masks.{has, switches}
+use Rattle.masks.specs.Computed.{mask_of, mask_where, only_if, least_in}
 use Rattle.masks.specs.Laws.{MaskLaws}
 
 -- ---- one switch of a mask

@@ -1,6 +1,7 @@
 -- The laws of masks: `mask_laws` of the crate ensures them.
 use Rattle.std.specs.Prelude.{ℕ, ◌≡◌, ◌^◌, ◌<◌, ◌≤◌, Bool, false}
-use Rattle.masks.specs.Masks.{has, mask_of}
+use Rattle.masks.specs.Masks.{has}
+use Rattle.masks.specs.Computed.{mask_of}
 
 pub record MaskLaws : Type 0 where
   pub small : (test : ℕ → Bool) → mask_of test < 2 ^ 64

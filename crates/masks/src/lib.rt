@@ -8,7 +8,8 @@
 
 ghost use Rattle.std.specs.Prelude.{◌≡◌, ◌<◌, ◌^◌, ◌==◌, bit_or};
 ghost use Rattle.std.specs.Int.{bit_at};
-ghost use Rattle.masks.specs.Masks.{has, only_if};
+ghost use Rattle.masks.specs.Masks.{has};
+ghost use Rattle.masks.specs.Computed.{only_if};
 ghost use Rattle.masks.specs.Laws.{MaskLaws};
 
 /// Whether the set has this number.

@@ -11,7 +11,8 @@ use Rattle.five_tuple.specs.Cover.{Block, IsPortBlock, block_holds}
 use Rattle.five_tuple.specs.declared.header.Header.{Header}
 use Rattle.five_tuple.specs.declared.matching.Proto.{Proto}
 use Rattle.five_tuple.specs.declared.matching.Proto.TheVariants.{Any, Is}
-use Rattle.ternary.specs.Word.{IsWord, holds}
+use Rattle.ternary.specs.Word.{holds}
+use Rattle.ternary.specs.WordBits.{IsWord}
 use Rattle.policy_rules.specs.declared.policy.Row.{Row}
 use Rattle.policy_rules.specs.Policy.{IsSoundRow}
 use Rattle.policy_rules.specs.Words.{prefix_mask, proto_mask, proto_value, word_of_row}

@@ -8,7 +8,8 @@ use Rattle.std.proofs.lemmas.List.FromFn.{get_or-enumerate_from, length-enumerat
 use Rattle.std.proofs.lemmas.List.Sorted.{All-permutation, sum_by-IsPermutation}
 use Rattle.five_tuple.specs.Cover.{Block, IsPortBlock, cover_of}
 use Rattle.five_tuple.proofs.CallerLemmas.{is_cover_of}
-use Rattle.ternary.specs.Word.{WordValue, IsWord}
+use Rattle.ternary.specs.Word.{WordValue}
+use Rattle.ternary.specs.WordBits.{IsWord}
 use Rattle.ternary.specs.Meets.{any_word}
 use Rattle.policy_rules.specs.declared.policy.Row.{Row}
 use Rattle.policy_rules.specs.declared.policy.Hit.{Hit}

@@ -4,7 +4,8 @@ use Rattle.std.specs.List.{list_any}
 use Rattle.std.specs.List.Sorted.{IsPermutation}
 use Rattle.five_tuple.specs.Header.{IsHeader, fields_of, number_of}
 use Rattle.five_tuple.specs.declared.header.Header.{Header}
-use Rattle.ternary.specs.Word.{IsWord, holds}
+use Rattle.ternary.specs.Word.{holds}
+use Rattle.ternary.specs.WordBits.{IsWord}
 use Rattle.policy_rules.specs.Policy.{IsFirstMatch, IsPolicy, IsSoundRow, row_matches}
 use Rattle.policy_rules.specs.Rules.{first_rule}
 use Rattle.policy_rules.specs.RuleList.{IsRuleList, by_falling_priority, hit_of_rule, rules_of, word_count, word_total}

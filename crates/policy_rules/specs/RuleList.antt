@@ -2,7 +2,8 @@
 use Rattle.std.specs.Prelude.{ℕ, zero, suc, ◌≡◌, ◌*◌, ◌^◌, ◌<◌, ◌==◌, Some, None, List, [], ◌∷◌, ◌++◌, length, map, filter, All, sum_by, slice_index_or}
 use Rattle.std.specs.List.{flat_map, enumerate_from}
 use Rattle.five_tuple.specs.Cover.{cover_of}
-use Rattle.ternary.specs.Word.{WordValue, IsWord}
+use Rattle.ternary.specs.Word.{WordValue}
+use Rattle.ternary.specs.WordBits.{IsWord}
 use Rattle.ternary.specs.Meets.{any_word}
 use Rattle.policy_rules.specs.Scan.{hit_of}
 use Rattle.policy_rules.specs.Words.{words_of_row}

@@ -1,5 +1,5 @@
--- What is left of the messages that wait: none exactly where each that matters was delivered, or one
--- that is sent later and replaces it.
+-- What is left of the messages that wait: none exactly where each that matters was delivered, or
+-- one that is sent later and replaces it.
 use Rattle.std.proofs.Common.{◌≡◌, ◌&&◌, ◌||◌, ◌==◌, Bool, true, false, not, if◌then◌else◌, List, [], ◌∷◌, ◌++◌, length, refl, ap, sym, ◌∙◌, append-nil, arith, ne_eqb}
 use Rattle.std.proofs.lemmas.Bool.{and_right, or_right}
 use Rattle.ctrl_msg.specs.declared.message.Message.{Message}

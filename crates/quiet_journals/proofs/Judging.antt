@@ -19,7 +19,8 @@ use Rattle.update_machine.specs.Boots.{boot_of, is_up}
 use Rattle.update_machine.specs.Marks.{current_mark}
 use Rattle.update_machine.specs.Messages.{was_delivered}
 use Rattle.update_machine.specs.Quiet.{IsQuiet, IsReceived, Replaces, Sending, is_later_body, is_of_old_tables, is_waited_for, matters, sendings, speaker}
-use Rattle.update_machine.specs.Setting.{Setting, switches_of}
+use Rattle.update_machine.specs.Setting.{Setting}
+use Rattle.update_machine.specs.SwitchNumbers.{switches_of}
 use Rattle.update_machine.specs.Settling.{to_switch}
 use Rattle.quiet_laws.proofs.Lists.{IsIn, all_in, each_in, each_of_in, in_range, in_right, of_range, some_in}
 use Rattle.version_laws.proofs.Sends.{each_range}

@@ -83,8 +83,8 @@ abbrev pub is_same : Advert → Advert → Bool
 is_same one other = one.origin == other.origin && one.boot == other.boot && one.seq == other.seq
     && one.up == other.up
 
--- the body says what the other one does, of the same or a greater version, or of the same or a newer
--- advert; tables are known by their version
+-- the body says what the other one does, of the same or a greater version, or of the same or a
+-- newer advert; tables are known by their version
 abbrev pub says_as_much : Body → Body → Bool
 says_as_much (Install boot tables) (Install of earlier) =
     boot == of && tables.version == earlier.version

@@ -1,6 +1,6 @@
--- What the judge needs of a journal: its messages are numbered in the order in which they were sent,
--- each is to a switch of the network, or of one and to the controller, and the tables of a version
--- that are sent to a switch are always the same.
+-- What the judge needs of a journal: its messages are numbered in the order in which they were
+-- sent, each is to a switch of the network, or of one and to the controller, and the tables of a
+-- version that are sent to a switch are always the same.
 use Rattle.std.specs.Prelude.{⊤, ℕ, ◌≡◌, ◌<◌, List, [], ◌∷◌, All, Any}
 use Rattle.std.specs.List.{AllByRecursion}
 use Rattle.ctrl_msg.specs.declared.message.Body.{Body}

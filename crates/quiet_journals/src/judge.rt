@@ -11,9 +11,9 @@ use net_file::Net;
 use std::alloc::{AllocError, Global};
 
 /// Whether the network is quiet behind its journal: each switch is up, or the controller doesn't
-/// wait for it, and each message that still matters was delivered, or one that replaces it. Its time
-/// is in the order of the journal's length, and of the number of crashes, boots and risen versions
-/// times that of switches.
+/// wait for it, and each message that still matters was delivered, or one that replaces it. Its
+/// time is in the order of the journal's length, and of the number of crashes, boots and risen
+/// versions times that of switches.
 ///
 /// # Errors
 /// Want of memory alone.

@@ -104,8 +104,8 @@ fn let_go(messages: &mut Vec<SharedMessage>, next: &Message)
     messages.retain(|earlier| !says_again(next, earlier.get()));
 }
 
-// Whether the message is one to the switch or of it that matters, where it was sent in this boot: the
-// switch is up.
+// Whether the message is one to the switch or of it that matters, where it was sent in this boot:
+// the switch is up.
 fn matters(message: &Message, life: &Life, boot: u32) -> bool
     ensures { result ≡ matters_to life.now boot message.now }
 {

@@ -19,7 +19,8 @@ use Rattle.update_machine.specs.Laws.{ControllerKeeps}
 use Rattle.update_machine.specs.Marks.{current_mark, hello_boot, is_over, known_boot, raises_known, said_to_controller}
 use Rattle.update_machine.specs.Messages.{sends}
 use Rattle.update_machine.specs.Pieces.{confirm_items, deliver_items, piece, step_items, update_items}
-use Rattle.update_machine.specs.Setting.{Setting, switches_of}
+use Rattle.update_machine.specs.Setting.{Setting}
+use Rattle.update_machine.specs.SwitchNumbers.{switches_of}
 use Rattle.update_machine.specs.Settling.{install_for, installs_to, installs_to_all, settling, to_switch, versions_from_current}
 use Rattle.update_machine.specs.Versions.{tables_at, version_count}
 use Rattle.update_machine.specs.Links.{message_of}

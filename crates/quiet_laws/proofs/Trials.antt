@@ -6,7 +6,8 @@ use Rattle.ctrl_msg.specs.declared.message.Body.TheVariants.{Hello}
 use Rattle.ctrl_msg.specs.Kinds.{to_controller}
 use Rattle.failover.specs.Adverts.{first_advert}
 use Rattle.failover.specs.Links.{has_link, no_links, with_link}
-use Rattle.masks.specs.Masks.{has, mask_of, mask_where, switches}
+use Rattle.masks.specs.Masks.{has, switches}
+use Rattle.masks.specs.Computed.{mask_of, mask_where}
 use Rattle.journal.specs.declared.item.Item.TheVariants as item
 use Rattle.update_machine.specs.Boots.{is_up}
 use Rattle.update_machine.specs.Links.{is_link_up, serves, message_of}

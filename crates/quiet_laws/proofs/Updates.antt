@@ -16,7 +16,8 @@ use Rattle.update_machine.specs.Causes.{HaveCauses}
 use Rattle.update_machine.specs.Marks.{AreSettled, acked_stamp, all_acked, controller_heard, current_mark, has_acked, hello_boot, installed_in, is_joining, is_member, is_over, known_boot, least, members, next_retired, open_version, opened_at, retired_mark, stamped_in}
 use Rattle.update_machine.specs.Pieces.{piece}
 use Rattle.update_machine.specs.Quiet.{IsQuiet, is_later_body, is_waited_for}
-use Rattle.update_machine.specs.Setting.{Setting, switches_of}
+use Rattle.update_machine.specs.Setting.{Setting}
+use Rattle.update_machine.specs.SwitchNumbers.{switches_of}
 use Rattle.update_machine.specs.Settling.{stamp_for}
 use Rattle.update_machine.specs.Versions.{first_stamp, stamp_in, stamp_of, version_count}
 use Rattle.update_machine.specs.Links.{serves}

@@ -7,7 +7,8 @@ use Rattle.update_machine.specs.Answers.{Answers}
 use Rattle.update_machine.specs.Boots.{is_up}
 use Rattle.update_machine.specs.Messages.{is_forgotten, next_waiting}
 use Rattle.update_machine.specs.Quiet.{is_waited_for}
-use Rattle.update_machine.specs.Setting.{Setting, switches_of}
+use Rattle.update_machine.specs.Setting.{Setting}
+use Rattle.update_machine.specs.SwitchNumbers.{switches_of}
 
 -- no message waits, none was forgotten, and each switch is up, or the controller doesn't wait for
 -- it

@@ -5,7 +5,8 @@ use Rattle.std.specs.Prelude.{◌≡◌, ◌-◌, List, All, IsTrue}
 use Rattle.journal.specs.declared.item.Item.{Item}
 use Rattle.update_machine.specs.Boots.{is_up}
 use Rattle.update_machine.specs.Marks.{current_mark, retired_mark}
-use Rattle.update_machine.specs.Setting.{Setting, switches_of}
+use Rattle.update_machine.specs.Setting.{Setting}
+use Rattle.update_machine.specs.SwitchNumbers.{switches_of}
 use Rattle.update_machine.specs.Versions.{stamp_of, version_count}
 use Rattle.update_machine.specs.Links.{serves}
 

@@ -39,9 +39,9 @@ pub fn finished_networks_are_quiet()
         IsFinished setting journal → IsQuiet setting journal) }
 {}
 
-/// A schedule that ends with a flush leaves no message waiting. So where none was forgotten, and each
-/// switch that went down came up again or was confirmed, its network is quiet: it has converged, and
-/// every switch that is up stamps with the newest version.
+/// A schedule that ends with a flush leaves no message waiting. So where none was forgotten, and
+/// each switch that went down came up again or was confirmed, its network is quiet: it has
+/// converged, and every switch that is up stamps with the newest version.
 pub fn flushed_networks_have_converged()
     ensures quiet { (setting : Setting) (events : List Event) (journal : List Item)
         → EndsFinished setting events journal → IsQuiet setting journal }

@@ -6,7 +6,8 @@ use Rattle.steps.specs.declared.step.Event.{Event}
 use Rattle.steps.specs.declared.step.Event.TheVariants.{Drain, Flush, One}
 use Rattle.steps.specs.declared.step.Step.{Step}
 use Rattle.steps.specs.declared.step.Step.TheVariants.{Deliver, Hop, Packet}
-use Rattle.steps.specs.Steps.{IsEvent, IsStep, max_events}
+use Rattle.steps.specs.Steps.{IsEvent, IsStep}
+use Rattle.steps.specs.Limits.{max_events}
 use Rattle.way_laws.specs.Drains.{drain_left}
 use Rattle.update_machine.specs.Answers.{IsReached}
 use Rattle.update_machine.specs.Full.{HasRoom}

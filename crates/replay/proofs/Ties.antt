@@ -1,6 +1,6 @@
 -- What a world that is as its journal says is.
 use Rattle.std.proofs.Common.{ℕ, ◌≤◌, arith}
-use Rattle.steps.specs.Steps.{max_events}
+use Rattle.steps.specs.Limits.{max_events}
 use Rattle.update_machine.specs.Answers.{IsReached}
 use Rattle.update_machine.specs.Packets.{next_packet}
 use Rattle.world.specs.State.{IsTied, WorldValue, setting_at}

@@ -1,5 +1,6 @@
 ghost use Rattle.std.specs.Prelude.{◌≡◌, ◌+◌, ◌≤◌, false, length, map, IsErrOf, OnErr, OnOk};
-ghost use Rattle.steps.specs.Steps.{IsEvent, max_events};
+ghost use Rattle.steps.specs.Steps.{IsEvent};
+ghost use Rattle.steps.specs.Limits.{max_events};
 ghost use Rattle.world.specs.NoStep.{no_step};
 ghost use Rattle.replay.specs.Leavings.{KeepUp};
 ghost use Rattle.replay.specs.Playing.{BeginsEvent, Happens, StopsWithin, brought_in, next_step};

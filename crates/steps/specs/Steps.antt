@@ -9,10 +9,6 @@ use Rattle.steps.specs.declared.step.Event.TheVariants.{One, Flush, Drain}
 use Rattle.steps.specs.declared.step.Step.{Step}
 use Rattle.steps.specs.declared.step.Step.TheVariants as step
 
--- the most events of a schedule
-abbrev pub max_events : ℕ
-max_events = 100_000
-
 -- the greatest number by which a step names a packet, a message or a place of a cache
 abbrev pub max_number : ℕ
 max_number = 999_999_999

@@ -1,7 +1,7 @@
--- What a switch answers to a packet that comes in, or that is at the end of its route, as functions:
--- both by the answer of one lookup (Yu, Rexford, Freedman and Wang, "Scalable Flow-Based Networking
--- with DIFANE", SIGCOMM 2010). What they say are the relations of `AnswerLaws`, which allow no other
--- answer.
+-- What a switch answers to a packet that comes in, or that is at the end of its route, as
+-- functions: both by the answer of one lookup (Yu, Rexford, Freedman and Wang, "Scalable Flow-Based
+-- Networking with DIFANE", SIGCOMM 2010). What they say are the relations of `AnswerLaws`, which
+-- allow no other answer.
 use Rattle.std.specs.Prelude.{⊤, ℕ, ◌≡◌, None, if◌then◌else◌, IsSomeAnd, IsTrue, IfSome, Result, Ok, Err}
 use Rattle.std.specs.Option.{option_map_or}
 use Rattle.five_tuple.specs.declared.header.Header.{Header}
@@ -108,8 +108,8 @@ IsAtAuthority s header (SeekLeg version partition) =
     (λ tables. IsSomeAnd (own_part tables partition) (λ part. IsTrue (is_in header part)))
 IsAtAuthority s header (ExitLeg port) = ⊤
 
--- out by the leg's port; or by the tables of the leg's version, and where the switch hasn't got them
--- by a new lookup
+-- out by the leg's port; or by the tables of the leg's version, and where the switch hasn't got
+-- them by a new lookup
 abbrev pub arrived_on : SwitchValue → Site → Packet → Leg → Arrived
 arrived_on s site packet (ExitLeg port) = arrival.Out port
 arrived_on s site packet (SeekLeg version partition) =

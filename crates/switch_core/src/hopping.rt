@@ -44,9 +44,9 @@ impl Switch {
         hop
     }
 
-    /// Whether a packet finds no link down, by the next switch of its route alone: no tunnel is made
-    /// for it. It is counted exactly where the answer is true; otherwise `hop` says what becomes of
-    /// it.
+    /// Whether a packet finds no link down, by the next switch of its route alone: no tunnel is
+    /// made for it. It is counted exactly where the answer is true; otherwise `hop` says what
+    /// becomes of it.
     pub fn pass(&mut self, next: Option<u32>, near: u64) -> bool
         requires { IfSome next (λ other. other < 64) }
         ensures free { result ≡ is_free near next }

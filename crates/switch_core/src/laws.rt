@@ -24,15 +24,15 @@ pub fn exit_laws()
     ensures { ExitLaws }
 {}
 
-/// What `Switch::arrive` answers, by the tables of the leg's version or by a lookup: a relation that
-/// allows one answer. A law on the definition alone.
+/// What `Switch::arrive` answers, by the tables of the leg's version or by a lookup: a relation
+/// that allows one answer. A law on the definition alone.
 pub fn arrive_laws()
     ensures { ArriveLaws }
 {}
 
-/// By which rules a switch decides packets that come in or arrive, when and which rule it sends to a
-/// cache, and that by the tables of a plan its own rules decide as the plan's policy does: a law on
-/// the definitions alone.
+/// By which rules a switch decides packets that come in or arrive, when and which rule it sends to
+/// a cache, and that by the tables of a plan its own rules decide as the plan's policy does: a law
+/// on the definitions alone.
 pub fn decision_laws()
     ensures { DecisionLaws }
 {}

@@ -11,8 +11,8 @@ use ctrl_msg::Body;
 use net_file::Ports;
 use policy_rules::{Action, Cause, Leg, Targets};
 
-/// What a lookup or a rule says of a packet, before a route is taken: small beside the answer, which
-/// has room for a route. `Switch::way` finds the route.
+/// What a lookup or a rule says of a packet, before a route is taken: small beside the answer,
+/// which has room for a route. `Switch::way` finds the route.
 #[derive(Drop)]
 pub enum Verdict {
     /// Decided, and at its end.

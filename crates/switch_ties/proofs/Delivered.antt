@@ -30,7 +30,8 @@ use Rattle.update_machine.specs.Laws.{LinksKeep}
 use Rattle.update_machine.specs.LinkMasks.{near}
 use Rattle.update_machine.specs.Messages.{sends, sent_from}
 use Rattle.update_machine.specs.Moves.{put}
-use Rattle.update_machine.specs.Setting.{Setting, switches_of}
+use Rattle.update_machine.specs.Setting.{Setting}
+use Rattle.update_machine.specs.SwitchNumbers.{switches_of}
 use Rattle.update_machine.specs.Settling.{to_switch}
 use Rattle.update_machine.specs.Versions.{stamp_of}
 use Rattle.update_machine.specs.Links.{serves, message_of}

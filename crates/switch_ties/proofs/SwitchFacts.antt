@@ -15,7 +15,8 @@ use Rattle.update_machine.specs.Boots.{boot_of, heard, is_up}
 use Rattle.update_machine.specs.Caches.{cache_of}
 use Rattle.update_machine.specs.Handled.{handled_count}
 use Rattle.update_machine.specs.LinkMasks.{near, other_advert}
-use Rattle.update_machine.specs.Setting.{Setting, switches_of}
+use Rattle.update_machine.specs.Setting.{Setting}
+use Rattle.update_machine.specs.SwitchNumbers.{switches_of}
 use Rattle.update_machine.specs.Versions.{collects, greatest, holds_version, installs, stamp_in, stamp_of, tables_at, file_of, plan_at}
 use Rattle.update_machine.specs.Links.{serves}
 use Rattle.switch_ties.specs.SwitchOf.{collect_in, switch_of, tables_in, with_tables}

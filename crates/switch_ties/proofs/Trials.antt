@@ -4,7 +4,8 @@ use Rattle.std.specs.Prelude.{nat_eq}
 use Rattle.std.specs.List.{list_any}
 use Rattle.ctrl_msg.specs.declared.message.Body.{Body}
 use Rattle.ctrl_msg.specs.declared.message.Body.TheVariants.{Collect, Install}
-use Rattle.masks.specs.Masks.{mask_of, mask_where, switches}
+use Rattle.masks.specs.Masks.{switches}
+use Rattle.masks.specs.Computed.{mask_of, mask_where}
 use Rattle.policy_rules.specs.declared.packet.Leg.TheVariants.{Seek}
 use Rattle.policy_rules.specs.declared.policy.Action.TheVariants.{Drop, Out}
 use Rattle.switch_table.specs.Tables.{Hosted}

@@ -14,7 +14,8 @@ use Rattle.five_tuple.specs.Laws.{HeaderLaws}
 use Rattle.five_tuple.specs.declared.header.Header.{Header}
 use Rattle.five_tuple.specs.HeaderNumbers.{header_numbered}
 use Rattle.ternary.specs.Laws.{HoldsLaws, MeetLaws}
-use Rattle.ternary.specs.Word.{WordValue, IsWord, holds}
+use Rattle.ternary.specs.Word.{WordValue, holds}
+use Rattle.ternary.specs.WordBits.{IsWord}
 use Rattle.ternary.specs.Meets.{any_word, fix_of, is_fixed_of, meets, meet_of}
 use Rattle.ternary.proofs.CallerLemmas.{any_covers, fix_holds, fix_word, free_bits_shorter, is_some-meet_of, meet_both, meet_disjoint, meet_word, meets_cover}
 use Rattle.switch_table.specs.Tables.{row_has}

@@ -1,6 +1,6 @@
 -- A decision tree that finds the first rule of a header: a list of rules is cut as in Yu, Rexford,
--- Freedman and Wang, "Scalable Flow-Based Networking with DIFANE", SIGCOMM 2010; where a cut pays is
--- this project's own.
+-- Freedman and Wang, "Scalable Flow-Based Networking with DIFANE", SIGCOMM 2010; where a cut pays
+-- is this project's own.
 use Rattle.std.specs.Prelude.{ℕ, zero, suc, ◌+◌, ◌*◌, ◌&&◌, if◌then◌else◌, nat_lt, nat_le, Bool, true, false, Option, Some, None, List, [], ◌∷◌, length, map, slice_get}
 use Rattle.std.specs.Option.{option_map_or}
 use Rattle.ternary.specs.Word.{WordValue, holds}
@@ -46,8 +46,8 @@ paying_cut zero rules region = None
 paying_cut (suc cuts) rules region = if_pays (length rules) (least_below 104 rules region)
 
 -- the places of these rules, where there is no cut; both sides of it, grown in this way
-abbrev pub parted : (List Rule → WordValue → LookupTree (List ℕ)) → List Rule → WordValue → Option Cost
-    → LookupTree (List ℕ)
+abbrev pub parted : (List Rule → WordValue → LookupTree (List ℕ)) → List Rule → WordValue
+    → Option Cost → LookupTree (List ℕ)
 parted grow rules region None = Leaf (map (λ (rule : Rule). rule.rank) rules)
 parted grow rules region (Some cost) =
     Sides cost.bit

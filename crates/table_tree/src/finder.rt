@@ -96,8 +96,8 @@ impl Finder {
         &self.trees.tree
     }
 
-    /// The place of the first rule that holds the header, in the authority partition of this number.
-    /// It takes no memory.
+    /// The place of the first rule that holds the header, in the authority partition of this
+    /// number. It takes no memory.
     pub fn first(&self, partition: u32, header: &Header) -> Option<usize>
         requires { IsSomeAnd (find (λ part. part.number == partition) self.now.tables.auth)
             (λ part. IsTrue (is_in header.now part)) }

@@ -40,8 +40,8 @@ impl Tree {
     }
 }
 
-/// The tree of the regions of a node. A node that has several, or none, and can't be cut gets an end
-/// at place 0: there is none in the tree of sound tables.
+/// The tree of the regions of a node. A node that has several, or none, and can't be cut gets an
+/// end at place 0: there is none in the tree of sound tables.
 #[tactic(auto, using(crate::proofs::NodeLemmas::half_smaller, crate::proofs::FindLemmas::end_is))]
 pub fn grow(alloc: Global, node: Node) -> Result<Tree, AllocError>
     ensures { IfOk result (λ tree. IsGrownShape node.spots.items node.region (spot_shape_of tree)) }

@@ -9,8 +9,8 @@ use policy_rules::Partition;
 use std::alloc::{AllocError, Global};
 use switch_table::PartRow;
 
-/// Trees for the tables of a switch, whatever their version: one over their partition rules, and one
-/// over the rules of each authority partition.
+/// Trees for the tables of a switch, whatever their version: one over their partition rules, and
+/// one over the rules of each authority partition.
 #[derive(Debug, Drop)]
 pub struct Trees {
     pub tree: Tree,

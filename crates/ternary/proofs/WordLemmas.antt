@@ -10,7 +10,8 @@ use Rattle.std.proofs.lemmas.Bool.Decides.{same_from_decides, Decides-like, Deci
 use Rattle.std.proofs.lemmas.Nat.{and_assoc, and_le_r, and_mask, pow_below}
 use Rattle.std.proofs.lemmas.Nat.Bits.{bit_at-zero, bit_at_ones, shr_and_one, same_from_bits_below}
 use Rattle.std.proofs.lemmas.Option.{cond_some}
-use Rattle.ternary.specs.Word.{WordValue, IsWord, fixed_value, holds}
+use Rattle.ternary.specs.Word.{WordValue, fixed_value, holds}
+use Rattle.ternary.specs.WordBits.{IsWord}
 use Rattle.ternary.specs.Meets.{AgreesOnMask, AgreesOnBoth, IsFixedIn, Includes, AreDisjoint, IsMeet, any_word, exact_word, meets, joined, meet_of, covers_of, is_fixed_of, admits, fix_of, free_of, with_bit, without_bit, word_eq}
 use Rattle.ternary.proofs.BitLemmas.{masked, unmasked, part, of_part, both_set, left_set, right_set, or_assoc, absorbed, same_set, set_below, not_set, by_place, digit_cases, with_bit-same, with_bit-other, with_bit-lt, without_bit-same, without_bit-other, without_bit-le, without_bit-unset, shifted, shifted_one, masked_out, or_pow-same, or_pow-other, masked_sum-left, masked_sum-right, or_left, or_right, or_from}
 

@@ -3,7 +3,8 @@ use Rattle.std.specs.Prelude.{◌≡◌, ◌≢◌, ℕ, ◌+◌, ◌^◌, ◌<�
 use Rattle.std.specs.Int.{bit_at, from_bool}
 use Rattle.std.specs.Option.{option_and_then}
 use Rattle.std.specs.List.Sorted.{IsStrictlyIncreasing}
-use Rattle.ternary.specs.Word.{WordValue, IsWord, holds}
+use Rattle.ternary.specs.Word.{WordValue, holds}
+use Rattle.ternary.specs.WordBits.{IsWord}
 use Rattle.ternary.specs.Meets.{AgreesOnMask, AgreesOnBoth, IsFixedIn, IsMeet, any_word, exact_word, meets, meet_of, covers_of, with_bit, is_fixed_of, admits, agrees_at, includes_at, fix_of, free_of, free_bits, word_eq}
 
 pub record HoldsLaws : Type 0 where

@@ -13,11 +13,6 @@ pub record WordValue : Type 0 where
 abbrev pub fixed_value : WordValue → ℕ
 fixed_value w = bit_and w.value w.mask
 
--- no bit of the value is outside the mask, and no bit of the mask is past the 104 of a header
-pub record IsWord (w : WordValue) : Type 0 where
-  pub within : fixed_value w ≡ w.value
-  pub bounded : w.mask < 2 ^ 104
-
 -- ---- headers of a word
 
 -- the word holds h: under the mask, h is the value

@@ -7,7 +7,7 @@
 //! them by `word_eq`.
 //!
 //! A caller, which imports `IfSome` and `IsNone` from std, `AreDisjoint` and `IsMeet` from
-//! `specs/Word.antt`:
+//! `specs/Meets.antt`:
 //!
 //! ```rust
 //! /// The part of a rule that lies in a region.

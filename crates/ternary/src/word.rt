@@ -1,6 +1,7 @@
 ghost use Rattle.std.specs.Prelude.{◌≡◌, ◌≢◌, ◌^◌, ◌<◌, ◌≤◌, ◌&&◌, ◌||◌, ◌==◌, ◌⊎◌, ◌↔◌, ℕ, bit_and, false, true, Some, IsTrue, IsFalse, IsSome, IsNone, IfSome};
 ghost use Rattle.std.specs.Int.{bit_at, from_bool};
-ghost use Rattle.ternary.specs.Word.{WordValue, IsWord, holds, word_text};
+ghost use Rattle.ternary.specs.Word.{WordValue, holds, word_text};
+ghost use Rattle.ternary.specs.WordBits.{IsWord};
 ghost use Rattle.ternary.specs.Meets.{AgreesOnMask, Includes, AreDisjoint, IsMeet, any_word, exact_word, meet_of, covers_of, with_bit, is_fixed_of, fix_of, free_of};
 
 use std::fmt;
@@ -21,7 +22,8 @@ pub struct Word {
 }
 
 impl Model for Word {
-    ghost use Rattle.ternary.specs.Word.{WordValue, IsWord};
+    ghost use Rattle.ternary.specs.Word.{WordValue};
+    ghost use Rattle.ternary.specs.WordBits.{IsWord};
 
     ghost Value = { WordValue };
 

@@ -77,8 +77,8 @@ impl Kept {
         })
     }
 
-    /// What is kept of a packet that begins this route on its leg to these targets, with the version
-    /// and the rule of its decision. The route and the set of links stay shared.
+    /// What is kept of a packet that begins this route on its leg to these targets, with the
+    /// version and the rule of its decision. The route and the set of links stay shared.
     ///
     /// # Errors
     /// Want of memory alone; no set is copied.

@@ -19,11 +19,11 @@ use Rattle.policy_rules.specs.Hosted.{NoPlan}
 use Rattle.journal.specs.declared.item.Item.{Item}
 use Rattle.journal.specs.declared.item.Item.TheVariants as item
 use Rattle.update_machine.specs.Causes.{finds_down}
-use Rattle.update_machine.specs.Folds.{first_told, folded_from}
+use Rattle.update_machine.specs.Folds.{folded_from}
+use Rattle.update_machine.specs.Versions.{first_told, file_of, hosted_in, plan_at, tells_file}
 use Rattle.update_machine.specs.LinkMasks.{near, usable_links}
 use Rattle.update_machine.specs.Links.{can_use, is_usable}
 use Rattle.update_machine.specs.Setting.{IsFileOf, IsPlanOf, Setting, plan_of_file, policy_of_file}
-use Rattle.update_machine.specs.Versions.{file_of, hosted_in, plan_at, tells_file}
 use Rattle.update_machine.specs.Ways.{changes_found, found_down}
 
 -- ---- links that switches can use

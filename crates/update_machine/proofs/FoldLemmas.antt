@@ -4,7 +4,8 @@ use Rattle.std.specs.Option.{option_or}
 use Rattle.std.proofs.lemmas.List.Concat.{flat_map-append}
 use Rattle.std.proofs.lemmas.List.Sums.{sum_by-append}
 use Rattle.journal.specs.declared.item.Item.{Item}
-use Rattle.update_machine.specs.Folds.{all_given, count_of, first_told, folded, folded_from, last_told}
+use Rattle.update_machine.specs.Folds.{all_given, count_of, folded, folded_from, last_told}
+use Rattle.update_machine.specs.Versions.{first_told}
 
 pub or_none : {X : Type 0} (o : Option X) → option_or o None ≡ o
 or_none None = refl

@@ -25,7 +25,8 @@ use Rattle.update_machine.specs.Laws.{KnownLinkLaws}
 use Rattle.update_machine.specs.LinkMasks.{near, adverts_begun, adverts_heard, adverts_of_others, links_known}
 use Rattle.update_machine.specs.Moves.{end_items, leaves, leg_items, stuck_on, takes_route}
 use Rattle.update_machine.specs.Ways.{found_down, no_switch, owner}
-use Rattle.update_machine.specs.Setting.{Setting, switches_of}
+use Rattle.update_machine.specs.Setting.{Setting}
+use Rattle.update_machine.specs.SwitchNumbers.{switches_of}
 
 begun_by_origin : (setting : Setting) (journal : List Item) (s : ℕ)
     → AreByOrigin (adverts_begun setting journal s)

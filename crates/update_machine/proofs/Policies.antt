@@ -7,10 +7,9 @@ use Rattle.std.proofs.lemmas.Bool.Decides.{nat_tests}
 use Rattle.policy_rules.specs.declared.policy.Row.{Row}
 use Rattle.journal.specs.declared.item.Item.{Item}
 use Rattle.journal.specs.declared.item.Item.TheVariants as item
-use Rattle.update_machine.specs.Folds.{first_told}
+use Rattle.update_machine.specs.Versions.{first_told, is_submission, is_version, policy_at, version_count, hosted_in, file_of, plan_at, tells_file}
 use Rattle.update_machine.specs.Numbers.{VersionsAreNumbered}
 use Rattle.update_machine.specs.Setting.{Setting, policy_of_file}
-use Rattle.update_machine.specs.Versions.{is_submission, is_version, policy_at, version_count, hosted_in, file_of, plan_at, tells_file}
 use Rattle.update_machine.proofs.FoldLemmas.{count_of_append, first_told_append}
 use Rattle.update_machine.proofs.SilentLinks.{policies_keep}
 

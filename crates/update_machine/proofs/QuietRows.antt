@@ -12,7 +12,7 @@ use Rattle.update_machine.specs.Boots.{boot_of, is_up}
 use Rattle.update_machine.specs.Marks.{current_mark}
 use Rattle.update_machine.specs.Messages.{was_delivered}
 use Rattle.update_machine.specs.Quiet.{IsQuiet, IsReceived, Sending, is_waited_for, matters, sendings}
-use Rattle.update_machine.specs.Setting.{switches_of}
+use Rattle.update_machine.specs.SwitchNumbers.{switches_of}
 use Rattle.update_machine.proofs.Examples.{advert, open_net, plan_q, tables_of, to, to_controller}
 use Rattle.update_machine.proofs.UpdateRows.{updated}
 

@@ -4,7 +4,8 @@ use Rattle.std.specs.Prelude.{◌||◌, IsFalse, unwrap_or}
 use Rattle.std.specs.Option.{option_or}
 use Rattle.journal.specs.declared.item.Item.{Item}
 use Rattle.update_machine.specs.Concerns.{NoneConcern}
-use Rattle.update_machine.specs.Folds.{all_given, count_of, first_told, folded, last_told}
+use Rattle.update_machine.specs.Folds.{all_given, count_of, folded, last_told}
+use Rattle.update_machine.specs.Versions.{first_told}
 use Rattle.update_machine.proofs.FoldLemmas.{all_given_append, count_of_append, first_told_append, folded_append, last_told_append, or_none}
 
 -- of items that don't concern it nothing is said, and its value stays as it is

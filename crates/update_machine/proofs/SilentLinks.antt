@@ -11,12 +11,11 @@ use Rattle.update_machine.specs.Boots.{boot_of, heard, is_up, tells_boot, tells_
 use Rattle.update_machine.specs.Caches.{cache_of, lookup_at}
 use Rattle.update_machine.specs.Concerns.{NoneConcern, concerns_known, concerns_links, concerns_lookups, concerns_policies, concerns_switch, concerns_waiting}
 use Rattle.update_machine.specs.Laws.{KnownKeeps, LinksKeep, PoliciesKeep, SwitchKeeps}
-use Rattle.update_machine.specs.Folds.{first_told}
+use Rattle.update_machine.specs.Versions.{first_told, is_submission, policy_at, stamp_of, version_count, hosted_in, file_of, plan_at, tells_file}
 use Rattle.update_machine.specs.LinkMasks.{near}
 use Rattle.update_machine.specs.Quiet.{is_waited_for, tells_waited_for}
 use Rattle.update_machine.specs.Setting.{Setting, policy_of_file}
 use Rattle.update_machine.specs.Steps.{StepItems, steps_in}
-use Rattle.update_machine.specs.Versions.{is_submission, policy_at, stamp_of, version_count, hosted_in, file_of, plan_at, tells_file}
 use Rattle.update_machine.proofs.Silent.{Silent, Stays, count_stays, fewer, first_stays, last_or_stays, neither_left, neither_right, stays}
 use Rattle.update_machine.proofs.SilentSteps.{weight_stays}
 use Rattle.update_machine.proofs.SilentSwitches.{link_stays, near_stays, switch_keeps}

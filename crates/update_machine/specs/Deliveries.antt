@@ -18,7 +18,8 @@ use Rattle.update_machine.specs.LinkMasks.{near}
 use Rattle.update_machine.specs.Marks.{known_boot}
 use Rattle.update_machine.specs.Messages.{sends}
 use Rattle.update_machine.specs.Moves.{in_turn, put}
-use Rattle.update_machine.specs.Setting.{Setting, switches_of}
+use Rattle.update_machine.specs.Setting.{Setting}
+use Rattle.update_machine.specs.SwitchNumbers.{switches_of}
 use Rattle.update_machine.specs.Settling.{installs_to, settling, to_switch}
 use Rattle.update_machine.specs.Versions.{stamp_of}
 use Rattle.update_machine.specs.Links.{serves, message_of}

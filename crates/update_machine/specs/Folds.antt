@@ -1,7 +1,6 @@
--- The five ways in which a journal says something: what an item told last or first, how many items
--- satisfy a test, what the items give one after another, and what becomes of a value as each item
--- changes it. An item that refers back, as a delivery to its message, is read on the journal before
--- it.
+-- Four ways in which a journal says something: what an item told last, how many items satisfy a
+-- test, what the items give one after another, and what becomes of a value as each item changes it.
+-- An item that refers back, as a delivery to its message, is read on the journal before it.
 use Rattle.std.specs.Prelude.{ℕ, Bool, Option, None, List, [], ◌∷◌, ◌++◌, count_by}
 use Rattle.std.specs.List.{flat_map}
 use Rattle.std.specs.Option.{option_or}
@@ -11,11 +10,6 @@ use Rattle.journal.specs.declared.item.Item.{Item}
 abbrev pub last_told : {X : Type 0} → (Item → Option X) → List Item → Option X
 last_told tells [] = None
 last_told tells (item ∷ items) = option_or (last_told tells items) (tells item)
-
--- what the first item that tells something tells
-abbrev pub first_told : {X : Type 0} → (Item → Option X) → List Item → Option X
-first_told tells [] = None
-first_told tells (item ∷ items) = option_or (tells item) (first_told tells items)
 
 -- how many items satisfy the test
 abbrev pub count_of : (Item → Bool) → List Item → ℕ

@@ -22,7 +22,8 @@ use Rattle.update_machine.specs.Messages.{is_deliverable, is_forgotten, next_mes
 use Rattle.update_machine.specs.Moves.{end_items, stuck_on}
 use Rattle.update_machine.specs.Packets.{decision_of, header_in, next_packet, standing}
 use Rattle.update_machine.specs.Quiet.{is_waited_for, sendings}
-use Rattle.update_machine.specs.Setting.{Setting, switches_of}
+use Rattle.update_machine.specs.Setting.{Setting}
+use Rattle.update_machine.specs.SwitchNumbers.{switches_of}
 use Rattle.update_machine.specs.Causes.{present_step}
 use Rattle.update_machine.specs.Versions.{holds_version, policy_at, stamp_of, tables_at, version_count, file_of, plan_at}
 use Rattle.update_machine.specs.Travels.{ingress_of, leg_of, next_travelling, travels}

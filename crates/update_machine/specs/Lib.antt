@@ -1,5 +1,6 @@
 pub mod Folds
 pub mod Setting
+pub mod SwitchNumbers
 pub mod Messages
 pub mod Boots
 pub mod Versions

@@ -10,7 +10,8 @@ use Rattle.journal.specs.declared.item.Item.{Item}
 use Rattle.journal.specs.declared.item.Item.TheVariants as item
 use Rattle.update_machine.specs.Folds.{all_given, folded, last_told}
 use Rattle.update_machine.specs.Messages.{is_to_controller}
-use Rattle.update_machine.specs.Setting.{Setting, switches_of}
+use Rattle.update_machine.specs.Setting.{Setting}
+use Rattle.update_machine.specs.SwitchNumbers.{switches_of}
 use Rattle.update_machine.specs.Versions.{version_count}
 use Rattle.update_machine.specs.Boots.{is_to_switch}
 use Rattle.update_machine.specs.Links.{message_of}

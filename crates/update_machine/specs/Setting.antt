@@ -1,6 +1,5 @@
 -- What a journal is read against: the network, and the policies by file with their plans.
-use Rattle.std.specs.Prelude.{ℕ, ◌-◌, ◌==◌, if◌then◌else◌, Option, Some, None, Result, Ok, Err, List, length, slice_get, ⊤, ◌≡◌, ◌⊎◌, Contains, is_some, IsOk, IsTrue, All}
-use Rattle.std.specs.List.{range_with_len}
+use Rattle.std.specs.Prelude.{ℕ, ◌-◌, ◌==◌, if◌then◌else◌, Option, Some, None, Result, Ok, Err, List, slice_get, ⊤, ◌≡◌, ◌⊎◌, Contains, is_some, IsOk, IsTrue, All}
 use Rattle.net_file.specs.declared.net.Net.{Net}
 use Rattle.net_file.specs.Net.{IsNet}
 use Rattle.net_file.specs.Joins.{owner_of}
@@ -27,10 +26,6 @@ setting_of net policies = record {
   policies = policies;
   plan = λ rows. plan_of rows net;
 }
-
--- the numbers of the switches, ascending
-abbrev pub switches_of : Setting → List ℕ
-switches_of setting = range_with_len 0 (length setting.net.switches)
 
 -- files are numbered from 1; a file that isn't there names no policy
 abbrev pub policy_of_file : Setting → ℕ → Option (List Row)

@@ -4,7 +4,7 @@
 -- "Abstractions for Network Update".
 use Rattle.std.specs.Prelude.{ℕ, ◌+◌, Bool, true, false, not, ◌&&◌, ◌||◌, ◌==◌, nat_le, max, if◌then◌else◌, Option, Some, None, is_some, unwrap_or, List, [], ◌∷◌, ◌++◌, fold, filter_map, Result, Ok, Err, option_and_then}
 use Rattle.std.specs.List.{list_any}
-use Rattle.std.specs.Option.{option_map_or}
+use Rattle.std.specs.Option.{option_map_or, option_or}
 use Rattle.ctrl_msg.specs.declared.message.Body.{Body}
 use Rattle.ctrl_msg.specs.declared.message.Body.TheVariants.{Install, OpenAt, Stamp, Collect}
 use Rattle.policy_rules.specs.declared.policy.Row.{Row}
@@ -14,7 +14,7 @@ use Rattle.switch_table.specs.declared.tables.Tables.{Tables}
 use Rattle.journal.specs.declared.item.Item.{Item}
 use Rattle.journal.specs.declared.item.Item.TheVariants as item
 use Rattle.update_machine.specs.Boots.{heard, is_in_first_boot}
-use Rattle.update_machine.specs.Folds.{count_of, first_told}
+use Rattle.update_machine.specs.Folds.{count_of}
 use Rattle.update_machine.specs.Setting.{Setting, policy_of_file}
 use Rattle.partition.specs.Plan.{Hosted}
 
@@ -24,6 +24,11 @@ use Rattle.partition.specs.Plan.{Hosted}
 abbrev pub hosted_in : Result (List Hosted) NoPlan → List Hosted
 hosted_in (Ok plan) = plan
 hosted_in (Err why) = []
+
+-- what the first item that tells something tells: one more way, beside those of `Folds`
+abbrev pub first_told : {X : Type 0} → (Item → Option X) → List Item → Option X
+first_told tells [] = None
+first_told tells (item ∷ items) = option_or (tells item) (first_told tells items)
 
 abbrev pub tells_file : ℕ → Item → Option ℕ
 tells_file v (item.Submitted file version) = if version == v then Some file else None

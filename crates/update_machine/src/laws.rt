@@ -4,10 +4,11 @@ ghost use Rattle.std.specs.Option.{option_or};
 ghost use Rattle.policy_rules.specs.declared.policy.Row.{Row};
 ghost use Rattle.steps.specs.declared.step.Event.TheVariants.{One};
 ghost use Rattle.update_machine.specs.Journals.{Answers, AnswersSoFar, AreAnswered, AreNumbered, AreStepsOf, BeginsAnswer, ConcernLaws, Event, HasPlay, HaveSteps, IsFull, IsPlay, Item, KnownLinkLaws, Setting, StartLaws, Step, StepOfRow, StopsFull, after_steps, file_of, full_at, is_sending, is_version, hosted_in, plan_at, policy_at, policy_of_file};
-ghost use Rattle.update_machine.specs.Folds.{all_given, count_of, first_told, folded, folded_from, last_told};
+ghost use Rattle.update_machine.specs.Folds.{all_given, count_of, folded, folded_from, last_told};
+ghost use Rattle.update_machine.specs.Versions.{first_told};
 ghost use Rattle.update_machine.specs.declared.full.TheConstants.{FULL_AT};
 
-/// What a journal says, once more items stand behind it: a law for each of the five folds, over
+/// What a journal says, once more items stand behind it: a law for each of the folds, over
 /// whatever an item tells.
 #[tactic(auto, using(crate::proofs::FoldLemmas::last_told_append, crate::proofs::FoldLemmas::first_told_append, crate::proofs::FoldLemmas::folded_append))]
 pub fn journals_grow<X>()

@@ -15,7 +15,8 @@ use Rattle.ctrl_msg.specs.declared.message.Message.{Message}
 use Rattle.ctrl_msg.specs.Kinds.{to_controller}
 use Rattle.failover.specs.Adverts.{held}
 use Rattle.failover.specs.declared.advert.Advert.{Advert}
-use Rattle.masks.specs.Masks.{has, only_if, switches}
+use Rattle.masks.specs.Masks.{has, switches}
+use Rattle.masks.specs.Computed.{only_if}
 use Rattle.masks.proofs.CallerLemmas.{has-and, has-or, has-zero, has_mask, has_only_other, has_only_same, mask_of_is, mask_of_lt}
 use Rattle.policy_rules.proofs.CallerLemmas.{filter_more, range_more}
 use Rattle.switch_core.specs.State.{SwitchValue, serves}

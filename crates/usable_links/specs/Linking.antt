@@ -6,7 +6,8 @@ use Rattle.ctrl_msg.specs.declared.message.Body.TheVariants.{Hello}
 use Rattle.ctrl_msg.specs.declared.message.Message.{Message}
 use Rattle.ctrl_msg.specs.Kinds.{to_controller}
 use Rattle.failover.specs.declared.advert.Advert.{Advert}
-use Rattle.masks.specs.Masks.{has, mask_of}
+use Rattle.masks.specs.Masks.{has}
+use Rattle.masks.specs.Computed.{mask_of}
 use Rattle.net_file.specs.Joins.{joins}
 use Rattle.net_file.specs.declared.net.Net.{Net}
 use Rattle.net_file.specs.Owners.{links_of}

@@ -2,8 +2,8 @@
 //!
 //! A link can be used where it is up and both of its ends serve. `usable` promises these as masks,
 //! and `relink` that each switch that is up and whose usable links changed makes its next advert,
-//! and tells it over each link that it had, and all that it knows over each new one. `near_masks` and
-//! `set_ends` keep which links are up, and `told_again` is what a switch tells once more. Only
+//! and tells it over each link that it had, and all that it knows over each new one. `near_masks`
+//! and `set_ends` keep which links are up, and `told_again` is what a switch tells once more. Only
 //! `relink` and `told_again` take memory.
 //!
 //! ```text

@@ -22,7 +22,8 @@ use Rattle.update_machine.specs.Marks.{has_acked, is_over, known_boot, raises_kn
 use Rattle.update_machine.specs.Messages.{sends, sent_from}
 use Rattle.update_machine.specs.Packets.{next_packet}
 use Rattle.update_machine.specs.Pieces.{confirm_items, deliver_items, hello_of, resend_items, resent_by_switch, restart_items, step_items, update_items}
-use Rattle.update_machine.specs.Setting.{Setting, switches_of}
+use Rattle.update_machine.specs.Setting.{Setting}
+use Rattle.update_machine.specs.SwitchNumbers.{switches_of}
 use Rattle.update_machine.specs.Settling.{install_for, installs_to, installs_to_all, resent_by_controller, resent_to_member, settling, submitted_items, to_switch, versions_from_current}
 use Rattle.update_machine.specs.Versions.{is_version, version_count}
 use Rattle.update_machine.specs.Links.{message_of}

@@ -18,7 +18,8 @@ use Rattle.update_machine.specs.Concerns.{is_message_to_controller}
 use Rattle.update_machine.specs.Deliveries.{after_hello, controller_items, delivery_items, received_items}
 use Rattle.update_machine.specs.Marks.{AreSettled, is_member, is_over}
 use Rattle.update_machine.specs.Pieces.{confirm_items, deliver_items, nothing, piece, step_items, update_items}
-use Rattle.update_machine.specs.Setting.{Setting, switches_of}
+use Rattle.update_machine.specs.Setting.{Setting}
+use Rattle.update_machine.specs.SwitchNumbers.{switches_of}
 use Rattle.update_machine.specs.Settling.{installs_to, installs_to_all, settling, versions_from_current}
 use Rattle.update_machine.specs.Versions.{version_count}
 use Rattle.update_machine.specs.Links.{message_of}

@@ -15,7 +15,8 @@ use Rattle.update_machine.specs.Causes.{HaveCauses}
 use Rattle.update_machine.specs.Laws.{SwitchKeeps}
 use Rattle.update_machine.specs.Marks.{controller_heard, has_acked, is_member, known_boot, first_number, open_sent, opened_at}
 use Rattle.update_machine.specs.Messages.{next_message, sends, sent_from}
-use Rattle.update_machine.specs.Setting.{Setting, switches_of}
+use Rattle.update_machine.specs.Setting.{Setting}
+use Rattle.update_machine.specs.SwitchNumbers.{switches_of}
 use Rattle.update_machine.specs.Versions.{tables_at}
 use Rattle.update_machine.proofs.CallerLemmas.{policies_keep, switch_keeps}
 use Rattle.version_laws.specs.ItemCauses.{HasItemCause, IsFirstOpening, IsForKnown, IsPresentIn, IsRightFrom, IsRightMessage, IsRightOpening, IsRightTo}

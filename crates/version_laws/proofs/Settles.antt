@@ -13,7 +13,8 @@ use Rattle.update_machine.specs.Laws.{ControllerKeeps}
 use Rattle.update_machine.specs.Marks.{AreSettled, acked_stamp, all_acked, current_mark, first_number, has_acked, is_joining, is_member, is_over, known_boot, least, members, next_current, next_retired, open_sent, opened_at, retired_mark}
 use Rattle.update_machine.specs.Messages.{next_message, sends, sent_from}
 use Rattle.update_machine.specs.Moves.{in_turn}
-use Rattle.update_machine.specs.Setting.{Setting, switches_of}
+use Rattle.update_machine.specs.Setting.{Setting}
+use Rattle.update_machine.specs.SwitchNumbers.{switches_of}
 use Rattle.update_machine.specs.Settling.{collect_for, current_items, open_for, open_items, opening, retired_items, settling, stamp_for}
 use Rattle.update_machine.specs.Versions.{version_count}
 use Rattle.version_laws.proofs.Commands.{Grows, IsCommand, IsOfSettling, each_command, grows, parts_settle}

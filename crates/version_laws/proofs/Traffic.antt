@@ -31,7 +31,8 @@ use Rattle.update_machine.specs.Messages.{sends, sent_from}
 use Rattle.update_machine.specs.Moves.{put, AuthorityRule, arrive_by, arrive_items, authority_items, cache_items, end_items, found_items, go_on, header_at, leg_items, lookup_items, move_items, reroute_by, reroute_items, route_for, stuck_on, takes_route, authority_rule, cache_rule, first_place, in_turn}
 use Rattle.update_machine.specs.Travels.{leg_of, ingress_of, is_at}
 use Rattle.update_machine.specs.Pieces.{expire_items, forget_items, hop_items, link_items, lose_items, packet_items, step_items}
-use Rattle.update_machine.specs.Setting.{Setting, switches_of, policy_of_file}
+use Rattle.update_machine.specs.Setting.{Setting, policy_of_file}
+use Rattle.update_machine.specs.SwitchNumbers.{switches_of}
 use Rattle.update_machine.specs.Ways.{found_down, targets_of}
 use Rattle.update_machine.proofs.CallerLemmas.{have_first, have_in_turn, have_put, version_kept}
 use Rattle.std.specs.Option.{option_map_or}

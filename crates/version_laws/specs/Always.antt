@@ -19,8 +19,8 @@ pub record HoldsAtEnds (Holds : Setting → List Item → Type 0) : Type 0 where
   pub so_far : (setting : Setting) (events : List Event) (journal : List Item) →
       AnswersSoFar setting events journal → Holds setting journal
 
--- it holds behind any items that steps of any kinds wrote, at their end too; so in each beginning of
--- an answer to a schedule, which may end within a step
+-- it holds behind any items that steps of any kinds wrote, at their end too; so in each beginning
+-- of an answer to a schedule, which may end within a step
 pub record HoldsBehindItems (Holds : Setting → List Item → Type 0) : Type 0 where
   pub items : (setting : Setting) (steps : List StepOfRow) (n : ℕ) →
       Holds setting (take n (after_steps setting [] steps))
@@ -38,8 +38,8 @@ pub record HoldsAlways (Holds : Setting → List Item → Type 0) : Type 0 where
 abbrev pub AreEvents : Setting → List Event → Type 0
 AreEvents setting events = All (IsEvent setting.net (length setting.policies)) events
 
--- it holds behind any steps of the network, and behind any first items of what they wrote, which may
--- end within a step; in each answer to events of it, and in each beginning of one
+-- it holds behind any steps of the network, and behind any first items of what they wrote, which
+-- may end within a step; in each answer to events of it, and in each beginning of one
 pub record HoldsReached (Holds : Setting → List Item → Type 0) : Type 0 where
   pub reached : (setting : Setting) (journal : List Item) → IsReached setting journal
       → Holds setting journal

@@ -1,6 +1,6 @@
--- Journals that break the promise of one whole version: the last item of each is one that no network
--- writes. Its strong cause is refuted by the field that it breaks; where the item has a cause of the
--- plainer sort too, that one holds.
+-- Journals that break the promise of one whole version: the last item of each is one that no
+-- network writes. Its strong cause is refuted by the field that it breaks; where the item has a
+-- cause of the plainer sort too, that one holds.
 use Rattle.std.proofs.Common.{ℕ, zero, suc, ◌≡◌, ◌<◌, false, true, Option, Some, None, List, [], ◌∷◌, get_or, refl, ap, sym, subst, ◌∙◌, arith, inl, inr}
 use Rattle.std.specs.Prelude.{All, Contains, IsTrue, IsFalse, Ok, Result, ◌⊎◌, ◌==◌}
 use Rattle.std.proofs.lemmas.Bool.{eqb-true}
@@ -8,7 +8,8 @@ use Rattle.std.proofs.lemmas.Bool.Decides.{nat_tests}
 use Rattle.std.proofs.lemmas.List.Elements.{All-from_recursion}
 use Rattle.failover.specs.Links.{no_links}
 use Rattle.five_tuple.specs.Header.{number_of}
-use Rattle.masks.specs.Masks.{has, mask_where, mask_of, switches}
+use Rattle.masks.specs.Masks.{has, switches}
+use Rattle.masks.specs.Computed.{mask_where, mask_of}
 use Rattle.partition.specs.Plan.{Hosted}
 use Rattle.policy_rules.specs.declared.packet.Cause.TheVariants.{NoAuthority, NoRoute}
 use Rattle.policy_rules.specs.declared.packet.How.TheVariants.{Authority}

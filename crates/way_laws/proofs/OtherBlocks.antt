@@ -16,7 +16,8 @@ use Rattle.update_machine.specs.Deliveries.{advert_to, has_changed, link_changes
 use Rattle.update_machine.specs.LinkMasks.{near}
 use Rattle.update_machine.specs.Messages.{sends}
 use Rattle.update_machine.specs.Pieces.{deliver_items, expire_items, forget_items, link_items, resend_items, restart_items, update_items}
-use Rattle.update_machine.specs.Setting.{Setting, switches_of}
+use Rattle.update_machine.specs.Setting.{Setting}
+use Rattle.update_machine.specs.SwitchNumbers.{switches_of}
 use Rattle.update_machine.specs.Settling.{install_for, unacked, versions_from_current}
 use Rattle.update_machine.proofs.CallerLemmas.{have_first}
 use Rattle.version_laws.proofs.Commands.{Control, IsCommand, IsControl, controller_control, update_has}

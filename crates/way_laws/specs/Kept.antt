@@ -38,8 +38,8 @@ pub record IsJudged (setting : Setting) (journal : List Item) (facts : PacketFac
   pub sought : (version partition : ℕ) → facts.leg ≡ Some (Seek version partition)
       → IsSought setting journal facts.mark header version partition
 
--- what is kept of a packet of which this is known, in this stage: it is undecided as it comes in; it
--- stands at its place of a route that leads to a target of its leg, also where it found the next
+-- what is kept of a packet of which this is known, in this stage: it is undecided as it comes in;
+-- it stands at its place of a route that leads to a target of its leg, also where it found the next
 -- link down; and while it moves on, its route uses no link that it found down
 pub record IsKept (setting : Setting) (journal : List Item) (facts : PacketFacts)
     (stage : Option Stage) : Type 0 where

@@ -78,6 +78,7 @@ FurtherCause setting before (item.Stuck packet switch cause leg down) =
     IsStuckOnLeg setting before packet switch cause leg down
 FurtherCause setting before _ = ⊤
 
+-- the cause of an item, and what is asked beyond it
 abbrev pub StrongCause : Setting → List Item → Item → Type 0
 StrongCause setting before next =
     WayCause setting before next × FurtherCause setting before next

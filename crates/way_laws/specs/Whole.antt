@@ -1,4 +1,5 @@
--- What each step keeps, so that no packet is decided by half of an old version and half of a new one.
+-- What each step keeps, so that no packet is decided by half of an old version and half of a new
+-- one.
 use Rattle.std.specs.Prelude.{ℕ, List, []}
 use Rattle.journal.specs.declared.item.Item.{Item}
 use Rattle.update_machine.specs.Causes.{HaveCauses}

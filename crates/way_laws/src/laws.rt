@@ -44,8 +44,8 @@ pub fn packets_arrive()
     ensures { HoldsReached (λ setting journal. IsSetting setting → PacketsArrive setting journal) }
 {}
 
-/// Each cache rule that was sent, and each that a switch caches, is of a version that is at most the
-/// current one, and this version's policy decides each header of its word so.
+/// Each cache rule that was sent, and each that a switch caches, is of a version that is at most
+/// the current one, and this version's policy decides each header of its word so.
 pub fn cache_rules_are_right()
     ensures { HoldsReached (λ setting journal. IsSetting setting → RulesAreRight setting journal) }
 {}
@@ -57,8 +57,8 @@ pub fn ends_have_causes()
         IsSetting setting → HaveCauses (HasCause setting) [] journal) }
 {}
 
-/// The journal is a run of the machine: each packet is decided once, by the first match of one whole
-/// version that wasn't retired as it came in, and ends as it was decided.
+/// The journal is a run of the machine: each packet is decided once, by the first match of one
+/// whole version that wasn't retired as it came in, and ends as it was decided.
 pub fn answers_are_runs()
     ensures { HoldsReached (λ setting journal. IsSetting setting → IsRun setting journal) }
 {}
@@ -138,9 +138,10 @@ pub fn plays_exist()
 {}
 
 /// The rows of a play's journal are those of its events that were played, in order, but for hops
-/// and deliveries, which drains and flushes ask for as well. Right behind each packet row stands what
-/// became of it: the packet with the next number came in with that header at that switch, which
-/// serves, or the switch was closed to it, which doesn't. No other packet comes in or is refused.
+/// and deliveries, which drains and flushes ask for as well. Right behind each packet row stands
+/// what became of it: the packet with the next number came in with that header at that switch,
+/// which serves, or the switch was closed to it, which doesn't. No other packet comes in or is
+/// refused.
 pub fn packet_rows_are_entered()
     ensures { (setting : Setting) (events : List Event) (journal : List Item)
         (full : Option ℕ) → IsPlay setting events journal full

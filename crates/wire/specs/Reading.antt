@@ -8,8 +8,8 @@ use Rattle.wire.specs.Format.{Format}
 use Rattle.wire.specs.Messages.{fields_fit, spelled_fields}
 
 -- the answer, seen by view, and the bytes that are left are what was read, unless memory ran out
-abbrev pub Gives : {X A : Type 0} → (X → A) → Option (A × List ℕ) → Result X (Failure Malformed) → List ℕ
-    → Type 0
+abbrev pub Gives : {X A : Type 0} → (X → A) → Option (A × List ℕ)
+    → Result X (Failure Malformed) → List ℕ → Type 0
 Gives view read (Ok x) rest = read ≡ Some (view x, rest)
 Gives view read (Err error) rest = IfRefused (λ _. read ≡ None) error
 

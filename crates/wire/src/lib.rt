@@ -1,10 +1,10 @@
 //! Messages as bytes: a canonical spelling, and frames of it that may come in any order.
 //!
-//! `encode` and `append` promise the one spelling of a message, and `decode` the message of a spelling: it
-//! answers `Malformed` exactly where bytes are the spelling of no message, so no message has a
-//! second one. `split` promises the frames of a message. An `Assembler` holds frames by their
-//! places; it promises the message exactly where all of its frames are held, and refuses a frame
-//! exactly for a stated cause. Errors change nothing.
+//! `encode` and `append` promise the one spelling of a message, and `decode` the message of a
+//! spelling: it answers `Malformed` exactly where bytes are the spelling of no message, so no
+//! message has a second one. `split` promises the frames of a message. An `Assembler` holds frames
+//! by their places; it promises the message exactly where all of its frames are held, and refuses a
+//! frame exactly for a stated cause. Errors change nothing.
 //!
 //! ```text
 //! let frames = split(alloc, &message)?;

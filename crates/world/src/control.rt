@@ -64,8 +64,8 @@ impl Parts {
     }
 
     /// A switch that is up tells the controller its boot again, and its neighbours all adverts that
-    /// it holds; then the controller sends again what the switch didn't acknowledge. Nothing happens
-    /// where none of this is there to send.
+    /// it holds; then the controller sends again what the switch didn't acknowledge. Nothing
+    /// happens where none of this is there to send.
     ///
     /// # Errors
     /// Want of memory alone; a part of the items is written then.

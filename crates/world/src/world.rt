@@ -21,7 +21,7 @@ use journal::Journal;
 use net_file::Net;
 use policy_rules::Policy;
 use policy_store::Files;
-use std::alloc::{AllocError, Global};
+use std::alloc::Global;
 use std::marker::Model;
 use steps::Step;
 use switch_core::Switch;

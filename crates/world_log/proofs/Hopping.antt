@@ -1,5 +1,5 @@
--- What a switch's move makes of a packet: it keeps its number, its leg and its ingress, and where no link was
--- found down all but its place.
+-- What a switch's move makes of a packet: it keeps its number, its leg and its ingress, and where
+-- no link was found down all but its place.
 use Rattle.std.proofs.Common.{ℕ, ◌≡◌, Option, Some, None, List, refl, sym, subst}
 use Rattle.five_tuple.specs.declared.header.Header.{Header}
 use Rattle.policy_rules.specs.declared.packet.Leg.{Leg}

@@ -26,8 +26,8 @@ pub struct Log {
 }
 
 impl Log {
-    /// The packet takes this route on its leg, which the item and the table share, with this version
-    /// and rule of its decision.
+    /// The packet takes this route on its leg, which the item and the table share, with this
+    /// version and rule of its decision.
     ///
     /// # Errors
     /// Want of memory alone; nothing is written then.

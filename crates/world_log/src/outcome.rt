@@ -44,8 +44,8 @@ pub enum Onward {
 }
 
 impl Outcome {
-    /// What becomes of the packet by this verdict of the switch, which is asked for a route where it
-    /// takes one.
+    /// What becomes of the packet by this verdict of the switch, which is asked for a route where
+    /// it takes one.
     ///
     /// # Errors
     /// Want of memory alone, which is taken only for a route.

@@ -1,5 +1,5 @@
--- Links change behind the first items of a step: what is told of that, and what the parts are behind
--- it.
+-- Links change behind the first items of a step: what is told of that, and what the parts are
+-- behind it.
 use Rattle.std.proofs.Common.{ℕ, ◌≡◌, ◌+◌, ◌-◌, ◌^◌, ◌<◌, ◌==◌, Bool, true, false, List, [], ◌∷◌, ◌++◌, refl, ap, sym, subst, ◌∙◌, length, get_or, map, filter, set, append_assoc, arith, eq-eqb, eqb-true}
 use Rattle.std.specs.Prelude.{IsFalse, All}
 use Rattle.std.specs.List.{flat_map}
@@ -43,7 +43,8 @@ use Rattle.update_machine.specs.LinkMasks.{near}
 use Rattle.update_machine.specs.Messages.{sent_from}
 use Rattle.update_machine.specs.Packets.{is_packet}
 use Rattle.update_machine.specs.Pieces.{piece}
-use Rattle.update_machine.specs.Setting.{Setting, switches_of}
+use Rattle.update_machine.specs.Setting.{Setting}
+use Rattle.update_machine.specs.SwitchNumbers.{switches_of}
 use Rattle.update_machine.proofs.CallerLemmas.{count_of_append}
 use Rattle.usable_links.specs.Linking.{AreRelinked, all_told, near_all}
 use Rattle.world_log.specs.Sending.{MaySend, act_items, act_posts}

@@ -10,7 +10,8 @@ use Rattle.std.proofs.lemmas.List.FromFn.{get_or-map-range_with_len}
 use Rattle.std.proofs.lemmas.Option.{slice_get-get_or}
 use Rattle.ctrl_msg.specs.declared.message.Message.{Message}
 use Rattle.journal.specs.declared.item.Item.{Item}
-use Rattle.masks.specs.Masks.{has, mask_of}
+use Rattle.masks.specs.Masks.{has}
+use Rattle.masks.specs.Computed.{mask_of}
 use Rattle.masks.proofs.CallerLemmas.{has_mask, mask_of_is, mask_of_lt}
 use Rattle.net_file.specs.Net.{IsLink, IsNet}
 use Rattle.net_file.specs.declared.net.LinkRow.{LinkRow}
@@ -25,7 +26,8 @@ use Rattle.update_machine.specs.Adverts.{own_advert}
 use Rattle.update_machine.specs.Boots.{is_up}
 use Rattle.update_machine.specs.Deliveries.{has_changed, messages_of}
 use Rattle.update_machine.specs.Links.{is_usable, serves as serves_in}
-use Rattle.update_machine.specs.Setting.{Setting, switches_of}
+use Rattle.update_machine.specs.Setting.{Setting}
+use Rattle.update_machine.specs.SwitchNumbers.{switches_of}
 use Rattle.update_machine.specs.LinkMasks.{near, usable_links}
 use Rattle.world_ties.specs.Tied.{is_up_link, up_links}
 use Rattle.usable_links.specs.Linking.{AreRelinked, all_told, changes, near_all, near_by, serves_at, told_as, told_at, told_to}
@@ -150,8 +152,8 @@ up_ends setting journal s k net is =
 
 -- ---- the switches behind the items
 
--- before the links changed the switches were these, with these links that are up now, and with these
--- usable links before
+-- before the links changed the switches were these, with these links that are up now, and with
+-- these usable links before
 pub record CanRelink (setting : Setting) (before now : List Item) (links had : List ℕ)
     (switches : List SwitchValue) : Type 0 where
   pub many : length switches ≡ length setting.net.switches

@@ -19,7 +19,8 @@ use Rattle.update_machine.specs.Marks as machine
 use Rattle.update_machine.specs.Marks.{acked_stamp, controller_heard, current_mark, first_number, known_boot, least, next_current, next_retired, open_in, open_version, opened_at, retired_mark}
 use Rattle.update_machine.specs.Messages.{next_message, sends, sent_from}
 use Rattle.update_machine.specs.Moves.{put}
-use Rattle.update_machine.specs.Setting.{Setting, switches_of}
+use Rattle.update_machine.specs.Setting.{Setting}
+use Rattle.update_machine.specs.SwitchNumbers.{switches_of}
 use Rattle.update_machine.specs.Settling.{current_items, open_for, open_items, opening, retired_items, settling, to_switch}
 use Rattle.update_machine.specs.Versions.{version_count}
 use Rattle.update_machine.proofs.CallerLemmas.{have_append}

@@ -13,7 +13,8 @@ use Rattle.update_machine.specs.Marks as machine
 use Rattle.update_machine.specs.Marks.{known_boot}
 use Rattle.update_machine.specs.Moves.{put}
 use Rattle.update_machine.specs.Pieces.{marks_code, piece, plan_code, update_code, update_items}
-use Rattle.update_machine.specs.Setting.{Setting, plan_of_file, switches_of}
+use Rattle.update_machine.specs.Setting.{Setting, plan_of_file}
+use Rattle.update_machine.specs.SwitchNumbers.{switches_of}
 use Rattle.update_machine.specs.Settling.{install_for, installs_to_all, settling, submitted_items, versions_from_current}
 use Rattle.update_machine.specs.Versions.{policy_at, version_count, hosted_in, file_of, plan_at}
 use Rattle.update_machine.proofs.CallerLemmas.{controller_keeps, file_append, have_append, of_its_file}

@@ -29,8 +29,8 @@ use Rattle.world_ties.proofs.Others.{NoneName, none_more}
 use Rattle.world_ties.proofs.Posting.{bag_sends}
 use Rattle.world_ties.proofs.Tying.{up_stays}
 
--- the step of the row writes these items; they name no packet, and what is done leaves the switches,
--- which are these behind the first items
+-- the step of the row writes these items; they name no packet, and what is done leaves the
+-- switches, which are these behind the first items
 pub record IsTold (setting : Setting) (journal : List Item) (row : ℕ) (step : Step)
     (first : List Item) (acts : List Act) (switches others : List SwitchValue)
     (control later : Control) : Type 0 where

@@ -2,7 +2,6 @@
 use cache_maker::widen;
 use five_tuple::{Fields, Header};
 use policy_rules::{Action, Rule, first_hit};
-use std::test::Fail;
 use ternary::Word;
 
 // Tcp to 10.1.0.0/16, port 80, is dropped; other tcp to 10.0.0.0/8 goes out; the default drops.

@@ -1,5 +1,5 @@
 use Rattle.std.proofs.Common.{◌+◌, ◌*◌, ◌^◌, ◌<◌, arith}
-use Rattle.masks.specs.Masks.{least_in}
+use Rattle.masks.specs.Computed.{least_in}
 use Rattle.masks.proofs.CallerLemmas.{least_lt}
 use Rattle.travelling.specs.Marks.{mask_at}
 use Rattle.travelling.proofs.Blocks.{block_within, first_marked, some_of}

@@ -1,6 +1,6 @@
 use Rattle.std.proofs.Common.{ap, sym, ◌∙◌, ◌+◌, Bool, arith, subst}
 use Rattle.std.specs.Int.Bits.{bit_or}
-use Rattle.masks.specs.Masks.{only_if}
+use Rattle.masks.specs.Computed.{only_if}
 use Rattle.usable_links.proofs.Relinking.{ServeBelow, serve_all, serve_none, serve_one}
 use Rattle.usable_links.proofs.links.serving.Goals as goal
 

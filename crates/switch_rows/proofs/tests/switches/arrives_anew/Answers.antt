@@ -1,4 +1,4 @@
-use Rattle.std.proofs.Common.{ap, sym, rules}
+use Rattle.std.proofs.Common.{rules}
 use Rattle.switch_rows.proofs.TestTables.{not_held}
 use Rattle.switch_rows.proofs.tests.switches.arrives_anew.Goals as goal
 

@@ -1,5 +1,6 @@
 use Rattle.std.proofs.Common.{ap, subst, sym, ◌∙◌}
-use Rattle.ternary.specs.Word.{IsWord, holds}
+use Rattle.ternary.specs.Word.{holds}
+use Rattle.ternary.specs.WordBits.{IsWord}
 use Rattle.ternary.proofs.WordLemmas.{set_fix, fix_holds, fix_word}
 use Rattle.ternary.proofs.word.Word.fix.Goals as goal
 

@@ -1,0 +1,8 @@
+-- The switches of a network, by number.
+use Rattle.std.specs.Prelude.{ℕ, List, length}
+use Rattle.std.specs.List.{range_with_len}
+use Rattle.update_machine.specs.Setting.{Setting}
+
+-- the numbers of the switches, ascending
+abbrev pub switches_of : Setting → List ℕ
+switches_of setting = range_with_len 0 (length setting.net.switches)
