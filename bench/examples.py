@@ -16,9 +16,9 @@ MODELS = {"compile": "plan_model.py", "show": "plan_model.py", "replay": "slow_r
 def main():
     wrong = []
     for line in (FOLDER / "index.txt").read_text().splitlines():
-        name, command, *words = line.replace("--net=", "--net ").split(" ")
+        name, command, *args = line.replace("--net=", "--net ").split(" ")
         if name != "-":
-            done = subprocess.run([sys.executable, str(HOME / "bench" / MODELS[command]), *words], cwd=FOLDER, capture_output=True)
+            done = subprocess.run([sys.executable, str(HOME / "bench" / MODELS[command]), *args], cwd=FOLDER, capture_output=True)
             if done.returncode != 0 or done.stdout != (FOLDER / name).read_bytes():
                 wrong.append(f"{name} is another text than the model's")
     drawn = subprocess.run([str(FOLDER / "draw"), "campus", "1"], capture_output=True)

@@ -1,7 +1,7 @@
 #!/usr/bin/env python3
-"""Lets each allocation of a command fail in turn: `bench/fail_alloc.py BIN [WORD..]`.
+"""Lets each allocation of a command fail in turn: `bench/fail_alloc.py BIN [ARG..]`.
 
-Without words the commands are a load case, and a replay, a compile and a show of the day of a
+Without arguments the commands are a load case, and a replay, a compile and a show of the day of a
 campus, examples/day. The N-th call for memory fails, alone and then with all after it, for N from 1
 to the calls of a run in which none fails. Each run must end with status 0 and the whole output, or
 with status 7 and a part of it from the front, not all; and its line of errors must be that of the
@@ -33,10 +33,10 @@ def build(folder):
     return {"LD_PRELOAD": str(library)}
 
 
-def play(words, folder, **settings):
+def play(args, folder, **settings):
     """A run's status, its output and its line of errors."""
     surroundings = {**os.environ, **settings}
-    done = subprocess.run(words, capture_output=True, cwd=folder, env=surroundings)
+    done = subprocess.run(args, capture_output=True, cwd=folder, env=surroundings)
     return done.returncode, done.stdout, done.stderr
 
 
@@ -49,18 +49,18 @@ def is_right(ended, whole):
     return status == 7 and is_part and LINES[7].startswith(line)
 
 
-def fail_each(words, folder, where, preload):
+def fail_each(args, folder, where, preload):
     """Lets each allocation of this command fail in turn, and prints how the runs ended."""
     counted = Path(folder) / "calls"
-    status, whole, _ = play(words, where, COUNT_ALLOC=str(counted), **preload)
+    status, whole, _ = play(args, where, COUNT_ALLOC=str(counted), **preload)
     if status != 0:
         sys.exit(f"without a fault the status is {status}")
     calls = int(counted.read_text())
-    print(" ".join(words[1:]), f"({calls} allocations, {len(whole)} bytes)")
+    print(" ".join(args[1:]), f"({calls} allocations, {len(whole)} bytes)")
     for name, more in MODES:
         ends, parts = Counter(), 0
         for number in range(1, calls + 1):
-            ended = play(words, where, FAIL_ALLOC=str(number), **more, **preload)
+            ended = play(args, where, FAIL_ALLOC=str(number), **more, **preload)
             if not is_right(ended, whole):
                 sys.exit(f"allocation {number} failing ({name}): {ended}")
             ends[ended[0]] += 1

@@ -69,8 +69,8 @@ def main():
         net += f'[[link]]\nends = ["s{s}", "s{(s + 1) % SWITCHES}"]\n'
     (folder / "net.toml").write_text(net)
     for s in range(SWITCHES):
-        words = ["policy.csv", f"s{s}", "--net", "net.toml"]
-        done = subprocess.run([sys.executable, HOME / "plan_model.py", *words], cwd=folder, capture_output=True, text=True, check=True)
+        args = ["policy.csv", f"s{s}", "--net", "net.toml"]
+        done = subprocess.run([sys.executable, HOME / "plan_model.py", *args], cwd=folder, capture_output=True, text=True, check=True)
         (folder / f"show-s{s}.txt").write_text(done.stdout)
 
 

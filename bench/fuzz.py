@@ -17,7 +17,7 @@ from pathlib import Path
 
 MODEL = Path(__file__).resolve().parent / "slow_replay.py"
 POLICIES = 3
-WORDS = ["s.csv", *(f"p{file}.csv" for file in range(1, POLICIES + 1)), "--net", "n.toml", "--quiet"]
+ARGS = ["s.csv", *(f"p{file}.csv" for file in range(1, POLICIES + 1)), "--net", "n.toml", "--quiet"]
 PREFIXES = ["any", "10.0.0.0/8", "10.1.0.0/16", "10.1.2.0/24", "10.1.2.3"]
 ADDRESSES = ["10.1.2.3", "10.1.2.4", "10.1.9.9", "10.7.7.7", "8.8.8.8"]
 # Of a hundred rows. Few are lost, forgotten or expired, so that most packets come to an end.
@@ -123,7 +123,7 @@ def write_case(seed, folder):
 
 def run(command, folder):
     """The status, the lines, and what was told of errors."""
-    done = subprocess.run([*command, *WORDS], cwd=folder, capture_output=True, text=True)
+    done = subprocess.run([*command, *ARGS], cwd=folder, capture_output=True, text=True)
     return done.returncode, done.stdout.splitlines(), done.stderr.strip()
 
 

@@ -73,14 +73,14 @@ def processes():
 def task_of(process):
     """The crate and the kind of a check of the prover; none where the process is another."""
     try:
-        words = Path(f"/proc/{process}/cmdline").read_text(errors="replace").split("\0")
+        args = Path(f"/proc/{process}/cmdline").read_text(errors="replace").split("\0")
         folder = os.readlink(f"/proc/{process}/cwd")
     except OSError:
         return None
-    if not words[0].endswith("/bin/rattle") or "--crate-name" not in words:
+    if not args[0].endswith("/bin/rattle") or "--crate-name" not in args:
         return None
-    kind = "edits" if "/rt-edit-" in folder else "tests" if "--test" in words else "proof"
-    return words[words.index("--crate-name") + 1], kind
+    kind = "edits" if "/rt-edit-" in folder else "tests" if "--test" in args else "proof"
+    return args[args.index("--crate-name") + 1], kind
 
 
 def look(top, tasks, ticks):

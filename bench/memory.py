@@ -62,10 +62,10 @@ fn main(rt: HostRuntime) -> anyhow::Result<()> {
     let policy = read_policy(alloc, &fs::read(&rt, "FOLDER/p.csv")?)?;
     let plan = compile(alloc, &policy, &net)?;
     let mut kept = plan.hosted().len();
-    for word in env::args(&rt)?.skip(1) {
-        if word.as_str() == "tables" {
+    for arg in env::args(&rt)?.skip(1) {
+        if arg.as_str() == "tables" {
             kept = hold_tables(alloc, &plan, net.switches.items().len() as u32)?;
-        } else if word.as_str() == "updates" {
+        } else if arg.as_str() == "updates" {
             let mut controller = Controller::begin(alloc, &net, plan.clone()?)?;
             for version in 2..65u32 {
                 if controller.submit(alloc, plan.clone()?).is_ok() {
@@ -81,8 +81,8 @@ fn main(rt: HostRuntime) -> anyhow::Result<()> {
 """
 
 
-def peak(program, word):
-    done = subprocess.run(["/usr/bin/time", "-q", "-f", "%M %e", program, word], capture_output=True, text=True, check=True)
+def peak(program, arg):
+    done = subprocess.run(["/usr/bin/time", "-q", "-f", "%M %e", program, arg], capture_output=True, text=True, check=True)
     kilobytes, seconds = done.stderr.split()[-2:]
     return "%6.1f MiB, %.3f s, %s" % (int(kilobytes) / 1024, float(seconds), done.stdout.strip())
 

@@ -93,14 +93,14 @@ def leaves(rules, region, cap):
 
 
 def targets_of(sizes, rooms, backups):
-    placed = [[] for _ in sizes]
+    hosted = [[] for _ in sizes]
     for part in sorted(range(len(sizes)), key=lambda part: (-sizes[part], part)):
-        load = [sum(sizes[other] for other in range(len(sizes)) if s in placed[other]) for s in range(len(rooms))]
+        load = [sum(sizes[other] for other in range(len(sizes)) if s in hosted[other]) for s in range(len(rooms))]
         fit = [s for s in range(len(rooms)) if load[s] + sizes[part] <= rooms[s]]
-        placed[part] = sorted(fit, key=lambda s: (load[s], s))[: 1 + backups]
-        if len(placed[part]) <= backups:
+        hosted[part] = sorted(fit, key=lambda s: (load[s], s))[: 1 + backups]
+        if len(hosted[part]) <= backups:
             sys.exit(f"no room for part {part}")
-    return placed
+    return hosted
 
 
 def text_of(policy, switch, network):
@@ -112,13 +112,13 @@ def text_of(policy, switch, network):
     rules, words = rules_of(policy)
     parts = leaves(rules, (0, 0), net.get("leaf_rules", 64))
     rooms = [row.get("authority", 0) for row in net["switch"]]
-    placed = targets_of([len(part[1]) for part in parts], rooms, net.get("backups", 0))
+    hosted = targets_of([len(part[1]) for part in parts], rooms, net.get("backups", 0))
 
     def word(pair):
         return f"{pair[0]:026x}/{pair[1]:026x}"
 
     def to(number):
-        return " targets" + "".join(" " + names[s] for s in placed[number])
+        return " targets" + "".join(" " + names[s] for s in hosted[number])
 
     def block(number, tail):
         region, held = parts[number]
@@ -130,7 +130,7 @@ def text_of(policy, switch, network):
         for number in range(len(parts)):
             lines += block(number, to(number))
     else:
-        own = [number for number in range(len(parts)) if names.index(switch) in placed[number]]
+        own = [number for number in range(len(parts)) if names.index(switch) in hosted[number]]
         lines = [f"switch {switch} version 1", f"authority {len(own)}"]
         for number in own:
             lines += block(number, "")
@@ -140,15 +140,15 @@ def text_of(policy, switch, network):
 
 
 def main():
-    words = sys.argv[1:]
+    args = sys.argv[1:]
     network = None
-    if "--net" in words:
-        at = words.index("--net")
-        network = words[at + 1]
-        del words[at : at + 2]
-    if len(words) not in (1, 2):
+    if "--net" in args:
+        at = args.index("--net")
+        network = args[at + 1]
+        del args[at : at + 2]
+    if len(args) not in (1, 2):
         sys.exit(__doc__)
-    sys.stdout.write(text_of(words[0], words[1] if len(words) == 2 else None, network))
+    sys.stdout.write(text_of(args[0], args[1] if len(args) == 2 else None, network))
 
 
 if __name__ == "__main__":

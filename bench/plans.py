@@ -62,7 +62,7 @@ def network(leaf_rules, backups, switches):
     return f"leaf_rules = {leaf_rules}\nbackups = {backups}\nswitch = [{rows}]\n"
 
 
-def timed(program, words, policy, net):
+def timed(program, args, policy, net):
     """The least seconds of some runs, the peak memory in MiB, and the output, or the line of the refusal."""
     with tempfile.TemporaryDirectory() as folder:
         for name, content in (("p.csv", policy), ("n.toml", net)):
@@ -72,11 +72,11 @@ def timed(program, words, policy, net):
         for _ in range(RUNS):
             with open(os.path.join(folder, "out"), "wb") as out:
                 begun = time.monotonic()
-                done = subprocess.run([program, *words, "--net", "n.toml"], cwd=folder, stdout=out, stderr=subprocess.PIPE)
+                done = subprocess.run([program, *args, "--net", "n.toml"], cwd=folder, stdout=out, stderr=subprocess.PIPE)
                 seconds = time.monotonic() - begun
             least = seconds if least is None else min(least, seconds)
         # GNU time, a small process, measures the memory: what a child of this script inherits would count as its own.
-        measured = ["/usr/bin/time", "-q", "-f", "%M", "-o", "memory", program, *words, "--net", "n.toml"]
+        measured = ["/usr/bin/time", "-q", "-f", "%M", "-o", "memory", program, *args, "--net", "n.toml"]
         subprocess.run(measured, cwd=folder, stdout=subprocess.DEVNULL, stderr=subprocess.DEVNULL)
         with open(os.path.join(folder, "memory")) as file:
             memory = int(file.read()) / 1024
@@ -101,9 +101,9 @@ def main():
             policy = make(random.Random(rows), rows)
             seconds, memory, output, line = timed(program, ["compile", "p.csv"], policy, network(32, 0, switches))
             print(f"compile, {rows:4} rows, {name:9}: {seconds * 1000:6.1f} ms, {memory:.1f} MiB, {told(output, line)}")
-    for words in (["compile", "p.csv"], ["show", "p.csv", "s7"]):
-        seconds, memory, output, line = timed(program, words, in_512_parts(), network(3, 1, 64))
-        print(f"{words[0]:7}, 1536 rows, 64 switches: {seconds * 1000:6.1f} ms, {memory:.1f} MiB, {told(output, line)}")
+    for args in (["compile", "p.csv"], ["show", "p.csv", "s7"]):
+        seconds, memory, output, line = timed(program, args, in_512_parts(), network(3, 1, 64))
+        print(f"{args[0]:7}, 1536 rows, 64 switches: {seconds * 1000:6.1f} ms, {memory:.1f} MiB, {told(output, line)}")
 
 
 if __name__ == "__main__":

@@ -9,7 +9,7 @@ import sys
 from pathlib import Path
 
 HOME = Path(__file__).resolve().parent.parent
-WORDS, COLUMNS = 40, 100
+LONGEST, COLUMNS = 40, 100
 
 
 def pages():
@@ -44,7 +44,7 @@ def main():
         ]
         for number, text in texts_of(lines):
             for sentence in re.split(r"(?<=[.?!])\s+", re.sub(r"`[^`]*`", "code", text)):
-                if len(sentence.split()) > WORDS:
+                if len(sentence.split()) > LONGEST:
                     wrong.append((number, f"{len(sentence.split())} words: {sentence[:60]} .."))
         for number, why in wrong:
             print(f"{page}:{number}: {why}")

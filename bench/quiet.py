@@ -47,9 +47,9 @@ def cases():
     yield "7 updates wait, 7,000 rows resend to all", rows(wait), [f"p{n}.csv" for n in range(1, 8)]
 
 
-def seconds(words, folder):
+def seconds(args, folder):
     with open(os.path.join(folder, "out"), "wb") as out:
-        child = subprocess.Popen(words, cwd=folder, stdout=out)
+        child = subprocess.Popen(args, cwd=folder, stdout=out)
         _, status, used = os.wait4(child.pid, 0)
     return used.ru_utime + used.ru_stime, os.waitstatus_to_exitcode(status)
 
@@ -72,11 +72,11 @@ def main():
         for name, schedule, policies in cases():
             with open(os.path.join(folder, "s.csv"), "w") as file:
                 file.write(schedule)
-            words = [program, "replay", "s.csv", *policies, "--net", "n.toml"]
+            args = [program, "replay", "s.csv", *policies, "--net", "n.toml"]
             plain, quiet = [], []
             for _ in range(runs):
-                plain.append(seconds(words, folder)[0])
-                used, status = seconds(words + ["--quiet"], folder)
+                plain.append(seconds(args, folder)[0])
+                used, status = seconds(args + ["--quiet"], folder)
                 quiet.append(used)
             path = os.path.join(folder, "out")
             with open(path, "rb") as out:

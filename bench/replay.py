@@ -38,9 +38,9 @@ def policy(rng, rows):
 def run(program, folder, packets, rows):
     # GNU time, a small process, measures the memory: what a child of this script inherits would count as its own.
     with open(os.path.join(folder, "out"), "wb") as out:
-        words = ["/usr/bin/time", "-f", "%M", "-o", "memory", program, "replay", "s.csv", "p.csv"]
+        args = ["/usr/bin/time", "-f", "%M", "-o", "memory", program, "replay", "s.csv", "p.csv"]
         begun = time.monotonic()
-        status = subprocess.run(words, cwd=folder, stdout=out).returncode
+        status = subprocess.run(args, cwd=folder, stdout=out).returncode
         seconds = time.monotonic() - begun
     if status != 0:
         sys.exit("status %d" % status)

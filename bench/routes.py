@@ -24,8 +24,8 @@ use std::env;
 fn main(rt: HostRuntime) -> anyhow::Result<()> {
     let mut near = [0u64; 64];
     let mut more = [0u64; 2];
-    for (place, word) in env::args(&rt)?.skip(1).enumerate() {
-        let number = word.parse::<u64>()?;
+    for (place, arg) in env::args(&rt)?.skip(1).enumerate() {
+        let number = arg.parse::<u64>()?;
         if place < 64 {
             near[place] = number;
         } else if place < 66 {
@@ -89,9 +89,9 @@ def random_links(count=256):
 
 
 def seconds(program, near, turns, last):
-    words = [program] + [str(mask) for mask in near] + [str(turns), str(last)]
+    args = [program] + [str(mask) for mask in near] + [str(turns), str(last)]
     begun = time.monotonic()
-    subprocess.run(words, stdout=subprocess.DEVNULL, check=True)
+    subprocess.run(args, stdout=subprocess.DEVNULL, check=True)
     return time.monotonic() - begun
 
 

@@ -23,9 +23,9 @@ use std::{env, fs};
 fn main(rt: HostRuntime) -> anyhow::Result<()> {
     let bytes = fs::read(&rt, "policy.csv")?;
     let mut turns = [0u64; 2];
-    for (place, word) in env::args(&rt)?.skip(1).enumerate() {
+    for (place, arg) in env::args(&rt)?.skip(1).enumerate() {
         if place < 2 {
-            turns[place] = word.parse::<u64>()?;
+            turns[place] = arg.parse::<u64>()?;
         }
     }
     let [reads, lists] = turns;

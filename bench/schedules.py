@@ -37,14 +37,14 @@ fn network(alloc: Global) -> anyhow::Result<String> {
 
 fn main(rt: HostRuntime) -> anyhow::Result<()> {
     let alloc = rt.alloc();
-    let words = env::args(&rt)?;
+    let args = env::args(&rt)?;
     let mut row = String::new(alloc);
     let mut turns = 0u64;
-    for (place, word) in words.skip(1).enumerate() {
+    for (place, arg) in args.skip(1).enumerate() {
         if place == 0 {
-            row.push_str(word.as_str())?;
+            row.push_str(arg.as_str())?;
         } else {
-            turns = word.parse::<u64>()?;
+            turns = arg.parse::<u64>()?;
         }
     }
     let net = network(alloc)?;

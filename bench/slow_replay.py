@@ -862,17 +862,17 @@ class World:
 
 
 def main():
-    words, net = sys.argv[1:], SOLO
-    quiet = "--quiet" in words
-    words = [word for word in words if word != "--quiet"]
-    if "--net" in words:
-        at = words.index("--net")
-        with open(words[at + 1], "rb") as file:
+    args, net = sys.argv[1:], SOLO
+    quiet = "--quiet" in args
+    args = [arg for arg in args if arg != "--quiet"]
+    if "--net" in args:
+        at = args.index("--net")
+        with open(args[at + 1], "rb") as file:
             net = tomllib.load(file)
-        del words[at : at + 2]
-    if len(words) < 2:
+        del args[at : at + 2]
+    if len(args) < 2:
         sys.exit(__doc__)
-    schedule, *policies = words
+    schedule, *policies = args
     try:
         world = World(net, policies)
     except Refused:

@@ -23,8 +23,8 @@ def below(names, known):
     return sorted(set(found))
 
 
-def build(folder, name, uses, main, words=()):
-    """The path of the program `name` with this text of its `main.rt`; the building runs it once on the words."""
+def build(folder, name, uses, main, args=()):
+    """The path of the program `name` with this text of its `main.rt`; the building runs it once with these arguments."""
     known = libraries()
     crates = below(uses, known)
     for crate in crates:
@@ -37,7 +37,7 @@ def build(folder, name, uses, main, words=()):
     os.makedirs(os.path.join(crate, "src"), exist_ok=True)
     with open(os.path.join(crate, "src", "main.rt"), "w") as file:
         file.write(main)
-    done = subprocess.run(["rt", "run", "--", *words], cwd=crate, stdout=subprocess.PIPE, stderr=subprocess.STDOUT, text=True)
+    done = subprocess.run(["rt", "run", "--", *args], cwd=crate, stdout=subprocess.PIPE, stderr=subprocess.STDOUT, text=True)
     if done.returncode != 0:
         sys.exit(done.stdout)
     return os.path.join(crate, "out", name)

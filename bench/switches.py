@@ -89,9 +89,9 @@ fn main(rt: HostRuntime) -> anyhow::Result<()> {
     let mut switch = Switch::begin(alloc, 0, 256, tables, base)?;
     let told = Database::begin(&near, 64);
     let mut turns = [0u32; 2];
-    for (place, word) in env::args(&rt)?.skip(1).enumerate() {
+    for (place, arg) in env::args(&rt)?.skip(1).enumerate() {
         if place < 2 {
-            turns[place] = word.parse::<u32>()?;
+            turns[place] = arg.parse::<u32>()?;
         }
     }
     let [entering, arriving] = turns;

@@ -76,10 +76,10 @@ def run(program, name, files):
         time_in(program, folder, name, ["replay", "s.csv", *policies, "--net", "n.toml"])
 
 
-def time_in(program, folder, name, words):
+def time_in(program, folder, name, args):
     # GNU time, a small process, measures the memory: what a child of this script inherits would count as its own.
     with open(os.path.join(folder, "out"), "wb") as out:
-        timed = ["/usr/bin/time", "-f", "%M", "-o", "memory", program, *words]
+        timed = ["/usr/bin/time", "-f", "%M", "-o", "memory", program, *args]
         begun = time.monotonic()
         status = subprocess.run(timed, cwd=folder, stdout=out).returncode
         seconds = time.monotonic() - begun
