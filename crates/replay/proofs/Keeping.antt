@@ -1,5 +1,5 @@
 -- Meters that note what left in the items of a step, behind those of the steps before it.
-use Rattle.std.proofs.Common.{◌≡◌, ◌∙◌, ◌-◌, List, [], ◌∷◌, ◌++◌, drop, length, take, ap, arith, length-drop, refl, subst, sym}
+use Rattle.std.proofs.Common.{◌≡◌, ◌∙◌, ◌-◌, ℕ, List, [], ◌∷◌, ◌++◌, drop, length, take, ap, append_assoc, append-nil, arith, length-drop, refl, subst, sym}
 use Rattle.std.proofs.lemmas.Grind.{flat_map-append}
 use Rattle.std.proofs.lemmas.List.{take_all}
 use Rattle.journal.specs.declared.item.Item.{Item}
@@ -33,11 +33,30 @@ keep_up_next start here after items noted old now new written keep stay own =
     let whole : left_in here ++ left_in noted ≡ left_in after =
     ap (λ more. left_in here ++ left_in more) own_items ∙ left_append here items
     ∙ ap left_in (sym written) in
-    λ ports meters is.
-    subst (λ (left : PortLeavings). new ≡ kept_meters ports left meters) whole
-    (stay ports (left_in here) meters (keep ports meters is))
+    record {
+      more = keep.more ++ left_in noted;
+      left = sym whole ∙ ap (λ left. left ++ left_in noted) keep.left
+          ∙ append_assoc (left_in start) keep.more (left_in noted);
+      stay = λ ports left meters is.
+          subst (λ (all : PortLeavings). new ≡ kept_meters ports all meters)
+          (append_assoc left keep.more (left_in noted))
+          (stay ports (left ++ keep.more) meters (keep.stay ports left meters is));
+    }
 
 -- while nothing happens
 pub keep_up_none : (journal : List Item) (meters : List Seen)
     → KeepUp journal journal meters meters
-keep_up_none journal meters = λ ports own is. is
+keep_up_none journal meters = record {
+  more = [];
+  left = sym (append-nil (left_in journal));
+  stay = λ ports left own is.
+      subst (λ (all : PortLeavings). meters ≡ kept_meters ports all own) (sym (append-nil left)) is;
+}
+
+-- meters that stayed until then stay on
+pub kept_up : (before after : List Item) (old new : List Seen) (ports : ℕ) (meters : List Seen)
+    → KeepUp before after old new → old ≡ kept_meters ports (left_in before) meters
+    → new ≡ kept_meters ports (left_in after) meters
+kept_up before after old new ports meters keep is =
+    subst (λ (left : PortLeavings). new ≡ kept_meters ports left meters) (sym keep.left)
+    (keep.stay ports (left_in before) meters is)

@@ -24,12 +24,19 @@ StayOn more old new =
     (ports : ℕ) (left : PortLeavings) (meters : List Seen) → old ≡ kept_meters ports left meters
     → new ≡ kept_meters ports (left ++ more) meters
 
--- where the old meters are those that stayed behind the one journal, the new ones are those that
--- stay behind the other
-abbrev pub KeepUp : (before after : List Item) → List Seen → List Seen → Type 0
-KeepUp before after old new =
-    (ports : ℕ) (meters : List Seen) → old ≡ kept_meters ports (left_in before) meters
-    → new ≡ kept_meters ports (left_in after) meters
+-- the new meters are those that stay behind what left between the one journal and the other,
+-- whatever the old ones noted before
+pub record KeepUp (before after : List Item) (old new : List Seen) : Type 0 where
+  pub more : PortLeavings
+  pub left : left_in after ≡ left_in before ++ more
+  pub stay : StayOn more old new
+
+-- the new meters keep up with the longer journal, but for a part at its end
+pub record KeepUpWithin (before after : List Item) (old new : List Seen) : Type 0 where
+  pub whole : List Item
+  pub written : List Item
+  pub longer : after ≡ whole ++ written
+  pub kept : KeepUp before whole old new
 
 -- the meters that stay while the packets of this journal leave the network
 abbrev pub kept_by : Net → List Item → List Seen → List Seen

@@ -1,8 +1,8 @@
-ghost use Rattle.std.specs.Prelude.{◌≡◌, ◌+◌, ◌≤◌, false, length, map, IsErrOf, OnErr, OnOk};
+ghost use Rattle.std.specs.Prelude.{◌≡◌, ◌+◌, ◌≤◌, false, length, map, IsErrOf, OnErr, OnOk, true};
 ghost use Rattle.steps.specs.Steps.{IsEvent};
 ghost use Rattle.steps.specs.Limits.{max_events};
 ghost use Rattle.world.specs.NoStep.{no_step};
-ghost use Rattle.replay.specs.Leavings.{KeepUp};
+ghost use Rattle.replay.specs.Leavings.{KeepUp, KeepUpWithin};
 ghost use Rattle.replay.specs.Playing.{BeginsEvent, Happens, StopsWithin, brought_in, next_step};
 ghost use Rattle.world.specs.State.{setting_at};
 
@@ -20,8 +20,9 @@ use world::{Full, World};
 /// packets that left in it.
 ///
 /// # Errors
-/// `Full` where a step would begin behind a full journal, which has the steps before it; otherwise
-/// want of memory alone, and the journal has first steps of the event and a part of the next one.
+/// `Full` where a step would begin behind a full journal, which has the steps before it, and the
+/// world can go on; otherwise want of memory alone, and the journal has first steps of the event and
+/// a part of the next one.
 pub fn take_steps<M: Meter>(
     alloc: Global,
     world: &mut World,
@@ -34,8 +35,10 @@ pub fn take_steps<M: Meter>(
     requires may { IsEvent world.old.net (length world.old.policies) event.now }
     ensures setting { setting_at world.new ≡ setting_at world.old }
     ensures able { OnOk result (world.new.is_spent ≡ false) }
+    ensures able_full { IsErrOf result no_step → world.new.is_spent ≡ false }
     ensures packets { OnOk result (world.new.packets
         ≡ world.old.packets + brought_in event.now) }
+    ensures packets_full { IsErrOf result no_step → world.new.packets ≡ world.old.packets }
     ensures happens { OnOk result (Happens (setting_at world.old) row event.now world.old.journal
         world.new.journal) }
     ensures stops { IsErrOf result no_step → StopsWithin (setting_at world.old) row event.now
@@ -46,6 +49,8 @@ pub fn take_steps<M: Meter>(
         (map M.seen board.old) (map M.seen board.new)) }
     ensures kept_full { IsErrOf result no_step → KeepUp world.old.journal world.new.journal
         (map M.seen board.old) (map M.seen board.new) }
+    ensures kept_part { OnErr result (world.new.is_spent ≡ true → KeepUpWithin world.old.journal
+        world.new.journal (map M.seen board.old) (map M.seen board.new)) }
 {
     let mut is_begun = false;
     while let Some(next) = next_of(world, event, is_begun) {

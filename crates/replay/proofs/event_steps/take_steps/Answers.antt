@@ -1,4 +1,4 @@
-use Rattle.std.proofs.Common.{◌-◌, ◌∙◌, ap, drop, Err, length, map, refl, subst, sym, take, true, arith}
+use Rattle.std.proofs.Common.{◌-◌, ◌∙◌, ap, drop, Err, length, map, refl, subst, sym, take, true, true≢false, arith}
 use Rattle.steps.specs.Steps.{IsEvent}
 use Rattle.update_machine.specs.Setting.{Setting}
 use Rattle.world.specs.State.{WorldValue, setting_at}
@@ -98,6 +98,32 @@ returns-in_err-step-clause-stops g c = λ is.
     (stops_next (setting_at c.args.world.now) c.args.row c.args.event.now c.loop-next.is_begun
     c.args.world.now.journal c.loop-next.world.journal c.in-Some.next
     c.loop-next.invariant.took (sym c.in-Some.ensures) (c.in_err-step.ensures.full full))
+
+pub returns-in_err-step-clause-kept_part : goal.returns-in_err-step-clause-kept_part
+returns-in_err-step-clause-kept_part g c =
+    on_err c.from_residual.result _ (λ spent. record {
+      whole = c.loop-next.world.journal;
+      written = c.in_err-step.ensures.part.written;
+      longer = c.in_err-step.ensures.part.grown;
+      kept = c.loop-next.invariant.kept;
+    })
+
+pub returns-in_err-note_left-clause-kept_part : goal.returns-in_err-note_left-clause-kept_part
+returns-in_err-note_left-clause-kept_part g c =
+    on_err c.from_residual-in_err-note_left.result _ (λ spent.
+    absurd (true≢false (sym spent ∙ c.in_ok-step.ensures.goes_on)))
+
+pub returns-in_err-step-clause-able_full : goal.returns-in_err-step-clause-able_full
+returns-in_err-step-clause-able_full g c = λ is.
+    let full = ap Err (same_error c.from_residual.result _ no_step c.from_residual.ensures.1 is) in
+    rw (c.in_err-step.ensures.unchanged full) c.loop-next.invariant.able
+
+pub returns-in_err-step-clause-packets_full : goal.returns-in_err-step-clause-packets_full
+returns-in_err-step-clause-packets_full g c = λ is.
+    let full = ap Err (same_error c.from_residual.result _ no_step c.from_residual.ensures.1 is) in
+    let next = next_asked g (goal.at.returns-in_err-step-clause-packets_full g c).After-tied in
+    rw (c.in_err-step.ensures.unchanged full)
+    (omega (arith, c.loop-next.invariant.packets, next.none))
 
 pub returns-in_err-step-clause-kept_full : goal.returns-in_err-step-clause-kept_full
 returns-in_err-step-clause-kept_full g c = λ is.

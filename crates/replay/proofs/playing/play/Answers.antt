@@ -9,6 +9,7 @@ use Rattle.update_machine.proofs.CallerLemmas.{start_laws}
 use Rattle.replay.specs.Leavings.{left_in}
 use Rattle.replay.proofs.Asked.{brought_few}
 use Rattle.replay.proofs.Events.{PlaysOn, plays_from_start, plays_no_more, plays_on_by, stops_by}
+use Rattle.replay.proofs.Keeping.{kept_up}
 use Rattle.replay.proofs.Ties.{tie_of}
 use Rattle.replay.proofs.playing.play.Goals as goal
 
@@ -45,7 +46,8 @@ loop-event-preserved g c =
           c.take_steps.new.world.journal whole (c.loop-event.row + 1) c.args.events.now
           c.loop-event.event-index _ stop c.loop-event-test.true
           (rw so_far.setting at c.in-Ok.ensures.happens) rest);
-      kept = c.in-Ok.ensures.kept c.args.ports (map g.M.Meter.seen c.args.meters.items) so_far.kept;
+      kept = kept_up _ _ _ _ c.args.ports (map g.M.Meter.seen c.args.meters.items)
+          c.in-Ok.ensures.kept so_far.kept;
     }
 
 pub returns-in-Err-Refused-clause-play : goal.returns-in-Err-Refused-clause-play
@@ -78,8 +80,9 @@ returns-clause-play g c =
 pub returns-in-Err-Refused-clause-kept : goal.returns-in-Err-Refused-clause-kept
 returns-in-Err-Refused-clause-kept g c =
     ap (map g.M.Meter.seen) c.into_meters.ensures
-    ∙ c.in-Err-Refused.ensures.kept_full (ap Err c.in-Err-Refused.field-0-is) c.args.ports
-    (map g.M.Meter.seen c.args.meters.items) c.loop-event.invariant.kept
+    ∙ kept_up _ _ _ _ c.args.ports (map g.M.Meter.seen c.args.meters.items)
+    (c.in-Err-Refused.ensures.kept_full (ap Err c.in-Err-Refused.field-0-is))
+    c.loop-event.invariant.kept
     ∙ ap (λ (journal : List Item). kept_meters c.args.ports (left_in journal)
     (map g.M.Meter.seen c.args.meters.items)) (sym c.into_journal.ensures)
 
