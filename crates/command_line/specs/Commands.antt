@@ -1,4 +1,4 @@
--- The commands, by their arguments.
+-- First tier. The commands, by their arguments.
 use Rattle.std.specs.Prelude.{ℕ, Bool, Option, List, map, string_bytes, String, Vec}
 use Rattle.std.specs.Global.{Global}
 

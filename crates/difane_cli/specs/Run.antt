@@ -1,4 +1,4 @@
--- What became of a call of the program, by its status: a replay's, or a load case's.
+-- First tier. What became of a call of the program, by its status: a replay's, or a load case's.
 use Rattle.std.specs.Prelude.{⊤, ℕ, ◌≡◌, ◌⊎◌, Bool, Option, Some, None, Result, Ok, IsTrue, List, [], length, All, true, false}
 use Rattle.std.specs.List.{AllZip}
 use Rattle.std.specs.Option.{ForSome}

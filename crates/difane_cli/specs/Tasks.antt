@@ -1,4 +1,4 @@
--- What a command is to do, once its files are read.
+-- First tier. What a command is to do, once its files are read.
 use Rattle.std.specs.Prelude.{ℕ, Option, List, ◌≡◌, Some, None}
 use Rattle.net_file.specs.declared.net.Net.{Net}
 use Rattle.net_file.specs.Net.{IsNet, solo_net}

@@ -1,4 +1,4 @@
--- What a command writes: the text of a play, and the line of a status.
+-- First tier. What a command writes: the text of a play, and the line of a status.
 use Rattle.std.specs.Prelude.{ℕ, Bool, true, false, Option, Some, None, List, [], ◌∷◌, ◌++◌, codes, decimal, length}
 use Rattle.std.specs.List.{concat, flat_map}
 use Rattle.journal.specs.declared.item.Item.{Item}

@@ -1,4 +1,4 @@
--- What a command left of its journal and of its outputs, whatever it did.
+-- First tier. What a command left of its journal and of its outputs, whatever it did.
 use Rattle.std.specs.Prelude.{ℕ, ◌≡◌, ◌⊎◌, List, [], ◌≤◌, Bool, IsTrue}
 use Rattle.shelf.specs.Sink.{gained, GainedPart, SinkState, Rose}
 use Rattle.journal.specs.declared.item.Item.{Item}

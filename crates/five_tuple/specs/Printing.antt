@@ -1,4 +1,4 @@
--- The printed forms of a policy's and a packet's fields: each is read back to the field.
+-- First tier. The printed forms of a policy's and a packet's fields: each is read back to it.
 use Rattle.std.specs.Prelude.{ℕ, ◌/◌, ◌%◌, ◌^◌, ◌==◌, if◌then◌else◌, List, [], ◌∷◌, decimal, codes}
 use Rattle.std.specs.List.{join_with_byte}
 use Rattle.five_tuple.specs.declared.header.Fields.{Fields}

@@ -1,4 +1,4 @@
--- The lines of a journal: one for each item, in which switches stand by their names.
+-- First tier. The lines of a journal: one for each item, in which switches stand by their names.
 use Rattle.std.specs.Prelude.{ℕ, ◌==◌, Bool, true, false, min, max, if◌then◌else◌, Option, List, [], ◌∷◌, ◌++◌, filter, codes, decimal}
 use Rattle.std.specs.List.{flat_map}
 use Rattle.ctrl_msg.specs.declared.message.Body.{Body}

@@ -1,4 +1,4 @@
--- What contracts know of a meter.
+-- First tier. What contracts know of a meter.
 use Rattle.std.specs.Prelude.{ℕ, Bool, List}
 use Rattle.policy_rules.specs.declared.packet.Leaving.{Leaving}
 

@@ -1,4 +1,4 @@
--- Which switch has a port, and which switches a link joins.
+-- First tier. Which switch has a port, and which switches a link joins.
 use Rattle.std.specs.Prelude.{ℕ, ◌==◌, Bool, ◌&&◌, ◌||◌, Option, List, position}
 use Rattle.std.specs.Int.{bit_at}
 use Rattle.std.specs.List.{list_any}

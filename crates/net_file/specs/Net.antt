@@ -1,4 +1,4 @@
--- Networks that a text can state, the one of a single switch, and the names of switches.
+-- First tier. Networks that a text can state, the one of a single switch, and names of switches.
 use Rattle.std.specs.Prelude.{ℕ, ◌≢◌, ◌-◌, ◌^◌, ◌<◌, ◌≤◌, ◌==◌, Bool, false, ◌&&◌, ◌||◌, not, nat_le, List, [], ◌∷◌, length, All, AllPairs, IsTrue, IsFalse, codes, bytes_eq, ◌++◌, slice_get}
 use Rattle.std.specs.List.{list_all, flat_map}
 use Rattle.std.specs.Char.{is_ascii_alphabetic, is_ascii_alphanumeric}

@@ -1,5 +1,5 @@
--- A plan is of partitions with their targets, as in Yu, Rexford, Freedman and Wang, "Scalable
--- Flow-Based Networking with DIFANE", SIGCOMM 2010.
+-- First tier. A plan is of partitions with their targets, as in Yu, Rexford, Freedman and Wang,
+-- "Scalable Flow-Based Networking with DIFANE", SIGCOMM 2010.
 use Rattle.std.specs.Prelude.{ℕ, Bool, List}
 use Rattle.five_tuple.specs.Header.{number_of}
 use Rattle.five_tuple.specs.declared.header.Header.{Header}

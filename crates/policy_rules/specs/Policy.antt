@@ -1,4 +1,4 @@
--- Policies: when a row matches, the first match of a header, and how rules are printed.
+-- First tier. Policies: when a row matches, the first match of a header, and how rules are printed.
 use Rattle.std.specs.Prelude.{◌≡◌, ◌≢◌, ◌^◌, ◌<◌, ◌≤◌, Bool, ◌&&◌, MatchOption, List, [], length, filter, All, AllPairs, Contains, ℕ, Option, Some, None, ◌++◌, codes, decimal}
 use Rattle.five_tuple.specs.Header.{fields_of, IsAddressBlock, IsPortRange, IsProtocol, prefix_matches, range_matches, proto_matches}
 use Rattle.five_tuple.specs.declared.header.Fields.{Fields}

@@ -1,5 +1,5 @@
--- What contracts see of a sink of bytes, and counts of faults: numbers of 64 bits that never fall
--- and stand still at their last value.
+-- First tier. What contracts see of a sink of bytes, and counts of faults: numbers of 64 bits that
+-- never fall and stand still at their last value.
 use Rattle.std.specs.Prelude.{◌≡◌, ◌<◌, ℕ, List, ◌++◌, length, take, Option, Some, None, ◌≤◌, ◌+◌, ◌-◌, ◌^◌, min}
 
 -- one more, or the last value

@@ -1,5 +1,5 @@
--- The steps that a network can be asked for: they name switches and links that it has, and policy
--- files that there are.
+-- First tier. The steps that a network can be asked for: they name switches and links that it has,
+-- and policy files that there are.
 use Rattle.std.specs.Prelude.{⊤, ℕ, ◌<◌, ◌≤◌, length, IsTrue}
 use Rattle.five_tuple.specs.Header.{IsHeader}
 use Rattle.net_file.specs.Joins.{are_linked}

@@ -1,5 +1,5 @@
--- Four ways in which a journal says something: what an item told last, how many items satisfy a
--- test, what the items give one after another, and what becomes of a value as each item changes it.
+-- First tier. Four ways in which a journal says something: what an item told last, how many items
+-- satisfy a test, what they give one after another, and what becomes of a value as each changes it.
 -- An item that refers back, as a delivery to its message, is read on the journal before it.
 use Rattle.std.specs.Prelude.{ℕ, Bool, Option, None, List, [], ◌∷◌, ◌++◌, count_by}
 use Rattle.std.specs.List.{flat_map}

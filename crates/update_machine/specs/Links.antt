@@ -1,4 +1,4 @@
--- Which links of the network switches can use: those that are up, between switches that serve, as
+-- First tier. Which links switches can use: those that are up, between switches that serve, as
 -- neighbours in OSPF are those that answer (RFC 2328, section 10). And which links a switch knows:
 -- its own that it can use, and of others those that both ends claim by the newest advert that it
 -- heard (sections 13.1 and 16.1, with a boot number in the place of the ages of adverts).

@@ -1,7 +1,7 @@
--- The abstract machine: what a network that decides packets by versions of a policy may do, and
--- nothing else. It has policies, a mark and packets; it knows no switch, link, table or message.
--- The notion of a version that decides a whole packet is that of Reitblatt, Foster, Rexford,
--- Schlesinger and Walker, "Abstractions for Network Update".
+-- First tier. The abstract machine: what a network that decides packets by versions of a policy may
+-- do, and nothing else. It has policies, a mark and packets; it knows no switch, link, table or
+-- message. The notion of a version that decides a whole packet is that of Reitblatt, Foster,
+-- Rexford, Schlesinger and Walker, "Abstractions for Network Update".
 use Rattle.std.specs.Prelude.{⊤, ℕ, ◌≡◌, ◌+◌, ◌-◌, ◌<◌, if◌then◌else◌, ◌==◌, Option, Some, None, option_map, option_to_list, List, [], ◌∷◌, ◌++◌, length, slice_get}
 use Rattle.five_tuple.specs.declared.header.Header.{Header}
 use Rattle.policy_rules.specs.Policy.{IsFirstMatch}

@@ -1,5 +1,5 @@
--- The packets of a journal: the header of each, where it stands, and its decision. Their numbers,
--- from 1 in the order of their rows, are our own.
+-- First tier. The packets of a journal: the header of each, where it stands, and its decision.
+-- Their numbers, from 1 in the order of their rows, are our own.
 use Rattle.std.specs.Prelude.{ℕ, ◌+◌, Bool, true, false, ◌==◌, if◌then◌else◌, Option, Some, None, List}
 use Rattle.five_tuple.specs.declared.header.Header.{Header}
 use Rattle.policy_rules.specs.declared.policy.Action.{Action}

@@ -1,4 +1,4 @@
--- What a journal is read against: the network, and the policies by file with their plans.
+-- First tier. What a journal is read against: the network, and policies by file with their plans.
 use Rattle.std.specs.Prelude.{ℕ, ◌-◌, ◌==◌, if◌then◌else◌, Option, Some, None, Result, Ok, Err, List, slice_get, ⊤, ◌≡◌, ◌⊎◌, Contains, is_some, IsOk, IsTrue, All}
 use Rattle.net_file.specs.declared.net.Net.{Net}
 use Rattle.net_file.specs.Net.{IsNet}

@@ -1,7 +1,7 @@
--- The steps that a journal was asked for are the rows of its schedule that were played, one by one,
--- but for the hops and deliveries that rows of a drain or a flush ask for as well. Each packet that
--- came in or was refused is that of a packet row: a journal without packets is that of a play
--- without packet rows. The notion is our own.
+-- First tier. The steps that a journal was asked for are the rows of its schedule that were played,
+-- one by one, but for the hops and deliveries that rows of a drain or a flush ask for as well. Each
+-- packet that came in or was refused is that of a packet row: a journal without packets is that of
+-- a play without packet rows. The notion is our own.
 use Rattle.std.specs.Prelude.{⊤, ℕ, Bool, IsTrue, IsFalse, ◌≡◌, ◌+◌, ◌-◌, Option, Some, None, List, [], ◌∷◌, ◌++◌, take}
 use Rattle.five_tuple.specs.declared.header.Header.{Header}
 use Rattle.journal.specs.declared.item.Item.{Item}
