@@ -1,10 +1,10 @@
 #!/usr/bin/env python3
 """The output of `replay`, worked out anew from its definitions and slowly.
 
-usage: bench/slow_replay.py SCHEDULE POLICY.. [--net NET] [--quiet]
+usage: model/slow_replay.py SCHEDULE POLICY.. [--net NET] [--quiet]
 
-It shares nothing with the program: the plans are those of `bench/plan_model.py`, and all that
-happens is written from the definitions in words, in sets and lists. `bench/fuzz.py` compares it
+It shares nothing with the program: the plans are those of `model/plan_model.py`, and all that
+happens is written from the definitions in words, in sets and lists. `model/fuzz.py` compares it
 with the program. It reads accepted files alone, and ends with 3 where the first policy has no plan.
 """
 import csv

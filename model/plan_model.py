@@ -1,7 +1,7 @@
 #!/usr/bin/env python3
-"""The texts of `compile` and `show`, worked out anew from their definitions and slowly: `bench/plan_model.py POLICY [SWITCH] [--net NET]`.
+"""The texts of `compile` and `show`, worked out anew from their definitions and slowly: `model/plan_model.py POLICY [SWITCH] [--net NET]`.
 
-It shares nothing with the program. The expected texts of examples/ come from it, and `bench/examples.py` compares them with it.
+It shares nothing with the program. The expected texts of examples/ come from it, and `checks/examples.py` compares them with it.
 It reads accepted files alone, and refuses nothing but a plan without room.
 """
 import csv

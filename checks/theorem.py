@@ -1,5 +1,5 @@
 #!/usr/bin/env python3
-"""Counts what a sceptic must read, and checks docs/THEOREM.md: `bench/theorem.py [--write] [--list]`.
+"""Counts what a sceptic must read, and checks docs/THEOREM.md: `checks/theorem.py [--write] [--list]`.
 
 A definition is reached if a clause of `run` names it, or a definition that is reached does. The first tier is what is reached without
 passing one of STOPS; the core of it is what CORE reaches so. The second tier is what else is reached. The page names a file of specs/ as

@@ -1,7 +1,7 @@
 #!/usr/bin/env python3
-"""Plays random schedules by the program and by `bench/slow_replay.py`, and compares the outputs.
+"""Plays random schedules by the program and by `model/slow_replay.py`, and compares the outputs.
 
-usage: bench/fuzz.py BIN COUNT [START]
+usage: model/fuzz.py BIN COUNT [START]
 
 BIN is the program (`rt run` leaves it in crates/difane/out/difane). Each seed from START on (0
 where it isn't given) makes a network of two to five switches, three policies and a schedule of 10

@@ -1,9 +1,9 @@
 #!/usr/bin/env python3
-"""Makes a folder for `examples/openvswitch --check`: `bench/flows.py FOLDER`, then `examples/run FOLDER > FOLDER/journal.txt`.
+"""Makes a folder for `examples/openvswitch --check`: `model/flows.py FOLDER`, then `examples/run FOLDER > FOLDER/journal.txt`.
 
 Four switches stand in a ring, two of them are authorities, and leaves have few rules, so that regions are cut at bits of ports and of
 protocols too. Half of the 300 rows have ports and any protocol; the others have one of many protocols, and few have both addresses. The
-tables of each switch are those of `bench/plan_model.py`. Each of the 600 packets is like a row: it has that row's protocol, or any one of
+tables of each switch are those of `model/plan_model.py`. Each of the 600 packets is like a row: it has that row's protocol, or any one of
 those with ports.
 """
 import random

@@ -1,5 +1,5 @@
 #!/usr/bin/env python3
-"""Writes the table of docs/GATE.md: `bench/gate.py [--measure]`.
+"""Writes the table of docs/GATE.md: `checks/gate.py [--measure]`.
 
 For each crate it counts the lines of code (without tests), of definitions and of proofs, and the must-fail edits. The seconds of the
 table stay as they are, unless `--measure` is given: then it runs the whole gate once, `rt ci`, at the top of this repository, where

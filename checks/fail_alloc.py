@@ -1,5 +1,5 @@
 #!/usr/bin/env python3
-"""Lets each allocation of a command fail in turn: `bench/fail_alloc.py BIN [ARG..]`.
+"""Lets each allocation of a command fail in turn: `checks/fail_alloc.py BIN [ARG..]`.
 
 Without arguments the commands are a load case, and a replay, a compile and a show of the day of a
 campus, examples/day. The N-th call for memory fails, alone and then with all after it, for N from 1
@@ -28,7 +28,7 @@ MODES = (("one alone", {}), ("it and all after it", {"FAIL_REST": "1"}))
 
 def build(folder):
     library = Path(folder) / "fail_alloc.so"
-    source = HOME / "bench/fail_alloc.c"
+    source = HOME / "checks/fail_alloc.c"
     subprocess.run(["cc", "-shared", "-fPIC", "-o", library, source, "-ldl"], check=True)
     return {"LD_PRELOAD": str(library)}
 

@@ -1,5 +1,5 @@
 #!/usr/bin/env python3
-"""Draws the crates: `bench/map.py` writes docs/map.svg and the layers in docs/MAP.md; `bench/map.py --check` only compares.
+"""Draws the crates: `checks/map.py` writes docs/map.svg and the layers in docs/MAP.md; `checks/map.py --check` only compares.
 
 The lines are those of crates.txt, less each one that follows from others: where A uses B and C, and B stands on C, A has a line to B
 alone. It ends with 1 where the picture, the layers, the column "Stands on" of the table in docs/MAP.md or the crates of
