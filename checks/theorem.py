@@ -4,10 +4,10 @@
 A definition is reached if a clause of `run` names it, or a definition that is reached does. The first tier is what is reached without
 passing one of STOPS; the core of it is what CORE reaches so. The second tier is what else is reached. The page names a file of specs/ as
 `crate/File.antt`. It ends with 1 where the files that the page names in its part on a tier aren't exactly those that are reached, a file of
-the first tier has a definition that this tier doesn't reach, or the page's table of the types declared in src/ isn't exactly of those that the
-first tier speaks of, where a number of the page is another than is counted, or where this page or docs/TRUST.md says "`name` of
-`crate/File.antt`" and no such definition stands there. With `--write` it writes the numbers. With `--list` it prints each file with its
-lines, how many of them are reached, and what isn't.
+the first tier has a definition that this tier doesn't reach, where a file of this tier doesn't say so at its head (MARK) or another one
+does, or where the page's table of the types declared in src/ isn't exactly of those that the first tier speaks of. So it does where a number
+of the page is another than is counted, or where this page or docs/TRUST.md says "`name` of `crate/File.antt`" and no such definition stands
+there. With `--write` it writes the numbers. With `--list` it prints each file with its lines, how many of them are reached, and what isn't.
 """
 import re
 import sys
@@ -44,6 +44,7 @@ STOPS = {
     "IsAfterReads": "reads",
 }
 CORE = ("IsRun", "HasCause", "AreEntered")
+MARK = "-- First tier. "  # with this a file of the first tier begins, and no other one
 DEFINES = re.compile(r"(?:abbrev pub|unfoldable pub|pub record|pub data|pub) ([^\s:]+)")
 TOKEN = re.compile(r"[A-Za-z_][\w-]*(?:\.[A-Za-z_][\w-]*)*")
 # names of fields, which are no definitions
@@ -226,6 +227,14 @@ def needless(specs, by_file):
             yield f"`{name}` of {path.parts[-3]}/{path.name} isn't needed"
 
 
+def mismarked(files):
+    """The files of this tier that don't say so at their head, and the others that do."""
+    marked = {path for path in HOME.glob("crates/*/specs/**/*.antt") if path.read_text().startswith(MARK)}
+    return [f"{path.parts[-3]}/{path.name} doesn't begin with '{MARK}'" for path in sorted({*files} - marked)] + [
+        f"{path.relative_to(HOME)} begins with '{MARK}'" for path in sorted(marked - {*files})
+    ]
+
+
 def mistyped(by_source, page):
     """The rows on types that the page lacks, or has and shouldn't."""
     wanted = {f"| `{path.relative_to(HOME)}` | {', '.join(f'`{name}`' for name in sorted(by_source[path]))} |" for path in by_source}
@@ -267,7 +276,7 @@ def main():
         PAGE.write_text(page)
     one, two = page.split("## The first tier\n")[1].split("## The second tier\n")
     told = [f"{part}: {name}" for part, files, text in (("first tier", first, one), ("second tier", second, two)) for name in misnamed(files, text)]
-    told += [f"first tier: {name}" for name in needless(specs, first)]
+    told += [f"first tier: {name}" for name in [*needless(specs, first), *mismarked(first)]]
     told += [*mistyped(types, page), *misstated(specs, page), *misstated(specs, TRUST.read_text())]
     for line in told:
         print(line)

@@ -1,0 +1,44 @@
+#!/usr/bin/env python3
+"""Runs the checks that need no proof, and tells which failed: `checks/all.py [BIN]`.
+
+With BIN, the program as it was built (`rt run` leaves it in crates/difane/out/difane), it also lets
+each allocation fail in turn, and plays random schedules by the program and by the model; these take
+minutes. What a check prints is shown where it failed. It ends with 1 where one did.
+"""
+import subprocess
+import sys
+from pathlib import Path
+
+HOME = Path(__file__).resolve().parent.parent
+ARGS = {"map.py": ["--check"]}
+NO_CHECKS = {"all.py", "crates.py", "gate.py", "fail_alloc.py"}
+SEEDS = 100
+
+
+def commands(program):
+    """Each check as its name and the arguments behind it."""
+    for path in sorted((HOME / "checks").glob("*.py")):
+        if path.name not in NO_CHECKS:
+            yield f"checks/{path.name}", ARGS.get(path.name, [])
+    if program:
+        yield "checks/fail_alloc.py", [program]
+        yield "model/fuzz.py", [program, str(SEEDS)]
+
+
+def main():
+    if len(sys.argv) > 2 or sys.argv[1:] in (["-h"], ["--help"]):
+        sys.exit(__doc__)
+    program = str(Path(sys.argv[1]).resolve()) if sys.argv[1:] else None
+    failed = []
+    for name, args in commands(program):
+        command = [sys.executable, str(HOME / name), *args]
+        done = subprocess.run(command, stdout=subprocess.PIPE, stderr=subprocess.STDOUT, text=True)
+        print(f"{'failed' if done.returncode else 'passed'}  {name}", flush=True)
+        if done.returncode:
+            failed.append(name)
+            print(done.stdout, flush=True)
+    print(f"failed: {', '.join(failed)}" if failed else "all passed")
+    sys.exit(bool(failed))
+
+
+main()
