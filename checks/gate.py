@@ -1,12 +1,17 @@
 #!/usr/bin/env python3
 """Writes the table of docs/GATE.md: `checks/gate.py [--measure]`.
 
-For each crate it counts the lines of code (without tests), of definitions and of proofs, and the must-fail edits. The seconds of the
-table stay as they are, unless `--measure` is given: then it runs the whole gate once, `rt ci`, at the top of this repository, where
-nothing may be kept yet, and writes the processor seconds that the prover took for each crate's proof, for its tests (a crate with tests is proved
-once more together with them) and for its edits. It looks five times a second at each process of the prover that `rt ci` has begun, and
-takes the last figure that it saw of each. A sentence below the table tells what the whole run took as the system counts it, and what of
-that went beside the table: to link and run what was proved, and to `rt` itself. Nothing is written where `rt ci` fails.
+For each crate it counts the lines of code (without tests), of definitions and of proofs, and the
+must-fail edits. The seconds of the table stay as they are, unless `--measure` is given: then it
+runs the whole gate once, `rt ci`, at the top of this repository, where nothing may be kept yet, and
+writes the processor seconds that the prover took for each crate's proof, for its tests (a crate
+with tests is proved once more together with them) and for its edits. It looks five times a second
+at each process of the prover that `rt ci` has begun, and takes the last figure that it saw of each.
+
+Below the table it writes, and prints, the sum of the seconds, and how often they have those of the
+proof of YARDSTICK: machines differ in seconds, and less in that. Of a run that it measured a
+sentence tells what it took as the system counts it, and what of that went beside the table: to link
+and run what was proved, and to `rt` itself. Nothing is written where `rt ci` fails.
 """
 import os
 import re
@@ -15,11 +20,18 @@ import subprocess
 import sys
 import time
 from pathlib import Path
+from textwrap import fill
 
-HOME = Path(__file__).resolve().parent.parent
+from crates import HOME, libraries, sources
+
 GATE = HOME / "docs/GATE.md"
+# A small proof that stands low and seldom changes.
+YARDSTICK = "five_tuple"
 HEAD = "| Crate | Code | Definitions | Proofs | Edits | Seconds of the proof | of the tests | of the edits |"
 KINDS = ("proof", "tests", "edits")
+NO_CELLS = [""] * len(KINDS)
+# How the two paragraphs below the table begin.
+SUM, RUN = "The sum of the table", "The whole run took"
 TICKS = os.sysconf("SC_CLK_TCK")
 
 
@@ -30,27 +42,19 @@ def count(paths):
     return sum(len(path.read_text().splitlines()) for path in paths)
 
 
-def crates():
-    for line in (HOME / "crates.txt").read_text().splitlines():
-        if line and not line.startswith("#"):
-            yield line.split(":")[0]
-
-
-def test_files(folder):
+def test_files(name):
     """The files of the modules that stand under #[cfg(test)], and of those below them."""
-    for path in folder.glob("src/*.rt"):
-        for name in re.findall(r"#\[cfg\(test\)\]\s*mod (\w+);", path.read_text()):
-            yield folder / f"src/{name}.rt"
-            yield from folder.glob(f"src/{name}/**/*.rt")
+    for path in sources(name, "src/*.rt"):
+        for module in re.findall(r"#\[cfg\(test\)\]\s*mod (\w+);", path.read_text()):
+            yield from sources(name, f"src/{module}.rt", f"src/{module}/**/*.rt")
 
 
 def sizes(name):
-    folder = HOME / "crates" / name
     return (
-        count({*folder.glob("src/**/*.rt")} - {*test_files(folder)}),
-        count(folder.glob("specs/**/*.antt")),
-        count(folder.glob("proofs/**/*.antt")),
-        len(list(folder.glob("must-fail/*.edit"))),
+        count({*sources(name, "src/**/*.rt")} - {*test_files(name)}),
+        count(sources(name, "specs/**/*.antt")),
+        count(sources(name, "proofs/**/*.antt")),
+        len(sources(name, "must-fail/*.edit")),
     )
 
 
@@ -58,7 +62,8 @@ def sizes(name):
 
 
 def processes():
-    """Each process's parent, and what names it for as long as the system runs, with its ticks and those of its children that ended."""
+    """Each process's parent, what names it for as long as the system runs, and its ticks, with those
+    of its children that ended."""
     found = {}
     for entry in filter(str.isdigit, os.listdir("/proc")):
         try:
@@ -84,7 +89,7 @@ def task_of(process):
 
 
 def look(top, tasks, ticks):
-    """Notes how many ticks each check below the process `top` has taken so far, with all that it began."""
+    """Notes how many ticks each check below the process `top` took so far, with all that it began."""
     found = processes()
     children = {}
     for process, (parent, _, _) in found.items():
@@ -114,9 +119,10 @@ def measured():
     if run.returncode:
         sys.exit("rt ci failed, so no seconds are written")
     usage = resource.getrusage(resource.RUSAGE_CHILDREN)
-    seconds = {(name, kind): 0 for name in crates() for kind in KINDS}
+    seconds = {(name, kind): 0 for name in libraries() for kind in KINDS}
     for check, own in ticks.items():
-        seconds[tasks[check]] += own / TICKS
+        if tasks[check] in seconds:
+            seconds[tasks[check]] += own / TICKS
     return seconds, usage.ru_utime + usage.ru_stime
 
 
@@ -124,44 +130,61 @@ def measured():
 
 
 def kept_cells(text):
-    """The cells of seconds that the table has, by the first cell of their row."""
-    for name, rest in re.findall(r"^\| ([^|]+) \|(.*)\|$", text, re.M):
+    """The cells of seconds that the table has, by the crate of their row."""
+    for name, rest in re.findall(r"^\| `(\w+)` \|(.*)\|$", text, re.M):
         cells = [cell.strip() for cell in rest.split("|")][4:]
-        yield name, cells if len(cells) == len(KINDS) else [""] * len(KINDS)
+        if len(cells) == len(KINDS) and all(cells):
+            yield name, list(map(int, cells))
 
 
-def new_cells(seconds):
-    for name in crates():
-        yield f"`{name}`", [str(round(seconds[name, kind])) for kind in KINDS]
-    yield "All crates", [str(round(sum(seconds[name, kind] for name in crates()))) for kind in KINDS]
+def row(name, numbers):
+    return f"| {name} | " + " | ".join(map(str, numbers)) + " |"
 
 
 def table(cells):
     rows = [HEAD, "|" + "---|" * (HEAD.count("|") - 1)]
-    counts = {f"`{name}`": sizes(name) for name in crates()}
-    counts["All crates"] = map(sum, zip(*counts.values()))
-    for name, own in counts.items():
-        rows.append(f"| {name} | " + " | ".join([*map(str, own), *cells.get(name, [""] * len(KINDS))]) + " |")
-    return "\n".join(rows)
+    counts = {name: sizes(name) for name in libraries()}
+    rows += [row(f"`{name}`", [*own, *cells.get(name, NO_CELLS)]) for name, own in counts.items()]
+    all_cells = map(sum, zip(*cells.values())) if counts.keys() <= cells.keys() else NO_CELLS
+    return "\n".join([*rows, row("All crates", [*map(sum, zip(*counts.values())), *all_cells])])
+
+
+def sums(cells):
+    """What is said below the table of its sum; nothing where a crate has no seconds yet."""
+    if not libraries().keys() <= cells.keys():
+        return ""
+    proofs, tests, edits = (sum(cells[name][k] for name in libraries()) for k in range(len(KINDS)))
+    whole, one = proofs + tests + edits, cells[YARDSTICK][0]
+    shares = f"{proofs / 60:.0f} for proofs, {tests / 60:.0f} for tests, {edits / 60:.0f} for edits"
+    text = f"{SUM} is {whole / 60:.0f} processor minutes: {shares}."
+    return f"{text} That is {whole / one:.0f} times the proof of `{YARDSTICK}`."
 
 
 def told(seconds, whole):
-    """The sentence below the table."""
+    """What is said of the run that was measured."""
     rest = round(whole - sum(seconds.values()))
-    return f"The whole run took {whole / 60:.0f} processor minutes: the seconds of the table, and {rest} beside them."
+    return f"{RUN} {whole / 60:.0f} processor minutes: the seconds of the table, and {rest} beside."
+
+
+def parts_of(page):
+    """What stands before the table, the table, and the paragraphs behind it."""
+    start = page.index(HEAD)
+    table, *rest = page[start:].split("\n\n")
+    return page[:start], table, rest
 
 
 def main():
-    text = GATE.read_text()
-    start = re.search(r"^\| Crate ", text, re.M).start()
-    end = text.index("\n\n", start)
-    cells, rest = dict(kept_cells(text)), text[end:]
+    before, old, rest = parts_of(GATE.read_text())
+    cells, ran = dict(kept_cells(old)), [part for part in rest if part.startswith(RUN)]
     if sys.argv[1:]:
         seconds, whole = measured()
-        cells = dict(new_cells(seconds))
-        rest = re.sub(r"^\n\n(Of these seconds|The whole run took) .*", "", rest)
-        rest = f"\n\n{told(seconds, whole)}{rest}"
-    GATE.write_text(text[:start] + table(cells) + rest)
+        cells = {name: [round(seconds[name, kind]) for kind in KINDS] for name in libraries()}
+        ran = [fill(told(seconds, whole), 100)]
+    cells = {name: own for name, own in cells.items() if name in libraries()}
+    said = [fill(sums(cells), 100), *ran] if sums(cells) else []
+    rest = [part for part in rest if not part.startswith((SUM, RUN))]
+    GATE.write_text(before + "\n\n".join([table(cells), *said, *rest]))
+    print("\n\n".join(said) or "some crates have no seconds")
 
 
 if __name__ == "__main__":
