@@ -1,6 +1,6 @@
-//! The marks of a policy's versions, as a controller keeps them: for each switch the boot that it
-//! told, whether it is a member, and the versions that it acknowledged; and over all switches the
-//! current and the last retired version.
+//! The marks of a policy's versions, as a controller keeps them: for each switch its boot, whether
+//! it is a member, and the versions that it acknowledged; and over all switches the current and the
+//! last retired version.
 //!
 //! An update has two phases, as in Reitblatt, Foster, Rexford, Schlesinger and Walker,
 //! "Abstractions for Network Update": a version becomes current once every member has its tables,
