@@ -1,9 +1,11 @@
 #!/usr/bin/env python3
 """Sees that what pages and scripts lead to is there: `checks/links.py`.
 
-It looks at each link of a page to a file of this repository, and in pages, scripts and sources at
-each name of a file of docs/, checks/, model/ or bench/. It ends with 1 where there is no such file.
+It looks at each link of a page to a file of this repository, and at each name in backticks of a
+file of a crate, as `CRATE/src/FILE`. In pages, scripts and sources it looks at each name of a file
+of docs/, checks/, model/ or bench/. It ends with 1 where there is no such file.
 """
+import os
 import re
 import sys
 
@@ -13,16 +15,19 @@ PAGES = ("*.md", "docs/*.md", "bench/*.md", "model/*.md", "crates/examples/data/
 OTHERS = ("bench/*.py", "checks/*.py", "checks/*.c", "model/*.py", "crates/*/src/**/*.rt")
 LINK = re.compile(r"\]\(([^)#:\s]+)(?:#[^)]*)?\)")
 NAME = re.compile(r"\b(?:docs|checks|model|bench)/[\w-]+\.\w+")
+IN_CRATE = re.compile(r"`(?:crates/)?((?!crate/)\w+/(?:src|specs|proofs|must-fail)(?:/[\w./-]*)?)`")
 
 
 def missing(path):
     """What a file leads to and isn't there, each with its line."""
     for number, line in enumerate(path.read_text().splitlines(), 1):
-        links = LINK.findall(line) if path.suffix == ".md" else []
-        names = NAME.findall(re.sub(r"\]\([^)]*\)", "", line))
-        gone = [link for link in links if not (path.parent / link).exists()]
-        gone += [name for name in names if not (HOME / name).exists()]
-        yield from (f"{path.relative_to(HOME)}:{number}: no {name}" for name in gone)
+        named = [HOME / name for name in NAME.findall(re.sub(r"\]\([^)]*\)", "", line))]
+        if path.suffix == ".md":
+            named += [path.parent / link for link in LINK.findall(line)]
+            named += [HOME / "crates" / name for name in IN_CRATE.findall(line)]
+        for file in named:
+            if not file.exists():
+                yield f"{path.relative_to(HOME)}:{number}: no {os.path.relpath(file, HOME)}"
 
 
 def main():

@@ -1,99 +1,149 @@
 #!/usr/bin/env python3
-"""Draws the crates: `checks/map.py` writes docs/map.svg and the layers in docs/MAP.md; `checks/map.py --check` only compares.
+"""Writes the crates into docs/MAP.md and docs/map.svg: `checks/map.py [--check]`.
 
-The lines are those of crates.txt, less each one that follows from others: where A uses B and C, and B stands on C, A has a line to B
-alone. It ends with 1 where the picture, the layers, the column "Stands on" of the table in docs/MAP.md or the crates of
-docs/PROVED.md differ from crates.txt. To draw it needs `dot` (Debian's package graphviz); to compare it needs nothing.
+In its part PART the page has a heading for each layer, the lowest first, and under it a table with
+a row for each crate. The name of the crate is written by hand; the script writes the rest of the
+row: what the crate is for, which is the first sentence of its root file, and on which crates it
+stands. Of these those are left out that follow from others: where A uses B and C, and B stands on
+C, A stands on B alone. The picture has the same lines, by `dot` (Debian's package graphviz).
+
+With `--check` it only compares. It ends with 1 where a crate stands in no layer or in two, or uses
+one of a later layer; where the page has a row that names no crate; where the page or the picture
+differ from crates.txt and the root files; and where a crate with contracts has no place in
+docs/PROVED.md.
 """
 import html
 import re
 import subprocess
 import sys
-from pathlib import Path
-from textwrap import fill
 
-HOME = Path(__file__).resolve().parent.parent
+from crates import HOME, below, height, sources, uses
+
 PICTURE, PAGE, PROVED = (HOME / "docs" / name for name in ("map.svg", "MAP.md", "PROVED.md"))
+PART = "## The crates by layer\n"
+HEAD = "| Crate | What it is for | Stands on |\n|---|---|---|\n"
+NAMED = re.compile(r"^\| `(\w+)` \|.*\n", re.M)
+COLOURS = ["#eceff4", "#dbe9f9", "#fff2c9", "#e3f3dc", "#f8e0d5", "#e9e1f5", "#f4f4f4"]
 
 
-def lines_of():
-    """The lines from each crate to those right below it."""
-    uses = {}
-    for line in (HOME / "crates.txt").read_text().splitlines():
-        if line and not line.startswith("#"):
-            name, _, rest = line.partition(":")
-            uses[name] = rest.split()
-    own = {name: [other for other in rest if other in uses] for name, rest in uses.items()}
+def root_of(name):
+    return sources(name, "src/lib.rt", "src/main.rt")[0].read_text()
 
-    def below(name):
-        return set(own[name]).union(*(below(other) for other in own[name]))
 
-    def is_direct(other, rest):
-        return not any(other in below(third) for third in rest if third != other)
+def purpose(name):
+    """The first sentence of a crate's root file."""
+    lines = (line.removeprefix("//!").strip() for line in root_of(name).splitlines())
+    return re.match(r".*?[.](?=\s|$)", " ".join(lines))[0]
 
-    return {name: [other for other in rest if is_direct(other, rest)] for name, rest in own.items()}
+
+def stands_on(name):
+    """The crates right below this one."""
+    own = uses()[name]
+    return [other for other in own if not any(other in below(third) for third in own)]
 
 
 def is_proved(name):
-    """Whether a crate has contracts of its own: programs don't, and neither do crates of tests alone."""
-    return not name.endswith("_rows") and not (HOME / "crates" / name / "src/main.rt").exists()
+    """Whether a crate has contracts of its own: programs and crates of tests alone have none."""
+    return not sources(name, "src/main.rt") and "#[cfg(test)]" not in root_of(name)
 
 
-def layers_of(lines):
-    """The crates by the length of the longest way down from them, the lowest first."""
-    levels = {}
-
-    def level(name):
-        if name not in levels:
-            levels[name] = 1 + max(map(level, lines[name]), default=0)
-        return levels[name]
-
-    most = max(map(level, lines))
-    return [[name for name in lines if levels[name] == k] for k in range(1, most + 1)]
+# ---- the page
 
 
-def layers_text(lines):
-    layers = layers_of(lines)
-    told = [fill(f"{len(layers) - k:2}  {'  '.join(layer)}", 100, subsequent_indent="    ") for k, layer in enumerate(reversed(layers))]
-    return "```text\n" + "\n".join(told) + "\n```"
+def parts_of(page):
+    """What stands before the part on layers, its pieces by layer, and what stands behind it."""
+    before, rest = page.split(PART)
+    part, *behind = re.split(r"^(?=## )", rest, maxsplit=1, flags=re.M)
+    first, *layers = re.split(r"^(?=### )", part, flags=re.M)
+    return before + PART + first, layers, "".join(behind)
 
 
-def draw(lines):
+def layers_of(page):
+    """The names of the rows of each layer."""
+    return [NAMED.findall(layer) for layer in parts_of(page)[1]]
+
+
+def row(name):
+    others = [f"`{other}`" for other in stands_on(name)]
+    return " ".join([f"| `{name}` | {purpose(name)} |", *filter(None, [", ".join(others)]), "|\n"])
+
+
+def written(layer):
+    """The piece of a layer with its rows anew, in the order of crates.txt."""
+    names = NAMED.findall(layer)
+    known = [row(name) for name in uses() if name in names]
+    unknown = [f"| `{name}` | | |\n" for name in names if name not in uses()]
+    start = layer.index(HEAD) + len(HEAD)
+    return layer[:start] + "".join(known + unknown) + NAMED.sub("", layer[start:])
+
+
+def page_anew(page):
+    first, layers, behind = parts_of(page)
+    return first + "".join(map(written, layers)) + behind
+
+
+# ---- the picture
+
+
+def lines_of():
+    return {f"{name}->{other}" for name in uses() for other in stands_on(name)}
+
+
+def draw(layers):
     parts = ["digraph crates {", 'rankdir="TB" ranksep=0.45 nodesep=0.25']
-    parts.append('node [shape=box style="rounded,filled" fillcolor="#f3f6fb" fontname="sans-serif" fontsize=12 height=0.35]')
+    parts.append('node [shape=box style="rounded,filled" fontname="sans-serif" fontsize=12]')
+    parts.append("node [height=0.35]")
     parts.append('edge [color="#667" arrowsize=0.6]')
-    parts += [f'"{name}" -> "{other}"' for name, rest in lines.items() for other in rest]
-    parts += [f'{{rank=same; {" ".join(layer)}}}' for layer in layers_of(lines)]
-    done = subprocess.run(["dot", "-Tsvg"], input="\n".join([*parts, "}"]), capture_output=True, text=True, check=True)
+    for colour, names in zip(COLOURS, layers):
+        parts += [f'"{name}" [fillcolor="{colour}"]' for name in names if name in uses()]
+    parts += [f'"{name}" -> "{other}"' for name in uses() for other in stands_on(name)]
+    for level in sorted(set(map(height, uses()))):
+        parts.append(f"{{rank=same; {' '.join(name for name in uses() if height(name) == level)}}}")
+    text = "\n".join([*parts, "}"])
+    done = subprocess.run(["dot", "-Tsvg"], input=text, capture_output=True, text=True, check=True)
     PICTURE.write_text(done.stdout)
-    page = PAGE.read_text()
-    PAGE.write_text(re.sub(r"```text\n.*?\n```", lambda _: layers_text(lines), page, flags=re.S))
 
 
-def differences(lines):
-    titles = {html.unescape(title) for title in re.findall(r"<title>(.*?)</title>", PICTURE.read_text())}
-    drawn = {title for title in titles if "->" in title}
-    wanted = {f"{name}->{other}" for name, rest in lines.items() for other in rest}
-    yield from (f"docs/map.svg: {line} is drawn or missing wrongly" for line in sorted(drawn ^ wanted))
-    page = PAGE.read_text()
-    if layers_text(lines) not in page:
-        yield "docs/MAP.md: the layers aren't those of crates.txt"
-    table = dict(re.findall(r"^\| `(\w+)` \|[^|]*\|([^|]*)\|", page, re.M))
-    for name, rest in lines.items():
-        if sorted(re.findall(r"`(\w+)`", table.get(name, "`none`"))) != sorted(rest):
-            yield f"docs/MAP.md: {name} stands on {', '.join(rest) or 'nothing'}"
-    proved = PROVED.read_text()
-    yield from (f"docs/PROVED.md lacks {name}" for name in lines if is_proved(name) and f"\n| `{name}`" not in proved)
+# ---- what is wrong
+
+
+def misplaced(layers):
+    """The crates that don't stand in one layer, and the uses of one of a later layer."""
+    every = [name for names in layers for name in names]
+    for name in sorted({*every} | {*uses()}):
+        if name not in uses():
+            yield f"docs/MAP.md: {name} is no crate"
+        elif every.count(name) != 1:
+            yield f"docs/MAP.md: {name} stands in {every.count(name)} layers"
+    place = {name: k for k, names in enumerate(layers) for name in names}
+    for name in uses():
+        for other in uses()[name]:
+            if place.get(name, 0) < place.get(other, 0):
+                yield f"docs/MAP.md: {name} uses {other}, which is of a later layer"
+
+
+def differences():
+    page, proved = PAGE.read_text(), PROVED.read_text()
+    yield from misplaced(layers_of(page))
+    if page_anew(page) != page:
+        yield "docs/MAP.md: the rows aren't those of crates.txt and the root files"
+    titles = map(html.unescape, re.findall(r"<title>(.*?)</title>", PICTURE.read_text()))
+    for line in sorted({title for title in titles if "->" in title} ^ lines_of()):
+        yield f"docs/map.svg: {line} is drawn or missing wrongly"
+    for name in uses():
+        if is_proved(name) and not re.search(rf"^(?:\||#+ [^`\n]*) ?`{name}`", proved, re.M):
+            yield f"docs/PROVED.md: {name} has no place"
 
 
 def main():
-    lines = lines_of()
     if sys.argv[1:] == []:
-        draw(lines)
+        page = PAGE.read_text()
+        PAGE.write_text(page_anew(page))
+        draw(layers_of(page))
     elif sys.argv[1:] != ["--check"]:
         sys.exit(__doc__)
-    found = list(differences(lines))
-    print("\n".join(found) if found else "the map is that of crates.txt")
+    found = list(differences())
+    print("\n".join(found) or "the map is that of crates.txt and the root files")
     sys.exit(bool(found))
 
 
