@@ -137,8 +137,8 @@ def differences():
 
 def main():
     if sys.argv[1:] == []:
-        page = PAGE.read_text()
-        PAGE.write_text(page_anew(page))
+        page = page_anew(PAGE.read_text())
+        PAGE.write_text(page)
         draw(layers_of(page))
     elif sys.argv[1:] != ["--check"]:
         sys.exit(__doc__)
