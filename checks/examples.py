@@ -1,8 +1,8 @@
 #!/usr/bin/env python3
 """Compares the texts of examples/ with the models, and the README's picture with `examples/draw`.
 
-Plans and tables are those of `model/plan_model.py`, and what replays print is that of `model/slow_replay.py`. The gate compares the
-same texts with the program (crates/examples).
+Plans and tables are those of `model/plan_model.py`, and what replays print is that of
+`model/slow_replay.py`. The gate compares the same texts with the program (crates/examples).
 """
 import subprocess
 import sys
@@ -18,7 +18,8 @@ def main():
     for line in (FOLDER / "index.txt").read_text().splitlines():
         name, command, *args = line.replace("--net=", "--net ").split(" ")
         if name != "-":
-            done = subprocess.run([sys.executable, str(HOME / "model" / MODELS[command]), *args], cwd=FOLDER, capture_output=True)
+            model = [sys.executable, str(HOME / "model" / MODELS[command]), *args]
+            done = subprocess.run(model, cwd=FOLDER, capture_output=True)
             if done.returncode != 0 or done.stdout != (FOLDER / name).read_bytes():
                 wrong.append(f"{name} is another text than the model's")
     drawn = subprocess.run([str(FOLDER / "draw"), "campus", "1"], capture_output=True)

@@ -27,7 +27,10 @@ from crates import HOME, libraries, sources
 GATE = HOME / "docs/GATE.md"
 # A small proof that stands low and seldom changes.
 YARDSTICK = "five_tuple"
-HEAD = "| Crate | Code | Definitions | Proofs | Edits | Seconds of the proof | of the tests | of the edits |"
+HEAD = (
+    "| Crate | Code | Definitions | Proofs | Edits "
+    "| Seconds of the proof | of the tests | of the edits |"
+)
 KINDS = ("proof", "tests", "edits")
 NO_CELLS = [""] * len(KINDS)
 # How the two paragraphs below the table begin.
@@ -62,7 +65,7 @@ def sizes(name):
 
 
 def processes():
-    """Each process's parent, what names it for as long as the system runs, and its ticks, with those
+    """Each process's parent, what names it for as long as the system runs, and its ticks with those
     of its children that ended."""
     found = {}
     for entry in filter(str.isdigit, os.listdir("/proc")):
@@ -89,7 +92,7 @@ def task_of(process):
 
 
 def look(top, tasks, ticks):
-    """Notes how many ticks each check below the process `top` took so far, with all that it began."""
+    """Notes the ticks of each check below the process `top` so far, with all that it began."""
     found = processes()
     children = {}
     for process, (parent, _, _) in found.items():

@@ -29,7 +29,7 @@ def words_of(crate, kind, module):
 
 @cache
 def declares(crate, module):
-    """Whether a module `declared.FILE.TYPE` stands for a type of a file of src/, or for its file."""
+    """Whether `declared.FILE.TYPE` stands for a type of a file of src/, or for the file."""
     parts = [part for part in module.split(".")[1:] if part not in BESIDE]
     name = parts.pop() if parts[-1][0].isupper() else ""
     path = HOME / "crates" / crate / "src" / f"{'/'.join(parts) or 'lib'}.rt"

@@ -1,8 +1,10 @@
 #!/usr/bin/env python3
-"""Looks for long prose: `checks/prose.py [FILE..]`, or README.md, docs/PROVED.md and docs/MAP.md, and the pages of the examples.
+"""Looks for long prose: `checks/prose.py [FILE..]`.
 
-It ends with 1 where a sentence or a cell of a table has more than 40 words, or a line that is no row of a table, no link and no
-code more than 100 columns. What stands in backticks counts as one word.
+Without a file it looks at README.md, docs/PROVED.md and docs/MAP.md, and the pages of the examples.
+It ends with 1 where a sentence or a cell of a table has more than 40 words, or a line that is no
+row of a table, no link and no code more than 100 columns. What stands in backticks counts as one
+word.
 """
 import re
 import sys

@@ -1,13 +1,17 @@
 #!/usr/bin/env python3
-"""Counts what a sceptic must read, and checks docs/THEOREM.md: `checks/theorem.py [--write] [--list]`.
+"""Counts what a sceptic must read: `checks/theorem.py [--write] [--list]`. It checks docs/THEOREM.md.
 
-A definition is reached if a clause of `run` names it, or a definition that is reached does. The first tier is what is reached without
-passing one of STOPS; the core of it is what CORE reaches so. The second tier is what else is reached. The page names a file of specs/ as
-`crate/File.antt`. It ends with 1 where the files that the page names in its part on a tier aren't exactly those that are reached, a file of
-the first tier has a definition that this tier doesn't reach, where a file of this tier doesn't say so at its head (MARK) or another one
-does, or where the page's table of the types declared in src/ isn't exactly of those that the first tier speaks of. So it does where a number
-of the page is another than is counted, or where this page or docs/TRUST.md says "`name` of `crate/File.antt`" and no such definition stands
-there. With `--write` it writes the numbers. With `--list` it prints each file with its lines, how many of them are reached, and what isn't.
+A definition is reached if a clause of `run` names it, or a definition that is reached does. The
+first tier is what is reached without passing one of STOPS; the core of it is what CORE reaches so.
+The second tier is what else is reached. The page names a file of specs/ as `crate/File.antt`.
+
+It ends with 1 where the files that the page names in its part on a tier aren't exactly those that
+are reached; where a file of the first tier has a definition that this tier doesn't reach, or
+doesn't say at its head that it is of this tier (MARK), or another file does; where the page's table
+of the types declared in src/ isn't exactly of those that the first tier speaks of; where a number
+of the page is another than is counted; or where this page or docs/TRUST.md says "`name` of
+`crate/File.antt`" and no such definition stands there. With `--write` it writes the numbers. With
+`--list` it prints each file with its lines, how many of them are reached, and what isn't.
 """
 import re
 import sys
@@ -51,18 +55,21 @@ TOKEN = re.compile(r"[A-Za-z_][\w-]*(?:\.[A-Za-z_][\w-]*)*")
 FIELD = re.compile(r"^  +pub [\w-]+ :|(?<=[{;] )[\w-]+ =|^ +[\w-]+ =(?= .*;$)", re.M)
 DECLARED = re.compile(r"declared\.([a-z_.]+)\.([A-Z]\w*)(?:\.The\w+)?")
 STANDS = re.compile(r"((?:`[\w-]+`(?:,\s+|,?\s+and\s+)?)+)\s+of\s+`([^`\s]*)\.antt`")
-USE = re.compile(r"^(?:pub |ghost )?use Rattle\.(\w+)\.specs\.([\w.]+?)(?:\.\{([^}]*)\}| as (\w+));?$", re.M)
+USE = re.compile(
+    r"^(?:pub |ghost )?use Rattle\.(\w+)\.specs\.([\w.]+?)(?:\.\{([^}]*)\}| as (\w+));?$", re.M
+)
+VARIANT = re.compile(r"  ([A-Z]\w*) :")
 
 
 class Module:
-    """A file of specs/: the names that it imports, and its definitions with their first and last lines."""
+    """A file of specs/: what it imports, and its definitions with their first and last lines."""
 
     def __init__(self, path):
         self.path = path
         self.lines = path.read_text().splitlines()
         self.names, self.aliases = imports(path.read_text())
-        modules = [(name, given[:2]) for name, given in [*self.names.items(), *self.aliases.items()]]
-        self.types = {name: found for name, given in modules if (found := declared(*given))}
+        given = {**self.names, **self.aliases}.items()
+        self.types = {name: found for name, at in given if (found := declared(*at[:2]))}
         self.definitions, self.variants = {}, {}
         comment, last = None, None
         for at, line in enumerate(self.lines):
@@ -80,7 +87,8 @@ class Module:
                 comment = None
         for name in self.definitions:
             if any(line.startswith(f"pub data {name} ") for line in self.body(name)):
-                self.variants |= {found.group(1): name for line in self.body(name) if (found := re.match(r"  ([A-Z]\w*) :", line))}
+                found = map(VARIANT.match, self.body(name))
+                self.variants |= {variant.group(1): name for variant in found if variant}
 
     def body(self, name):
         first, last = self.definitions[name]
@@ -106,7 +114,8 @@ def imports(text):
 
 
 def declared(crate, module):
-    """The file of src/ and the type for which such a module stands, if it is one of declarations in a crate of ours."""
+    """The file of src/ and the type for which such a module stands, if it is one of declarations in
+    a crate of ours."""
     found = DECLARED.fullmatch(module)
     path = found and HOME / "crates" / crate / "src" / f"{found.group(1).replace('.', '/')}.rt"
     return (path, found.group(2)) if found and path.exists() else None
@@ -139,14 +148,18 @@ class Specs:
             return module, module.variants[head]
         if head in module.names:
             return self.named(*module.names[head])
-        return self.named(*module.aliases[head], rest[0]) if head in module.aliases and rest else None
+        if head in module.aliases and rest:
+            return self.named(*module.aliases[head], rest[0])
+        return None
 
     def reached(self, roots, stops=()):
-        """The definitions that these reach, by file; those that are stops aren't looked into, nor are they among them."""
+        """The definitions that these reach, by file; those that are stops aren't looked into, nor
+        are they among them."""
         seen, waiting = set(), list(roots)
         while waiting:
             module, name = waiting.pop()
-            if (module.path, name) in seen or name in stops or f"{module.path.parts[-3]}.{name}" in stops:
+            is_stop = name in stops or f"{module.path.parts[-3]}.{name}" in stops
+            if is_stop or (module.path, name) in seen:
                 continue
             seen.add((module.path, name))
             for token in module.tokens(name):
@@ -162,7 +175,8 @@ class Specs:
         by_source = {}
         for path, names in by_file.items():
             module = self.modules[path]
-            for head in {token.split(".")[0] for name in names for token in module.tokens(name)} & set(module.types):
+            heads = {token.split(".")[0] for name in names for token in module.tokens(name)}
+            for head in heads & set(module.types):
                 source, name = module.types[head]
                 by_source.setdefault(source, set()).add(name)
         return by_source
@@ -177,7 +191,8 @@ class Specs:
 def clauses():
     """The clauses of the contract of `run`, and the names that its file imports."""
     text = TOP.read_text()
-    contract = re.search(r"pub fn run<.*?\n(.*?)\n\{\n", text, re.S).group(1).split("-> Finished\n")[1]
+    head = re.search(r"pub fn run<.*?\n(.*?)\n\{\n", text, re.S).group(1)
+    contract = head.split("-> Finished\n")[1]
     return [line for line in contract.splitlines() if line.strip()], imports(text)[0]
 
 
@@ -185,7 +200,8 @@ def tiers(specs):
     """The lines of the contract, the core, the first tier and the second, by file."""
     contract, names = clauses()
     tokens = {token.split(".")[0] for line in contract for token in TOKEN.findall(line)}
-    roots = [found for token in sorted(tokens) if token in names and (found := specs.named(*names[token]))]
+    roots = [specs.named(*names[token]) for token in sorted(tokens & names.keys())]
+    roots = [found for found in roots if found]
     every, first = specs.reached(roots), specs.reached(roots, STOPS)
     three = [(specs.modules[path], name) for path in every for name in every[path] if name in CORE]
     second = {path: every[path] for path in every if path not in first}
@@ -198,18 +214,21 @@ def lines_of(files):
 
 def lines_declared(by_source):
     """The lines of these declarations, with their comments and attributes."""
-    return sum(declaration(path.read_text(), name).count("\n") for path in by_source for name in by_source[path])
+    every = [(path.read_text(), name) for path, names in by_source.items() for name in names]
+    return sum(declaration(text, name).count("\n") for text, name in every)
 
 
 def declaration(text, name):
-    return re.search(rf"^(?:(?:///|#\[).*\n)*pub (?:enum|struct) {name}\b.*(?:;|\n(?:.*\n)*?\}})\n", text, re.M).group(0)
+    body = rf"pub (?:enum|struct) {name}\b.*(?:;|\n(?:.*\n)*?\}})\n"
+    return re.search(rf"^(?:(?:///|#\[).*\n)*{body}", text, re.M).group(0)
 
 
 def misnamed(files, part):
     """The files that are named in the part or among these files, and not in both."""
     wanted = {f"{path.parts[-3]}/{path.stem}.antt" for path in files}
     named = set(re.findall(r"`([^`\s]*\.antt)`", part))
-    return [f"{name} isn't named" for name in sorted(wanted - named)] + [f"{name} isn't reached" for name in sorted(named - wanted)]
+    yield from (f"{name} isn't named" for name in sorted(wanted - named))
+    yield from (f"{name} isn't reached" for name in sorted(named - wanted))
 
 
 def misstated(specs, text):
@@ -229,15 +248,20 @@ def needless(specs, by_file):
 
 def mismarked(files):
     """The files of this tier that don't say so at their head, and the others that do."""
-    marked = {path for path in HOME.glob("crates/*/specs/**/*.antt") if path.read_text().startswith(MARK)}
-    return [f"{path.parts[-3]}/{path.name} doesn't begin with '{MARK}'" for path in sorted({*files} - marked)] + [
-        f"{path.relative_to(HOME)} begins with '{MARK}'" for path in sorted(marked - {*files})
-    ]
+    every = HOME.glob("crates/*/specs/**/*.antt")
+    marked = {path for path in every if path.read_text().startswith(MARK)}
+    for path in sorted({*files} - marked):
+        yield f"{path.relative_to(HOME)} doesn't begin with '{MARK}'"
+    for path in sorted(marked - {*files}):
+        yield f"{path.relative_to(HOME)} begins with '{MARK}'"
 
 
 def mistyped(by_source, page):
     """The rows on types that the page lacks, or has and shouldn't."""
-    wanted = {f"| `{path.relative_to(HOME)}` | {', '.join(f'`{name}`' for name in sorted(by_source[path]))} |" for path in by_source}
+    wanted = set()
+    for path, names in by_source.items():
+        types = ", ".join(f"`{name}`" for name in sorted(names))
+        wanted.add(f"| `{path.relative_to(HOME)}` | {types} |")
     return sorted(wanted ^ {line for line in page.splitlines() if line.startswith("| `crates/")})
 
 
@@ -261,7 +285,8 @@ def main():
         f"| the contract of `run` | 1 | {len(contract)} |",
         f"| the first tier | {len(first)} | {lines_of(first):,} |",
         f"| of it the core | {len(core)} | {lines_of(core):,} |",
-        f"| types declared in `src/` that these speak of | {len(types)} | {lines_declared(types):,} |",
+        "| types declared in `src/` that these speak of "
+        f"| {len(types)} | {lines_declared(types):,} |",
         f"| the second tier | {len(second)} | {lines_of(second):,} |",
     ]
     page, wrong = PAGE.read_text(), 0
@@ -275,7 +300,8 @@ def main():
     if "--write" in sys.argv:
         PAGE.write_text(page)
     one, two = page.split("## The first tier\n")[1].split("## The second tier\n")
-    told = [f"{part}: {name}" for part, files, text in (("first tier", first, one), ("second tier", second, two)) for name in misnamed(files, text)]
+    told = [f"first tier: {name}" for name in misnamed(first, one)]
+    told += [f"second tier: {name}" for name in misnamed(second, two)]
     told += [f"first tier: {name}" for name in [*needless(specs, first), *mismarked(first)]]
     told += [*mistyped(types, page), *misstated(specs, page), *misstated(specs, TRUST.read_text())]
     for line in told:
