@@ -1,5 +1,5 @@
 #!/usr/bin/env python3
-"""Counts what a sceptic must read: `checks/theorem.py [--write] [--list]`. It checks docs/THEOREM.md.
+"""Counts what a sceptic must read, for docs/THEOREM.md: `checks/theorem.py [--write] [--list]`.
 
 A definition is reached if a clause of `run` names it, or a definition that is reached does. The
 first tier is what is reached without passing one of STOPS; the core of it is what CORE reaches so.
