@@ -1,10 +1,10 @@
 #!/usr/bin/env python3
 """Times `compile` and `show` of the built program: `bench/plans.py BIN`.
 
-Policies of 500, 1,000 and 2,000 rows are cut into leaves of at most 32 rules. *Subnets* are those of `bench/replay.py`, on one switch;
-*scattered* rows have random prefixes from /8 to /32, on four switches, for more rules than one has room for. Then a policy is cut into
-512 partitions that stand at two of 64 switches each.
-Each figure is the least of several runs, with the start of the process.
+Policies of 500, 1,000 and 2,000 rows are cut into leaves of at most 32 rules. *Subnets* are those
+of `bench/replay.py`, on one switch; *scattered* rows have random prefixes from /8 to /32, on four
+switches, for more rules than one has room for. Then a policy is cut into 512 partitions that stand
+at two of 64 switches each. Each figure is the least of several runs, with the start of the process.
 """
 import os
 import random
@@ -18,13 +18,15 @@ HEADER = "priority,src,dst,sport,dport,proto,action"
 
 
 def text(rows):
-    return "".join(line + "\n" for line in [HEADER] + [f"{k},{row}" for k, row in enumerate(rows, 1)])
+    numbered = [f"{k},{row}" for k, row in enumerate(rows, 1)]
+    return "".join(line + "\n" for line in [HEADER, *numbered])
 
 
 def subnets(rng, count):
     def row():
         action = "drop" if rng.randrange(4) == 0 else "out:0"
-        return f"10.{rng.randrange(4)}.{rng.randrange(256)}.0/24,10.{rng.randrange(4)}.0.0/16,any,any,tcp,{action}"
+        src = f"10.{rng.randrange(4)}.{rng.randrange(256)}.0/24"
+        return f"{src},10.{rng.randrange(4)}.0.0/16,any,any,tcp,{action}"
 
     return text([row() for _ in range(count)])
 
@@ -39,14 +41,16 @@ def prefix(rng):
 
 
 def scattered(rng, count):
-    """A quarter of the addresses are `any`, never both of a row; half of the destination ports are exact."""
+    """A quarter of the addresses are `any`, never both of a row; half of the destination ports are
+    exact."""
 
     def row():
         free = rng.choice(["src", "dst", "none", "none"])
         src = "any" if free == "src" else prefix(rng)
         dst = "any" if free == "dst" else prefix(rng)
         port = str(rng.getrandbits(16)) if rng.random() < 0.5 else "any"
-        return f"{src},{dst},any,{port},{rng.choice(['tcp', 'udp', 'any'])},{rng.choice(['drop', 'out:0'])}"
+        proto, action = rng.choice(["tcp", "udp", "any"]), rng.choice(["drop", "out:0"])
+        return f"{src},{dst},any,{port},{proto},{action}"
 
     return text([row() for _ in range(count)])
 
@@ -54,16 +58,19 @@ def scattered(rng, count):
 def in_512_parts():
     """Three rows for each of the 512 blocks /9 of destinations."""
     blocks = [f"{dotted(k << 23)}/9" for k in range(512)]
-    return text([f"any,{block},any,{port},{proto},out:0" for block in blocks for port, proto in (("any", "any"), ("80", "tcp"), ("53", "udp"))])
+    kinds = ("any,any", "80,tcp", "53,udp")
+    return text([f"any,{block},any,{kind},out:0" for block in blocks for kind in kinds])
 
 
 def network(leaf_rules, backups, switches):
-    rows = ", ".join(f'{{ name = "s{s}", ports = [{s}], authority = 8192 }}' for s in range(switches))
-    return f"leaf_rules = {leaf_rules}\nbackups = {backups}\nswitch = [{rows}]\n"
+    rows = [f'{{ name = "s{s}", ports = [{s}], authority = 8192 }}' for s in range(switches)]
+    return f"leaf_rules = {leaf_rules}\nbackups = {backups}\nswitch = [{', '.join(rows)}]\n"
 
 
 def timed(program, args, policy, net):
-    """The least seconds of some runs, the peak memory in MiB, and the output, or the line of the refusal."""
+    """The least seconds of some runs, the peak memory in MiB, and the output, or the line of the
+    refusal."""
+    command = [program, *args, "--net", "n.toml"]
     with tempfile.TemporaryDirectory() as folder:
         for name, content in (("p.csv", policy), ("n.toml", net)):
             with open(os.path.join(folder, name), "w") as file:
@@ -72,11 +79,12 @@ def timed(program, args, policy, net):
         for _ in range(RUNS):
             with open(os.path.join(folder, "out"), "wb") as out:
                 begun = time.monotonic()
-                done = subprocess.run([program, *args, "--net", "n.toml"], cwd=folder, stdout=out, stderr=subprocess.PIPE)
+                done = subprocess.run(command, cwd=folder, stdout=out, stderr=subprocess.PIPE)
                 seconds = time.monotonic() - begun
             least = seconds if least is None else min(least, seconds)
-        # GNU time, a small process, measures the memory: what a child of this script inherits would count as its own.
-        measured = ["/usr/bin/time", "-q", "-f", "%M", "-o", "memory", program, *args, "--net", "n.toml"]
+        # GNU time, a small process, measures the memory: what a child of this script inherits would
+        # count as its own.
+        measured = ["/usr/bin/time", "-q", "-f", "%M", "-o", "memory", *command]
         subprocess.run(measured, cwd=folder, stdout=subprocess.DEVNULL, stderr=subprocess.DEVNULL)
         with open(os.path.join(folder, "memory")) as file:
             memory = int(file.read()) / 1024
@@ -92,18 +100,22 @@ def told(output, line):
     return f"{lines[1]}, {rules} rules, {len(output)} bytes written"
 
 
+def tell(case, program, args, policy, net):
+    seconds, memory, output, line = timed(program, args, policy, net)
+    print(f"{case}: {seconds * 1000:6.1f} ms, {memory:.1f} MiB, {told(output, line)}")
+
+
 def main():
     if len(sys.argv) != 2:
         sys.exit(__doc__)
     program = os.path.abspath(sys.argv[1])
     for name, make, switches in (("subnets", subnets, 1), ("scattered", scattered, 4)):
         for rows in (500, 1000, 2000):
-            policy = make(random.Random(rows), rows)
-            seconds, memory, output, line = timed(program, ["compile", "p.csv"], policy, network(32, 0, switches))
-            print(f"compile, {rows:4} rows, {name:9}: {seconds * 1000:6.1f} ms, {memory:.1f} MiB, {told(output, line)}")
+            policy, net = make(random.Random(rows), rows), network(32, 0, switches)
+            tell(f"compile, {rows:4} rows, {name:9}", program, ["compile", "p.csv"], policy, net)
     for args in (["compile", "p.csv"], ["show", "p.csv", "s7"]):
-        seconds, memory, output, line = timed(program, args, in_512_parts(), network(3, 1, 64))
-        print(f"{args[0]:7}, 1536 rows, 64 switches: {seconds * 1000:6.1f} ms, {memory:.1f} MiB, {told(output, line)}")
+        policy, net = in_512_parts(), network(3, 1, 64)
+        tell(f"{args[0]:7}, 1536 rows, 64 switches", program, args, policy, net)
 
 
 if __name__ == "__main__":

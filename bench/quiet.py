@@ -3,9 +3,9 @@
 
 usage: bench/quiet.py BIN [RUNS]
 
-BIN is the proved program (`rt run` leaves it in crates/difane/out/difane). Prints a line a case: what the judge
-says, the items of the journal, the seconds of the processor without and with `--quiet`, each the median of RUNS
-runs (5), and the part that the judge adds.
+BIN is the proved program (`rt run` leaves it in crates/difane/out/difane). Prints a line a case:
+what the judge says, the items of the journal, the seconds of the processor without and with
+`--quiet`, each the median of RUNS runs (5), and the part that the judge adds.
 """
 import os
 import statistics
@@ -18,8 +18,9 @@ RESEND = 4034  # messages of a row `resend` to the hub of the star
 
 
 def star():
-    switches = ["[[switch]]\nname = \"s%d\"\nports = [%d]\n%s" % (k, k, "" if k else "authority = 1000\n") for k in range(64)]
-    return "\n".join(switches + ["[[link]]\nends = [\"s0\", \"s%d\"]\n" % k for k in range(1, 64)])
+    switches = [f'[[switch]]\nname = "s{k}"\nports = [{k}]\n' for k in range(64)]
+    switches[0] += "authority = 1000\n"
+    return "\n".join(switches + [f'[[link]]\nends = ["s0", "s{k}"]\n' for k in range(1, 64)])
 
 
 def rows(*parts):
@@ -32,19 +33,22 @@ def cases():
     one = ["p.csv"]
     yield "246 rows resend", rows([hub] * 246), one
     yield "82 rows resend, flush", rows([hub] * 82, ["flush"]), one
-    yield "240 rows resend, the last message delivered", rows([hub] * 240, [f"deliver,{240 * RESEND}"]), one
+    last = [f"deliver,{240 * RESEND}"]
+    yield "240 rows resend, the last message delivered", rows([hub] * 240, last), one
     yield "240 rows resend, the first message delivered", rows([hub] * 240, ["deliver,1"]), one
     delivered = [f"deliver,{n}" for n in range(2, 49 * RESEND + 1, 2)]
     yield "49 rows resend, each second message delivered", rows([hub] * 49, delivered), one
     yield "82 rows resend, flush, one row resend", rows([hub] * 82, ["flush", hub]), one
     yield "50,000 times a leaf crashes and boots", rows(["crash,s1", "restart,s1"] * 50_000), one
     yield "245 times so, the hub resends", rows(["crash,s1", "restart,s1", hub] * 245), one
-    yield "3,800 times a link fails and comes back", rows(["linkdown,s0,s1", "linkup,s0,s1"] * 3_800), one
-    yield "1,600 times so, adverts are delivered", rows(["linkdown,s0,s1", "linkup,s0,s1", "flush"] * 1_600), one
+    fails = ["linkdown,s0,s1", "linkup,s0,s1"]
+    yield "3,800 times a link fails and comes back", rows(fails * 3_800), one
+    yield "1,600 times so, adverts are delivered", rows([*fails, "flush"] * 1_600), one
     news = [f"update,{n}" for n in range(1, 8)]
-    yield "7 updates wait, 13,000 rows resend to a leaf", rows(news, ["resend,s1"] * 13_000), [f"p{n}.csv" for n in range(1, 8)]
-    wait = [f"update,{n}" for n in range(1, 8)] + ["resend,s%d" % (k % 64) for k in range(7_000)]
-    yield "7 updates wait, 7,000 rows resend to all", rows(wait), [f"p{n}.csv" for n in range(1, 8)]
+    seven = [f"p{n}.csv" for n in range(1, 8)]
+    to_leaf, to_all = ["resend,s1"] * 13_000, [f"resend,s{k % 64}" for k in range(7_000)]
+    yield "7 updates wait, 13,000 rows resend to a leaf", rows(news, to_leaf), seven
+    yield "7 updates wait, 7,000 rows resend to all", rows(news, to_all), seven
 
 
 def seconds(args, folder):
@@ -83,7 +87,9 @@ def main():
                 items = sum(block.count(b"\n") for block in iter(lambda: out.read(1 << 20), b""))
             answer = last_line(path) if status == 0 else f"status {status}"
             play, judged = statistics.median(plain), statistics.median(quiet)
-            print(f"{name}: {answer}, {items} lines: {play:.3f} s, with --quiet {judged:.3f} s (+{judged - play:.3f}, {judged / play - 1:.0%})", flush=True)
+            more = f"+{judged - play:.3f}, {judged / play - 1:.0%}"
+            told = f"{play:.3f} s, with --quiet {judged:.3f} s ({more})"
+            print(f"{name}: {answer}, {items} lines: {told}", flush=True)
 
 
 main()

@@ -3,8 +3,9 @@
 
 usage: bench/replay.py BIN
 
-BIN is the proved program (`rt run` leaves it in crates/difane/out/difane). Each case runs in a folder of its own, with
-its output sent to a file. Prints a line a case: seconds, peak memory in MiB, bytes written. It needs GNU time.
+BIN is the proved program (`rt run` leaves it in crates/difane/out/difane). Each case runs in a
+folder of its own, with its output sent to a file. Prints a line a case: seconds, peak memory in
+MiB, bytes written. It needs GNU time.
 """
 import os
 import random
@@ -23,7 +24,9 @@ def address(rng):
 def schedule(rng, packets):
     lines = ["event,arguments"]
     for _ in range(packets):
-        lines.append("packet,s0,%s,%s,%d,%d,tcp" % (address(rng), address(rng), rng.randrange(1024, 65536), rng.randrange(1024)))
+        ends = address(rng), address(rng)
+        ports = rng.randrange(1024, 65536), rng.randrange(1024)
+        lines.append("packet,s0,%s,%s,%d,%d,tcp" % (*ends, *ports))
     return "\n".join(lines) + "\n"
 
 
@@ -31,12 +34,14 @@ def policy(rng, rows):
     lines = ["priority,src,dst,sport,dport,proto,action"]
     for k in range(1, rows + 1):
         action = "drop" if rng.randrange(4) == 0 else "out:%d" % rng.randrange(64)
-        lines.append("%d,10.%d.%d.0/24,10.%d.0.0/16,any,any,tcp,%s" % (k, rng.randrange(4), rng.randrange(256), rng.randrange(4), action))
+        blocks = rng.randrange(4), rng.randrange(256), rng.randrange(4)
+        lines.append("%d,10.%d.%d.0/24,10.%d.0.0/16,any,any,tcp,%s" % (k, *blocks, action))
     return "\n".join(lines) + "\n"
 
 
 def run(program, folder, packets, rows):
-    # GNU time, a small process, measures the memory: what a child of this script inherits would count as its own.
+    # GNU time, a small process, measures the memory: what a child of this script inherits would
+    # count as its own.
     with open(os.path.join(folder, "out"), "wb") as out:
         args = ["/usr/bin/time", "-f", "%M", "-o", "memory", program, "replay", "s.csv", "p.csv"]
         begun = time.monotonic()
@@ -47,7 +52,8 @@ def run(program, folder, packets, rows):
     with open(os.path.join(folder, "memory")) as memory:
         mebibytes = int(memory.read()) / 1024
     size = os.path.getsize(os.path.join(folder, "out"))
-    print("%6d packets, %4d rows: %.3f s, %.1f MiB, %d bytes written" % (packets, rows, seconds, mebibytes, size))
+    case = f"{packets:6} packets, {rows:4} rows"
+    print(f"{case}: {seconds:.3f} s, {mebibytes:.1f} MiB, {size} bytes written")
 
 
 def main():

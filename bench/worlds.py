@@ -3,10 +3,11 @@
 
 usage: bench/worlds.py BIN
 
-BIN is the proved program (`rt run` leaves it in crates/difane/out/difane). Port i is at switch i; two opposite switches
-are authorities. A schedule has 33,000 packets: alone, with a drain behind each, or with a drain and a flush, so that the
-cache rules that authorities send are delivered. Two more have 60 updates, each with 400 drained packets and a flush, and
-100,000 updates that are refused. Each case runs in a folder of its own, with its output sent to a file. Prints a line a
+BIN is the proved program (`rt run` leaves it in crates/difane/out/difane). Port i is at switch i;
+two opposite switches are authorities. A schedule has 33,000 packets: alone, with a drain behind
+each, or with a drain and a flush, so that the cache rules that authorities send are delivered. Two
+more have 60 updates, each with 400 drained packets and a flush, and 100,000 updates that are
+refused. Each case runs in a folder of its own, with its output sent to a file. Prints a line a
 case: seconds, peak memory in MiB, items and bytes of the journal written. It needs GNU time.
 """
 import os
@@ -18,7 +19,7 @@ import time
 
 PACKETS = 33_000
 SWITCHES = 16
-CASES = (("", []), (", each drained", ["drain"]), (", each drained and flushed", ["drain", "flush"]))
+CASES = {"": [], ", each drained": ["drain"], ", each drained and flushed": ["drain", "flush"]}
 
 
 def network():
@@ -36,7 +37,8 @@ def policy(rng, rows):
     lines = ["priority,src,dst,sport,dport,proto,action"]
     for k in range(1, rows):
         action = "drop" if rng.randrange(4) == 0 else "out:%d" % rng.randrange(SWITCHES)
-        lines.append("%d,10.%d.%d.0/24,10.%d.0.0/16,any,any,tcp,%s" % (k, rng.randrange(4), rng.randrange(256), rng.randrange(4), action))
+        blocks = rng.randrange(4), rng.randrange(256), rng.randrange(4)
+        lines.append("%d,10.%d.%d.0/24,10.%d.0.0/16,any,any,tcp,%s" % (k, *blocks, action))
     lines.append("%d,any,any,any,any,any,out:0" % rows)
     return "\n".join(lines) + "\n"
 
@@ -46,7 +48,9 @@ def address(rng):
 
 
 def packet(rng):
-    return "packet,n%d,%s,%s,%d,%d,tcp" % (rng.randrange(SWITCHES), address(rng), address(rng), rng.randrange(1024, 65536), rng.randrange(1024))
+    switch, ends = rng.randrange(SWITCHES), (address(rng), address(rng))
+    ports = rng.randrange(1024, 65536), rng.randrange(1024)
+    return "packet,n%d,%s,%s,%d,%d,tcp" % (switch, *ends, *ports)
 
 
 def schedule(rng, behind):
@@ -77,7 +81,8 @@ def run(program, name, files):
 
 
 def time_in(program, folder, name, args):
-    # GNU time, a small process, measures the memory: what a child of this script inherits would count as its own.
+    # GNU time, a small process, measures the memory: what a child of this script inherits would
+    # count as its own.
     with open(os.path.join(folder, "out"), "wb") as out:
         timed = ["/usr/bin/time", "-f", "%M", "-o", "memory", program, *args]
         begun = time.monotonic()
@@ -89,19 +94,22 @@ def time_in(program, folder, name, args):
         mebibytes = int(memory.read()) / 1024
     with open(os.path.join(folder, "out"), "rb") as out:
         text = out.read()
-    print("%s: %.3f s, %.1f MiB, %d items, %d bytes written" % (name, seconds, mebibytes, text.count(b"\n"), len(text)))
+    wrote = f"{text.count(bytes([10]))} items, {len(text)} bytes written"
+    print(f"{name}: {seconds:.3f} s, {mebibytes:.1f} MiB, {wrote}")
 
 
 def main():
     program = os.path.abspath(sys.argv[1])
     rng = random.Random(2010)
     for rows in (100, 2000):
-        for name_of_case, behind in CASES:
-            files = {"n.toml": network(), "p.csv": policy(rng, rows), "s.csv": schedule(rng, behind)}
-            run(program, "%d packets%s, %4d rows" % (PACKETS, name_of_case, rows), files)
+        for case, behind in CASES.items():
+            files = {"n.toml": network(), "p.csv": policy(rng, rows)}
+            files["s.csv"] = schedule(rng, behind)
+            run(program, f"{PACKETS} packets{case}, {rows:4} rows", files)
     two = {"n.toml": network(), "p1.csv": policy(rng, 2000), "p2.csv": policy(rng, 2000)}
     run(program, "60 updates, 24000 packets, 2000 rows", {**two, "s.csv": updates(rng)})
-    wide = policy(rng, 1) + "".join("%d,any,any,1-65534,1-65534,any,drop\n" % k for k in range(2, 7))
+    wide = policy(rng, 1)
+    wide += "".join(f"{k},any,any,1-65534,1-65534,any,drop\n" for k in range(2, 7))
     refused = "event,arguments\n" + "update,2\n" * 100_000
     run(program, "100000 refused updates", {**two, "p2.csv": wide, "s.csv": refused})
 

@@ -1,10 +1,14 @@
 #!/usr/bin/env python3
-"""Makes a folder for `examples/openvswitch --check`: `model/flows.py FOLDER`, then `examples/run FOLDER > FOLDER/journal.txt`.
+"""Makes a folder for `examples/openvswitch --check`.
 
-Four switches stand in a ring, two of them are authorities, and leaves have few rules, so that regions are cut at bits of ports and of
-protocols too. Half of the 300 rows have ports and any protocol; the others have one of many protocols, and few have both addresses. The
-tables of each switch are those of `model/plan_model.py`. Each of the 600 packets is like a row: it has that row's protocol, or any one of
-those with ports.
+    model/flows.py FOLDER
+    examples/run FOLDER > FOLDER/journal.txt
+
+Four switches stand in a ring, two of them are authorities, and leaves have few rules, so that
+regions are cut at bits of ports and of protocols too. Half of the 300 rows have ports and any
+protocol; the others have one of many protocols, and few have both addresses. The tables of each
+switch are those of `model/plan_model.py`. Each of the 600 packets is like a row: it has that row's
+protocol, or any one of those with ports.
 """
 import random
 import subprocess
@@ -31,8 +35,8 @@ def row(rng, priority):
 
 def address(rng, block):
     base, _, length = (block if block != "any" else "0.0.0.0/0").partition("/")
-    free = 32 - int(length)
-    number = int.from_bytes(bytes(map(int, base.split("."))), "big") | rng.getrandbits(32) % (1 << free)
+    number = int.from_bytes(bytes(map(int, base.split("."))), "big")
+    number |= rng.getrandbits(32) % (1 << (32 - int(length)))
     return ".".join(map(str, number.to_bytes(4, "big")))
 
 
@@ -47,7 +51,8 @@ def packet(rng, like):
     ports = [port(rng, sport), port(rng, dport)]
     if protocol not in ("tcp", "udp", "132") and rng.random() < 0.9:
         ports = ["0", "0"]
-    return ["packet", f"s{rng.randrange(SWITCHES)}", address(rng, source), address(rng, target), *ports, protocol]
+    switch, ends = f"s{rng.randrange(SWITCHES)}", [address(rng, source), address(rng, target)]
+    return ["packet", switch, *ends, *ports, protocol]
 
 
 def main():
@@ -64,13 +69,14 @@ def main():
     (folder / "schedule.csv").write_text("\n".join(map(",".join, events)) + "\n")
     net = NET
     for s in range(SWITCHES):
-        net += f'[[switch]]\nname = "s{s}"\nports = [{s}]\nauthority = {8192 if s in (1, 2) else 0}\n'
+        room = 8192 if s in (1, 2) else 0
+        net += f'[[switch]]\nname = "s{s}"\nports = [{s}]\nauthority = {room}\n'
     for s in range(SWITCHES):
         net += f'[[link]]\nends = ["s{s}", "s{(s + 1) % SWITCHES}"]\n'
     (folder / "net.toml").write_text(net)
     for s in range(SWITCHES):
-        args = ["policy.csv", f"s{s}", "--net", "net.toml"]
-        done = subprocess.run([sys.executable, HOME / "plan_model.py", *args], cwd=folder, capture_output=True, text=True, check=True)
+        model = [sys.executable, HOME / "plan_model.py", "policy.csv", f"s{s}", "--net", "net.toml"]
+        done = subprocess.run(model, cwd=folder, capture_output=True, text=True, check=True)
         (folder / f"show-s{s}.txt").write_text(done.stdout)
 
 

@@ -1,8 +1,11 @@
 #!/usr/bin/env python3
-"""The texts of `compile` and `show`, worked out anew from their definitions and slowly: `model/plan_model.py POLICY [SWITCH] [--net NET]`.
+"""The texts of `compile` and `show`, worked out anew from their definitions and slowly.
 
-It shares nothing with the program. The expected texts of examples/ come from it, and `checks/examples.py` compares them with it.
-It reads accepted files alone, and refuses nothing but a plan without room.
+usage: model/plan_model.py POLICY [SWITCH] [--net NET]
+
+It shares nothing with the program. The expected texts of examples/ come from it, and
+`checks/examples.py` compares them with it. It reads accepted files alone, and refuses nothing but a
+plan without room.
 """
 import csv
 import sys
@@ -23,7 +26,8 @@ def address(text):
 
 
 def blocks(text):
-    """The blocks of a range of ports, the lowest first: each is as long as its start and the range's end let it be."""
+    """The blocks of a range of ports, the lowest first: each is as long as its start and the end of
+    the range let it be."""
     low, high = (0, 65535) if text == "any" else [int(part) for part in (text.split("-") * 2)[:2]]
     while low <= high:
         size = 65536
@@ -38,7 +42,8 @@ def pack(src, dst, sport, dport, proto):
 
 
 def rules_of(path):
-    """The rules, each a word, a rank, the row's name and its action; and how many words the rows have."""
+    """The rules, each a word, a rank, the row's name and its action; and how many words the rows
+    have."""
     with open(path, newline="") as file:
         rows = [row for row in list(csv.reader(file))[1:] if row]
     rows.sort(key=lambda row: -int(row[0]))
@@ -95,7 +100,7 @@ def leaves(rules, region, cap):
 def targets_of(sizes, rooms, backups):
     hosted = [[] for _ in sizes]
     for part in sorted(range(len(sizes)), key=lambda part: (-sizes[part], part)):
-        load = [sum(sizes[other] for other in range(len(sizes)) if s in hosted[other]) for s in range(len(rooms))]
+        load = [sum(size for size, at in zip(sizes, hosted) if s in at) for s in range(len(rooms))]
         fit = [s for s in range(len(rooms)) if load[s] + sizes[part] <= rooms[s]]
         hosted[part] = sorted(fit, key=lambda s: (load[s], s))[: 1 + backups]
         if len(hosted[part]) <= backups:
@@ -123,7 +128,9 @@ def text_of(policy, switch, network):
     def block(number, tail):
         region, held = parts[number]
         lines = [f"part {number} region {word(region)} rules {len(held)}{tail}"]
-        return lines + [f"  rank {rank} rule {name} word {word(w)} {action}" for w, rank, name, action in held]
+        for own, rank, name, action in held:
+            lines.append(f"  rank {rank} rule {name} word {word(own)} {action}")
+        return lines
 
     if switch is None:
         lines = [f"words {words}", f"partitions {len(parts)}"]
@@ -135,7 +142,8 @@ def text_of(policy, switch, network):
         for number in own:
             lines += block(number, "")
         lines.append(f"partitions {len(parts)}")
-        lines += [f"part {number} region {word(part[0])}{to(number)}" for number, part in enumerate(parts)]
+        for number, (region, _) in enumerate(parts):
+            lines.append(f"part {number} region {word(region)}{to(number)}")
     return "".join(line + "\n" for line in lines)
 
 

@@ -791,7 +791,8 @@ class World:
 
     def matters(self, number):
         """What a switch that is up says in its boot; to such a switch, an advert or what is for its
-        boot, and was sent in it. Tables of a version before the current one don't, nor their report."""
+        boot, and was sent in it. Tables of a version before the current one don't, nor their
+        report."""
         to, body = self.journal.messages[number - 1]
         if isinstance(body, CacheRule) or isinstance(body, Report) != (to is CONTROLLER):
             return False
