@@ -1,19 +1,25 @@
 #!/usr/bin/env python3
-"""Checks docs/ANSWERS.md against the sources: `bench/answers.py [PAGE]`.
+"""Checks docs/PROVED.md against the sources: `checks/answers.py [PAGE]`.
 
-Each table of answers stands under a heading that names its crate in backticks. The first cell of a
-row names calls of that crate, the last one clauses of their contracts: `name`, or `ensures` for the
-one clause that has no name. A clause of another call is `call.name`, or `crate::call.name` in
-another crate; so they are named in all other text of the page. In the table of calls that take no
-memory the first cell names the crate.
+A section whose heading names a crate in backticks is that crate's. Its tables with a last column
+"Clause" have three kinds of rows, by the first cell:
+
+- Empty: a fact, with at least one reference in the last cell.
+- Calls of the crate, of which the row says what they answer. The last cell names clauses that each
+  of them has, `ensures` for the one that has no name, and references to others.
+- Calls whose second cell says "never want of memory"; those behind the word "but" are left out.
+
+A reference is `call.clause`, or the call alone where its contract has one clause, with a crate and
+`::` before it where it is another crate's; `*` stands for any letters. In all other text of the
+page what begins with a crate's name is one, and in a crate's section also `call.clause`.
 
 It ends with 1 where a crate, a call or a clause that is named isn't there, where a row names no
-clause and its third cell doesn't say that the answer is free, where a public call that may answer
-`None`, `false` or an error stands in no table, or where a call that is said to take no memory may
-answer that there is none.
+clause, where a public call that may answer `None`, `false` or an error has no row of the second
+kind, or where a call that is said never to want memory may answer that there is none.
 """
 import re
 import sys
+from fnmatch import fnmatchcase
 from functools import cache
 from pathlib import Path
 
@@ -76,7 +82,7 @@ def offered(crate):
     root = HOME / "crates" / crate / "src/lib.rt"
     text = root.read_text() if root.exists() else ""
     names = set(re.findall(r"^pub (?:fn|struct|enum|trait) (\w+)", text, re.M))
-    for group, one in re.findall(r"^pub use \w+::(?:\{([^}]*)\}|(\w+));", text, re.M):
+    for group, one in re.findall(r"^pub use (?:\w+::)+(?:\{([^}]*)\}|(\w+));", text, re.M):
         names.update(re.findall(r"\w+", group or one))
     calls, public = calls_of(crate)
     return {call for call in public if call.split("::")[0] in names and calls[call].may_refuse}
@@ -92,82 +98,127 @@ def wants_of_memory(crate):
     return names
 
 
+@cache
 def crates():
     return sorted(folder.parent.name for folder in (HOME / "crates").glob("*/src"))
-
-
-def missing(crate, call, clause):
-    """What isn't there of a clause of a call of a crate, if anything."""
-    if crate not in crates():
-        return f"no crate {crate}"
-    if call not in calls_of(crate)[0]:
-        return f"no call {call} in {crate}"
-    if clause and calls_of(crate)[0][call].clauses.count(clause) != 1:
-        return f"no clause {clause} of {crate}::{call}"
-    return None
-
-
-def of_reference(text, crate):
-    """The crate, call and clause of `call.name` or `crate::call.name`; types have capitals."""
-    call, clause = text.split(".")
-    first = call.split("::")[0]
-    if "::" in call and first.islower():
-        return first, call.split("::", 1)[1], clause
-    return crate, call, clause
 
 
 def names_in(cell):
     return re.findall(r"`([^`]+)`", cell)
 
 
-def check_row(cells, crate, listed):
-    """The faults of a row of a crate's table; its calls are added to those that are listed."""
-    calls = names_in(cells[0])
-    listed.update((crate, call) for call in calls)
-    yield from (missing(crate, call, None) for call in calls)
-    clauses = names_in(cells[-1])
-    if not clauses and not re.match(r"free\b", cells[2].strip()):
-        yield f"no clause for an answer of {', '.join(calls)} that isn't free"
+def matching(names, pattern):
+    return [name for name in names if fnmatchcase(name, pattern)]
+
+
+def missing_call(crate, call):
+    return None if call in calls_of(crate)[0] else f"no call {call} in {crate}"
+
+
+def missing(crate, reference):
+    """What isn't there of a reference in a section of the crate, if anything."""
+    first, _, rest = reference.partition("::")
+    if rest and first.islower():
+        crate, reference = first, rest
+    if crate not in crates():
+        return f"no crate {crate}"
+    call, _, clause = reference.partition(".")
+    calls = calls_of(crate)[0]
+    found = matching(calls, call)
+    if not found:
+        return f"no call {call} in {crate}"
+    if clause and not any(matching(calls[name].clauses, clause) for name in found):
+        return f"no clause {clause} of {crate}::{call}"
+    if not clause and "*" not in call and len(calls[call].clauses) != 1:
+        return f"{crate}::{call} has {len(calls[call].clauses)} clauses"
+    return None
+
+
+def check_answer(crate, calls, clauses):
+    """The faults of a row that says what calls answer."""
+    yield from (missing_call(crate, call) for call in calls)
+    if not clauses:
+        yield f"no clause for an answer of {', '.join(calls)}"
+    own = [calls_of(crate)[0][call].clauses for call in calls if not missing_call(crate, call)]
     for name in clauses:
-        if "." in name:
-            yield missing(*of_reference(name, crate))
-        else:
-            yield from (missing(crate, call, name) for call in calls)
+        if all(names.count(name) == 1 for names in own):
+            continue
+        fault = missing(crate, name)
+        of_row = fault and re.fullmatch(r"\w+", name)
+        yield f"no clause {name} of {', '.join(calls)}" if of_row else fault
 
 
-def check_memory(crate, calls):
-    """The faults of a row of the calls of a crate that take no memory."""
-    for call in calls:
-        fault = missing(crate, call, None)
-        if not fault and calls_of(crate)[0][call].answer & wants_of_memory(crate):
-            fault = f"{crate}::{call} may answer want of memory"
-        yield fault
+def check_memory(crate, cell):
+    """The faults of a row of the calls that never want memory."""
+    named, _, others = cell.partition(" but ")
+    left_out = names_in(others)
+    yield from (missing_call(crate, call) for call in left_out)
+    calls, public = calls_of(crate)
+    for pattern in names_in(named):
+        found = matching(public, pattern)
+        if not found:
+            yield f"no public call {pattern} in {crate}"
+        for call in sorted(set(found) - set(left_out)):
+            if calls[call].answer & wants_of_memory(crate):
+                yield f"{crate}::{call} may answer want of memory"
+
+
+def check_row(cells, crate, listed):
+    """The faults of a row of a crate's table; calls of answers are added to those listed."""
+    calls, clauses = names_in(cells[0]), names_in(cells[-1])
+    if cells[1].strip().startswith("never want of memory"):
+        yield from check_memory(crate, cells[0])
+    elif calls:
+        listed.update((crate, call) for call in calls)
+        yield from check_answer(crate, calls, clauses)
+    else:
+        if not clauses:
+            yield "no clause for a fact"
+        yield from (missing(crate, name) for name in clauses)
 
 
 def check_text(line, crate):
+    """The faults of a line of text, or of a table that has no clauses."""
+    if head := re.fullmatch(r"#+ `(\w+)`", line):
+        yield None if head.group(1) in crates() else f"no crate {head.group(1)}"
     for name in names_in(line):
-        if re.fullmatch(r"(\w+::)+\w+\.\w+", name):
-            yield missing(*of_reference(name, crate))
+        clause = re.fullmatch(r"(\w+::)*\w+\.(?!rt$|py$|md$|antt$)\w+", name)
+        if crate and clause or name.split("::")[0] in crates() and "::" in name:
+            yield missing(crate, name)
+
+
+class Sections:
+    """Which crate's section a line stands in, and whether in a table of clauses."""
+
+    def __init__(self):
+        self.crate, self.depth, self.has_clauses, self.cells = "", 0, False, []
+
+    def take(self, line):
+        if line.startswith("#"):
+            depth = len(line) - len(line.lstrip("#"))
+            named = [name for name in names_in(line) if name in crates()]
+            if named or depth <= self.depth:
+                self.crate, self.depth = (named or [""])[0], depth
+        begins = line.startswith("|") and not self.cells
+        self.cells = re.split(r"(?<!\\)\|", line)[1:-1] if line.startswith("|") else []
+        if begins:
+            self.has_clauses = self.cells[-1].strip() == "Clause"
+        return self.crate and self.cells and self.has_clauses and not (begins or "---" in line)
 
 
 def check_page(page, listed):
     """The faults of the page, each with its line."""
-    crate = ""
+    sections = Sections()
     for number, line in enumerate(page.read_text().splitlines(), 1):
-        if line.startswith("#"):
-            crate = (names_in(line) or [""])[0]
-        cells = re.split(r"(?<!\\)\|", line)[1:-1]
-        if crate and cells and names_in(cells[0]):
-            found = check_row(cells, crate, listed)
-        elif cells and re.fullmatch(r" `\w+` ", cells[0]):
-            found = check_memory(names_in(cells[0])[0], names_in(cells[1]))
+        if sections.take(line):
+            found = check_row(sections.cells, sections.crate, listed)
         else:
-            found = check_text(line, crate)
+            found = check_text(line, sections.crate)
         yield from (f"{page}:{number}: {fault}" for fault in found if fault)
 
 
 def main():
-    page = Path(sys.argv[1]) if sys.argv[1:] else HOME / "docs/ANSWERS.md"
+    page = Path(sys.argv[1]) if sys.argv[1:] else HOME / "docs/PROVED.md"
     listed = set()
     faults = list(check_page(page, listed))
     for crate in crates():
