@@ -1,5 +1,5 @@
 -- The codes by which a command refuses a file as a whole or for what another file says, and the
--- most bytes of a file. They are the program's own, and docs/CODES.md lists them beside those of
+-- most bytes of a file. They are the program's own, and docs/FORMATS.md lists them beside those of
 -- rows.
 use Rattle.std.specs.Prelude.{ℕ}
 
