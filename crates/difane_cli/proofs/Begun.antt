@@ -16,7 +16,7 @@ use Rattle.policy_rules.specs.Hosted.{NoPlan}
 use Rattle.steps.specs.Steps.{IsEvent}
 use Rattle.steps.specs.declared.step.Event.{Event}
 use Rattle.update_machine.specs.Setting.{Setting, setting_of, IsSetting, NamesOwnPort}
-use Rattle.replay.proofs.Events.{first_planned}
+use Rattle.update_machine.proofs.CallerLemmas.{first_planned}
 use Rattle.world.specs.State.{IsTied, WorldValue, setting_at}
 use Rattle.world_ties.specs.Tied.{AreTied}
 use Rattle.shelf.specs.Shelf.{Files}
@@ -72,7 +72,7 @@ pub planned_by : (net : Net) (policies : List (List Row)) (setting : Setting)
     → setting ≡ setting_of net policies → IsSetting setting
     → IsOk (plan_of (slice_index_or policies 0 []) net)
 planned_by net policies setting same sound =
-    first_planned net policies (subst IsSetting same sound).planned
+    first_planned net policies (subst IsSetting same sound)
 
 -- ---- events
 

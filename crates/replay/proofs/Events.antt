@@ -1,14 +1,10 @@
 -- Plays that go on by the steps of events.
 use Rattle.std.proofs.Common.{ℕ, ◌≡◌, ◌+◌, ◌<◌, inl, inr, Option, Some, None, List, [], ◌∷◌, ◌++◌, length, drop, get_or, refl, ap, sym, subst, ◌∙◌, append_assoc, drop-cons, add-one}
-use Rattle.std.specs.Prelude.{IsOk, slice_index_or}
 use Rattle.journal.specs.declared.item.Item.{Item}
-use Rattle.net_file.specs.declared.net.Net.{Net}
-use Rattle.partition.specs.Plan.{plan_of}
-use Rattle.policy_rules.specs.declared.policy.Row.{Row}
 use Rattle.steps.specs.declared.step.Event.{Event}
 use Rattle.update_machine.specs.Answers.{AreFirstSteps, AreSteps, StepOfRow, after_steps}
 use Rattle.update_machine.specs.Full.{HaveRoom, IsFull, IsPlay}
-use Rattle.update_machine.specs.Setting.{Setting, plan_of_file, setting_of}
+use Rattle.update_machine.specs.Setting.{Setting}
 use Rattle.update_machine.proofs.CallerLemmas.{after_append, rooms_append}
 use Rattle.replay.specs.Playing.{Happens, StopsWithin}
 
@@ -145,10 +141,3 @@ plays_from_start setting events whole (Some at) rest = record {
   full = rest.full;
   of_row = rest.of_row;
 }
-
--- the plan of the first file is that of the first policy
-pub first_planned : (net : Net) (policies : List (List Row))
-    → IsOk (plan_of_file (setting_of net policies) 1)
-    → IsOk (plan_of (slice_index_or policies 0 []) net)
-first_planned net [] planned = absurd cc
-first_planned net (rows ∷ policies) planned = planned

@@ -1,34 +1,30 @@
 -- What a switch has and knows is what the journal says.
 use Rattle.std.proofs.Common.{ℕ, ◌≡◌, ◌-◌, ◌^◌, ◌<◌, ◌≤◌, ◌==◌, Bool, true, false, ◌&&◌, ◌||◌, not, if◌then◌else◌, Option, Some, None, List, [], ◌∷◌, ◌++◌, length, refl, ap, sym, subst, ◌∙◌, arith, All}
-use Rattle.std.specs.Prelude.{Err, IsOk, Ok, Result, filter, filter_map, find, fold, is_some, slice_get, unwrap_or}
+use Rattle.std.specs.Prelude.{filter, filter_map, find, fold, is_some, unwrap_or}
 use Rattle.std.specs.List.{AllByRecursion, list_any}
 use Rattle.std.proofs.lemmas.Bool.{eqb-true}
 use Rattle.std.proofs.lemmas.Bool.Decides.{nat_tests}
 use Rattle.std.proofs.Math.Bool.{or-false, or_assoc}
 use Rattle.std.proofs.lemmas.List.Elements.{All-contains, All-from_recursion, recursion_from_All}
 use Rattle.std.proofs.lemmas.List.Folds.{list_any-append}
-use Rattle.std.proofs.lemmas.Option.{get_or_from_slice_get, slice_get_within}
 use Rattle.ctrl_msg.specs.declared.message.Body.{Body}
 use Rattle.ctrl_msg.specs.declared.message.Body.TheVariants.{Install}
-use Rattle.partition.specs.Plan.{IsPlan, plan_of}
-use Rattle.partition.proofs.CallerLemmas.{plan_holds}
-use Rattle.policy_rules.specs.Policy.{IsPolicy}
+use Rattle.partition.specs.Plan.{IsPlan}
 use Rattle.policy_rules.specs.declared.policy.Row.{Row}
-use Rattle.policy_rules.specs.Hosted.{NoPlan}
 use Rattle.journal.specs.declared.item.Item.{Item}
 use Rattle.switch_core.specs.State.{SwitchValue, held_tables, holds_version, no_tables}
-use Rattle.switch_table.specs.Tables.{AreSoundTables, Hosted}
+use Rattle.switch_table.specs.Tables.{AreSoundTables, Hosted, tables_of}
 use Rattle.switch_table.specs.declared.tables.Tables.{Tables}
 use Rattle.switch_table.proofs.TableLemmas.{find-there, tables_are_sound}
 use Rattle.switch_table.specs.Lookup.{lookup_of}
 use Rattle.update_machine.specs.Adverts.{is_cut_off, route_from}
 use Rattle.update_machine.specs.Caches.{lookup_at}
 use Rattle.update_machine.specs.Boots.{boot_of, heard, is_up}
-use Rattle.update_machine.specs.Setting.{Setting, plan_of_file, policy_of_file}
-use Rattle.update_machine.specs.Versions.{collects, holds_version as holds_in, installs, stamp_of, tables_at, version_count, hosted_in, file_of, plan_at}
-use Rattle.update_machine.proofs.CallerLemmas.{of_its_file}
+use Rattle.update_machine.specs.Setting.{Setting}
+use Rattle.update_machine.specs.Versions.{collects, holds_version as holds_in, installs, stamp_of, policy_at, tables_at, version_count, plan_at}
+use Rattle.update_machine.proofs.CallerLemmas.{begins_planned, first_plan_stays, version_is_planned}
 use Rattle.version_laws.proofs.Sends.{each_kept}
-use Rattle.version_laws.specs.Planned.{BringsTables, HasPlan}
+use Rattle.version_laws.specs.Planned.{BringsTables}
 use Rattle.switch_ties.specs.Knowing.{KnowTies, TablesAreKnown}
 use Rattle.switch_ties.specs.SwitchOf.{switch_of, tables_in, with_tables}
 use Rattle.switch_ties.proofs.Tables.{with_each}
@@ -155,47 +151,14 @@ pub record IsOfPlan (setting : Setting) (journal : List Item) (version : ℕ) : 
   pub rows : List Row
   pub plan : IsPlan rows setting.net (plan_at setting journal version)
 
-is_ok : (r : Result (List Hosted) NoPlan) → IsOk r → r ≡ Ok (hosted_in r)
-is_ok (Ok plan) ok = refl
-is_ok (Err why) ok = absurd cc
-
-policy_sound : (setting : Setting) (file : ℕ) (rows : List Row) → All IsPolicy setting.policies
-    → policy_of_file setting file ≡ Some rows → IsPolicy rows
-policy_sound setting file rows sound there = by_file (file == 0) there
-  where
-    by_file : (b : Bool) → (if b then None else slice_get setting.policies (file - 1)) ≡ Some rows
-        → IsPolicy rows
-    by_file true is = absurd cc
-    by_file false is =
-        let within = slice_get_within setting.policies (file - 1) rows is in
-        subst IsPolicy (get_or_from_slice_get setting.policies (file - 1) rows [] is)
-        (sound (file - 1) [] within)
-
 pub planned : (setting : Setting) (journal : List Item) (version : ℕ)
     → TablesAreKnown setting journal → 1 ≤ version → version ≤ version_count journal
     → IsOfPlan setting journal version
-planned setting journal version known first last =
-    by_file (policy_of_file setting has.file) refl
-  where
-    has : HasPlan setting journal version
-    has = known.versions.planned known.sound.planned version first last
-
-    by_file : (o : Option (List Row)) → policy_of_file setting has.file ≡ o
-        → IsOfPlan setting journal version
-    by_file None none =
-        let ok : IsOk (plan_of_file setting has.file) = has.planned in
-        absurd cc
-    by_file (Some rows) there =
-        let own = of_its_file setting journal version has.file rows has.of there in
-        let made : setting.plan rows ≡ plan_of rows setting.net =
-        ap (λ (s : Setting). s.plan rows) known.sound.made in
-        let ok : IsOk (setting.plan rows) = rw (there, plan_of_file) at has.planned in
-        record {
-          rows = rows;
-          plan = plan_holds rows setting.net (plan_at setting journal version)
-              (policy_sound setting has.file rows known.sound.sound there) known.sound.net
-              (sym made ∙ is_ok (setting.plan rows) ok ∙ ap Ok (sym own.1));
-        }
+planned setting journal version known first last = record {
+  rows = policy_at setting journal version;
+  plan = version_is_planned setting journal version known.sound
+      (known.versions.planned (begins_planned setting known.sound) version first last);
+}
 
 pub tables_sound : (setting : Setting) (journal : List Item) (version s : ℕ)
     → TablesAreKnown setting journal → 1 ≤ version → version ≤ version_count journal
@@ -229,11 +192,11 @@ brought setting journal s (_ ∷ bodies) all = brought setting journal s bodies 
 
 first_planned : (setting : Setting) (journal : List Item) (s : ℕ)
     → IsPlanned setting journal s (first_tables setting s)
-unfolding version_count plan_at file_of
+unfolding version_count
 first_planned setting journal s = record {
   first = omega arith;
   last = omega arith;
-  planned = refl;
+  planned = sym (ap (λ plan. tables_of plan 1 s) (first_plan_stays setting journal));
 }
 
 all_planned : (setting : Setting) (journal : List Item) (s : ℕ) → TablesAreKnown setting journal

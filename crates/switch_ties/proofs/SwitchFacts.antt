@@ -17,8 +17,9 @@ use Rattle.update_machine.specs.Handled.{handled_count}
 use Rattle.update_machine.specs.LinkMasks.{near, other_advert}
 use Rattle.update_machine.specs.Setting.{Setting}
 use Rattle.update_machine.specs.SwitchNumbers.{switches_of}
-use Rattle.update_machine.specs.Versions.{collects, greatest, holds_version, installs, stamp_in, stamp_of, tables_at, file_of, plan_at}
+use Rattle.update_machine.specs.Versions.{collects, greatest, holds_version, installs, stamp_in, stamp_of, tables_at}
 use Rattle.update_machine.specs.Links.{serves}
+use Rattle.update_machine.proofs.CallerLemmas.{first_plan_stays}
 use Rattle.switch_ties.specs.SwitchOf.{collect_in, switch_of, tables_in, with_tables}
 
 pub record SwitchFacts : Type 0 where
@@ -110,8 +111,8 @@ switch_by setting s w = switch_in setting s w (w.up && w.boot == 1)
 -- the switch is what its facts say
 pub switch_is : (setting : Setting) (journal : List Item) (s : ℕ)
     → switch_of setting journal s ≡ switch_by setting s (facts_of setting journal s)
-unfolding switch_of stamp_of holds_version adverts_known own_advert plan_at file_of
-switch_is setting journal s = refl
+unfolding switch_of stamp_of holds_version adverts_known own_advert
+switch_is setting journal s = rw (first_plan_stays setting journal) refl
 
 pub by_facts : (setting : Setting) (after : List Item) (s : ℕ) (w : SwitchFacts)
     → facts_of setting after s ≡ w → switch_of setting after s ≡ switch_by setting s w

@@ -1,6 +1,6 @@
 -- What is said of a switch and of its calls, computed on journals of few items.
-use Rattle.std.proofs.Common.{ℕ, ◌≡◌, true, false, Some, None, List, [], ◌∷◌, ◌++◌, map, refl, subst, sym}
-use Rattle.std.specs.Prelude.{nat_eq}
+use Rattle.std.proofs.Common.{ℕ, ◌≡◌, true, false, Some, None, List, [], ◌∷◌, ◌++◌, map, refl, ap, subst, sym, ◌∙◌}
+use Rattle.std.specs.Prelude.{nat_eq, slice_get}
 use Rattle.std.specs.List.{list_any}
 use Rattle.ctrl_msg.specs.declared.message.Body.{Body}
 use Rattle.ctrl_msg.specs.declared.message.Body.TheVariants.{Collect, Install}
@@ -19,8 +19,9 @@ use Rattle.update_machine.specs.Caches.{cache_of}
 use Rattle.update_machine.specs.Deliveries.{has_changed}
 use Rattle.update_machine.specs.Links.{is_link_up, serves, message_of}
 use Rattle.update_machine.specs.Steps.{steps_in}
-use Rattle.update_machine.specs.Versions.{holds_version, stamp_of, file_of, plan_at}
+use Rattle.update_machine.specs.Versions.{holds_version, stamp_of}
 use Rattle.update_machine.specs.LinkMasks.{near}
+use Rattle.update_machine.proofs.ExampleVersions.{first_plan}
 use Rattle.update_machine.proofs.Examples.{any_word, one, open_net, plan_p, rule, tables_of, to}
 use Rattle.version_laws.specs.Authorities.{EndsAt}
 use Rattle.switch_ties.specs.Asked.{CanRestart}
@@ -43,7 +44,7 @@ abbrev installed : List Item
 installed = told 1 (install 3) ++ told 2 (install 2) ++ told 3 (install 3)
 
 in_order : map (λ tables. tables.version) (tables_kept open_net installed 0) ≡ 1 ∷ 3 ∷ 2 ∷ []
-unfolding holds_version heard is_up boot_of message_of plan_at file_of
+unfolding holds_version heard is_up boot_of message_of
 in_order = refl
 
 -- up to the collect mark they go, which a lower one leaves as it is
@@ -55,7 +56,7 @@ unfolding switch_of heard is_up boot_of message_of
 mark_2 = refl
 
 third_is_left : map (λ tables. tables.version) (tables_kept open_net collected 0) ≡ 3 ∷ []
-unfolding holds_version heard is_up boot_of message_of plan_at file_of
+unfolding holds_version heard is_up boot_of message_of
 third_is_left = refl
 
 -- tables of another boot aren't kept, nor those that came to another switch
@@ -63,12 +64,12 @@ not_of_boot_2 :
     map (λ tables. tables.version)
     (tables_kept open_net (told 1 (Install 2 (tables_of plan_p 2 0))) 0)
     ≡ 1 ∷ []
-unfolding holds_version heard is_up boot_of message_of plan_at file_of
+unfolding holds_version heard is_up boot_of message_of
 not_of_boot_2 = refl
 
 none_in_boot_2 :
     (switch_of open_net (installed ++ item.Down 0 ∷ item.Booted 0 2 ∷ []) 0).tables ≡ []
-unfolding switch_of holds_version heard is_up boot_of message_of plan_at file_of
+unfolding switch_of holds_version heard is_up boot_of message_of
 none_in_boot_2 = refl
 
 -- no cached rule is there whose time may be up
@@ -126,14 +127,19 @@ only = (
 )
 
 ends_at_b : EndsAt open_net [] 1 one (Seek 1 0)
-unfolding plan_at file_of holds
-ends_at_b =
-    record { hosted = only; found = refl; number = refl; holds = refl; target = refl }
+unfolding holds
+ends_at_b = record {
+  hosted = only;
+  found = ap (λ plan. slice_get plan 0) (first_plan []);
+  number = refl;
+  holds = refl;
+  target = refl;
+}
 
 not_at_a : EndsAt open_net [] 0 one (Seek 1 0) → ⊥
-unfolding plan_at file_of
 not_at_a ends =
-    let found : Some only ≡ Some ends.hosted = ends.found in
+    let found : Some only ≡ Some ends.hosted =
+    sym (ap (λ plan. slice_get plan 0) (first_plan [])) ∙ ends.found in
     let same : only ≡ ends.hosted = cc in
     let target : list_any (nat_eq 0) (1 ∷ []) ≡ true =
     subst (λ (hosted : Hosted). list_any (nat_eq 0) hosted.1 ≡ true) (sym same) ends.target in

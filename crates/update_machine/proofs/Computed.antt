@@ -18,7 +18,7 @@ use Rattle.update_machine.specs.Pieces.{packet_items, hop_items, lose_items, del
 use Rattle.update_machine.specs.Quiet.{sendings}
 use Rattle.update_machine.specs.Settling.{current_items, open_items, retired_items, settling, installs_to, installs_to_all, resent_by_controller}
 use Rattle.update_machine.specs.Steps.{steps_in}
-use Rattle.update_machine.specs.Versions.{version_count, stamp_of, holds_version, file_of, plan_at}
+use Rattle.update_machine.specs.Versions.{version_count, stamp_of, holds_version, file_of, next_plan, plan_at}
 use Rattle.update_machine.specs.Causes.{present_step}
 use Rattle.update_machine.specs.Travels.{ingress_of, travels, next_travelling, leg_of}
 use Rattle.update_machine.specs.Ways.{route_in, route_place, next_switch, found_down}
@@ -46,7 +46,7 @@ unfolding own_seq own_advert adverts_known held_adverts route_from is_cut_off bo
     route_place next_switch found_down packet_items hop_items lose_items deliver_items
     forget_items expire_items update_items link_items crash_items restart_items confirm_items
     resend_items piece sendings current_items open_items retired_items settling installs_to
-    installs_to_all resent_by_controller steps_in present_step version_count file_of plan_at
+    installs_to_all resent_by_controller steps_in present_step version_count file_of next_plan plan_at
     stamp_of holds_version has mask_where mask_of switches least_in is_news after_hearing first_adverts
     names named_links is_link known_links is_isolated wider ball nearer onward links_away route_to
     first_route route_of has_link with_link holds meets meet_of covers_of is_fixed_of free_of

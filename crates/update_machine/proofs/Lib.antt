@@ -21,6 +21,8 @@ mod VersionsSaid
 mod CachesSaid
 mod FoldLemmas
 mod Policies
+mod Settings
+mod MachinePolicies
 mod OneAnswer
 mod Existence
 mod CauseLemmas
@@ -43,4 +45,5 @@ mod EventSteps
 mod OnePlay
 mod SomePlay
 mod Claims
+pub mod ExampleVersions
 pub mod CallerLemmas

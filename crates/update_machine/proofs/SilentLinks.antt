@@ -11,7 +11,7 @@ use Rattle.update_machine.specs.Boots.{boot_of, heard, is_up, tells_boot, tells_
 use Rattle.update_machine.specs.Caches.{cache_of, lookup_at}
 use Rattle.update_machine.specs.Concerns.{NoneConcern, concerns_known, concerns_links, concerns_lookups, concerns_policies, concerns_switch, concerns_waiting}
 use Rattle.update_machine.specs.Laws.{KnownKeeps, LinksKeep, PoliciesKeep, SwitchKeeps}
-use Rattle.update_machine.specs.Versions.{first_told, is_submission, policy_at, stamp_of, version_count, hosted_in, file_of, plan_at, tells_file}
+use Rattle.update_machine.specs.Versions.{first_told, is_submission, policy_at, stamp_of, version_count, hosted_in, file_of, next_policy, plan_at, tells_file}
 use Rattle.update_machine.specs.LinkMasks.{near}
 use Rattle.update_machine.specs.Quiet.{is_waited_for, tells_waited_for}
 use Rattle.update_machine.specs.Setting.{Setting, policy_of_file}
@@ -188,7 +188,7 @@ policy_count_stays before items none =
 
 pub policies_keep : (before items : List Item) → NoneConcern concerns_policies before items
     → PoliciesKeep before (before ++ items)
-unfolding policy_at plan_at
+unfolding policy_at plan_at next_policy
 policies_keep before items none = record {
   count = policy_count_stays before items none;
   file = file_stays before items none;
@@ -197,6 +197,7 @@ policies_keep before items none = record {
   plan = λ setting v. ap (λ o. option_map_or (λ rows. hosted_in (setting.plan rows))
       (option_and_then (policy_of_file setting) o) [])
       (file_stays before items none v);
+  next = λ setting file. refl;
 }
 
 pub lookup_stays : (setting : Setting) (s : ℕ) (header : Header)

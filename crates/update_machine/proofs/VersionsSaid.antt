@@ -3,7 +3,7 @@ use Rattle.std.proofs.Common.{◌≡◌, true, Some, None, List, [], ◌∷◌, 
 use Rattle.std.specs.Prelude.{Ok, Err, length}
 use Rattle.std.proofs.lemmas.List.Elements.{All-from_recursion}
 use Rattle.policy_rules.specs.Hosted.{NoRoom}
-use Rattle.policy_rules.specs.declared.policy.Action.TheVariants.{Out}
+use Rattle.policy_rules.specs.declared.policy.Action.TheVariants.{Drop, Out}
 use Rattle.steps.specs.Steps.{IsStep}
 use Rattle.steps.specs.declared.step.Step.TheVariants as step
 use Rattle.journal.specs.declared.item.Item.{Item}
@@ -15,7 +15,7 @@ use Rattle.update_machine.specs.Messages.{is_deliverable}
 use Rattle.update_machine.specs.Numbers.{VersionsAreNumbered}
 use Rattle.update_machine.specs.Pieces.{forget_items, piece, update_code}
 use Rattle.update_machine.specs.Setting.{Setting, policy_of_file}
-use Rattle.update_machine.specs.Versions.{is_version, policy_at, version_count, file_of, plan_at}
+use Rattle.update_machine.specs.Versions.{HasPlan, is_version, next_plan, next_policy, policy_at, version_count, file_of, plan_at}
 use Rattle.update_machine.specs.Links.{message_of}
 use Rattle.update_machine.proofs.Examples.{all_to, at, by_action, open_net, out_or_drop, plan_p, two_switches, versions}
 
@@ -80,6 +80,24 @@ pub not_numbered : VersionsAreNumbered (item.Submitted 1 3 ∷ []) → ⊥
 unfolding file_of version_count
 not_numbered are = cc ((are 2).1 (omega arith, omega arith))
 
+-- of them those have a plan that are there, and whose file is
+pub planned_3 : HasPlan open_net submitted 3
+unfolding policy_at plan_at file_of
+planned_3 = record { policy = refl; plan = refl }
+
+pub not_planned_4 : HasPlan open_net submitted 4 → ⊥
+unfolding policy_at file_of
+not_planned_4 has = cc has.policy
+
+-- the next version has the policy of the file that it is submitted with, if there is one
+pub next_of_2 : next_policy open_net submitted 2 ≡ Some (all_to Drop ∷ [])
+unfolding next_policy
+next_of_2 = refl
+
+pub next_of_3 : next_policy open_net submitted 3 ≡ None
+unfolding next_policy
+next_of_3 = refl
+
 -- the machine takes no policy of a file that isn't there
 pub nothing_submitted : (old new : Machine) → Submits old 2 (policy_of_file open_net 3) new → ⊥
 nothing_submitted old new submits = cc submits.there
@@ -95,28 +113,28 @@ too_large = record {
 }
 
 pub taken_in : update_code too_large [] 1 ≡ None
-unfolding version_count retired_mark
+unfolding version_count retired_mark next_plan
 taken_in = refl
 
 pub without_plan : update_code too_large [] 2 ≡ Some 15
-unfolding version_count retired_mark
+unfolding version_count retired_mark next_plan
 without_plan = refl
 
 pub without_file :
     (update_code too_large [] 3 ≡ Some 14) × (update_code too_large [] 0 ≡ Some 14)
-unfolding version_count retired_mark
+unfolding version_count retired_mark next_plan
 without_file = (refl, refl)
 
 pub eight_live : update_code open_net (versions 8 0) 1 ≡ Some 16
-unfolding version_count retired_mark
+unfolding version_count retired_mark next_plan
 eight_live = refl
 
 pub seven_live : update_code open_net (versions 8 1) 1 ≡ None
-unfolding version_count retired_mark
+unfolding version_count retired_mark next_plan
 seven_live = refl
 
 pub all_there : update_code open_net (versions 64 60) 1 ≡ Some 17
-unfolding version_count retired_mark
+unfolding version_count retired_mark next_plan
 all_there = refl
 
 -- ---- steps of the network

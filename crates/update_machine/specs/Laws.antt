@@ -25,7 +25,7 @@ use Rattle.update_machine.specs.Quiet.{is_waited_for, sendings}
 use Rattle.update_machine.specs.Setting.{Setting}
 use Rattle.update_machine.specs.SwitchNumbers.{switches_of}
 use Rattle.update_machine.specs.Causes.{present_step}
-use Rattle.update_machine.specs.Versions.{holds_version, policy_at, stamp_of, tables_at, version_count, file_of, plan_at}
+use Rattle.update_machine.specs.Versions.{holds_version, policy_at, stamp_of, tables_at, version_count, file_of, next_policy, plan_at}
 use Rattle.update_machine.specs.Travels.{ingress_of, leg_of, next_travelling, travels}
 use Rattle.update_machine.specs.Ways.{found_down, next_switch, route_in, route_place}
 use Rattle.update_machine.specs.LinkMasks.{near, adverts_begun, adverts_heard, links_known}
@@ -172,6 +172,8 @@ pub record PoliciesKeep (before after : List Item) : Type 0 where
   pub policy : (setting : Setting) (v : ℕ) →
       policy_at setting after v ≡ policy_at setting before v
   pub plan : (setting : Setting) (v : ℕ) → plan_at setting after v ≡ plan_at setting before v
+  pub next : (setting : Setting) (file : ℕ) →
+      next_policy setting after file ≡ next_policy setting before file
 
 pub record ConcernLaws : Type 0 where
   pub switch : (setting : Setting) (s : ℕ) (before items : List Item) →

@@ -21,9 +21,9 @@ use Rattle.update_machine.specs.Marks.{most_live, most_versions, retired_mark}
 use Rattle.update_machine.specs.Messages.{is_deliverable, sends}
 use Rattle.update_machine.specs.Moves.{lookup_items, move_items, put}
 use Rattle.update_machine.specs.Packets.{next_packet, standing}
-use Rattle.update_machine.specs.Setting.{Setting, plan_of_file}
+use Rattle.update_machine.specs.Setting.{Setting}
 use Rattle.update_machine.specs.Settling.{resent_by_controller, settling, submitted_items}
-use Rattle.update_machine.specs.Versions.{version_count}
+use Rattle.update_machine.specs.Versions.{next_plan, version_count}
 use Rattle.update_machine.specs.Travels.{packets_at, travels}
 use Rattle.update_machine.specs.LinkMasks.{near}
 
@@ -88,7 +88,7 @@ marks_code journal =
     else None
 
 abbrev pub update_code : Setting → List Item → ℕ → Option ℕ
-update_code setting journal file = elim (plan_of_file setting file) [
+update_code setting journal file = elim (next_plan setting journal file) [
   | Err why ↦ Some (plan_code why)
   | Ok plan ↦ marks_code journal
 ]

@@ -2,7 +2,7 @@
 -- packets with. Tables that are installed under a version before packets are stamped with it, and
 -- are removed once none is, are those of Reitblatt, Foster, Rexford, Schlesinger and Walker,
 -- "Abstractions for Network Update".
-use Rattle.std.specs.Prelude.{ℕ, ◌+◌, Bool, true, false, not, ◌&&◌, ◌||◌, ◌==◌, nat_le, max, if◌then◌else◌, Option, Some, None, is_some, unwrap_or, List, [], ◌∷◌, ◌++◌, fold, filter_map, Result, Ok, Err, option_and_then}
+use Rattle.std.specs.Prelude.{ℕ, ◌≡◌, ◌+◌, Bool, true, false, not, ◌&&◌, ◌||◌, ◌==◌, nat_le, max, if◌then◌else◌, Option, Some, None, is_some, unwrap_or, List, [], ◌∷◌, ◌++◌, fold, filter_map, Result, Ok, Err, option_and_then}
 use Rattle.std.specs.List.{list_any}
 use Rattle.std.specs.Option.{option_map_or, option_or}
 use Rattle.ctrl_msg.specs.declared.message.Body.{Body}
@@ -15,7 +15,7 @@ use Rattle.journal.specs.declared.item.Item.{Item}
 use Rattle.journal.specs.declared.item.Item.TheVariants as item
 use Rattle.update_machine.specs.Boots.{heard, is_in_first_boot}
 use Rattle.update_machine.specs.Folds.{count_of}
-use Rattle.update_machine.specs.Setting.{Setting, policy_of_file}
+use Rattle.update_machine.specs.Setting.{Setting, plan_of_file, policy_of_file}
 use Rattle.partition.specs.Plan.{Hosted}
 
 -- ---- policies and plans
@@ -45,6 +45,14 @@ abbrev pub policy_in : Setting → List Item → ℕ → Option (List Row)
 policy_in setting journal version =
     option_and_then (policy_of_file setting) (file_of journal version)
 
+-- the policy and the plan of the next version, if it is submitted with this file: the file's own,
+-- whatever stands in the journal
+unfoldable pub next_policy : Setting → List Item → ℕ → Option (List Row)
+next_policy setting journal file = policy_of_file setting file
+
+unfoldable pub next_plan : Setting → List Item → ℕ → Result (List Hosted) NoPlan
+next_plan setting journal file = plan_of_file setting file
+
 -- the partitions of its plan with their targets; none where there is no policy or no plan
 unfoldable pub plan_at : Setting → List Item → ℕ → List Hosted
 plan_at setting journal version =
@@ -65,6 +73,12 @@ is_version journal version = is_some (file_of journal version)
 -- the rows of its policy; none where there is no policy
 unfoldable pub policy_at : Setting → List Item → ℕ → List Row
 policy_at setting journal version = unwrap_or (policy_in setting journal version) []
+
+-- the version has a policy, which has a plan
+pub record HasPlan (setting : Setting) (journal : List Item) (version : ℕ) : Type 0 where
+  pub policy : policy_in setting journal version ≡ Some (policy_at setting journal version)
+  pub plan : setting.plan (policy_at setting journal version)
+      ≡ Ok (plan_at setting journal version)
 
 -- the tables of a version that its plan gives to switch s
 abbrev pub tables_at : Setting → List Item → ℕ → ℕ → Tables

@@ -1,9 +1,11 @@
 //! Laws on journals: functions without a body, whose contracts are facts of the definitions alone.
-ghost use Rattle.std.specs.Prelude.{◌≡◌, ◌+◌, ◌++◌, ◌↔◌, ◌≤◌, ℕ, Bool, Option, Some, List, [], ◌∷◌, length, map, IsTrue};
+ghost use Rattle.std.specs.Prelude.{◌≡◌, ◌+◌, ◌++◌, ◌↔◌, ◌≤◌, ℕ, Bool, Option, Some, List, [], ◌∷◌, length, map, All, IsTrue};
 ghost use Rattle.std.specs.Option.{option_or};
+ghost use Rattle.policy_rules.specs.Policy.{IsPolicy};
 ghost use Rattle.policy_rules.specs.declared.policy.Row.{Row};
+ghost use Rattle.journal.specs.declared.item.Item.TheVariants.{Submitted};
 ghost use Rattle.steps.specs.declared.step.Event.TheVariants.{One};
-ghost use Rattle.update_machine.specs.Journals.{Answers, AnswersSoFar, AreAnswered, AreNumbered, AreStepsOf, BeginsAnswer, ConcernLaws, Event, HasPlay, HaveSteps, IsFull, IsPlay, Item, KnownLinkLaws, Setting, StartLaws, Step, StepOfRow, StopsFull, after_steps, file_of, full_at, is_sending, is_version, hosted_in, plan_at, policy_at, policy_of_file};
+ghost use Rattle.update_machine.specs.Journals.{Answers, AnswersSoFar, AreAnswered, AreNumbered, AreStepsOf, BeginsAnswer, ConcernLaws, Event, HasPlay, HaveSteps, IsFull, IsPlay, IsSetting, Item, KnownLinkLaws, NamesOwnPort, Setting, StartLaws, Step, StepOfRow, StopsFull, VersionsAreNumbered, after_steps, file_of, full_at, is_sending, is_version, hosted_in, next_policy, plan_at, policy_at, policy_of_file, version_count};
 ghost use Rattle.update_machine.specs.Folds.{all_given, count_of, folded, folded_from, last_told};
 ghost use Rattle.update_machine.specs.Versions.{first_told};
 ghost use Rattle.update_machine.specs.declared.full.TheConstants.{FULL_AT};
@@ -81,7 +83,9 @@ pub fn answers_are_numbered()
 
 /// A version that is there keeps its policy and its plan, whatever items come behind; in an answer
 /// each version from 1 to their count is there (`answers_are_numbered`). The plan is that of the
-/// policy, which a file names.
+/// policy, which a file names: the first version has that of the first file, and the version that
+/// is submitted next has the next policy. In a sound setting each policy is one, and names ports of
+/// the network alone.
 pub fn versions_keep_policies()
     ensures there { (before items : List Item) (version : ℕ) → IsTrue (is_version before version)
         → IsTrue (is_version (before ++ items) version) }
@@ -95,6 +99,18 @@ pub fn versions_keep_policies()
         → file_of journal version ≡ Some file → policy_of_file setting file ≡ Some rows
         → (policy_at setting journal version ≡ rows)
         × (plan_at setting journal version ≡ hosted_in (setting.plan rows)) }
+    ensures first { (setting : Setting) (journal : List Item) (rows : List Row)
+        → policy_of_file setting 1 ≡ Some rows → (policy_at setting journal 1 ≡ rows)
+        × (plan_at setting journal 1 ≡ hosted_in (setting.plan rows)) }
+    ensures next { (setting : Setting) (before : List Item) (file version : ℕ) (rows : List Row)
+        → VersionsAreNumbered before → version ≡ version_count before + 1
+        → next_policy setting before file ≡ Some rows
+        → (policy_at setting (before ++ Submitted file version ∷ []) version ≡ rows)
+        × (plan_at setting (before ++ Submitted file version ∷ []) version
+        ≡ hosted_in (setting.plan rows)) }
+    ensures own { (setting : Setting) (journal : List Item) (version : ℕ) → IsSetting setting
+        → IsPolicy (policy_at setting journal version)
+        × All (λ row. NamesOwnPort setting row.action) (policy_at setting journal version) }
 {}
 
 /// What a journal without items says.

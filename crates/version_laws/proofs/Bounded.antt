@@ -11,7 +11,7 @@ use Rattle.update_machine.specs.Numbers.{VersionsAreNumbered}
 use Rattle.update_machine.specs.Setting.{Setting}
 use Rattle.update_machine.specs.Settling.{to_switch}
 use Rattle.update_machine.specs.Versions.{version_count}
-use Rattle.update_machine.proofs.CallerLemmas.{numbered_at_first, plan_kept, start_laws}
+use Rattle.update_machine.proofs.CallerLemmas.{numbered_at_first, plan_stays, start_laws}
 use Rattle.version_laws.specs.ItemCauses.{HasItemCause, IsRightInstall}
 use Rattle.version_laws.proofs.Boots.{by_number}
 use Rattle.version_laws.proofs.Facts.{AreKept, FromCauses, NeverFalls, from_causes}
@@ -65,13 +65,12 @@ planned_on : (setting : Setting) (before : List Item) (next : Item) (s : ℕ) (i
     → VersionsAreNumbered before → ArePlanned setting before s installed
     → ArePlanned setting (before ++ next ∷ []) s installed
 planned_on setting before next s installed numbered are =
-    let there = (numbered are.version).1 (are.first, are.last) in
     record {
       version = are.version;
       first = are.first;
       last = omega (arith, are.last, count_rises before next);
       planned = are.planned ∙ sym (ap (λ plan. tables_of plan are.version s)
-          (plan_kept setting before (next ∷ []) are.version there));
+          (plan_stays setting before (next ∷ []) are.version numbered are.first are.last));
     }
 
 pub right_planned : (setting : Setting) (before : List Item) (s boot : ℕ) (installed : Tables)

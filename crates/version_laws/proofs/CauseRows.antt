@@ -8,7 +8,7 @@ use Rattle.steps.specs.declared.step.Step.TheVariants as step
 use Rattle.update_machine.specs.Answers.{StepOfRow}
 use Rattle.update_machine.specs.Marks.{retired_mark}
 use Rattle.update_machine.specs.Pieces.{piece}
-use Rattle.update_machine.specs.Versions.{version_count}
+use Rattle.update_machine.specs.Versions.{next_plan, next_policy, version_count}
 use Rattle.update_machine.proofs.Examples.{at, open_net, versions}
 use Rattle.version_laws.specs.Always.{HoldsAtEnds, HoldsBehindItems, HoldsReached}
 use Rattle.version_laws.specs.ItemCauses.{SubmitsRightly}
@@ -16,7 +16,7 @@ use Rattle.version_laws.specs.ItemCauses.{SubmitsRightly}
 -- ---- submissions
 
 pub second_file : SubmitsRightly open_net [] 2 2
-unfolding version_count retired_mark
+unfolding version_count retired_mark next_policy next_plan
 second_file = record {
   next = refl;
   there = refl;
@@ -26,6 +26,7 @@ second_file = record {
 }
 
 pub no_third_file : SubmitsRightly open_net [] 3 2 → ⊥
+unfolding next_policy
 no_third_file submits = cc submits.there
 
 pub no_version_3 : SubmitsRightly open_net [] 2 3 → ⊥

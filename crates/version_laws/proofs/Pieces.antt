@@ -1,11 +1,7 @@
 -- Each piece has its causes, whatever its step, and so has the journal of any steps.
-use Rattle.std.proofs.Common.{ℕ, ◌≡◌, ◌+◌, ◌==◌, true, Option, Some, None, List, [], ◌∷◌, ◌++◌, refl, arith, ◌∙◌}
-use Rattle.std.specs.Prelude.{Result, Ok, Err}
+use Rattle.std.proofs.Common.{ℕ, ◌≡◌, ◌+◌, ◌==◌, true, None, List, [], ◌∷◌, ◌++◌, refl, arith, ◌∙◌}
 use Rattle.std.proofs.lemmas.Bool.{eq-eqb}
 use Rattle.std.proofs.lemmas.Bool.Decides.{nat_tests}
-use Rattle.partition.specs.Plan.{Hosted}
-use Rattle.policy_rules.specs.declared.policy.Row.{Row}
-use Rattle.policy_rules.specs.Hosted.{NoPlan, TooManyLeaves}
 use Rattle.journal.specs.declared.item.Item.{Item}
 use Rattle.journal.specs.declared.item.Item.TheVariants as item
 use Rattle.steps.specs.declared.step.Step.{Step}
@@ -13,10 +9,10 @@ use Rattle.steps.specs.declared.step.Step.TheVariants.{Packet, Deliver, Update, 
 use Rattle.update_machine.specs.Boots.{is_up}
 use Rattle.update_machine.specs.Messages.{sends}
 use Rattle.update_machine.specs.Packets.{next_packet}
-use Rattle.update_machine.specs.Pieces.{confirm_items, hello_of, marks_code, plan_code, restart_items, step_items, update_code, update_items}
-use Rattle.update_machine.specs.Setting.{Setting, plan_of_file, policy_of_file}
+use Rattle.update_machine.specs.Pieces.{confirm_items, hello_of, marks_code, restart_items, step_items, update_code, update_items}
+use Rattle.update_machine.specs.Setting.{Setting}
 use Rattle.update_machine.specs.Versions.{version_count}
-use Rattle.update_machine.proofs.CallerLemmas.{PiecesHave}
+use Rattle.update_machine.proofs.CallerLemmas.{PiecesHave, allowed_next}
 use Rattle.version_laws.specs.Always.{HoldsAlways}
 use Rattle.version_laws.specs.ItemCauses.{HasItemCause, SubmitsRightly}
 use Rattle.version_laws.proofs.BehindItems.{behind_items}
@@ -33,29 +29,16 @@ use Rattle.version_laws.proofs.Crashes.{crash_has}
 may_submit : (setting : Setting) (file : ℕ) (journal : List Item)
     → update_code setting journal file ≡ None
     → SubmitsRightly setting journal file (version_count journal + 1)
-may_submit setting file journal allowed = by (policy_of_file setting file) refl
-  where
-    by : (o : Option (List Row)) → policy_of_file setting file ≡ o
-        → SubmitsRightly setting journal file (version_count journal + 1)
-    by None none =
-        let refused : Some (plan_code TooManyLeaves) ≡ None =
-        rw (none, update_code) at allowed in absurd cc
-    by (Some rows) there = by_plan (setting.plan rows) refl
-      where
-        by_plan : (plan : Result (List Hosted) NoPlan) → setting.plan rows ≡ plan
-            → SubmitsRightly setting journal file (version_count journal + 1)
-        by_plan (Err why) none =
-            let refused : Some (plan_code why) ≡ None =
-            rw (there, none, update_code) at allowed in absurd cc
-        by_plan (Ok plan) planned =
-            let free : marks_code journal ≡ None = rw (there, planned, update_code) at allowed in
-            record {
-              next = refl;
-              there = rw there refl;
-              planned = rw (there, planned, plan_of_file) refl;
-              live = λ met. grind (arith, nat_tests);
-              few = λ met. grind (arith, nat_tests);
-            }
+may_submit setting file journal allowed =
+    let next = allowed_next setting journal file allowed in
+    let free : marks_code journal ≡ None = next.2 in
+    record {
+      next = refl;
+      there = next.0;
+      planned = next.1;
+      live = λ met. grind (arith, nat_tests);
+      few = λ met. grind (arith, nat_tests);
+    }
 
 update_have : (setting : Setting) (file : ℕ) (journal : List Item)
     → Has setting journal (update_items setting file journal)

@@ -1,10 +1,8 @@
 -- Versions are few, each has its plan, and the tables of each are those of its plan.
-use Rattle.std.proofs.Common.{ℕ, ◌≡◌, ◌≤◌, ◌<◌, ◌+◌, ◌-◌, ◌==◌, ◌&&◌, Bool, true, false, not, Option, Some, None, List, [], ◌∷◌, ◌++◌, refl, ap, sym, subst, ◌∙◌, append_assoc, arith, inl, inr}
-use Rattle.std.specs.Prelude.{◌||◌, IsOk, IsTrue, is_some}
+use Rattle.std.proofs.Common.{ℕ, ◌≡◌, ◌≤◌, ◌<◌, ◌+◌, ◌-◌, ◌==◌, ◌&&◌, Bool, true, false, not, Some, List, [], ◌∷◌, ◌++◌, refl, ap, sym, subst, ◌∙◌, append_assoc, arith, inl, inr}
+use Rattle.std.specs.Prelude.{◌||◌, IsTrue}
 use Rattle.std.specs.List.{AllByRecursion, list_any}
-use Rattle.std.specs.Option.{option_or}
 use Rattle.std.proofs.lemmas.Bool.{cases_lt, eqb-true}
-use Rattle.std.proofs.lemmas.Bool.Decides.{nat_tests}
 use Rattle.std.proofs.lemmas.List.Elements.{All-from_recursion}
 use Rattle.ctrl_msg.specs.declared.message.Body.{Body}
 use Rattle.ctrl_msg.specs.declared.message.Body.TheVariants.{Install}
@@ -15,17 +13,17 @@ use Rattle.journal.specs.declared.item.Item.TheVariants as item
 use Rattle.update_machine.specs.Boots.{heard, is_in_first_boot}
 use Rattle.update_machine.specs.Marks.{most_live, most_versions, retired_mark}
 use Rattle.update_machine.specs.Numbers.{VersionsAreNumbered}
-use Rattle.update_machine.specs.Setting.{Setting, plan_of_file}
+use Rattle.update_machine.specs.Setting.{Setting}
 use Rattle.update_machine.specs.Settling.{to_switch}
-use Rattle.update_machine.specs.Versions.{collects, holds_version, installs, tables_at, version_count, file_of}
+use Rattle.update_machine.specs.Versions.{HasPlan, collects, holds_version, installs, tables_at, version_count}
 use Rattle.update_machine.specs.Links.{message_of}
-use Rattle.update_machine.proofs.CallerLemmas.{file_append, file_kept, plan_kept, start_laws}
+use Rattle.update_machine.proofs.CallerLemmas.{first_has_plan, has_plan_stays, next_has_plan, plan_stays, start_laws}
 use Rattle.version_laws.specs.ItemCauses.{HasItemCause}
 use Rattle.version_laws.proofs.Facts.{AreKept, FromCauses, from_causes}
 use Rattle.version_laws.proofs.Grown.{count_more, retired_more}
 use Rattle.version_laws.specs.Heard.{ArePlanned}
 use Rattle.version_laws.proofs.Bounded.{IsPlannedSoFar, count_rises, planned_at_first, planned_kept}
-use Rattle.version_laws.specs.Planned.{AreTablesOf, BringsTables, HasPlan, TablesArePlanned, VersionsArePlanned}
+use Rattle.version_laws.specs.Planned.{AreTablesOf, BringsTables, TablesArePlanned, VersionsArePlanned}
 use Rattle.version_laws.proofs.Heard.{heard_on}
 
 -- ---- how many versions there are
@@ -68,58 +66,25 @@ abbrev pub HavePlans : Setting → List Item → Type 0
 HavePlans setting journal = (version : ℕ) → 1 < version → version ≤ version_count journal
     → HasPlan setting journal version
 
-plan_on : (setting : Setting) (before items : List Item) (version : ℕ)
-    → HasPlan setting before version → HasPlan setting (before ++ items) version
-plan_on setting before items version has = record {
-  file = has.file;
-  of = file_kept before items version (ap (λ o. is_some o) has.of) ∙ has.of;
-  planned = has.planned;
-}
-
-own_file : (file version : ℕ) → 1 < version
-    → file_of (item.Submitted file version ∷ []) version ≡ Some file
-unfolding file_of
-own_file file version later = grind (arith, nat_tests)
-
-new_file : (before : List Item) (file version : ℕ) → VersionsAreNumbered before
-    → 1 < version → version ≡ version_count before + 1
-    → file_of (before ++ item.Submitted file version ∷ []) version ≡ Some file
-new_file before file version are later next =
-    file_append before (item.Submitted file version ∷ []) version
-    ∙ by_earlier (file_of before version) refl
-  where
-    by_earlier : (o : Option ℕ) → file_of before version ≡ o
-        → option_or o (file_of (item.Submitted file version ∷ []) version) ≡ Some file
-    by_earlier None e = own_file file version later
-    by_earlier (Some other) e =
-        let within = (are version).0 (ap (λ o. is_some o) e) in
-        absurd (omega (arith, within.1, next))
-
 plans_kept : (setting : Setting) (before : List Item) (next : Item)
     → HasItemCause setting before next → VersionsAreNumbered before → HavePlans setting before
     → HavePlans setting (before ++ next ∷ [])
 plans_kept setting before (item.Submitted file version) cause are plans v above below =
     elim (cases_lt (version_count before) v) [
       | inl new ↦ newest (omega (arith, new, count_more before next, below, cause.next))
-      | inr old ↦ plan_on setting before (next ∷ []) v (plans v above old)
+      | inr old ↦ has_plan_stays setting before (next ∷ []) v are (omega (arith, above)) old
+          (plans v above old)
     ]
   where
     next : Item
     next = item.Submitted file version
 
     newest : version ≡ v → HasPlan setting (before ++ next ∷ []) v
-    newest same = subst (HasPlan setting (before ++ next ∷ [])) same (record {
-      file = file;
-      of = new_file before file version are (omega (arith, same, above)) cause.next;
-      planned = cause.planned;
-    })
+    newest same = subst (HasPlan setting (before ++ next ∷ [])) same
+        (next_has_plan setting before file version are cause.next cause.planned)
 plans_kept setting before next cause are plans v above below =
-    plan_on setting before (next ∷ []) v (plans v above (rw (count_more before next) at below))
-
-first_plan : (setting : Setting) (journal : List Item) → IsOk (plan_of_file setting 1)
-    → HasPlan setting journal 1
-unfolding file_of
-first_plan setting journal planned = record { file = 1; of = refl; planned = planned }
+    let old : v ≤ version_count before = rw (count_more before next) at below in
+    has_plan_stays setting before (next ∷ []) v are (omega (arith, above)) old (plans v above old)
 
 -- ---- tables
 
@@ -150,8 +115,7 @@ own_tables setting journal s installed are is = record {
   last = last;
   planned = planned;
   later = λ items. planned ∙ sym (ap (λ plan. tables_of plan installed.version s)
-      (plan_kept setting journal items installed.version
-      ((are installed.version).1 (first, last))));
+      (plan_stays setting journal items installed.version are first last));
 }
   where
     own : installed.version ≡ is.version
@@ -214,7 +178,7 @@ versions_planned setting journal have =
       planned = λ first version above below. elim (cases_lt 1 version) [
         | inl later ↦ is.plans version later below
         | inr own ↦ subst (HasPlan setting journal) (one_version version above own)
-            (first_plan setting journal first)
+            (first_has_plan setting journal first)
       ];
     }
   where

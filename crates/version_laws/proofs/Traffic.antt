@@ -1,7 +1,7 @@
 -- Items of packets and of links, and messages between switches: they boot and open no switch,
 -- deliver nothing and move no mark, whatever journal they stand behind.
 use Rattle.std.proofs.Common.{ℕ, Bool, true, false, Option, Some, None, List, [], ◌∷◌, ◌++◌, map, arith, ◌≡◌, ◌<◌, length, refl}
-use Rattle.std.specs.Prelude.{⊤, filter, IfSome, IsFalse, IsTrue, is_some, option_and_then, option_map, slice_get, unwrap_or}
+use Rattle.std.specs.Prelude.{⊤, filter, IfSome, IsFalse, IsTrue, option_map, slice_get, unwrap_or}
 use Rattle.std.specs.List.{AllByRecursion, flat_map}
 use Rattle.ctrl_msg.specs.declared.message.Body.{Body}
 use Rattle.ctrl_msg.specs.declared.message.Body.TheVariants.{CacheRule, Advertise}
@@ -31,16 +31,15 @@ use Rattle.update_machine.specs.Messages.{sends, sent_from}
 use Rattle.update_machine.specs.Moves.{put, AuthorityRule, arrive_by, arrive_items, authority_items, cache_items, end_items, found_items, go_on, header_at, leg_items, lookup_items, move_items, reroute_by, reroute_items, route_for, stuck_on, takes_route, authority_rule, cache_rule, first_place, in_turn}
 use Rattle.update_machine.specs.Travels.{leg_of, ingress_of, is_at}
 use Rattle.update_machine.specs.Pieces.{expire_items, forget_items, hop_items, link_items, lose_items, packet_items, step_items}
-use Rattle.update_machine.specs.Setting.{Setting, policy_of_file}
+use Rattle.update_machine.specs.Setting.{Setting}
 use Rattle.update_machine.specs.SwitchNumbers.{switches_of}
 use Rattle.update_machine.specs.Ways.{found_down, targets_of}
-use Rattle.update_machine.proofs.CallerLemmas.{have_first, have_in_turn, have_put, version_kept}
-use Rattle.std.specs.Option.{option_map_or}
+use Rattle.update_machine.proofs.CallerLemmas.{have_first, have_in_turn, have_put, part_there, version_kept}
 use Rattle.partition.specs.Plan.{Hosted}
 use Rattle.policy_rules.specs.declared.packet.Leg.TheVariants.{Seek, Exit}
 use Rattle.policy_rules.specs.declared.rules.Rule.{Rule}
 use Rattle.switch_table.specs.Tables.{part_of}
-use Rattle.update_machine.specs.Versions.{holds_version, is_version, stamp_of, hosted_in, file_of, plan_at}
+use Rattle.update_machine.specs.Versions.{holds_version, is_version, stamp_of, plan_at}
 use Rattle.version_laws.specs.ItemCauses.{HasItemCause, IsRightMessage}
 use Rattle.version_laws.proofs.Facts.{Has, have_weaker}
 use Rattle.version_laws.proofs.Sends.{each_flat_map, each_map, each_append, each_of_network}
@@ -178,19 +177,7 @@ unfolding end_items
 end_work setting i s action.Drop journal = (tt, tt)
 end_work setting i s (action.Out port) journal = grind (arith, leg_work)
 
--- a version with a partition is there
-part_there : (setting : Setting) (journal : List Item) (version partition : ℕ) (hosted : Hosted)
-    → slice_get (plan_at setting journal version) partition ≡ Some hosted
-    → IsTrue (is_version journal version)
-unfolding plan_at
-part_there setting journal version partition hosted is = by_file (file_of journal version) is
-  where
-    by_file : (o : Option ℕ) → slice_get (option_map_or (λ rows. hosted_in (setting.plan rows))
-        (option_and_then (policy_of_file setting) o) []) partition ≡ Some hosted
-        → IsTrue (is_some o)
-    by_file None is = absurd cc
-    by_file (Some file) is = refl
-
+-- a rule is of a version that is there
 abbrev IsOfVersion : List Item → Option AuthorityRule → Type 0
 IsOfVersion journal rule = IfSome rule (λ found. IsTrue (is_version journal found.version))
 

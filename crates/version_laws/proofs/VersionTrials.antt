@@ -1,7 +1,7 @@
 -- Versions, computed: what a switch holds, as the tables of a second version reach it before its
 -- stamp does, and what is planned.
-use Rattle.std.proofs.Common.{ℕ, ◌≡◌, ◌≤◌, false, true, Some, None, List, [], ◌∷◌, ◌++◌, length, refl, ap, sym, subst, arith, inl, inr}
-use Rattle.std.specs.Prelude.{IsOk, IsTrue}
+use Rattle.std.proofs.Common.{ℕ, ◌≡◌, ◌≤◌, false, true, List, [], ◌∷◌, ◌++◌, length, refl, ap, sym, subst, ◌∙◌, arith, inl, inr}
+use Rattle.std.specs.Prelude.{IsTrue}
 use Rattle.std.proofs.lemmas.Bool.{cases_lt}
 use Rattle.ctrl_msg.specs.declared.message.Body.TheVariants.{Install, OpenAt, Stamp, Collect}
 use Rattle.switch_table.specs.declared.tables.Tables.{Tables}
@@ -10,13 +10,13 @@ use Rattle.journal.specs.declared.item.Item.TheVariants as item
 use Rattle.update_machine.specs.Boots.{boot_of, heard, is_up}
 use Rattle.update_machine.specs.Causes.{HaveCauses}
 use Rattle.update_machine.specs.Marks.{controller_heard, current_mark, is_over, known_boot, retired_mark}
-use Rattle.update_machine.specs.Setting.{plan_of_file}
 use Rattle.update_machine.specs.Settling.{to_switch}
-use Rattle.update_machine.specs.Versions.{holds_version, stamp_of, version_count, file_of, plan_at}
+use Rattle.update_machine.specs.Versions.{HasPlan, holds_version, next_plan, next_policy, stamp_of, tables_at, version_count}
 use Rattle.update_machine.specs.Links.{serves, message_of}
 use Rattle.update_machine.proofs.Examples.{open_net, plan_q, tables_of, versions}
+use Rattle.update_machine.proofs.ExampleVersions.{first_planned, none_of_7, second_plan, second_planned}
 use Rattle.version_laws.specs.ItemCauses.{HasItemCause}
-use Rattle.version_laws.specs.Planned.{AreTablesOf, BringsTables, HasPlan, TablesArePlanned, VersionsArePlanned}
+use Rattle.version_laws.specs.Planned.{AreTablesOf, BringsTables, TablesArePlanned, VersionsArePlanned}
 use Rattle.version_laws.specs.Serving.{HoldsStamp, ServingHold}
 use Rattle.version_laws.proofs.Planned.{tables_planned}
 use Rattle.version_laws.proofs.Serving.{serving_hold}
@@ -24,10 +24,11 @@ use Rattle.version_laws.proofs.Serving.{serving_hold}
 abbrev pub second : Tables
 second = record { version = 2; parts = []; auth = [] }
 
+abbrev sent : List Item
+sent = item.Sent 1 (to_switch 0 (Install 1 second)) ∷ item.Delivered 1 ∷ item.Current 2 ∷ []
+
 abbrev installed : List Item
-installed =
-    item.Submitted 2 2 ∷ item.Sent 1 (to_switch 0 (Install 1 second)) ∷ item.Delivered 1
-    ∷ item.Current 2 ∷ []
+installed = item.Submitted 2 2 ∷ sent
 
 abbrev stamped : List Item
 stamped = item.Sent 2 (to_switch 0 (Stamp 1 2)) ∷ item.Delivered 2 ∷ []
@@ -78,24 +79,16 @@ not_while_serving hold = not_without_tables (hold 0 (omega arith) refl)
 abbrev two_versions : List Item
 two_versions = item.Submitted 2 2 ∷ []
 
-its_plan : HasPlan open_net two_versions 2
-unfolding file_of
-its_plan = record { file = 2; of = refl; planned = refl }
-
-no_third_plan : HasPlan open_net two_versions 3 → ⊥
-unfolding file_of
-no_third_plan has = let of : None ≡ Some has.file = has.of in absurd cc
-
 two_planned : VersionsArePlanned open_net two_versions
-unfolding file_of retired_mark version_count
+unfolding retired_mark version_count
 two_planned = record {
   few = omega arith;
   live = omega arith;
   planned = λ first version above below. elim (cases_lt 1 version) [
     | inl later ↦ subst (HasPlan open_net two_versions) (only_two version later below)
-        (record { file = 2; of = refl; planned = refl })
+        (second_planned [] [] tt)
     | inr own ↦ subst (HasPlan open_net two_versions) (only_one version above own)
-        (record { file = 1; of = refl; planned = refl })
+        (first_planned two_versions)
   ];
 }
 
@@ -105,29 +98,34 @@ unfolding retired_mark version_count
 not_nine are = absurd (omega (arith, are.live))
 
 not_of_no_file : VersionsArePlanned open_net (item.Submitted 7 2 ∷ []) → ⊥
-unfolding file_of version_count
+unfolding version_count
 not_of_no_file are =
-    let has = are.planned refl 2 (omega arith) (omega arith) in
-    let seventh : Some 7 ≡ Some has.file = has.of in
-    let of : 7 ≡ has.file = cc in
-    let none : false ≡ true =
-    subst (λ file. IsOk (plan_of_file open_net file)) (sym of) has.planned in
-    absurd cc
+    none_of_7 [] (are.planned (first_planned []) 2 (omega arith) (omega arith))
 
 its_tables : AreTablesOf open_net two_versions 0 (tables_of plan_q 2 0)
-unfolding file_of plan_at version_count
+unfolding version_count
 its_tables = record {
   first = omega arith;
   last = omega arith;
-  planned = refl;
-  later = λ items. refl;
+  planned = sym (of_second []);
+  later = λ items. sym (of_second items);
 }
+  where
+    of_second : (items : List Item)
+        → tables_at open_net (two_versions ++ items) 2 0 ≡ tables_of plan_q 2 0
+    of_second items = ap (λ plan. tables_of plan 2 0) (second_plan [] items tt)
+
+-- the tables of the second version have a partition
+not_second : (items : List Item)
+    → second ≡ tables_at open_net (item.Submitted 2 2 ∷ items) 2 0 → ⊥
+not_second items is =
+    let parts : 0 ≡ 1 =
+    ap (λ (tables : Tables). length tables.parts)
+    (is ∙ ap (λ plan. tables_of plan 2 0) (second_plan [] items tt)) in
+    absurd (omega (arith, parts))
 
 not_others : AreTablesOf open_net two_versions 0 second → ⊥
-unfolding file_of plan_at version_count
-not_others are =
-    let parts : 0 ≡ 1 = ap (λ (tables : Tables). length tables.parts) are.planned in
-    absurd (omega (arith, parts))
+not_others are = not_second [] are.planned
 
 brings_its : BringsTables open_net two_versions 0 (Install 1 (tables_of plan_q 2 0))
 brings_its = its_tables
@@ -148,7 +146,7 @@ told =
     ∷ item.Delivered 1 ∷ []
 
 told_rightly : HaveCauses (HasItemCause open_net) [] told
-unfolding version_count retired_mark known_boot is_over controller_heard file_of plan_at
+unfolding version_count retired_mark known_boot is_over controller_heard next_policy next_plan
 told_rightly = (
   record {
     next = refl;
@@ -163,7 +161,7 @@ told_rightly = (
       version = 2;
       which = inl refl;
       there = omega arith;
-      planned = refl;
+      planned = its_tables.planned;
     },
     (tt, tt),
   ),
@@ -178,18 +176,14 @@ tables_once_told = tables_planned open_net told told_rightly
 
 -- tables that aren't planned break it where they are sent, and where they are heard
 not_of_no_plan : TablesArePlanned open_net installed → ⊥
-unfolding message_of file_of plan_at version_count
-not_of_no_plan are =
-    let own = are.sent 0 1 1 second refl in
-    let parts : 0 ≡ 1 = ap (λ (tables : Tables). length tables.parts) own.planned in
-    absurd (omega (arith, parts))
+unfolding message_of
+not_of_no_plan are = not_second sent (are.sent 0 1 1 second refl).planned
 
 not_heard_of_no_plan : TablesArePlanned open_net installed → ⊥
-unfolding heard is_up boot_of message_of file_of plan_at version_count
+unfolding heard is_up boot_of message_of
 not_heard_of_no_plan are =
     let own : AreTablesOf open_net installed 0 second = are.heard 0 0 (OpenAt 1 1) (omega arith) in
-    let parts : 0 ≡ 1 = ap (λ (tables : Tables). length tables.parts) own.planned in
-    absurd (omega (arith, parts))
+    not_second sent own.planned
 
 -- and so does a version that is held without being there
 not_held_unless_there :

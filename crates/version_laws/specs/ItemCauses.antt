@@ -14,9 +14,9 @@ use Rattle.journal.specs.declared.item.Item.{Item}
 use Rattle.journal.specs.declared.item.Item.TheVariants as item
 use Rattle.update_machine.specs.Boots.{boot_of, heard, is_up}
 use Rattle.update_machine.specs.Marks.{MayRise, current_mark, has_acked, is_member, is_over, known_boot, most_live, most_versions, next_retired, opened_at, retired_mark}
-use Rattle.update_machine.specs.Setting.{Setting, plan_of_file, policy_of_file}
+use Rattle.update_machine.specs.Setting.{Setting}
 use Rattle.update_machine.specs.Settling.{to_switch}
-use Rattle.update_machine.specs.Versions.{installs, stamp_of, tables_at, version_count}
+use Rattle.update_machine.specs.Versions.{installs, next_plan, next_policy, stamp_of, tables_at, version_count}
 use Rattle.update_machine.specs.Links.{message_of}
 
 -- ---- what is sent to a switch
@@ -113,12 +113,12 @@ pub record OpensRightly (before : List Item) (s stamp : ℕ) : Type 0 where
   pub stamped : version ≤ stamp_of before s
   pub own : stamp ≡ stamp_of before s
 
--- the policy of a file that is there becomes the next version: it has a plan, and one more version
--- may be live and be there in all
+-- the version is the next one: its policy is there and has a plan, and one more version may be live
+-- and be there in all
 pub record SubmitsRightly (setting : Setting) (before : List Item) (file version : ℕ) : Type 0 where
   pub next : version ≡ version_count before + 1
-  pub there : IsSome (policy_of_file setting file)
-  pub planned : IsOk (plan_of_file setting file)
+  pub there : IsSome (next_policy setting before file)
+  pub planned : IsOk (next_plan setting before file)
   pub live : version_count before - retired_mark before ≢ most_live
   pub few : version_count before ≢ most_versions
 

@@ -1,30 +1,24 @@
 -- Versions and their plans: how many there are, and which tables switches have of them.
-use Rattle.std.specs.Prelude.{⊤, ℕ, ◌≡◌, ◌-◌, ◌≤◌, Some, List, All, IsOk, IsTrue, ◌++◌}
+use Rattle.std.specs.Prelude.{⊤, ℕ, ◌≡◌, ◌-◌, ◌≤◌, Some, List, [], All, IsTrue, ◌++◌}
 use Rattle.ctrl_msg.specs.declared.message.Body.{Body}
 use Rattle.ctrl_msg.specs.declared.message.Body.TheVariants.{Install}
 use Rattle.switch_table.specs.declared.tables.Tables.{Tables}
 use Rattle.journal.specs.declared.item.Item.{Item}
 use Rattle.update_machine.specs.Boots.{heard}
 use Rattle.update_machine.specs.Marks.{most_live, most_versions, retired_mark}
-use Rattle.update_machine.specs.Setting.{Setting, plan_of_file}
+use Rattle.update_machine.specs.Setting.{Setting}
 use Rattle.update_machine.specs.Settling.{to_switch}
-use Rattle.update_machine.specs.Versions.{holds_version, tables_at, version_count, file_of}
+use Rattle.update_machine.specs.Versions.{HasPlan, holds_version, tables_at, version_count}
 use Rattle.update_machine.specs.Links.{message_of}
 
 -- ---- versions
-
--- the version has a file, whose policy has a plan
-pub record HasPlan (setting : Setting) (journal : List Item) (version : ℕ) : Type 0 where
-  pub file : ℕ
-  pub of : file_of journal version ≡ Some file
-  pub planned : IsOk (plan_of_file setting file)
 
 -- there are at most 64 versions, at most eight of which aren't retired; if the first policy has a
 -- plan, each of them has
 pub record VersionsArePlanned (setting : Setting) (journal : List Item) : Type 0 where
   pub few : version_count journal ≤ most_versions
   pub live : version_count journal - retired_mark journal ≤ most_live
-  pub planned : IsOk (plan_of_file setting 1) → (version : ℕ) → 1 ≤ version
+  pub planned : HasPlan setting [] 1 → (version : ℕ) → 1 ≤ version
       → version ≤ version_count journal → HasPlan setting journal version
 
 -- ---- tables

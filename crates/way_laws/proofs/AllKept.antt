@@ -348,7 +348,7 @@ pub kept_more : (setting : Setting) → IsSetting setting
 kept_more setting is before next cause kept =
     let known : Before setting before = record { is = is; have = cause.past; kept = kept } in
     let grow : Grows setting before (before ++ next ∷ []) =
-    grows setting before next is (switches_of_all setting [] before cause.past)
+    grows setting before next (switches_of_all setting [] before cause.past)
     cause.caused.switches in
     record {
       packets = packets_on setting before next known cause.caused grow;

@@ -2,7 +2,7 @@
 -- network writes. Its strong cause is refuted by the field that it breaks; where the item has a
 -- cause of the plainer sort too, that one holds.
 use Rattle.std.proofs.Common.{ℕ, zero, suc, ◌≡◌, ◌<◌, false, true, Option, Some, None, List, [], ◌∷◌, get_or, refl, ap, sym, subst, ◌∙◌, arith, inl, inr}
-use Rattle.std.specs.Prelude.{All, Contains, IsTrue, IsFalse, Ok, Result, ◌⊎◌, ◌==◌}
+use Rattle.std.specs.Prelude.{All, Contains, IsTrue, IsFalse, ◌⊎◌, ◌==◌}
 use Rattle.std.proofs.lemmas.Bool.{eqb-true}
 use Rattle.std.proofs.lemmas.Bool.Decides.{nat_tests}
 use Rattle.std.proofs.lemmas.List.Elements.{All-from_recursion}
@@ -16,7 +16,6 @@ use Rattle.policy_rules.specs.declared.packet.How.TheVariants.{Authority}
 use Rattle.policy_rules.specs.declared.packet.Leg.TheVariants.{Seek, Exit}
 use Rattle.policy_rules.specs.declared.policy.Action.TheVariants.{Drop, Out}
 use Rattle.policy_rules.specs.declared.rules.Rule.{Rule}
-use Rattle.policy_rules.specs.Hosted.{NoPlan}
 use Rattle.ternary.specs.Word.{holds}
 use Rattle.journal.specs.declared.item.Item.{Item}
 use Rattle.journal.specs.declared.item.Item.TheVariants as item
@@ -26,10 +25,12 @@ use Rattle.update_machine.specs.Causes.{AreTargets, HasCause, Leads, is_open, pr
 use Rattle.update_machine.specs.Links.{claim_of, is_link_up, message_of, serves}
 use Rattle.update_machine.specs.Marks.{acked_stamp, controller_heard, current_mark, is_member, is_over, known_boot, next_retired, opened_at, retired_mark}
 use Rattle.update_machine.specs.Packets.{Decision, decision_of, header_in, standing}
-use Rattle.update_machine.specs.Setting.{IsFileOf, Setting, plan_of_file}
+use Rattle.update_machine.specs.Setting.{IsPlanOf, Setting}
+use Rattle.update_machine.specs.Versions.{next_policy}
 use Rattle.update_machine.specs.Ways.{next_switch, route_in, route_place}
 use Rattle.update_machine.specs.LinkMasks.{near}
 use Rattle.update_machine.proofs.CallerLemmas.{ends_within}
+use Rattle.update_machine.proofs.ExampleVersions.{first_alone, of_first, of_second}
 use Rattle.update_machine.proofs.Examples.{all_dropped, any_word, on, one, open_net, other, plan_p, ring, line_of_three, rule}
 use Rattle.way_laws.specs.Facts.{entry_mark}
 use Rattle.way_laws.specs.StrongCauses.{StrongCause}
@@ -45,9 +46,11 @@ abbrev retired : List Item
 retired = cut (item.Row 2 (Update 2) ∷ item.Submitted 2 2 ∷ item.Current 2 ∷ item.Retired 1
     ∷ item.Row 3 (Packet 0 one) ∷ item.Entered 1 0 one ∷ [])
 
+abbrev came_in : List Item
+came_in = item.Row 3 (Packet 0 one) ∷ item.Entered 1 0 one ∷ []
+
 abbrev to_come : List Item
-to_come = cut (item.Row 2 (Update 2) ∷ item.Submitted 2 2 ∷ item.Row 3 (Packet 0 one)
-    ∷ item.Entered 1 0 one ∷ [])
+to_come = cut (item.Row 2 (Update 2) ∷ item.Submitted 2 2 ∷ came_in)
 
 abbrev decided : List Item
 decided = cut (item.Row 2 (Packet 0 one) ∷ item.Entered 1 0 one
@@ -77,18 +80,18 @@ no_way journal down path leads =
     (stays_there journal down) 0 path 1 refl leads in
     absurd cc
 
--- the plan of the file has one partition, on b
-own_targets : (journal : List Item) (version file : ℕ) (rules : List Rule)
+-- the plan of the version has one partition, on b
+own_targets : (journal : List Item) (version : ℕ) (rules : List Rule)
     → decision_of journal 1 ≡ None → header_in journal 1 ≡ Some one
-    → IsFileOf journal version file → plan_of_file open_net file ≡ Ok (on (1 ∷ []) rules)
+    → IsPlanOf open_net journal version (on (1 ∷ []) rules)
     → AreTargets open_net journal 1 (Seek version 0) (1 ∷ [])
 unfolding holds
-own_targets journal version file rules undecided entered of_file planned = (
+own_targets journal version rules undecided entered planned = (
   undecided,
   one,
   entered,
   on (1 ∷ []) rules,
-  (file, of_file, planned),
+  planned,
   (record { number = 0; region = any_word; rules = rules }, 1 ∷ []),
   (0, omega arith, refl),
   refl,
@@ -116,9 +119,10 @@ stuck_have_causes : HasCause open_net retired (seeking 1)
 unfolding standing serves is_link_up header_in decision_of
 stuck_have_causes = (
   stuck_at retired 1 refl refl refl
-      (own_targets retired 1 1 lets_out refl refl (inl (refl, refl)) refl),
+      (own_targets retired 1 lets_out refl refl (of_first retired)),
   stuck_at to_come 2 refl refl refl
-      (own_targets to_come 2 2 all_dropped refl refl (inr (3, omega arith, refl)) refl),
+      (own_targets to_come 2 all_dropped refl refl
+      (of_second (cut (item.Row 2 (Update 2) ∷ [])) came_in (refl, (refl, (refl, tt))))),
 )
 
 not_stuck_by_a_retired_version : StrongCause open_net retired (seeking 1) → ⊥
@@ -156,21 +160,6 @@ not_stuck_on_another_leg cause =
 abbrev entered : List Item
 entered = item.Row 1 (Packet 0 one) ∷ item.Entered 1 0 one ∷ []
 
--- no version was submitted
-first_file : (k file : ℕ) → k < 2
-    → get_or entered k (item.Submitted file 1) ≡ item.Submitted file 1 → ⊥
-first_file zero file within e = absurd cc
-first_file (suc zero) file within e = absurd cc
-first_file (suc (suc k)) file within e = absurd (omega (arith, within))
-
-its_plan : (file : ℕ) (plan : List Hosted) → IsFileOf entered 1 file
-    → plan_of_file open_net file ≡ Ok plan → plan ≡ plan_p
-its_plan file plan (inl first) planned =
-    let own : ◌≡◌ {A = Result (List Hosted) NoPlan} (Ok plan_p) (Ok plan) =
-    subst (λ f. plan_of_file open_net f ≡ Ok plan) first.1 planned in
-    cc
-its_plan file plan (inr sent) planned = absurd (first_file sent.0 file sent.1 sent.2)
-
 its_part : (k : ℕ) (hosted : Hosted) → k < 1 → get_or plan_p k hosted ≡ hosted
     → hosted.1 ≡ 1 ∷ []
 its_part zero hosted within e = ap (λ (p : Hosted). p.1) (sym e)
@@ -180,7 +169,7 @@ not_stuck_where_a_way_is_known : HasCause open_net entered (seeking 1) → ⊥
 unfolding is_link_up serves claim_of message_of
 not_stuck_where_a_way_is_known cause =
     let own = cause.own_leg in
-    let plan : own.3 ≡ plan_p = its_plan own.4.0 own.3 own.4.1 own.4.2 in
+    let plan : own.3 ≡ plan_p = first_alone entered own.3 (refl, (refl, tt)) own.4 in
     let there : Contains plan_p own.5 = subst (λ all. Contains all own.5) plan own.6 in
     let targets : cause.targets ≡ 1 ∷ [] =
     sym own.9 ∙ its_part there.0 own.5 there.1 there.2 in
@@ -330,6 +319,7 @@ not_lost_without_a_crash cause = by_how cause.0.how
 -- a version of a file that isn't there
 not_submitted_without_a_file : StrongCause open_net (item.Row 1 (Update 7) ∷ [])
     (item.Submitted 7 2) → ⊥
+unfolding next_policy
 not_submitted_without_a_file cause = let there : false ≡ true = cause.1.there in absurd cc
 
 -- a mark that isn't below the stamp that each member acknowledged

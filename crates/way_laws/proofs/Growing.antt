@@ -1,6 +1,5 @@
 -- What is known of packets and of cache rules is known behind one more item, too.
-use Rattle.std.proofs.Common.{ℕ, ◌≡◌, ◌≤◌, Option, List, [], ◌∷◌, ◌++◌, refl, ap, ◌∙◌, arith}
-use Rattle.std.specs.Prelude.{IsTrue}
+use Rattle.std.proofs.Common.{ℕ, ◌≡◌, ◌≤◌, Option, List, [], ◌∷◌, ◌++◌, ap, ◌∙◌, arith}
 use Rattle.five_tuple.specs.declared.header.Header.{Header}
 use Rattle.policy_rules.specs.Scan.{scan}
 use Rattle.policy_rules.specs.declared.packet.Leg.{Leg}
@@ -11,15 +10,15 @@ use Rattle.ternary.specs.Word.{WordValue}
 use Rattle.journal.specs.declared.item.Item.{Item}
 use Rattle.update_machine.specs.Causes.{HaveCauses}
 use Rattle.update_machine.specs.Marks.{current_mark, retired_mark}
-use Rattle.update_machine.specs.Setting.{Setting, IsSetting}
-use Rattle.update_machine.specs.Versions.{is_version, policy_at, plan_at}
-use Rattle.update_machine.proofs.CallerLemmas.{plan_kept, policy_kept}
+use Rattle.update_machine.specs.Numbers.{VersionsAreNumbered}
+use Rattle.update_machine.specs.Setting.{Setting}
+use Rattle.update_machine.specs.Versions.{policy_at, plan_at, version_count}
+use Rattle.update_machine.proofs.CallerLemmas.{plan_stays, policy_stays}
 use Rattle.version_laws.specs.ItemCauses.{HasItemCause}
 use Rattle.version_laws.proofs.Marks.{bounded}
 use Rattle.version_laws.proofs.Bounded.{current_rises}
 use Rattle.version_laws.proofs.Retired.{retired_rises}
-use Rattle.version_laws.specs.Planned.{HasPlan}
-use Rattle.version_laws.proofs.Planned.{versions_planned}
+use Rattle.version_laws.proofs.Versions.{caused_numbered}
 use Rattle.way_laws.specs.Rules.{IsRightRule}
 use Rattle.way_laws.specs.OnWay.{IsOnLeg, IsOnWay, IsPartitionOf, IsSought, IsUnderWay}
 use Rattle.way_laws.specs.Facts.{PacketFacts}
@@ -35,22 +34,21 @@ pub record Grows (setting : Setting) (before after : List Item) : Type 0 where
   pub plan : (v : ℕ) → 1 ≤ v → v ≤ current_mark before
       → plan_at setting after v ≡ plan_at setting before v
 
-pub grows : (setting : Setting) (before : List Item) (next : Item) → IsSetting setting
+pub grows : (setting : Setting) (before : List Item) (next : Item)
     → HaveCauses (HasItemCause setting) [] before → HasItemCause setting before next
     → Grows setting before (before ++ next ∷ [])
-grows setting before next is have cause = record {
+grows setting before next have cause = record {
   retired = retired_rises setting before next cause;
   current = current_rises setting before next cause;
-  policy = λ v above below. policy_kept setting before (next ∷ []) v (there v above below);
-  plan = λ v above below. plan_kept setting before (next ∷ []) v (there v above below);
+  policy = λ v above below. policy_stays setting before (next ∷ []) v numbers above (there v below);
+  plan = λ v above below. plan_stays setting before (next ∷ []) v numbers above (there v below);
 }
   where
-    there : (v : ℕ) → 1 ≤ v → v ≤ current_mark before → IsTrue (is_version before v)
-    there v above below =
-        let has : HasPlan setting before v =
-        (versions_planned setting before have).planned is.planned v above
-        (omega (arith, below, (bounded setting before have).there)) in
-        rw has.of refl
+    numbers : VersionsAreNumbered before
+    numbers = caused_numbered setting before have
+
+    there : (v : ℕ) → v ≤ current_mark before → v ≤ version_count before
+    there v below = omega (arith, below, (bounded setting before have).there)
 
 pub right_on : (setting : Setting) (before after : List Item) (version : ℕ) (word : WordValue)
     (rule : Option ℕ) (action : Action) → Grows setting before after

@@ -21,6 +21,7 @@ use Rattle.update_machine.specs.Marks.{current_mark, retired_mark}
 use Rattle.update_machine.specs.Moves.{AuthorityRule, authority_rule}
 use Rattle.update_machine.specs.Setting.{Setting, IsSetting}
 use Rattle.update_machine.specs.Versions.{policy_at, stamp_of, tables_at, plan_at}
+use Rattle.update_machine.proofs.CallerLemmas.{begins_planned}
 use Rattle.version_laws.specs.ItemCauses.{HasItemCause}
 use Rattle.version_laws.proofs.Marks.{bounded}
 use Rattle.version_laws.specs.Serving.{HoldsStamp}
@@ -37,7 +38,7 @@ pub current_planned : (setting : Setting) (journal : List Item) (version : ℕ) 
     → IsPlanned setting (policy_at setting journal version) (plan_at setting journal version)
 current_planned setting journal version is have above below =
     version_planned setting journal version is
-    ((versions_planned setting journal have).planned is.planned version above
+    ((versions_planned setting journal have).planned (begins_planned setting is) version above
     (omega (arith, below, (bounded setting journal have).there)))
 
 -- the stamp of a serving switch is such a version, and isn't retired

@@ -1,16 +1,15 @@
 -- What the plan of a version says of a header: the partition whose region holds it, and the rule
 -- there that decides it as the version's policy does.
-use Rattle.std.proofs.Common.{ℕ, ◌≡◌, ◌-◌, ◌<◌, ◌==◌, Bool, true, false, if◌then◌else◌, Option, Some, None, List, [], length, map, get_or, refl, ap, sym, subst, ◌∙◌, arith}
-use Rattle.std.specs.Prelude.{All, Contains, Err, IsOk, IsTrue, Ok, Result, filter, find, option_and_then, option_map, position, slice_get, unwrap_or}
+use Rattle.std.proofs.Common.{ℕ, ◌≡◌, ◌-◌, ◌<◌, true, Option, Some, None, List, length, map, get_or, refl, ap, sym, subst, ◌∙◌, arith}
+use Rattle.std.specs.Prelude.{All, Contains, IsTrue, filter, find, option_and_then, option_map, position, slice_get, unwrap_or}
 use Rattle.std.proofs.lemmas.List.Elements.{All-filter}
 use Rattle.std.proofs.lemmas.List.{get_or-map, length-map}
-use Rattle.std.proofs.lemmas.Option.{get_or_from_slice_get, slice_get-get_or, slice_get_within}
+use Rattle.std.proofs.lemmas.Option.{slice_get-get_or}
 use Rattle.five_tuple.specs.Header.{IsHeader, fields_of, number_of}
 use Rattle.five_tuple.specs.declared.header.Header.{Header}
-use Rattle.partition.specs.Plan.{IsPlan, plan_of}
-use Rattle.partition.proofs.CallerLemmas.{plan_holds}
-use Rattle.policy_rules.specs.Hosted.{is_in, NoPlan}
-use Rattle.policy_rules.specs.Policy.{IsPolicy, row_matches}
+use Rattle.partition.specs.Plan.{IsPlan}
+use Rattle.policy_rules.specs.Hosted.{is_in}
+use Rattle.policy_rules.specs.Policy.{row_matches}
 use Rattle.policy_rules.specs.RuleList.{hit_of_rule}
 use Rattle.policy_rules.specs.Rules.{first_rule, is_held}
 use Rattle.policy_rules.specs.declared.policy.Row.{Row}
@@ -22,10 +21,9 @@ use Rattle.switch_table.specs.Lookup.{lookup_in, plan_lookup, table_lookup}
 use Rattle.switch_table.specs.Tables.{Hosted, part_of, tables_of}
 use Rattle.switch_table.proofs.TableLemmas.{find-there, tables_planned}
 use Rattle.journal.specs.declared.item.Item.{Item}
-use Rattle.update_machine.specs.Setting.{Setting, plan_of_file, policy_of_file, IsSetting, NamesOwnPort}
-use Rattle.update_machine.specs.Versions.{policy_at, hosted_in, plan_at}
-use Rattle.update_machine.proofs.CallerLemmas.{of_its_file}
-use Rattle.version_laws.specs.Planned.{HasPlan}
+use Rattle.update_machine.specs.Setting.{Setting, IsSetting, NamesOwnPort}
+use Rattle.update_machine.specs.Versions.{HasPlan, policy_at, plan_at}
+use Rattle.update_machine.proofs.CallerLemmas.{version_is_planned, versions_own}
 
 -- ---- policies and their plans
 
@@ -34,48 +32,14 @@ pub record IsPlanned (setting : Setting) (rows : List Row) (plan : List Hosted) 
   pub parts : IsPlan rows setting.net plan
   pub ports : All (λ row. NamesOwnPort setting row.action) rows
 
-is_ok : (r : Result (List Hosted) NoPlan) → IsOk r → r ≡ Ok (hosted_in r)
-is_ok (Ok plan) ok = refl
-is_ok (Err why) ok = absurd cc
-
 -- a version with a plan is planned
 pub version_planned : (setting : Setting) (journal : List Item) (version : ℕ) → IsSetting setting
     → HasPlan setting journal version
     → IsPlanned setting (policy_at setting journal version) (plan_at setting journal version)
-version_planned setting journal version is has =
-    by_rows (policy_of_file setting has.file) refl
-  where
-    within_files : (file : ℕ) (zero : Bool) (rows : List Row)
-        → (if zero then None else slice_get setting.policies (file - 1)) ≡ Some rows
-        → slice_get setting.policies (file - 1) ≡ Some rows
-    within_files file true rows e = absurd cc
-    within_files file false rows e = e
-
-    by_rows : (o : Option (List Row)) → policy_of_file setting has.file ≡ o
-        → IsPlanned setting (policy_at setting journal version) (plan_at setting journal version)
-    by_rows None none =
-        let ok : IsOk (plan_of_file setting has.file) = has.planned in
-        absurd cc
-    by_rows (Some rows) there =
-        let k : ℕ = has.file - 1 in
-        let at_file : slice_get setting.policies k ≡ Some rows =
-        within_files has.file (has.file == 0) rows there in
-        let within : k < length setting.policies =
-        slice_get_within setting.policies k rows at_file in
-        let at : get_or setting.policies k [] ≡ rows =
-        get_or_from_slice_get setting.policies k rows [] at_file in
-        let own = of_its_file setting journal version has.file rows has.of there in
-        let made : setting.plan rows ≡ plan_of rows setting.net =
-        ap (λ (s : Setting). s.plan rows) is.made in
-        let ok : IsOk (setting.plan rows) = rw (there, plan_of_file) at has.planned in
-        let plan : List Hosted = plan_at setting journal version in
-        let planned : plan_of rows setting.net ≡ Ok plan =
-        sym made ∙ is_ok (setting.plan rows) ok ∙ ap Ok (sym own.1) in
-        let policy : IsPolicy rows = subst IsPolicy at (is.sound k [] within) in
-        subst (λ these. IsPlanned setting these plan) (sym own.0) (record {
-          parts = plan_holds rows setting.net plan policy is.net planned;
-          ports = subst (All (λ row. NamesOwnPort setting row.action)) at (is.ports k [] within);
-        })
+version_planned setting journal version is has = record {
+  parts = version_is_planned setting journal version is has;
+  ports = (versions_own setting journal version is).1;
+}
 
 -- ---- ports of actions
 

@@ -1,9 +1,7 @@
 -- A journal whose items have their causes is a run of the machine.
-use Rattle.std.proofs.Common.{ℕ, ◌≡◌, ◌≢◌, zero, suc, ◌+◌, ◌-◌, ◌<◌, ◌≤◌, Bool, true, false, if◌then◌else◌, Option, Some, None, List, [], ◌∷◌, ◌++◌, length, length-append, refl, ap, sym, subst, ◌∙◌, arith, inl, inr, ◌⊎◌}
-use Rattle.std.specs.Prelude.{⊤, IsOk, IsSome, IsTrue, ◌==◌, option_map, option_to_list, slice_get}
-use Rattle.std.specs.Option.{option_or}
+use Rattle.std.proofs.Common.{ℕ, ◌≡◌, ◌≢◌, ◌+◌, ◌-◌, ◌<◌, ◌≤◌, Bool, true, false, if◌then◌else◌, Option, Some, None, List, [], ◌∷◌, ◌++◌, refl, ap, sym, subst, ◌∙◌, arith, inl, inr}
+use Rattle.std.specs.Prelude.{⊤, IsTrue, option_map}
 use Rattle.std.proofs.lemmas.Bool.{cases_eq, eq-eqb, ne_eqb}
-use Rattle.std.proofs.lemmas.Bool.Decides.{nat_tests}
 use Rattle.five_tuple.specs.declared.header.Header.{Header}
 use Rattle.policy_rules.specs.Policy.{IsFirstMatch}
 use Rattle.policy_rules.specs.declared.packet.How.{How}
@@ -16,18 +14,17 @@ use Rattle.policy_rules.proofs.CallerLemmas.{first_match-scan}
 use Rattle.journal.specs.declared.item.Item.{Item}
 use Rattle.journal.specs.declared.item.Item.TheVariants as item
 use Rattle.update_machine.specs.Causes.{HaveCauses}
-use Rattle.update_machine.specs.Machine.{Dropped, End, Ends, IsRun, LeftBy, Lost, Machine, MayEnd, Packet, Runs, Stuck, Takes, submitted_policy, start, with_packet}
+use Rattle.update_machine.specs.Machine.{Dropped, End, Ends, IsRun, LeftBy, Lost, Machine, MayEnd, Packet, Runs, Stuck, Takes, start, with_packet}
 use Rattle.update_machine.specs.Marks.{retired_mark, tells_retired}
-use Rattle.update_machine.specs.Numbers.{VersionsAreNumbered}
 use Rattle.update_machine.specs.Packets.{Decision, header_in, next_packet}
-use Rattle.update_machine.specs.Setting.{Setting, plan_of_file, policy_of_file, IsSetting}
+use Rattle.update_machine.specs.Setting.{Setting, IsSetting}
 use Rattle.update_machine.specs.Laws.{PoliciesKeep}
-use Rattle.update_machine.specs.Versions.{is_submission, is_version, policy_at, version_count, file_of}
+use Rattle.update_machine.specs.Versions.{is_submission, policy_at, version_count}
 use Rattle.update_machine.specs.Travels.{travels}
-use Rattle.update_machine.proofs.CallerLemmas.{file_append, have_append, of_its_file, policies_keep, policy_kept, start_laws}
+use Rattle.update_machine.proofs.CallerLemmas.{ArePolicies, TakesVersion, have_append, policies_begin, policies_keep, policies_stay, policy_there, start_laws, takes_version}
 use Rattle.version_laws.specs.ItemCauses.{HasItemCause, RetiresRightly, SubmitsRightly}
 use Rattle.version_laws.proofs.Facts.{Behind}
-use Rattle.version_laws.proofs.Grown.{count_more, retired_more}
+use Rattle.version_laws.proofs.Grown.{retired_more}
 use Rattle.version_laws.proofs.Versions.{caused_numbered}
 use Rattle.version_laws.proofs.Marks.{bounded}
 use Rattle.way_laws.specs.OnWay.{IsUnknown}
@@ -60,9 +57,7 @@ SeenAs (Some packet) facts = IsSeen packet facts
 
 -- the machine has the policies of all versions, the retired mark and the packets
 record Matches (setting : Setting) (machine : Machine) (journal : List Item) : Type 0 where
-  count : length machine.policies ≡ version_count journal
-  policies : (v : ℕ) → 1 ≤ v → v ≤ version_count journal
-      → submitted_policy machine v ≡ Some (policy_at setting journal v)
+  policies : ArePolicies setting machine.policies journal
   mark : machine.mark ≡ retired_mark journal
   packets : (i : ℕ) → SeenAs (machine.packets i) (what_is_known journal i)
 
@@ -138,10 +133,8 @@ unseen_matches : (setting : Setting) (machine : Machine) (journal : List Item) (
     → IsUnseen next → Matches setting machine journal
     → Matches setting machine (journal ++ next ∷ [])
 unseen_matches setting machine journal next is matches = record {
-  count = matches.count ∙ sym keep.count;
-  policies = λ v above below.
-      matches.policies v above (subst (λ n. v ≤ n) keep.count below)
-      ∙ ap Some (sym (keep.policy setting v));
+  policies = policies_stay setting machine.policies journal (journal ++ next ∷ []) keep
+      matches.policies;
   mark = matches.mark ∙ sym (rw (retired_more journal next, no_retirement next is) refl);
   packets = λ i. subst (SeenAs (machine.packets i)) (sym (facts_grow i journal next))
       (by_name i (is_of_packet i next));
@@ -179,10 +172,8 @@ changed_matches : (setting : Setting) (machine : Machine) (journal : List Item) 
     IsSeen packet (what_is_known (journal ++ next ∷ []) i)
     → Matches setting (with_packet machine i packet) (journal ++ next ∷ [])
 changed_matches setting machine journal next i packet matches keeps others seen = record {
-  count = matches.count ∙ sym keeps.keep.count;
-  policies = λ v above below.
-      matches.policies v above (subst (λ n. v ≤ n) keeps.keep.count below)
-      ∙ ap Some (sym (keeps.keep.policy setting v));
+  policies = policies_stay setting machine.policies journal (journal ++ next ∷ []) keeps.keep
+      matches.policies;
   mark = matches.mark ∙ sym keeps.mark;
   packets = λ j. elim (cases_eq j i) [
     | inl same ↦
@@ -326,7 +317,8 @@ goes_decided setting machine journal i version rule act by before matches way =
         undecided = at.2.decision ∙ ap (option_map hit_in) none;
         not_ended = at.2.end here.travelling;
         not_retired = subst (λ m. m < version) (sym at.2.mark) now.rightly.not_retired;
-        submitted = matches.policies version (omega (arith, now.rightly.not_retired)) there;
+        submitted = policy_there setting machine.policies journal version matches.policies
+            (omega (arith, now.rightly.not_retired)) there;
         first_match = subst (IsFirstMatch policy at.0.header) hit
             (first_match-scan policy at.0.header);
         after = refl;
@@ -338,16 +330,6 @@ goes_decided setting machine journal i version rule act by before matches way =
     }
 
 -- ---- policies and marks
-
-snoc_old : (xs : List (List Row)) (x : List Row) (k : ℕ) → k < length xs
-    → slice_get (xs ++ x ∷ []) k ≡ slice_get xs k
-snoc_old [] x k within = absurd (omega (arith, within))
-snoc_old (y ∷ xs) x zero within = refl
-snoc_old (y ∷ xs) x (suc k) within = snoc_old xs x k (omega (arith, within))
-
-snoc_new : (xs : List (List Row)) (x : List Row) → slice_get (xs ++ x ∷ []) (length xs) ≡ Some x
-snoc_new [] x = refl
-snoc_new (y ∷ xs) x = snoc_new xs x
 
 -- facts of packets don't change with what names none
 packets_same : (machine : Machine) (journal : List Item) (next : Item)
@@ -378,102 +360,32 @@ goes_retired setting machine journal version have matches retires =
           marks.retired,
           marks.there,
           keep.count,
-          matches.count,
+          matches.policies.count,
         );
         after = refl;
       };
       matches = record {
-        count = matches.count ∙ sym keep.count;
-        policies = λ v above below.
-            matches.policies v above (subst (λ n. v ≤ n) keep.count below)
-            ∙ ap Some (sym (keep.policy setting v));
+        policies = policies_stay setting machine.policies journal (journal ++ next ∷ []) keep
+            matches.policies;
         mark = sym mark;
         packets = packets_same machine journal next (λ i. refl) matches.packets;
       };
     }
-
-first_there : (journal : List Item) → IsTrue (is_version journal 1)
-unfolding file_of
-first_there journal = refl
-
-submitted_alone : (file version : ℕ) → 2 ≤ version
-    → file_of (item.Submitted file version ∷ []) version ≡ Some file
-unfolding file_of
-submitted_alone file version many =
-    let other : (version == 1) ≡ false = grind (arith, nat_tests) in
-    rw (other, eq-eqb version version refl) refl
-
--- the file of a version that is submitted
-file_new : (journal : List Item) (file version : ℕ) → VersionsAreNumbered journal
-    → version ≡ version_count journal + 1
-    → file_of (journal ++ item.Submitted file version ∷ []) version ≡ Some file
-file_new journal file version are next =
-    file_append journal (item.Submitted file version ∷ []) version
-    ∙ by_old (file_of journal version) refl
-  where
-    many : 1 ≤ version_count journal
-    many = ((are 1).0 (first_there journal)).1
-
-    alone : file_of (item.Submitted file version ∷ []) version ≡ Some file
-    alone = submitted_alone file version (omega (arith, next, many))
-
-    by_old : (o : Option ℕ) → file_of journal version ≡ o
-        → option_or o (file_of (item.Submitted file version ∷ []) version) ≡ Some file
-    by_old None e = alone
-    by_old (Some old) e =
-        let there : IsTrue (is_version journal version) = rw e refl in
-        absurd (omega (arith, ((are version).0 there).1, next))
 
 goes_submitted : (setting : Setting) (machine : Machine) (journal : List Item)
     (file version : ℕ) → HaveCauses (HasItemCause setting) [] journal
     → Matches setting machine journal → SubmitsRightly setting journal file version
     → Goes setting machine journal (item.Submitted file version)
 goes_submitted setting machine journal file version have matches submits =
-    by_rows (policy_of_file setting file) refl submits.there
-  where
-    next : Item
-    next = item.Submitted file version
-
-    after : List Item
-    after = journal ++ next ∷ []
-
-    numbers : VersionsAreNumbered journal
-    numbers = caused_numbered setting journal have
-
-    grows : version_count after ≡ version_count journal + 1
-    grows = rw (count_more journal next) refl
-
-    by_version : (rows : List Row) → policy_of_file setting file ≡ Some rows → (v : ℕ) → 1 ≤ v
-        → v ≤ version_count after → (v ≡ version) ⊎ (v ≢ version)
-        → slice_get (machine.policies ++ rows ∷ []) (v - 1) ≡ Some (policy_at setting after v)
-    by_version rows there v above below (inl same) =
-        let own : policy_at setting after version ≡ rows =
-        (of_its_file setting after version file rows
-        (file_new journal file version numbers submits.next) there).0 in
-        let place : v - 1 ≡ length machine.policies =
-        omega (arith, same, submits.next, matches.count) in
-        ap (slice_get (machine.policies ++ rows ∷ [])) place ∙ snoc_new machine.policies rows
-        ∙ ap Some (sym own) ∙ ap (λ n. Some (policy_at setting after n)) (sym same)
-    by_version rows there v above below (inr apart) =
-        let old : v ≤ version_count journal = omega (arith, below, grows, submits.next, apart) in
-        snoc_old machine.policies rows (v - 1) (omega (arith, above, old, matches.count))
-        ∙ matches.policies v above old
-        ∙ ap Some (sym (policy_kept setting journal (next ∷ []) v ((numbers v).1 (above, old))))
-
-    by_rows : (o : Option (List Row)) → policy_of_file setting file ≡ o → IsSome o
-        → Goes setting machine journal next
-    by_rows None e some = absurd cc
-    by_rows (Some rows) e some = record {
-      new = record machine { policies = machine.policies ++ rows ∷ [] };
-      takes = record {
-        policy = rows;
-        there = e;
-        newest = submits.next ∙ omega (arith, matches.count);
-        after = refl;
-      };
+    let next : Item = item.Submitted file version in
+    let gained : TakesVersion setting machine journal file version =
+    takes_version setting machine journal file version (caused_numbered setting journal have)
+    matches.policies submits.next submits.there in
+    record {
+      new = record machine { policies = machine.policies ++ gained.rows ∷ [] };
+      takes = gained.takes;
       matches = record {
-        count = length-append machine.policies (rows ∷ []) ∙ omega (arith, matches.count, grows);
-        policies = λ v above below. by_version rows e v above below (cases_eq v version);
+        policies = gained.own;
         mark = matches.mark ∙ sym (rw (retired_more journal next) refl);
         packets = packets_same machine journal next (λ i. refl) matches.packets;
       };
@@ -550,29 +462,11 @@ runs_from setting machine before (next ∷ items) is have matches =
 
 matches_at_first : (setting : Setting) → IsSetting setting → Matches setting (start setting) []
 unfolding what_is_known header_in
-matches_at_first setting is = by_rows (policy_of_file setting 1) refl is.planned
-  where
-    by_rows : (o : Option (List Row)) → policy_of_file setting 1 ≡ o
-        → IsOk (plan_of_file setting 1) → Matches setting (start setting) []
-    by_rows None e planned =
-        let refused : IsOk (plan_of_file setting 1) = planned in absurd cc
-    by_rows (Some rows) e planned =
-        let only : policies_at_first ≡ rows ∷ [] = ap option_to_list e in
-        record {
-          count = ap length only ∙ sym start_laws.count;
-          policies = λ v above below.
-              let first : v ≡ 1 = omega (arith, above, below, start_laws.count) in
-              let own : policy_at setting [] 1 ≡ rows =
-              (of_its_file setting [] 1 1 rows (start_laws.file 1) e).0 in
-              ap (λ k. slice_get policies_at_first (k - 1)) first
-              ∙ ap (λ policies. slice_get policies 0) only ∙ ap Some (sym own)
-              ∙ ap (λ k. Some (policy_at setting [] k)) (sym first);
-          mark = sym start_laws.retired;
-          packets = λ i. refl;
-        }
-      where
-        policies_at_first : List (List Row)
-        policies_at_first = option_to_list (policy_of_file setting 1)
+matches_at_first setting is = record {
+  policies = policies_begin setting is;
+  mark = sym start_laws.retired;
+  packets = λ i. refl;
+}
 
 pub caused_is_run : (setting : Setting) (journal : List Item) → IsSetting setting
     → HaveCauses (IsWayItem setting) [] journal → IsRun setting journal

@@ -4,7 +4,6 @@ use Rattle.std.specs.Prelude.{IsTrue, IsFalse, nat_lt}
 use Rattle.std.proofs.lemmas.List.{get_or-set_same, length-map, length-set}
 use Rattle.std.specs.List.{range_with_len}
 use Rattle.policy_rules.specs.declared.policy.Row.{Row}
-use Rattle.partition.specs.Plan.{Hosted}
 use Rattle.ctrl_msg.specs.declared.message.Body.{Body}
 use Rattle.ctrl_msg.specs.declared.message.Body.TheVariants.{Hello}
 use Rattle.ctrl_msg.specs.Kinds.{to_controller}
@@ -20,9 +19,9 @@ use Rattle.update_machine.specs.Moves.{put}
 use Rattle.update_machine.specs.Pieces.{confirm_items, deliver_items, nothing, piece}
 use Rattle.update_machine.specs.Setting.{Setting}
 use Rattle.update_machine.specs.Settling.{install_for, installs_to, settling, versions_from_current}
-use Rattle.update_machine.specs.Versions.{policy_at, version_count, hosted_in, file_of}
+use Rattle.update_machine.specs.Versions.{version_count}
 use Rattle.update_machine.specs.Links.{message_of}
-use Rattle.update_machine.proofs.CallerLemmas.{controller_keeps, have_append, of_its_file, start_laws}
+use Rattle.update_machine.proofs.CallerLemmas.{controller_keeps, have_append, start_laws}
 use Rattle.version_laws.specs.ItemCauses.{HasItemCause}
 use Rattle.version_laws.proofs.Grown.{count_more, current_more, message_more, up_more}
 use Rattle.version_laws.proofs.Others.{installs_reopen, sends_leave}
@@ -39,7 +38,7 @@ use Rattle.controller.specs.Sends as acts
 use Rattle.controller.specs.Sends.{NamesThere, marks_after, hearing, install_act, installs_after}
 use Rattle.controller.specs.declared.sends.Act.{Act}
 use Rattle.controller.specs.declared.sends.Act.TheVariants.{Post}
-use Rattle.world_ties.specs.Controller.{IsControllerOf, IsPlanOfFile, planned}
+use Rattle.world_ties.specs.Controller.{IsControllerOf, planned}
 use Rattle.world_ties.specs.Written.{AreWritten, written}
 use Rattle.world_ties.proofs.Heard.{marks_over, marks_told}
 use Rattle.world_ties.proofs.Kept.{marks_begun}
@@ -50,25 +49,17 @@ use Rattle.world_ties.proofs.Written.{posted, written_in_two}
 
 -- ---- the start
 
-first_file : file_of [] 1 ≡ Some 1
-unfolding file_of
-first_file = refl
-
-pub begins : (setting : Setting) (plan : PlanValue) → IsPlanOfFile setting 1 plan
+pub begins : (setting : Setting) (plan : PlanValue) → plan ≡ (planned setting [] 1).plan
     → IsControllerOf setting [] (first_controller (length setting.net.switches) plan)
-begins setting plan is =
-    let own = of_its_file setting [] 1 1 plan.policy first_file is.policy in
-    record {
-      marks = marks_begun setting;
-      plans = ap (λ policy. kept policy plan.hosted) (sym own.0)
-          ∙ ap (kept (policy_at setting [] 1)) (sym (own.1 ∙ ap hosted_in is.hosted))
-          ∙ ap (λ c. map (planned setting []) (range_with_len c 1)) (sym start_laws.current)
-          ∙ ap (λ n. map (planned setting []) (range_with_len (current_mark []) n)) one;
-    }
+begins setting plan is = record {
+  marks = marks_begun setting;
+  plans = ap (λ (own : PlanValue). kept own) is
+      ∙ ap (λ c. map (planned setting []) (range_with_len c 1)) (sym start_laws.current)
+      ∙ ap (λ n. map (planned setting []) (range_with_len (current_mark []) n)) one;
+}
   where
-    kept : List Row → List Hosted → List KeptPlan
-    kept policy hosted =
-        (record { version = 1; plan = record { policy = policy; hosted = hosted } }) ∷ []
+    kept : PlanValue → List KeptPlan
+    kept own = (record { version = 1; plan = own }) ∷ []
 
     one : 1 ≡ version_count [] + 1 - current_mark []
     one =

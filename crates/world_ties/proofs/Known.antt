@@ -1,6 +1,6 @@
 -- What the laws say of a journal of steps of the network, and one more step of it.
-use Rattle.std.proofs.Common.{ℕ, ◌≡◌, ◌≤◌, Bool, true, false, Option, List, [], ◌∷◌, ◌++◌, refl, ap, sym, subst, ◌∙◌, length, arith, inl}
-use Rattle.std.specs.Prelude.{IsTrue, unwrap_or}
+use Rattle.std.proofs.Common.{ℕ, ◌≡◌, Bool, true, false, Option, List, [], ◌∷◌, ◌++◌, refl, ap, sym, subst, ◌∙◌, length, arith, inl}
+use Rattle.std.specs.Prelude.{unwrap_or}
 use Rattle.std.proofs.lemmas.List.Elements.{All-push}
 use Rattle.journal.specs.declared.item.Item.{Item}
 use Rattle.policy_rules.specs.declared.packet.Leg.{Leg}
@@ -9,19 +9,17 @@ use Rattle.steps.specs.Steps.{IsStep}
 use Rattle.steps.specs.declared.step.Step.{Step}
 use Rattle.update_machine.specs.Answers.{IsReached, StepOfRow, after_steps}
 use Rattle.update_machine.specs.Causes.{HaveCauses}
-use Rattle.update_machine.specs.Marks.{current_mark}
 use Rattle.update_machine.specs.Ways.{targets_in, targets_of}
 use Rattle.update_machine.specs.Pieces.{piece}
 use Rattle.update_machine.specs.Setting.{Setting, IsSetting}
-use Rattle.update_machine.specs.Versions.{is_version}
-use Rattle.update_machine.proofs.CallerLemmas.{plan_kept}
+use Rattle.update_machine.proofs.CallerLemmas.{plan_stays}
 use Rattle.version_laws.specs.BootLaws.{ServingIsKnown}
 use Rattle.version_laws.specs.ItemCauses.{HasItemCause}
 use Rattle.version_laws.proofs.Openings.{caused_known, serving_known}
 use Rattle.version_laws.proofs.Marks.{bounded}
 use Rattle.version_laws.proofs.Named.{bodies_named}
 use Rattle.switch_ties.specs.Knowing.{TablesAreKnown}
-use Rattle.version_laws.specs.Planned.{HasPlan}
+use Rattle.version_laws.proofs.Versions.{caused_numbered}
 use Rattle.version_laws.specs.Serving.{ServingHold}
 use Rattle.version_laws.proofs.Planned.{tables_planned, versions_planned}
 use Rattle.version_laws.proofs.Serving.{serving_hold}
@@ -113,15 +111,7 @@ travels_known setting journal i knows on = record {
   served = knows.settled.rests.served i on;
 }
 
--- ---- versions that are there
-
-there_is : (setting : Setting) (journal : List Item) (v : ℕ) → Known setting journal → 1 ≤ v
-    → v ≤ current_mark journal → IsTrue (is_version journal v)
-there_is setting journal v knows above below =
-    let has : HasPlan setting journal v =
-    (versions_planned setting journal knows.caused).planned knows.is.planned v above
-    (omega (arith, below, (bounded setting journal knows.caused).there)) in
-    rw has.of refl
+-- ---- the targets of a leg
 
 leg_targets : (setting : Setting) (journal items : List Item) (facts : PacketFacts) (leg : Leg)
     → Known setting journal → (on : IsOnWay setting journal facts)
@@ -129,8 +119,9 @@ leg_targets : (setting : Setting) (journal items : List Item) (facts : PacketFac
     → targets_of setting (journal ++ items) leg ≡ targets_of setting journal leg
 leg_targets setting journal items facts (Seek version partition) knows on leg =
     ap (λ plan. targets_in plan partition)
-    (plan_kept setting journal items version
-    (there_is setting journal version knows (omega (arith, leg.not_retired)) leg.current))
+    (plan_stays setting journal items version (caused_numbered setting journal knows.caused)
+    (omega (arith, leg.not_retired))
+    (omega (arith, leg.current, (bounded setting journal knows.caused).there)))
 leg_targets setting journal items facts (Exit port) knows on leg = refl
 
 -- whatever items come that name no packet, also new versions: packets stay on their way

@@ -1,6 +1,6 @@
 -- The plans that a controller keeps are those of the versions from the current one to the last.
 use Rattle.std.proofs.Common.{ℕ, zero, suc, ◌≡◌, ◌+◌, ◌-◌, ◌<◌, ◌≤◌, max, Bool, true, false, if◌then◌else◌, List, [], ◌∷◌, ◌++◌, map, refl, ap, sym, ◌∙◌, append-nil, arith}
-use Rattle.std.specs.Prelude.{IsTrue, filter, nat_le}
+use Rattle.std.specs.Prelude.{filter, nat_le}
 use Rattle.std.specs.List.{range_with_len}
 use Rattle.std.proofs.lemmas.Bool.Decides.{nat_tests}
 use Rattle.std.proofs.lemmas.List.FromFn.{map-range_with_len_more}
@@ -9,10 +9,11 @@ use Rattle.partition.specs.Plan.{Hosted}
 use Rattle.journal.specs.declared.item.Item.{Item}
 use Rattle.update_machine.specs.Laws.{ControllerKeeps}
 use Rattle.update_machine.specs.Marks.{current_mark}
+use Rattle.update_machine.specs.Numbers.{VersionsAreNumbered}
 use Rattle.update_machine.specs.Setting.{Setting}
 use Rattle.update_machine.specs.Settling.{settling, versions_from_current}
-use Rattle.update_machine.specs.Versions.{is_version, policy_at, version_count, plan_at}
-use Rattle.update_machine.proofs.CallerLemmas.{plan_kept, policy_kept}
+use Rattle.update_machine.specs.Versions.{policy_at, version_count, plan_at}
+use Rattle.update_machine.proofs.CallerLemmas.{plan_stays, policy_stays}
 use Rattle.version_laws.proofs.Versions.{caused_numbered}
 use Rattle.version_laws.proofs.Marks.{bounded}
 use Rattle.version_update.specs.Marks.{MarksValue}
@@ -80,29 +81,29 @@ later_same f g to low (suc n) same =
 
 -- ---- plans
 
--- a version that is there keeps its plan
-planned_on : (setting : Setting) (before items : List Item) (v : ℕ)
-    → IsTrue (is_version before v)
+-- a version from the current one on keeps its plan
+planned_on : (setting : Setting) (before items : List Item) (v : ℕ) → AreCaused setting before
+    → current_mark before ≤ v
+    → v < current_mark before + (version_count before + 1 - current_mark before)
     → planned setting before v ≡ planned setting (before ++ items) v
-planned_on setting before items v there =
+planned_on setting before items v have above below =
     ap (λ policy. of policy (plan_at setting before v))
-    (sym (policy_kept setting before items v there))
+    (sym (policy_stays setting before items v numbers first last))
     ∙ ap (of (policy_at setting (before ++ items) v))
-    (sym (plan_kept setting before items v there))
+    (sym (plan_stays setting before items v numbers first last))
   where
     of : List Row → List Hosted → KeptPlan
     of policy hosted =
         record { version = v; plan = record { policy = policy; hosted = hosted } }
 
--- the versions from the current one on are there
-there_from : (setting : Setting) (journal : List Item) (v : ℕ) → AreCaused setting journal
-    → current_mark journal ≤ v
-    → v < current_mark journal + (version_count journal + 1 - current_mark journal)
-    → IsTrue (is_version journal v)
-there_from setting journal v have above below =
-    let marks = bounded setting journal have in
-    (caused_numbered setting journal have v).1
-    (omega (arith, above, marks.first), omega (arith, above, below, marks.there))
+    numbers : VersionsAreNumbered before
+    numbers = caused_numbered setting before have
+
+    first : 1 ≤ v
+    first = let marks = bounded setting before have in omega (arith, above, marks.first)
+
+    last : v ≤ version_count before
+    last = let marks = bounded setting before have in omega (arith, above, below, marks.there)
 
 -- the plans stay, where neither a version nor a rise of the current mark came
 pub plans_on : (setting : Setting) (before items : List Item) (plans : List KeptPlan)
@@ -117,7 +118,7 @@ plans_on setting before items plans have count current are =
     ∙ mapped_same (planned setting before) (planned setting after) (current_mark before)
     (version_count before + 1 - current_mark before)
     (λ v above below.
-    planned_on setting before items v (there_from setting before v have above below))
+    planned_on setting before items v have above below)
     ∙ ap (λ n. map (planned setting after)
     (range_with_len (current_mark before) (n + 1 - current_mark before))) (sym count)
     ∙ ap (λ c. map (planned setting after) (range_with_len c (version_count after + 1 - c)))
@@ -142,7 +143,7 @@ plans_pushed setting before items plans kept have count current new are =
     (are
     ∙ mapped_same (planned setting before) (planned setting after) low n
     (λ v above below.
-    planned_on setting before items v (there_from setting before v have above below)))
+    planned_on setting before items v have above below))
     ∙ ap (λ k. map (planned setting after) (range_with_len low n) ++ k ∷ []) new
     ∙ sym (map-range_with_len_more (planned setting after) low n (version_count before + 1)
     (omega (arith, there)))
@@ -170,7 +171,7 @@ later_plans setting before items plans have count rises bound are =
     ∙ filter_made (planned setting before) (λ kept. nat_le to kept.version) (range_with_len low n)
     ∙ later_same (planned setting before) (planned setting after) to low n
     (λ v above below.
-    planned_on setting before items v (there_from setting before v have above below))
+    planned_on setting before items v have above below)
     ∙ ap (λ k. map (planned setting after) (range_with_len k (low + n - k))) own
     ∙ ap (λ k. map (planned setting after) (range_with_len to k)) many
 

@@ -20,6 +20,7 @@ use Rattle.update_machine.specs.Versions.{plan_at}
 use Rattle.advert_laws.specs.Adverts.{AdvertsAreOfSwitches}
 use Rattle.advert_laws.proofs.BothCauses.{behind_both}
 use Rattle.advert_laws.proofs.Origins.{of_switches}
+use Rattle.update_machine.proofs.CallerLemmas.{begins_planned}
 use Rattle.version_laws.proofs.Pieces.{always}
 use Rattle.version_laws.specs.Named.{BodiesNameThere, IsAddressed}
 use Rattle.version_laws.proofs.Named.{bodies_named}
@@ -64,7 +65,7 @@ module _ (setting : Setting) (journal : List Item) (is : IsSetting setting)
   installed n s boot t sent =
       let own = planned.sent s boot n t sent in
       let plan = version_planned setting journal t.version is
-      (versions.planned is.planned t.version own.first own.last) in (
+      (versions.planned (begins_planned setting is) t.version own.first own.last) in (
         subst AreShort (sym own.planned)
             (short _ setting.net (plan_at setting journal t.version) t.version s is.net plan.parts),
         subst AreSmall (sym own.planned)

@@ -1,10 +1,10 @@
 -- A world in which nothing happened yet is as its journal says.
 use Rattle.std.proofs.Common.{ℕ, ◌≡◌, ◌<◌, ◌≤◌, List, [], ◌∷◌, refl, ap, sym, subst, ◌∙◌, length, cond, filter, map, get_or, arith, All}
-use Rattle.std.specs.Prelude.{Ok, IsOk, Some}
+use Rattle.std.specs.Prelude.{Ok}
 use Rattle.std.specs.List.{range_with_len}
 use Rattle.std.proofs.lemmas.List.Elements.{All-nil}
 use Rattle.std.proofs.lemmas.List.FromFn.{get_or-map-range_with_len, length-map-range_with_len}
-use Rattle.world_ties.specs.Controller.{IsControllerOf, IsPlanOfFile}
+use Rattle.world_ties.specs.Controller.{IsControllerOf, planned}
 use Rattle.world_ties.proofs.Calls.{begins}
 use Rattle.controller.specs.Controller.{ControllerValue, first_controller}
 use Rattle.controller.specs.Plan.{PlanValue}
@@ -19,44 +19,15 @@ use Rattle.steps.specs.Steps.{IsStep}
 use Rattle.switch_core.specs.State.{SwitchValue}
 use Rattle.switch_ties.specs.SwitchOf.{switch_of}
 use Rattle.update_machine.specs.Packets.{next_packet}
-use Rattle.update_machine.specs.Setting.{Setting, plan_of_file, setting_of, IsSetting, NamesOwnPort}
+use Rattle.update_machine.specs.Setting.{Setting, setting_of, IsSetting, NamesOwnPort}
 use Rattle.update_machine.specs.Travels.{travels}
-use Rattle.update_machine.specs.Versions.{hosted_in, plan_at}
-use Rattle.update_machine.proofs.CallerLemmas.{of_its_file, start_laws}
+use Rattle.update_machine.specs.Versions.{policy_at, plan_at}
+use Rattle.update_machine.proofs.CallerLemmas.{first_version_is, setting_begun, start_laws}
 use Rattle.usable_links.specs.Linking.{AreNear}
 use Rattle.world_ties.specs.Begun.{switch_begun}
 use Rattle.world_ties.specs.Tied.{AreTied, is_up_link}
 use Rattle.world_ties.specs.Travellers.{traveller_in}
 use Rattle.world_ties.proofs.Posting.{bag_begun}
-
-planned_first : (net : Net) (policies : List (List Row)) → 1 ≤ length policies
-    → plan_of_file (setting_of net policies) 1 ≡ plan_of (get_or policies 0 []) net
-planned_first net [] some = absurd (omega arith)
-planned_first net (rows ∷ policies) some = refl
-
-pub setting_begun : (net : Net) (policies : List (List Row)) (plan : List Hosted) → IsNet net
-    → 1 ≤ length policies → All IsPolicy policies
-    → All (All (λ row. NamesOwnPort (setting_of net policies) row.action)) policies
-    → plan_of (get_or policies 0 []) net ≡ Ok plan → IsSetting (setting_of net policies)
-setting_begun net policies plan sound some rows ports is =
-    let there : plan_of_file (setting_of net policies) 1 ≡ Ok plan =
-    planned_first net policies some ∙ is in
-    record {
-      net = sound;
-      made = refl;
-      sound = rows;
-      ports = ports;
-      planned = subst IsOk (sym there) refl;
-    }
-
--- the plan of the first version is that of the first policy
-first_plan_is : (net : Net) (policies : List (List Row)) (plan : List Hosted)
-    → 1 ≤ length policies → plan_of (get_or policies 0 []) net ≡ Ok plan
-    → plan_at (setting_of net policies) [] 1 ≡ plan
-first_plan_is net [] plan some is = absurd (omega arith)
-first_plan_is net (rows ∷ policies) plan some is =
-    (of_its_file (setting_of net (rows ∷ policies)) [] 1 1 rows (start_laws.file 1) refl).1
-    ∙ ap hosted_in is
 
 -- a switch before the first item
 switch_first : (setting : Setting) (s : ℕ) → s < length setting.net.switches
@@ -77,15 +48,17 @@ switch_first setting s there few =
       start_laws.handled s,
     ) refl
 
--- the controller's plan is that of the first file
+-- the controller's plan is that of the first version
 of_first : (net : Net) (policies : List (List Row)) (plan : PlanValue) → 1 ≤ length policies
     → plan.policy ≡ get_or policies 0 [] → plan_of (get_or policies 0 []) net ≡ Ok plan.hosted
-    → IsPlanOfFile (setting_of net policies) 1 plan
-of_first net [] plan some own is = absurd (omega arith)
-of_first net (rows ∷ policies) plan some own is = record {
-  policy = ap Some (sym own);
-  hosted = ap (λ these. plan_of these net) own ∙ is;
-}
+    → plan ≡ (planned (setting_of net policies) [] 1).plan
+of_first net policies plan some own is =
+    let first = first_version_is net policies plan.hosted some is in
+    ap (λ policy. of policy plan.hosted) (own ∙ sym first.0)
+    ∙ ap (of (policy_at (setting_of net policies) [] 1)) (sym first.1)
+  where
+    of : List Row → List Hosted → PlanValue
+    of policy hosted = record { policy = policy; hosted = hosted }
 
 -- all links are up
 all_up : (links : List LinkRow) → filter (is_up_link []) links ≡ links
@@ -110,7 +83,7 @@ begun_tied net policies plan switches controller near sound some rows ports of_p
     let setting : Setting = setting_of net policies in
     let own : IsSetting setting = setting_begun net policies plan.hosted sound some rows ports is in
     let first : plan_at setting [] 1 ≡ plan.hosted =
-    first_plan_is net policies plan.hosted some is in
+    (first_version_is net policies plan.hosted some is).1 in
     let many : length switches ≡ length net.switches =
     ap length made
     ∙ length-map-range_with_len (switch_begun net plan.hosted) 0 (length net.switches) in

@@ -1,29 +1,27 @@
 -- What the submission of a plan writes, and its refusals.
 use Rattle.std.proofs.Common.{ℕ, ◌≡◌, ◌≢◌, ◌+◌, ◌-◌, ◌==◌, not, if◌then◌else◌, Option, Some, None, List, [], ◌∷◌, ◌++◌, map, refl, ap, sym, subst, ◌∙◌, arith}
-use Rattle.std.specs.Prelude.{Ok, Err, IsOk, IsSome, filter, is_some}
-use Rattle.std.specs.Option.{option_or}
+use Rattle.std.specs.Prelude.{IsOk, IsSome, filter}
 use Rattle.std.proofs.lemmas.Bool.{eq-eqb, ne_eqb}
 use Rattle.journal.specs.declared.item.Item.{Item}
 use Rattle.journal.specs.declared.item.Item.TheVariants as item
 use Rattle.partition.specs.Plan.{Hosted}
 use Rattle.policy_rules.specs.declared.policy.Row.{Row}
-use Rattle.policy_rules.specs.Hosted.{TooManyLeaves}
+use Rattle.steps.specs.declared.step.Step.{Step}
 use Rattle.steps.specs.declared.step.Step.TheVariants.{Update}
 use Rattle.update_machine.specs.Marks as machine
 use Rattle.update_machine.specs.Marks.{known_boot}
 use Rattle.update_machine.specs.Moves.{put}
-use Rattle.update_machine.specs.Pieces.{marks_code, piece, plan_code, update_code, update_items}
-use Rattle.update_machine.specs.Setting.{Setting, plan_of_file}
+use Rattle.update_machine.specs.Pieces.{piece, update_code, update_items}
+use Rattle.update_machine.specs.Setting.{Setting}
 use Rattle.update_machine.specs.SwitchNumbers.{switches_of}
 use Rattle.update_machine.specs.Settling.{install_for, installs_to_all, settling, submitted_items, versions_from_current}
-use Rattle.update_machine.specs.Versions.{policy_at, version_count, hosted_in, file_of, plan_at}
-use Rattle.update_machine.proofs.CallerLemmas.{controller_keeps, file_append, have_append, of_its_file}
+use Rattle.update_machine.specs.Versions.{policy_at, version_count, hosted_in, plan_at}
+use Rattle.update_machine.proofs.CallerLemmas.{controller_keeps, have_append, next_is, next_plan_is, planned_code, policies_keep}
 use Rattle.version_laws.specs.ItemCauses.{HasItemCause, SubmitsRightly}
 use Rattle.version_laws.proofs.ControllerBlocks.{submitted_have}
 use Rattle.version_laws.proofs.Facts.{have_front}
 use Rattle.version_laws.proofs.Grown.{current_more}
 use Rattle.version_laws.proofs.Versions.{caused_numbered}
-use Rattle.version_laws.proofs.Marks.{bounded}
 use Rattle.version_laws.proofs.Settles.{in_two}
 use Rattle.version_update.specs.Marks.{with_version}
 use Rattle.version_update.specs.Record.{is_over}
@@ -34,7 +32,7 @@ use Rattle.controller.specs.Sends.{boot_recorded, install_act, submitting, those
 use Rattle.controller.specs.Submit.{SubmitsPlan}
 use Rattle.controller.specs.declared.sends.Act.{Act}
 use Rattle.controller.specs.declared.sends.Act.TheVariants.{Post}
-use Rattle.world_ties.specs.Controller.{IsControllerOf, IsPlanOfFile, planned}
+use Rattle.world_ties.specs.Controller.{IsControllerOf, IsPlanOfNext, planned}
 use Rattle.world_ties.specs.Marks.{AreMarksOf}
 use Rattle.world_ties.specs.Written.{AreWritten, written}
 use Rattle.world_ties.proofs.Calls.{are_written, behind_row, row_on}
@@ -45,24 +43,27 @@ use Rattle.world_ties.proofs.Written.{written_in_two}
 
 -- ---- a plan that is refused
 
-file_planned : (setting : Setting) (file : ℕ) (plan : PlanValue)
-    → IsPlanOfFile setting file plan → plan_of_file setting file ≡ Ok plan.hosted
-file_planned setting file plan of =
-    ap (λ o. elim o [ None ↦ Err TooManyLeaves | Some rows ↦ setting.plan rows ]) of.policy
-    ∙ of.hosted
+-- a row leaves the next version's plan
+next_on : (setting : Setting) (before : List Item) (row file : ℕ) (step : Step)
+    (plan : PlanValue) → IsPlanOfNext setting before file plan
+    → IsPlanOfNext setting (before ++ item.Row row step ∷ []) file plan
+next_on setting before row file step plan of = record {
+  policy = (policies_keep before (item.Row row step ∷ []) (refl, tt)).next setting file
+      ∙ of.policy;
+  hosted = of.hosted;
+}
 
 -- the code of a refusal by the marks
 abbrev code_of : ℕ → ℕ → Option ℕ
 code_of live count = if live == 8 then Some 16 else if count == 64 then Some 17 else None
 
 code_is : (setting : Setting) (journal : List Item) (file : ℕ) (plan : PlanValue)
-    (old : ControllerValue) → IsPlanOfFile setting file plan
+    (old : ControllerValue) → IsPlanOfNext setting journal file plan
     → IsControllerOf setting journal old
     → update_code setting journal file
     ≡ code_of (old.marks.count - old.marks.retired) old.marks.count
 code_is setting journal file plan old of is =
-    ap (λ result. elim result [ Err why ↦ Some (plan_code why) | Ok plan ↦ marks_code journal ])
-    (file_planned setting file plan of)
+    planned_code setting journal file plan.policy plan.hosted of.policy of.hosted
     ∙ sym (ap (λ n. code_of (n - old.marks.retired) n) is.marks.count
     ∙ ap (λ r. code_of (version_count journal - r) (version_count journal)) is.marks.retired)
 
@@ -88,26 +89,28 @@ refused setting before row file code old have is coded =
 
 pub too_many_live : (setting : Setting) (before : List Item) (row file : ℕ)
     (old : ControllerValue) (plan : PlanValue) → AreCaused setting before
-    → IsControllerOf setting before old → IsPlanOfFile setting file plan
+    → IsControllerOf setting before old → IsPlanOfNext setting before file plan
     → old.marks.count - old.marks.retired ≡ 8
     → AreWritten setting before (item.Row row (Update file) ∷ item.Refused file 16 ∷ []) [] old
     (piece setting before row (Update file))
 too_many_live setting before row file old plan have is of live =
     refused setting before row file 16 old have is
-    (code_is setting (before ++ item.Row row (Update file) ∷ []) file plan old of
+    (code_is setting (before ++ item.Row row (Update file) ∷ []) file plan old
+    (next_on setting before row file (Update file) plan of)
     (row_on setting before row (Update file) old have is)
     ∙ ap (λ b. if b then Some 16 else if old.marks.count == 64 then Some 17 else None)
     (eq-eqb (old.marks.count - old.marks.retired) 8 live))
 
 pub too_many_versions : (setting : Setting) (before : List Item) (row file : ℕ)
     (old : ControllerValue) (plan : PlanValue) → AreCaused setting before
-    → IsControllerOf setting before old → IsPlanOfFile setting file plan
+    → IsControllerOf setting before old → IsPlanOfNext setting before file plan
     → old.marks.count - old.marks.retired ≢ 8 → old.marks.count ≡ 64
     → AreWritten setting before (item.Row row (Update file) ∷ item.Refused file 17 ∷ []) [] old
     (piece setting before row (Update file))
 too_many_versions setting before row file old plan have is of live count =
     refused setting before row file 17 old have is
-    (code_is setting (before ++ item.Row row (Update file) ∷ []) file plan old of
+    (code_is setting (before ++ item.Row row (Update file) ∷ []) file plan old
+    (next_on setting before row file (Update file) plan of)
     (row_on setting before row (Update file) old have is)
     ∙ ap (λ b. if b then Some 16 else if old.marks.count == 64 then Some 17 else None)
     (ne_eqb (old.marks.count - old.marks.retired) 8 live)
@@ -115,13 +118,9 @@ too_many_versions setting before row file old plan have is of live count =
 
 -- ---- a plan that is taken in
 
-own_file : (file v : ℕ) → v ≢ 1 → file_of (item.Submitted file v ∷ []) v ≡ Some file
-unfolding file_of
-own_file file v other = rw (ne_eqb v 1 other, eq-eqb v v refl) refl
-
 module _ (setting : Setting) (before : List Item) (row file : ℕ) (old new : ControllerValue)
     (plan : PlanValue) (have : AreCaused setting before)
-    (is : IsControllerOf setting before old) (of : IsPlanOfFile setting file plan)
+    (is : IsControllerOf setting before old) (of : IsPlanOfNext setting before file plan)
     (live : old.marks.count - old.marks.retired ≢ 8) (few : old.marks.count ≢ 64)
     (taken : SubmitsPlan old plan new) where
   abbrev here : List Item
@@ -142,6 +141,9 @@ module _ (setting : Setting) (before : List Item) (row file : ℕ) (old new : Co
   here_is : IsControllerOf setting here old
   here_is = row_on setting before row (Update file) old have is
 
+  here_of : IsPlanOfNext setting here file plan
+  here_of = next_on setting before row file (Update file) plan of
+
   number : version ≡ version_count here + 1
   number = ap (λ k. k + 1) here_is.marks.count
 
@@ -151,8 +153,9 @@ module _ (setting : Setting) (before : List Item) (row file : ℕ) (old new : Co
       let retired = here_is.marks.retired in
       record {
         next = number;
-        there = subst IsSome (sym of.policy) refl;
-        planned = subst IsOk (sym (file_planned setting file plan of)) refl;
+        there = subst IsSome (sym here_of.policy) refl;
+        planned = subst IsOk (sym (next_plan_is setting here file plan.policy here_of.policy
+            ∙ here_of.hosted)) refl;
         live = λ e. live (omega (arith, e, count, retired));
         few = λ e. few (omega (arith, e, count));
       }
@@ -164,26 +167,10 @@ module _ (setting : Setting) (before : List Item) (row file : ℕ) (old new : Co
   now_marks : AreMarksOf setting now (with_version old.marks)
   now_marks = count_on setting here file version old.marks here_is.marks
 
-  not_first : version ≢ 1
-  not_first e =
-      let are = bounded setting here here_have in omega (arith, number, e, are.first, are.there)
-
-  none_before : file_of here version ≡ None
-  none_before = by_file (file_of here version) refl
-    where
-      by_file : (o : Option ℕ) → file_of here version ≡ o → file_of here version ≡ None
-      by_file None e = e
-      by_file (Some other) e =
-          let past = ((caused_numbered setting here here_have version).0
-          (ap (λ o. is_some o) e)).1 in
-          absurd (omega (arith, past, number))
-
   own : (policy_at setting now version ≡ plan.policy)
       × (plan_at setting now version ≡ hosted_in (setting.plan plan.policy))
-  own = of_its_file setting now version file plan.policy
-      (file_append here (item.Submitted file version ∷ []) version
-      ∙ ap (λ o. option_or o (file_of (item.Submitted file version ∷ []) version)) none_before
-      ∙ own_file file version not_first) of.policy
+  own = next_is setting here file version plan.policy (caused_numbered setting here here_have)
+      number here_of.policy
 
   kept_is : kept ≡ planned setting now version
   kept_is = ap (λ policy. make policy plan.hosted) (sym own.0)
@@ -246,7 +233,7 @@ module _ (setting : Setting) (before : List Item) (row file : ℕ) (old new : Co
       (sym (in_two (installs_to_all setting) (settling setting) now)) settled.1)
 
   coded : update_code setting here file ≡ None
-  coded = code_is setting here file plan old of here_is
+  coded = code_is setting here file plan old here_of here_is
       ∙ ap (λ b. if b then Some 16 else if old.marks.count == 64 then Some 17 else None)
       (ne_eqb (old.marks.count - old.marks.retired) 8 live)
       ∙ ap (λ b. if b then Some 17 else None) (ne_eqb old.marks.count 64 few)

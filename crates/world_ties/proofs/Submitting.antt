@@ -1,8 +1,7 @@
 -- A policy is submitted or refused: what is written then, and what the parts are behind it.
-use Rattle.std.proofs.Common.{ℕ, ◌≡◌, ◌≢◌, ◌+◌, ◌-◌, ◌<◌, ◌≤◌, Some, None, List, [], ◌∷◌, ◌++◌, refl, ap, sym, subst, ◌∙◌, length, get_or, append-nil, arith, ne_eqb, rules}
-use Rattle.std.specs.Prelude.{Err, Ok, if◌then◌else◌, slice_get, Result}
-use Rattle.std.proofs.lemmas.Option.{slice_get-get_or}
-use Rattle.world_ties.specs.Controller.{IsControllerOf, IsPlanOfFile}
+use Rattle.std.proofs.Common.{ℕ, ◌≡◌, ◌≢◌, ◌+◌, ◌-◌, ◌<◌, ◌≤◌, Some, None, List, [], ◌∷◌, ◌++◌, refl, ap, sym, subst, ◌∙◌, length, get_or, append-nil, rules}
+use Rattle.std.specs.Prelude.{Err, Ok}
+use Rattle.world_ties.specs.Controller.{IsControllerOf, IsPlanOfNext}
 use Rattle.world_ties.specs.Written.{AreWritten}
 use Rattle.world_ties.proofs.Steps.{items_leave}
 use Rattle.world_ties.proofs.Submits.{submits, too_many_live, too_many_versions}
@@ -14,17 +13,18 @@ use Rattle.controller.specs.declared.sends.Act.{Act}
 use Rattle.journal.specs.declared.item.Item.{Item}
 use Rattle.journal.specs.declared.item.Item.TheVariants as item
 use Rattle.net_file.specs.declared.net.Net.{Net}
-use Rattle.partition.specs.Plan.{Hosted, plan_of}
+use Rattle.partition.specs.Plan.{plan_of}
 use Rattle.policy_rules.specs.declared.policy.Row.{Row}
-use Rattle.policy_rules.specs.Hosted.{NoPlan, TooManyLeaves}
+use Rattle.policy_rules.specs.Hosted.{NoPlan}
 use Rattle.steps.specs.declared.step.Step.TheVariants.{Update}
 use Rattle.switch_core.specs.State.{SwitchValue}
 use Rattle.update_machine.specs.Moves.{put}
-use Rattle.update_machine.specs.Pieces.{marks_code, piece, plan_code, update_code, update_items}
+use Rattle.update_machine.specs.Pieces.{piece, plan_code, update_code, update_items}
 use Rattle.steps.specs.Steps.{IsStep}
-use Rattle.update_machine.specs.Setting.{Setting, plan_of_file, policy_of_file, setting_of}
+use Rattle.update_machine.specs.Setting.{Setting, setting_of}
 use Rattle.update_machine.specs.Settling.{submitted_items}
 use Rattle.update_machine.specs.Versions.{version_count}
+use Rattle.update_machine.proofs.CallerLemmas.{next_there, unplanned_code}
 use Rattle.world_log.specs.Sending.{MayNote, act_items, act_posts}
 use Rattle.world_ties.specs.Tied.{AreTied, Control}
 use Rattle.world_ties.specs.Bags.{IsBagOf}
@@ -37,40 +37,27 @@ use Rattle.world_ties.proofs.Told.{tied_told}
 use Rattle.world_ties.proofs.Tying.{links_stay, switches_stay, up_stay}
 use Rattle.world_ties.proofs.Sendable.{may_note}
 
--- ---- files
+-- ---- the file of an update
 
--- the policy of a file that is there
-file_there : (net : Net) (policies : List (List Row)) (file : ℕ) → 1 ≤ file
-    → file ≤ length policies
-    → policy_of_file (setting_of net policies) file ≡ Some (get_or policies (file - 1) [])
-file_there net policies file first last =
-    ap (λ b. if b then None else slice_get policies (file - 1))
-    (ne_eqb file 0 (λ none. absurd (omega (arith, none, first))))
-    ∙ slice_get-get_or policies (file - 1) [] (omega (arith, first, last))
-
-pub planned_file : (net : Net) (policies : List (List Row)) (file : ℕ) (plan : PlanValue)
-    → 1 ≤ file → file ≤ length policies → plan.policy ≡ get_or policies (file - 1) []
+-- its plan is that of the next version
+pub planned_next : (net : Net) (policies : List (List Row)) (journal : List Item) (file : ℕ)
+    (plan : PlanValue) → 1 ≤ file → file ≤ length policies
+    → plan.policy ≡ get_or policies (file - 1) []
     → plan_of (get_or policies (file - 1) []) net ≡ Ok plan.hosted
-    → IsPlanOfFile (setting_of net policies) file plan
-planned_file net policies file plan first last own is = record {
-  policy = file_there net policies file first last ∙ ap Some (sym own);
+    → IsPlanOfNext (setting_of net policies) journal file plan
+planned_next net policies journal file plan first last own is = record {
+  policy = next_there net policies journal file first last ∙ ap Some (sym own);
   hosted = ap (λ rows. plan_of rows net) own ∙ is;
 }
 
--- a file whose policy has no plan is refused with the code of the cause
-pub unplanned_code : (net : Net) (policies : List (List Row)) (journal : List Item) (file code : ℕ)
-    (why : NoPlan) → 1 ≤ file → file ≤ length policies
+-- where its policy has no plan it is refused with the code of the cause
+pub unplanned_next : (net : Net) (policies : List (List Row)) (journal : List Item)
+    (file code : ℕ) (why : NoPlan) → 1 ≤ file → file ≤ length policies
     → plan_of (get_or policies (file - 1) []) net ≡ Err why → plan_code why ≡ code
     → update_code (setting_of net policies) journal file ≡ Some code
-unplanned_code net policies journal file code why first last none is =
-    let setting : Setting = setting_of net policies in
-    let refused : plan_of_file setting file ≡ Err why =
-    ap (λ o. elim o [ None ↦ Err TooManyLeaves | Some rows ↦ setting.plan rows ])
-    (file_there net policies file first last) ∙ none in
-    ap (λ (r : Result (List Hosted) NoPlan). elim r [
-      | Err cause ↦ Some (plan_code cause)
-      | Ok plan ↦ marks_code journal
-    ]) refused ∙ ap Some is
+unplanned_next net policies journal file code why first last none is =
+    unplanned_code (setting_of net policies) journal file (get_or policies (file - 1) []) why
+    (next_there net policies journal file first last) none ∙ ap Some is
 
 pub refused_piece : (setting : Setting) (journal : List Item) (row file code : ℕ)
     → update_code setting (journal ++ item.Row row (Update file) ∷ []) file ≡ Some code
@@ -111,7 +98,7 @@ module _ (control : Control) (setting : Setting) (journal : List Item)
       (tied_told control control setting journal switches switches before count row (Update file)
       (one ∷ []) [] tied (search (rules, switches_stay, bag_on, links_stay, up_stay)))
 
-  module _ (plan : PlanValue) (new : ControllerValue) (of_file : IsPlanOfFile setting file plan)
+  module _ (plan : PlanValue) (new : ControllerValue) (of_next : IsPlanOfNext setting journal file plan)
       (live : control.controller.marks.count - control.controller.marks.retired ≢ 8)
       (versions : control.controller.marks.count ≢ 64)
       (submitted : SubmitsPlan control.controller plan new) where
@@ -132,7 +119,7 @@ module _ (control : Control) (setting : Setting) (journal : List Item)
         (piece setting journal row (Update file))
     unfolding AreTied
     submits_so = submits setting journal row file control.controller new plan
-        (reached_known setting journal tied.sound tied.reached).caused tied.controller of_file live versions submitted
+        (reached_known setting journal tied.sound tied.reached).caused tied.controller of_next live versions submitted
 
     pub submitted_piece : piece setting journal row (Update file)
         ≡ item.Row row (Update file) ∷ one ∷ act_items (length control.posts + 1) acts
@@ -158,13 +145,13 @@ module _ (control : Control) (setting : Setting) (journal : List Item)
 module _ (control : Control) (setting : Setting) (journal : List Item)
     (switches : List SwitchValue) (before : Travellers) (count row file : ℕ) (plan : PlanValue)
     (tied : AreTied setting journal switches before count control)
-    (of_file : IsPlanOfFile setting file plan) where
+    (of_next : IsPlanOfNext setting journal file plan) where
   pub live_piece : control.controller.marks.count - control.controller.marks.retired ≡ 8
       → piece setting journal row (Update file)
       ≡ item.Row row (Update file) ∷ item.Refused file 16 ∷ []
   unfolding AreTied
   live_piece live = (too_many_live setting journal row file control.controller plan
-      (reached_known setting journal tied.sound tied.reached).caused tied.controller of_file
+      (reached_known setting journal tied.sound tied.reached).caused tied.controller of_next
       live).same
 
   pub versions_piece : control.controller.marks.count - control.controller.marks.retired ≢ 8
@@ -172,5 +159,5 @@ module _ (control : Control) (setting : Setting) (journal : List Item)
       ≡ item.Row row (Update file) ∷ item.Refused file 17 ∷ []
   unfolding AreTied
   versions_piece live many = (too_many_versions setting journal row file control.controller plan
-      (reached_known setting journal tied.sound tied.reached).caused tied.controller of_file live
+      (reached_known setting journal tied.sound tied.reached).caused tied.controller of_next live
       many).same

@@ -5,9 +5,9 @@ use Rattle.std.specs.Prelude.{ℕ, ◌≡◌, Some, Ok, List, map}
 use Rattle.controller.specs.Controller.{ControllerValue, KeptPlan}
 use Rattle.controller.specs.Plan.{PlanValue}
 use Rattle.journal.specs.declared.item.Item.{Item}
-use Rattle.update_machine.specs.Setting.{Setting, policy_of_file}
+use Rattle.update_machine.specs.Setting.{Setting}
 use Rattle.update_machine.specs.Settling.{versions_from_current}
-use Rattle.update_machine.specs.Versions.{policy_at, plan_at}
+use Rattle.update_machine.specs.Versions.{next_policy, policy_at, plan_at}
 use Rattle.world_ties.specs.Marks.{AreMarksOf}
 
 -- a version with its policy and its plan
@@ -27,7 +27,8 @@ pub record IsControllerOf (setting : Setting) (journal : List Item)
   pub marks : AreMarksOf setting journal controller.marks
   pub plans : controller.plans ≡ map (planned setting journal) (versions_from_current journal)
 
--- the plan is that of the policy of a file
-pub record IsPlanOfFile (setting : Setting) (file : ℕ) (plan : PlanValue) : Type 0 where
-  pub policy : policy_of_file setting file ≡ Some plan.policy
+-- the plan is that of the next version, if it is submitted with this file
+pub record IsPlanOfNext (setting : Setting) (journal : List Item) (file : ℕ) (plan : PlanValue)
+    : Type 0 where
+  pub policy : next_policy setting journal file ≡ Some plan.policy
   pub hosted : setting.plan plan.policy ≡ Ok plan.hosted

@@ -1,5 +1,5 @@
 -- The definitions by which the laws of this crate speak, passed on from the files that define them.
-pub use Rattle.world_ties.specs.Controller.{IsControllerOf, IsPlanOfFile}
+pub use Rattle.world_ties.specs.Controller.{IsControllerOf, IsPlanOfNext, planned}
 pub use Rattle.world_ties.specs.Marks.{AreMarksOf}
 pub use Rattle.world_ties.specs.Spelled.{AreSpelled}
 pub use Rattle.world_ties.specs.Ties.{BagTies, ComeTies, HopTies}

@@ -12,21 +12,21 @@ ghost use Rattle.steps.specs.declared.step.Step.TheVariants.{Confirm, Deliver, R
 ghost use Rattle.journal.specs.declared.item.Item.TheVariants.{Row, Delivered, Nothing, OverNow, Refused, Submitted};
 ghost use Rattle.update_machine.specs.Journals.{HaveCauses, IsReached, IsSetting, Item, NoneConcern, Setting, Step, concerns_controller, is_deliverable, is_up, message_of, piece, resent_by_controller, sends};
 ghost use Rattle.version_laws.specs.Laws.{BodiesNameThere, HasItemCause, asks_controller};
-ghost use Rattle.world_ties.specs.Laws.{AreMarksOf, AreSpelled, AreWritten, BagTies, ComeTies, HopTies, IsControllerOf, IsPlanOfFile, resent, written};
+ghost use Rattle.world_ties.specs.Laws.{AreMarksOf, AreSpelled, AreWritten, BagTies, ComeTies, HopTies, IsControllerOf, IsPlanOfNext, planned, resent, written};
 
-/// A controller begins as a journal without items says, where its plan is that of the first file.
+/// A controller begins as a journal without items says, where its plan is the first version's.
 pub fn controllers_begin()
-    ensures { (setting : Setting) (plan : PlanValue) → IsPlanOfFile setting 1 plan
+    ensures { (setting : Setting) (plan : PlanValue) → plan ≡ (planned setting [] 1).plan
         → IsControllerOf setting [] (first_controller (length setting.net.switches) plan) }
 {}
 
-/// The submission of a file's plan writes what an update writes; where the marks refuse it, the
-/// code that the journal has of that refusal.
+/// The submission of the next version's plan writes what an update writes; where the marks refuse
+/// it, the code that the journal has of that refusal.
 pub fn controllers_submit()
     ensures taken { (setting : Setting) (before : List Item) (row file : ℕ)
         (old new : ControllerValue) (plan : PlanValue)
         → HaveCauses (HasItemCause setting) [] before → IsControllerOf setting before old
-        → IsPlanOfFile setting file plan → old.marks.count - old.marks.retired ≢ 8
+        → IsPlanOfNext setting before file plan → old.marks.count - old.marks.retired ≢ 8
         → old.marks.count ≢ 64 → SubmitsPlan old plan new
         → AreWritten setting before
         (Row row (Update file) ∷ Submitted file (old.marks.count + 1) ∷ [])
@@ -34,13 +34,13 @@ pub fn controllers_submit()
     ensures live { (setting : Setting) (before : List Item) (row file : ℕ)
         (old : ControllerValue) (plan : PlanValue)
         → HaveCauses (HasItemCause setting) [] before → IsControllerOf setting before old
-        → IsPlanOfFile setting file plan → old.marks.count - old.marks.retired ≡ 8
+        → IsPlanOfNext setting before file plan → old.marks.count - old.marks.retired ≡ 8
         → AreWritten setting before (Row row (Update file) ∷ Refused file 16 ∷ []) [] old
         (piece setting before row (Update file)) }
     ensures versions { (setting : Setting) (before : List Item) (row file : ℕ)
         (old : ControllerValue) (plan : PlanValue)
         → HaveCauses (HasItemCause setting) [] before → IsControllerOf setting before old
-        → IsPlanOfFile setting file plan → old.marks.count - old.marks.retired ≢ 8
+        → IsPlanOfNext setting before file plan → old.marks.count - old.marks.retired ≢ 8
         → old.marks.count ≡ 64
         → AreWritten setting before (Row row (Update file) ∷ Refused file 17 ∷ []) [] old
         (piece setting before row (Update file)) }

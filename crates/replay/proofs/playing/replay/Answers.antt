@@ -1,7 +1,6 @@
 use Rattle.std.proofs.Common.{subst}
-use Rattle.std.specs.Prelude.{IsOk}
-use Rattle.update_machine.specs.Setting.{plan_of_file}
-use Rattle.replay.proofs.Events.{first_planned}
+use Rattle.update_machine.specs.Setting.{IsSetting}
+use Rattle.update_machine.proofs.CallerLemmas.{first_planned}
 use Rattle.replay.proofs.Ties.{tie_of}
 use Rattle.replay.proofs.playing.replay.Goals as goal
 
@@ -9,5 +8,5 @@ pub returns-clause-planned : goal.returns-clause-planned
 returns-clause-planned g c =
     let begun = c.in_ok-world.ensures.begun in
     first_planned c.args.net.now c.args.policies.items
-    (subst (λ setting. IsOk (plan_of_file setting 1)) begun.own
-    (tie_of c.in_ok-world.world (c.tied.ensures begun.able)).sound.planned)
+    (subst IsSetting begun.own
+    (tie_of c.in_ok-world.world (c.tied.ensures begun.able)).sound)

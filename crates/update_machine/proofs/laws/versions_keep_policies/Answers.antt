@@ -1,4 +1,5 @@
-use Rattle.update_machine.proofs.Policies.{of_its_file, plan_kept, policy_kept, version_kept}
+use Rattle.update_machine.proofs.Policies.{first_is, next_is, of_its_file, plan_kept, policy_kept, version_kept}
+use Rattle.update_machine.proofs.Settings.{versions_own}
 use Rattle.update_machine.proofs.laws.versions_keep_policies.Goals as goal
 
 pub returns : goal.returns
@@ -7,4 +8,7 @@ returns c = record {
   policy = policy_kept;
   plan = plan_kept;
   of_file = of_its_file;
+  first = first_is;
+  next = next_is;
+  own = versions_own;
 }

@@ -1,6 +1,6 @@
 use Rattle.std.proofs.Common.{ℕ, ◌≡◌, ◌≢◌, ◌+◌, ◌-◌, ◌++◌, ◌∷◌, [], List, Err, get_or, refl, ap, sym, subst, ◌∙◌, rules}
 use Rattle.std.specs.Prelude.{OnErr, OnOk, Result}
-use Rattle.world_ties.specs.Controller.{IsPlanOfFile}
+use Rattle.world_ties.specs.Controller.{IsPlanOfNext}
 use Rattle.failure.specs.declared.error.Failure.TheVariants.{Refused}
 use Rattle.controller.specs.Controller.{ControllerValue}
 use Rattle.controller.specs.Sends.{submitting}
@@ -15,7 +15,7 @@ use Rattle.world.specs.declared.parts.Parts.{Parts}
 use Rattle.world_log.specs.Sending.{MayNote}
 use Rattle.world.proofs.Frame.{goes_one, net_stays, none_in, not_err, nothing_goes, plane_stays}
 use Rattle.world.proofs.GoesTold.{goes_acting}
-use Rattle.world_ties.proofs.Submitting.{live_piece, planned_file, refused_piece, refused_tied, submitted_may, submitted_piece, submitted_tied, unplanned_code, versions_piece}
+use Rattle.world_ties.proofs.Submitting.{live_piece, planned_next, refused_piece, refused_tied, submitted_may, submitted_piece, submitted_tied, unplanned_next, versions_piece}
 use Rattle.world.proofs.parts.Parts.update.Goals as goal
 use Rattle.world.proofs.parts.Parts.update.Goals.{In-Planned}
 
@@ -57,23 +57,23 @@ returns-in-Refused c = λ before row begins.
     let why = subst (IsCompiled net (get_or policies (file - 1) [])) c.in-Refused.is
     c.in_ok-code.ensures.compiled in
     let is = refused_piece (setting_in self) before row file c.in-Refused.code
-    (unplanned_code net policies (before ++ item.Row row (Update file) ∷ []) file
+    (unplanned_next net policies (before ++ item.Row row (Update file) ∷ []) file
     c.in-Refused.code why.0 may.0 may.1 why.1 why.2) in
     refused c.in-Refused.code begins
     c.in_ok-code.ensures.same refl is c.push.ensures.pushed c.push.ensures.unchanged
 
 -- ---- it is submitted
 
--- the plan is that of the file
-planned : (c : In-Planned)
-    → IsPlanOfFile (setting_in c.args.self.now) c.args.file c.in-Planned.plan
-planned c =
+-- the plan is that of the next version
+planned : (c : In-Planned) (journal : List Item)
+    → IsPlanOfNext (setting_in c.args.self.now) journal c.args.file c.in-Planned.plan
+planned c journal =
     let files = c.args.self.now.files in
     let file = c.args.file in
     let may = c.requires.begins.ready.may in
     let of_policy = subst (IsCompiled files.net (get_or files.policies (file - 1) []))
     c.in-Planned.is c.in_ok-code.ensures.compiled in
-    planned_file files.net files.policies file c.in-Planned.plan may.0 may.1 of_policy.0
+    planned_next files.net files.policies journal file c.in-Planned.plan may.0 may.1 of_policy.0
     of_policy.1
 
 pub returns-in_err-push-in-Ok : goal.returns-in_err-push-in-Ok
@@ -87,10 +87,10 @@ note_acts-requires c =
     let self = c.args.self.now in
     let file = c.args.file in
     let ready = c.requires.begins.ready in
-    let of_file = planned (goal.at.note_acts-requires c).In-Planned in
+    let of_next = planned (goal.at.note_acts-requires c).In-Planned c.requires.before in
     subst (MayNote self.log.bag) (sym (c.items.ensures ∙ c.in-Ok.ensures.sends))
     (submitted_may _ _ _ _ _ _ c.requires.row file ready.tied
-    ready.may c.in-Planned.plan c.submit.new.self of_file
+    ready.may c.in-Planned.plan c.submit.new.self of_next
     (λ e. not_err _ _ (c.in-Ok.ensures.live.1 e))
     (λ e. not_err _ _ (c.in-Ok.ensures.versions.1 (
       λ f. not_err _ _ (c.in-Ok.ensures.live.1 f),
@@ -103,7 +103,7 @@ returns-in_ok-push-in-Ok c = λ before row begins.
     let self = c.args.self.now in
     let file = c.args.file in
     let ready = begins.ready in
-    let of_file = planned (goal.at.returns-in_ok-push-in-Ok c).In-Planned in
+    let of_next = planned (goal.at.returns-in_ok-push-in-Ok c).In-Planned before in
     let live : self.controller.marks.count - self.controller.marks.retired ≢ 8 =
     λ e. not_err _ _ (c.in-Ok.ensures.live.1 e) in
     let versions : self.controller.marks.count ≢ 64 =
@@ -114,13 +114,13 @@ returns-in_ok-push-in-Ok c = λ before row begins.
     let its = c.note_acts.ensures in
     goes_acting one acts c.items.result.now c.push-in-Ok.new.self begins
     (net_stays c.in_ok-code.ensures.same refl) (none_in _)
-    (submitted_piece _ _ _ _ _ _ row file ready.tied ready.may c.in-Planned.plan new of_file live
+    (submitted_piece _ _ _ _ _ _ row file ready.tied ready.may c.in-Planned.plan new of_next live
     versions c.in-Ok.ensures.after)
     (subst (λ v. c.push-in-Ok.new.self ≡ self.log.journal ++ item.Submitted file (v + 1) ∷ [])
     (c.count-version.ensures.count ∙ ap (λ marks. marks.count) c.marks.ensures)
     c.in_ok-push-in-Ok.ensures.pushed)
     (c.items.ensures ∙ c.in-Ok.ensures.sends) its.travelling its.written its.posted its.part
-    (submitted_tied _ _ _ _ _ _ row file ready.tied ready.may c.in-Planned.plan new of_file live
+    (submitted_tied _ _ _ _ _ _ row file ready.tied ready.may c.in-Planned.plan new of_next live
     versions c.in-Ok.ensures.after)
 
 -- ---- the marks refuse it
@@ -132,7 +132,7 @@ returns-in-Err-Refused-TooManyLive c = λ before row begins.
     let why = is ∙ ap Refused (rw is at c.in-Err-Refused-TooManyLive.field-0-0-is) in
     refused 16 begins c.in_ok-code.ensures.same (rw is at said.refused)
     (live_piece _ _ _ _ _ _ row c.args.file c.in-Planned.plan begins.ready.tied
-    (planned (goal.at.returns-in-Err-Refused-TooManyLive c).In-Planned) (said.live.0 (ap Err why)))
+    (planned (goal.at.returns-in-Err-Refused-TooManyLive c).In-Planned before) (said.live.0 (ap Err why)))
     c.push-in-Err-Refused-TooManyLive.ensures.pushed c.push-in-Err-Refused-TooManyLive.ensures.unchanged
 
 pub returns-in-Err-Refused-TooManyVersions : goal.returns-in-Err-Refused-TooManyVersions
@@ -143,7 +143,7 @@ returns-in-Err-Refused-TooManyVersions c = λ before row begins.
     let many = said.versions.0 (ap Err why) in
     refused 17 begins c.in_ok-code.ensures.same (rw is at said.refused)
     (versions_piece _ _ _ _ _ _ row c.args.file c.in-Planned.plan begins.ready.tied
-    (planned (goal.at.returns-in-Err-Refused-TooManyVersions c).In-Planned) many.0 many.1)
+    (planned (goal.at.returns-in-Err-Refused-TooManyVersions c).In-Planned before) many.0 many.1)
     c.push-in-Err-Refused-TooManyVersions.ensures.pushed c.push-in-Err-Refused-TooManyVersions.ensures.unchanged
 
 pub returns-in-Err-NoMemory : goal.returns-in-Err-NoMemory
