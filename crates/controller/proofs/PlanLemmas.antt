@@ -4,9 +4,9 @@ use Rattle.std.specs.List.{zip}
 use Rattle.std.proofs.lemmas.Grind.{take_at_read}
 use Rattle.std.proofs.lemmas.Slice.Zip.{get_or-zip, length-zip}
 use Rattle.std.proofs.lemmas.List.Elements.{All-weaker}
-use Rattle.failure.specs.Refusals.{IfRefused}
-use Rattle.failure.specs.declared.error.Failure.{Failure}
-use Rattle.failure.specs.declared.error.Failure.TheVariants.{Refused, NoMemory}
+use Rattle.base.specs.Refusals.{IfRefused}
+use Rattle.base.specs.declared.error.Failure.{Failure}
+use Rattle.base.specs.declared.error.Failure.TheVariants.{Refused, NoMemory}
 use Rattle.net_file.specs.Net.{IsNet}
 use Rattle.net_file.specs.declared.net.Net.{Net}
 use Rattle.cut_tree.specs.DefinedTree.{tree_of}

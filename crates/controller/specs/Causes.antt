@@ -1,6 +1,6 @@
 -- What the refusal of a part of the way to a plan is of the plan.
-use Rattle.failure.specs.declared.error.Failure.{Failure}
-use Rattle.failure.specs.declared.error.Failure.TheVariants as failure
+use Rattle.base.specs.declared.error.Failure.{Failure}
+use Rattle.base.specs.declared.error.Failure.TheVariants as failure
 use Rattle.cut_tree.specs.declared.tree.TooManyLeaves.{TooManyLeaves as NoTree}
 use Rattle.placement.specs.declared.NoRoom.{NoRoom as NoPlacement}
 use Rattle.policy_rules.specs.declared.rule_list.TooManyWords.{TooManyWords as NoRules}

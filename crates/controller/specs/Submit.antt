@@ -1,8 +1,8 @@
 -- What a controller is after a plan was submitted, or refused.
 use Rattle.std.specs.Prelude.{◌≡◌, ◌⊎◌, ◌+◌, [], ◌∷◌, ◌++◌}
 use Rattle.version_update.specs.Marks.{with_version}
-use Rattle.failure.specs.declared.error.Failure.{Failure}
-use Rattle.failure.specs.declared.error.Failure.TheVariants.{Refused, NoMemory}
+use Rattle.base.specs.declared.error.Failure.{Failure}
+use Rattle.base.specs.declared.error.Failure.TheVariants.{Refused, NoMemory}
 use Rattle.version_update.specs.declared.marks.SubmitError.{SubmitError}
 use Rattle.controller.specs.Plan.{PlanValue}
 use Rattle.controller.specs.Controller.{ControllerValue, SettlesWith}

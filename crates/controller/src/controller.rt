@@ -9,7 +9,7 @@ ghost use Rattle.version_update.specs.Settling.{Settles};
 ghost use Rattle.version_update.specs.declared.marks.SubmitError.TheVariants.{TooManyLive, TooManyVersions};
 ghost use Rattle.version_update.specs.declared.record.Phase.TheVariants.{Joining, Member};
 ghost use Rattle.controller.specs.Controllers.{IsController, IsLeft, NamesBoth, NamesThere, SettlesWith, StaysController, SubmitsPlan, after_reply, boot_recorded, first_controller, hearing, install_act, kept_tables, marks_after, plans_from, resending, resending_to, settling_acts, submitting, those};
-ghost use Rattle.failure.specs.declared.error.Failure.TheVariants.{Refused, NoMemory};
+ghost use Rattle.base.specs.declared.error.Failure.TheVariants.{Refused, NoMemory};
 
 use crate::plan::Plan;
 use crate::replying::Reply;
@@ -17,8 +17,8 @@ use crate::resending::{collect_again, install_missing, stamp_again};
 use crate::sends::{Act, Sends};
 use crate::settling::{settle, settled_sends};
 use crate::version::Version;
+use base::Failure;
 use ctrl_msg::{Body, SharedTables};
-use failure::Failure;
 use net_file::Net;
 use std::alloc::{AllocError, Global};
 use std::marker::Model;

@@ -2,8 +2,8 @@ ghost use Rattle.std.specs.Prelude.{◌≡◌};
 ghost use Rattle.controller.specs.declared.plan_error.PlanError.TheVariants.{NoMemory};
 ghost use Rattle.controller.specs.Causes.{of_rules, of_tree, of_placement};
 
+use base::Failure;
 use cut_tree::TooManyLeaves;
-use failure::Failure;
 use placement::NoRoom;
 use policy_rules::TooManyWords;
 use std::alloc::{AllocError, AllocFailed};

@@ -1,8 +1,8 @@
 ghost use Rattle.std.specs.Prelude.{◌≡◌};
 ghost use Rattle.controller.specs.Sends.{post};
 
+use base::Listing;
 use ctrl_msg::{Body, Message, Receiver};
-use lists::Listing;
 
 /// What a controller does at a call.
 #[derive(Debug, Drop)]

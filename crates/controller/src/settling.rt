@@ -6,8 +6,8 @@ ghost use Rattle.controller.specs.Controllers.{body_of, plans_from, settling_act
 
 use crate::sends::{Act, Sends};
 use crate::version::Version;
+use base::has;
 use ctrl_msg::Body;
-use masks::has;
 use std::alloc::{AllocError, Global};
 use version_update::{Marks, Settled};
 

@@ -2,10 +2,10 @@ ghost use Rattle.std.specs.Prelude.{◌≡◌, ◌+◌, ◌<◌, ◌≤◌, ◌^
 ghost use Rattle.cut_tree.specs.DefinedTree.{IsDefinedTree, IsTreeOf, tree_at, tree_of};
 ghost use Rattle.cut_tree.specs.Nodes.{AreWords};
 ghost use Rattle.cut_tree.specs.Shape.{End, leaf_count, shape_of};
-ghost use Rattle.failure.specs.Refusals.{IfRefused};
+ghost use Rattle.base.specs.Refusals.{IfRefused};
 
 use crate::node::Node;
-use failure::Failure;
+use base::Failure;
 use policy_rules::{Rule, Rules};
 use std::alloc::{AllocError, Global};
 use ternary::Word;

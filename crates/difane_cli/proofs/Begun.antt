@@ -2,7 +2,7 @@
 use Rattle.std.proofs.Common.{ℕ, ◌≡◌, false, Option, Result, Ok, Err, List, [], length, refl, sym, ap, subst, ◌∙◌, All}
 use Rattle.std.specs.Prelude.{IsOk, IsTrue, slice_index_or}
 use Rattle.std.specs.Option.{ForSome}
-use Rattle.load_case.specs.Case.{IsPlayable, LoadCase, NamesPort}
+use Rattle.schedule.specs.Case.{IsPlayable, LoadCase, NamesPort}
 use Rattle.net_file.specs.Laws.{PortLaws}
 use Rattle.net_file.specs.Net.{IsNet}
 use Rattle.net_file.specs.declared.net.Net.{Net}
@@ -18,7 +18,7 @@ use Rattle.steps.specs.declared.step.Event.{Event}
 use Rattle.update_machine.specs.Setting.{Setting, setting_of, IsSetting, NamesOwnPort}
 use Rattle.update_machine.proofs.CallerLemmas.{first_planned}
 use Rattle.world.specs.State.{IsTied, WorldValue, setting_at}
-use Rattle.world_ties.specs.Tied.{AreTied}
+use Rattle.refinement.specs.Tied.{AreTied}
 use Rattle.shelf.specs.Shelf.{Files}
 use Rattle.difane_cli.specs.Inputs.{and_then, first_plan, inputs_of, plan_from, read_net, read_policies, read_schedule}
 use Rattle.difane_cli.specs.Run.{IsReplayOf}

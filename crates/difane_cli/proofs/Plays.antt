@@ -5,7 +5,7 @@ use Rattle.std.specs.Option.{ForSome}
 use Rattle.journal.specs.declared.item.Item.{Item}
 use Rattle.meters.specs.Seen.{Seen}
 use Rattle.net_file.specs.declared.net.Net.{Net}
-use Rattle.quiet_journals.specs.Plain.{IsPlain}
+use Rattle.journal_reports.specs.Plain.{IsPlain}
 use Rattle.update_machine.specs.Answers.{BeginsAnswer}
 use Rattle.update_machine.specs.Full.{IsPlay}
 use Rattle.update_machine.proofs.CallerLemmas.{answers_so_far, begins_itself, stop_begins}

@@ -11,7 +11,7 @@ use Rattle.policy_file.specs.Ports.{first_without_port}
 use Rattle.policy_file.specs.Reading.{policy_code, policy_of}
 use Rattle.policy_file.specs.declared.ports.NoPort.{NoPort}
 use Rattle.policy_rules.specs.declared.policy.Row.{Row}
-use Rattle.failure.specs.declared.row.InRow.{InRow}
+use Rattle.base.specs.declared.row.InRow.{InRow}
 use Rattle.schedule.specs.Reading.{schedule_of}
 use Rattle.schedule.specs.Refusals.{schedule_code}
 use Rattle.shelf.specs.Shelf.{Files, file_named}

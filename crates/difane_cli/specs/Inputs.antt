@@ -2,7 +2,7 @@
 -- order of work.
 use Rattle.std.specs.Prelude.{⊤, ℕ, ◌≡◌, ◌+◌, ◌<◌, Bool, true, false, nat_le, if◌then◌else◌, Option, Some, None, option_map, Result, Ok, Err, is_ok, List, [], ◌∷◌, length, map, slice_index_or, codes, IsOk}
 use Rattle.std.specs.Option.{option_map_or}
-use Rattle.load_case.specs.Case.{LoadCase, load_case}
+use Rattle.schedule.specs.Case.{LoadCase, load_case}
 use Rattle.net_file.specs.Net.{solo_net}
 use Rattle.net_file.specs.Reading.{net_of}
 use Rattle.net_file.specs.Refusals.{net_code}
@@ -15,7 +15,7 @@ use Rattle.policy_rules.specs.Hosted.{NoPlan}
 use Rattle.policy_file.specs.Ports.{first_without_port}
 use Rattle.policy_file.specs.Reading.{policy_code, policy_of}
 use Rattle.policy_file.specs.declared.ports.NoPort.{NoPort}
-use Rattle.failure.specs.declared.row.InRow.{InRow}
+use Rattle.base.specs.declared.row.InRow.{InRow}
 use Rattle.schedule.specs.Reading.{schedule_of}
 use Rattle.schedule.specs.Refusals.{schedule_code}
 use Rattle.steps.specs.declared.step.Event.{Event}

@@ -1,20 +1,20 @@
 -- What follows behind steps of the network, and at the end of a play.
 use Rattle.std.specs.Prelude.{ℕ, Option, List, []}
-use Rattle.version_laws.specs.Always.{HoldsAtEnds, HoldsReached}
-use Rattle.way_laws.specs.Entries.{AreEntered, rows_played}
+use Rattle.control_laws.specs.Always.{HoldsAtEnds, HoldsReached}
+use Rattle.packet_laws.specs.Entries.{AreEntered, rows_played}
 use Rattle.journal.specs.declared.item.Item.{Item}
 use Rattle.net_file.specs.Net.{IsNet}
-use Rattle.quiet_journals.specs.Plain.{IsPlain}
-use Rattle.quiet_laws.specs.Converged.{HasConverged}
-use Rattle.quiet_laws.specs.Stuck.{GetStuckApart}
-use Rattle.quiet_laws.specs.Updated.{IsUpdated}
+use Rattle.journal_reports.specs.Plain.{IsPlain}
+use Rattle.convergence_laws.specs.Converged.{HasConverged}
+use Rattle.convergence_laws.specs.Stuck.{GetStuckApart}
+use Rattle.convergence_laws.specs.Updated.{IsUpdated}
 use Rattle.steps.specs.declared.step.Event.{Event}
 use Rattle.update_machine.specs.Causes.{HasCause, HaveCauses}
 use Rattle.update_machine.specs.Full.{IsPlay}
 use Rattle.update_machine.specs.Machine.{IsRun}
 use Rattle.update_machine.specs.Quiet.{IsQuiet}
 use Rattle.update_machine.specs.Setting.{Setting, IsSetting}
-use Rattle.way_laws.specs.StrongCauses.{StrongCause}
+use Rattle.packet_laws.specs.StrongCauses.{StrongCause}
 
 -- what holds at the end of a play, where the network is quiet
 pub record QuietLaws : Type 0 where

@@ -14,9 +14,9 @@ use Rattle.update_machine.specs.Full.{IsPlay}
 use Rattle.update_machine.specs.Machine.{IsRun}
 use Rattle.update_machine.specs.Setting.{IsSetting}
 use Rattle.steps.specs.Steps.{IsEvent}
-use Rattle.way_laws.specs.StrongCauses.{StrongCause}
-use Rattle.way_laws.specs.Entries.{AreEntered, rows_played}
-use Rattle.load_case.specs.Case.{load_case}
+use Rattle.packet_laws.specs.StrongCauses.{StrongCause}
+use Rattle.packet_laws.specs.Entries.{AreEntered, rows_played}
+use Rattle.schedule.specs.Case.{load_case}
 use Rattle.difane_cli.specs.Inputs.{case_inputs, known_task}
 use Rattle.difane_cli.specs.Texts.{play_text}
 use Rattle.difane_cli.specs.Verdict.{IsVerdict, asks_quiet, is_asked}

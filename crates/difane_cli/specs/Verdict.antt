@@ -2,9 +2,9 @@
 -- and what all switches came to where it is.
 use Rattle.std.specs.Prelude.{⊤, ℕ, ◌≡◌, ◌↔◌, Bool, true, false, Option, Some, None, is_some, IsTrue, List}
 use Rattle.journal.specs.declared.item.Item.{Item}
-use Rattle.quiet_laws.specs.Converged.{HasConverged}
-use Rattle.quiet_laws.specs.Stuck.{GetStuckApart}
-use Rattle.quiet_laws.specs.Updated.{IsUpdated}
+use Rattle.convergence_laws.specs.Converged.{HasConverged}
+use Rattle.convergence_laws.specs.Stuck.{GetStuckApart}
+use Rattle.convergence_laws.specs.Updated.{IsUpdated}
 use Rattle.update_machine.specs.Quiet.{IsQuiet}
 use Rattle.update_machine.specs.Setting.{Setting}
 use Rattle.difane_cli.specs.declared.report.Report.{Report}

@@ -1,14 +1,14 @@
 //! Load cases as a command takes them.
 ghost use Rattle.std.specs.Prelude.{◌≡◌, ◌≤◌, IfOk, IfErr, Ok};
 ghost use Rattle.difane_cli.specs.Work.{AreReadyToPlay, StopsContent, case_inputs, inputs_stated, load_inputs};
-ghost use Rattle.load_case.specs.Case.{load_case};
+ghost use Rattle.schedule.specs.Case.{load_case};
 
 use crate::inputs::PlayInputs;
 use crate::policies::begin_world;
 use crate::report::Report;
 use crate::status::Stop;
-use load_case::load_case;
 use net_file::port_laws;
+use schedule::load_case;
 use std::alloc::Global;
 
 /// The file that a refusal of a load case names.

@@ -7,7 +7,7 @@ ghost use Rattle.shelf.specs.SinkWrites.{IsAfterWrite};
 ghost use Rattle.difane_cli.specs.Work.{AnswerLaws, AreReadyToPlay, EndsWork, IsAfterText, IsPlayOf, Play, PlayOutcome, RanOut, inputs_stated, is_made, known_task, last_lines, play_text, replay_text};
 ghost use Rattle.command_line.specs.Commands.{Command};
 ghost use Rattle.difane_cli.specs.declared.report.Report.TheVariants.{Summary};
-ghost use Rattle.load_text.specs.Summary.{counts_text};
+ghost use Rattle.journal_reports.specs.Summary.{counts_text};
 ghost use Rattle.difane_cli.specs.declared.status.Status.TheVariants as status;
 
 use crate::inputs::PlayInputs;
@@ -15,19 +15,18 @@ use crate::meter_lines::write_meters;
 use crate::report::Report;
 use crate::status::{Ended, Status};
 use crate::verdict::{judge, write_answer};
-use journal::Journal;
-use journal_text::write_text;
-use load_text::{summarize, summary_text};
-use meters::Meter;
-use net_file::Net;
-use quiet_journals::answers_are_plain;
-use quiet_laws::{
+use convergence_laws::{
     packets_get_stuck_apart, quiet_networks_are_updated, quiet_networks_have_converged,
 };
+use journal::Journal;
+use journal_reports::{answers_are_plain, summarize, summary_text};
+use journal_text::write_text;
+use meters::Meter;
+use net_file::Net;
+use packet_laws::{answers_are_runs, causes_are_strong, ends_have_causes, packet_rows_are_entered};
 use replay::Played;
 use shelf::{Sink, SinkError, write_whole};
 use std::alloc::Global;
-use way_laws::{answers_are_runs, causes_are_strong, ends_have_causes, packet_rows_are_entered};
 
 /// Plays the inputs, to their end or as far as there is room, while the meters note the packets
 /// that leave; writes the journal, and behind its last line, where it didn't stop full, those of

@@ -1,7 +1,7 @@
 //! Whether the network of a play is quiet, and the line that says so.
 ghost use Rattle.std.specs.Prelude.{◌≡◌, [], IfOk, IfErr, IsTrue, is_some};
 ghost use Rattle.net_file.specs.Net.{IsNet};
-ghost use Rattle.quiet_journals.specs.Plain.{IsPlain};
+ghost use Rattle.journal_reports.specs.Plain.{IsPlain};
 ghost use Rattle.shelf.specs.SinkWrites.{IsAfterWrite};
 ghost use Rattle.update_machine.specs.Setting.{Setting};
 ghost use Rattle.difane_cli.specs.Work.{IsWhetherQuiet, is_asked, quiet_line};
@@ -31,7 +31,7 @@ pub fn judge<M: Meter>(
     if !asked || played.full.is_some() {
         return Ok(None);
     }
-    let answer = quiet_journals::quiet(alloc, &played.journal, net)?;
+    let answer = journal_reports::quiet(alloc, &played.journal, net)?;
     Ok(Some(answer))
 }
 

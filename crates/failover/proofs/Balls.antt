@@ -4,11 +4,11 @@ use Rattle.std.specs.Int.Bits.{bit_and}
 use Rattle.std.proofs.lemmas.Bool.{cases_lt, cases_eq}
 use Rattle.std.proofs.lemmas.Bool.Decides.{nat_tests}
 use Rattle.std.proofs.lemmas.Nat.{pow_below, or_lt, and_le_r}
-use Rattle.masks.specs.Masks.{has}
-use Rattle.masks.specs.Computed.{least_in}
+use Rattle.base.specs.Masks.{has}
+use Rattle.base.specs.ComputedMasks.{least_in}
 use Rattle.failover.specs.Routes.{wider, ball, nearer}
 use Rattle.failover.specs.Search.{IsAway}
-use Rattle.masks.proofs.CallerLemmas.{has-or, has-and, has-zero, has-pow_same, has-pow_other, mask_where_at, mask_where_lt, least_lt, has_least, least_below}
+use Rattle.base.proofs.CallerLemmas.{has-or, has-and, has-zero, has-pow_same, has-pow_other, mask_where_at, mask_where_lt, least_lt, has_least, least_below}
 
 -- ---- Bool
 

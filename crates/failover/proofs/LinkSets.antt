@@ -3,11 +3,11 @@ use Rattle.std.proofs.Common.{◌≡◌, ◌≢◌, ℕ, ◌^◌, ◌<◌, ◌�
 use Rattle.std.specs.Int.Bits.{bit_or}
 use Rattle.std.proofs.lemmas.Bool.{cases_eq, cases_lt}
 use Rattle.std.proofs.lemmas.List.{get_or-replicate, length-replicate, get_or_past, get_or_default, same_lists}
-use Rattle.masks.specs.Masks.{has}
+use Rattle.base.specs.Masks.{has}
 use Rattle.failover.specs.DownSet.{is_link_of, IsLinkSet}
 use Rattle.failover.specs.Links.{has_link, no_links, with_link}
 use Rattle.failover.proofs.Balls.{and_both, and_left, and_right, or_left, or_right, or_cases, apart_tests, false_of, same_number, number_test}
-use Rattle.masks.proofs.CallerLemmas.{has-or, has-zero, has-pow_same, has-pow_other, same_sets}
+use Rattle.base.proofs.CallerLemmas.{has-or, has-zero, has-pow_same, has-pow_other, same_sets}
 
 no_row : (k : ℕ) → get_or no_links k 0 ≡ 0
 no_row k = elim (cases_lt k 64)

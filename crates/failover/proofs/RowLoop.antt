@@ -6,10 +6,10 @@ use Rattle.std.proofs.lemmas.Bool.{cases_eq}
 use Rattle.std.proofs.lemmas.Bool.Decides.{nat_tests}
 use Rattle.std.proofs.lemmas.Nat.{pow_pos, pow_below, and_le_l, and_le_r}
 use Rattle.std.proofs.lemmas.Nat.Bits.{bit_at_xor, bit_at_not, bit_at_ones, bit_at-lt, bit_at-pow_same, bit_at-pow_other, and_pow}
-use Rattle.masks.specs.Masks.{has}
-use Rattle.masks.specs.Computed.{only_if, least_in}
+use Rattle.base.specs.Masks.{has}
+use Rattle.base.specs.ComputedMasks.{only_if, least_in}
 use Rattle.failover.specs.Links.{is_link, links_at}
-use Rattle.masks.proofs.CallerLemmas.{has-or, has-and, has-zero, has_only_same, has_only_other, has_least, same_masks, only_if_lt, has_mask}
+use Rattle.base.proofs.CallerLemmas.{has-or, has-and, has-zero, has_only_same, has_only_other, has_least, same_masks, only_if_lt, has_mask}
 use Rattle.failover.proofs.Balls.{apart_tests, and_left}
 
 -- the row has the links to the switches within a set that are not left

@@ -4,12 +4,12 @@ use Rattle.std.proofs.lemmas.Bool.Decides.{nat_tests}
 use Rattle.std.proofs.lemmas.Bool.{cases_lt}
 use Rattle.std.proofs.lemmas.List.{get_or_past, get_or-map, length-map}
 use Rattle.failover.specs.declared.advert.Advert.{Advert}
-use Rattle.masks.specs.Masks.{has, switches}
-use Rattle.masks.specs.Computed.{mask_where, mask_of}
+use Rattle.base.specs.Masks.{has, switches}
+use Rattle.base.specs.ComputedMasks.{mask_where, mask_of}
 use Rattle.failover.specs.Links.{named_links, is_link, links_at, known_links, neighbours_named, has_link}
 use Rattle.failover.specs.Paths.{IsIsolated}
 use Rattle.failover.specs.Isolated.{is_isolated, names, IsDatabase, links_of_each}
-use Rattle.masks.proofs.CallerLemmas.{has-zero, same_sets, length-switches, get_or-switches, has_mask, has_mask_past}
+use Rattle.base.proofs.CallerLemmas.{has-zero, same_sets, length-switches, get_or-switches, has_mask, has_mask_past}
 use Rattle.failover.proofs.Balls.{and_both, and_left, and_right, apart_tests, false_of, same_number, number_test}
 use Rattle.failover.proofs.LinkSets.{has_link-turned}
 use Rattle.failover.proofs.WiderLoop.{AreBothWays}

@@ -6,7 +6,7 @@ use Rattle.std.proofs.lemmas.Bool.Decides.{nat_tests}
 use Rattle.std.proofs.lemmas.List.Elements.{All-cons, All-nil}
 use Rattle.std.proofs.lemmas.Map.Steps.{length-le_from_distinct_below}
 use Rattle.failover.specs.declared.advert.Advert.{Advert}
-use Rattle.masks.specs.Masks.{has, switches}
+use Rattle.base.specs.Masks.{has, switches}
 use Rattle.failover.specs.Links.{known_links, LinksLead, IsPath, IsReachable}
 use Rattle.failover.specs.Paths.{IsAtMost, IsLeastPath, IsRoute}
 use Rattle.failover.specs.Routes.{wider, ball, onward, links_away, route_to, first_route, route_of}

@@ -4,7 +4,7 @@ use Rattle.std.proofs.lemmas.List.{take_more, drop-drop, get_or-drop, take_all, 
 use Rattle.std.proofs.lemmas.Bool.{cases_eq}
 use Rattle.std.proofs.Math.Seq.{set-append_seam}
 use Rattle.std.specs.Int.Bits.{bit_and}
-use Rattle.masks.specs.Masks.{has}
+use Rattle.base.specs.Masks.{has}
 use Rattle.failover.specs.RouteList.{IsRouteList}
 use Rattle.failover.specs.Routes.{wider, ball, nearer, onward, route_to}
 use Rattle.failover.specs.Search.{IsAway, IsOutOfReach, AreBalls, along}

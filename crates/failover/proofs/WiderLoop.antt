@@ -3,10 +3,10 @@ use Rattle.std.proofs.Common.{◌≡◌, ℕ, ◌^◌, ◌<◌, ◌⊎◌, Bool,
 use Rattle.std.specs.Int.Bits.{bit_or, bit_xor, or_lt, xor_lt}
 use Rattle.std.proofs.lemmas.Bool.{cases_eq}
 use Rattle.std.proofs.lemmas.Nat.{pow_below}
-use Rattle.masks.specs.Masks.{has}
+use Rattle.base.specs.Masks.{has}
 use Rattle.failover.specs.Routes.{wider, nearer}
 use Rattle.failover.specs.Search.{IsEdge}
-use Rattle.masks.proofs.CallerLemmas.{has-or, has-zero, same_masks}
+use Rattle.base.proofs.CallerLemmas.{has-or, has-zero, same_masks}
 use Rattle.failover.proofs.Balls.{added_is_nearer, apart_tests, or_cases, or_left, or_right, true_of, wider_gains, wider_keeps, wider_lt}
 use Rattle.failover.proofs.RowLoop.{has_less-same, has_less-other, has_both, has_first}
 

@@ -3,7 +3,7 @@
 use Rattle.std.specs.Prelude.{ℕ, Bool, true, ◌&&◌, ◌||◌, ◌==◌, nat_lt, if◌then◌else◌, Option, Some, None, List, map, fold, replicate, slice_index, slice_index_or, slice_set}
 use Rattle.std.specs.Option.{option_map_or}
 use Rattle.failover.specs.declared.advert.Advert.{Advert}
-use Rattle.masks.specs.Masks.{switches}
+use Rattle.base.specs.Masks.{switches}
 
 -- (boot, seq) is greater, the boot compared first
 abbrev pub is_newer : Advert → Advert → Bool

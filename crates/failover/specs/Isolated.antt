@@ -4,7 +4,7 @@ use Rattle.failover.specs.declared.advert.Advert.{Advert}
 use Rattle.failover.specs.Adverts.{held}
 use Rattle.failover.specs.Links.{neighbours_named, named_links, links_at}
 use Rattle.failover.specs.Newest.{AreByOrigin}
-use Rattle.masks.specs.Masks.{has, switches}
+use Rattle.base.specs.Masks.{has, switches}
 
 -- the origin is held to name this neighbour
 unfoldable pub names : List (Option Advert) → ℕ → ℕ → Bool

@@ -2,7 +2,7 @@
 -- ensures the record of each.
 use Rattle.std.specs.Prelude.{ℕ, ◌≡◌, ◌≢◌, ◌<◌, ◌↔◌, not, ◌&&◌, ◌||◌, false, Option, Some, List, ◌++◌, length, option_to_list, slice_index, IsTrue}
 use Rattle.failover.specs.declared.advert.Advert.{Advert}
-use Rattle.masks.specs.Masks.{has}
+use Rattle.base.specs.Masks.{has}
 use Rattle.failover.specs.Adverts.{held, is_news, after_hearing, after_hearing_all, no_adverts, first_of, first_adverts}
 use Rattle.failover.specs.DownSet.{is_link_of, IsLinkSet}
 use Rattle.failover.specs.Links.{named_links, is_link, known_links, has_link, no_links, with_link, LinksLead, IsPath, IsReachable}

@@ -3,8 +3,8 @@
 use Rattle.std.specs.Prelude.{ℕ, ◌≡◌, Bool, not, ◌&&◌, ◌==◌, Option, Some, None, List, map, slice_index, slice_set, ◌^◌, min, max, bit_or, replicate, ◌<◌, nat_eq, [], ◌∷◌, IsTrue}
 use Rattle.std.specs.List.{IsDistinct}
 use Rattle.failover.specs.declared.advert.Advert.{Advert}
-use Rattle.masks.specs.Masks.{has, switches}
-use Rattle.masks.specs.Computed.{mask_of}
+use Rattle.base.specs.Masks.{has, switches}
+use Rattle.base.specs.ComputedMasks.{mask_of}
 
 -- the link of two switches, in either order, is in the set
 unfoldable pub has_link : List ℕ → ℕ → ℕ → Bool

@@ -1,7 +1,7 @@
 -- One to 64 distinct switches, held in 64 places.
 use Rattle.std.specs.Prelude.{ℕ, ◌≡◌, ◌-◌, ◌<◌, ◌≤◌, nat_eq, List, length, take, drop, replicate, All}
 use Rattle.std.specs.List.{IsDistinct}
-use Rattle.lists.specs.Filled.{filled, filled-take}
+use Rattle.base.specs.Filled.{filled, filled-take}
 use Rattle.failover.specs.declared.path.Route.TheInside.{Inside}
 
 -- one or more distinct switches

@@ -3,8 +3,8 @@
 -- time to the least switch that is one link nearer.
 use Rattle.std.specs.Prelude.{ℕ, zero, suc, ◌^◌, true, false, not, ◌&&◌, ◌==◌, nat_lt, Option, Some, None, option_map, List, [], ◌∷◌, bit_and, bit_or, slice_index}
 use Rattle.failover.specs.declared.advert.Advert.{Advert}
-use Rattle.masks.specs.Masks.{has}
-use Rattle.masks.specs.Computed.{mask_where, least_in}
+use Rattle.base.specs.Masks.{has}
+use Rattle.base.specs.ComputedMasks.{mask_where, least_in}
 use Rattle.failover.specs.Links.{known_links}
 
 -- a set of switches, and those that have a link into it

@@ -1,6 +1,6 @@
 -- What a breadth-first search has found, before its route is written down.
 use Rattle.std.specs.Prelude.{ℕ, zero, suc, ◌≡◌, ◌<◌, true, false, List, [], ◌∷◌, slice_index}
-use Rattle.masks.specs.Masks.{has}
+use Rattle.base.specs.Masks.{has}
 use Rattle.failover.specs.Routes.{ball, nearer}
 
 -- the switch is k links away from the target, and no fewer

@@ -2,7 +2,7 @@ ghost use Rattle.std.specs.Prelude.{◌≡◌, ◌≢◌, ◌<◌, ◌||◌, ℕ
 ghost use Rattle.failover.specs.Databases.{has_link, is_link_of, no_links, with_link};
 
 use crate::SWITCHES;
-use masks::{has, only_if};
+use base::{has, only_if};
 use std::marker::Model;
 
 /// A set of links between two different switches below 64, as a packet finds them down on its way.

@@ -1,10 +1,10 @@
 ghost use Rattle.std.specs.Prelude.{◌≡◌, ◌<◌, ◌==◌, bit_and, slice_index, true};
-ghost use Rattle.masks.specs.Masks.{has};
+ghost use Rattle.base.specs.Masks.{has};
 ghost use Rattle.failover.specs.Links.{is_link, links_at};
 
 use crate::SWITCHES;
 use crate::down_set::DownSet;
-use masks::{has, only_if};
+use base::{has, only_if};
 
 /// Those of the switches in `within` to which this one has a link: each names the other, and the
 /// link isn't down. Only the links to these switches are looked at.

@@ -5,7 +5,7 @@ use crate::SWITCHES;
 use crate::down_set::DownSet;
 use crate::links::links_within;
 use crate::path::Route;
-use masks::{has, only_if};
+use base::{has, only_if};
 
 // A switch's links are found where the search comes to it: so those that it doesn't reach cost
 // nothing.

@@ -1,6 +1,6 @@
 use crate::shared::{SharedLinks, SharedMessage, SharedRoute};
+use base::Listing;
 use five_tuple::Header;
-use lists::Listing;
 use policy_rules::{Action, Cause, How, Leaving, Leg};
 use steps::Step;
 

@@ -1,6 +1,6 @@
+use base::Shared;
 use ctrl_msg::Message;
 use failover::{DownSet, Route};
-use lists::Shared;
 
 /// A route that its clones share.
 pub type SharedRoute = Shared<Route>;

@@ -7,7 +7,7 @@ use Rattle.ctrl_msg.specs.declared.message.Body.{Body}
 use Rattle.ctrl_msg.specs.declared.message.Body.TheVariants.{Install, OpenAt, Stamp, Collect, CacheRule, Advertise, Hello, Installed, Stamped}
 use Rattle.ctrl_msg.specs.declared.message.Receiver.{Receiver}
 use Rattle.ctrl_msg.specs.declared.message.Receiver.TheVariants as receiver
-use Rattle.masks.specs.Masks.{has, switches}
+use Rattle.base.specs.Masks.{has, switches}
 use Rattle.failover.specs.declared.advert.Advert.{Advert}
 use Rattle.net_file.specs.Laws.{NameLaws}
 use Rattle.net_file.specs.Net.{IsNet, names_text}
@@ -21,8 +21,8 @@ use Rattle.journal.specs.declared.item.Item.{Item}
 use Rattle.journal.specs.declared.item.Item.TheVariants as item
 use Rattle.journal_text.specs.Lines.{advert_text, body_text, boot_text, cause_text, how_text, item_line, mask_text, named, with_number, packet_at, pair_text, receiver_text, ruled_text, state_text, step_text, two_text, version_text, via_text}
 use Rattle.journal_text.specs.Sizes.{IsBodyOfType, IsHow, IsItemOfType, IsShortRoute, IsStepOfType, LinesFit}
-use Rattle.line_fields.proofs.Lengths.{IsWithin, all_of, joined_within, with_text, widened, number, rule_within, action_within, fields_within, word_within, name_within, names_within}
-use Rattle.line_fields.specs.Sizes.{IsAction, IsNumber, IsRule}
+use Rattle.lines.proofs.Lengths.{IsWithin, all_of, joined_within, with_text, widened, number, rule_within, action_within, fields_within, word_within, name_within, names_within}
+use Rattle.lines.specs.Sizes.{IsAction, IsNumber, IsRule}
 use Rattle.steps.specs.declared.step.Step.{Step}
 use Rattle.steps.specs.declared.step.Step.TheVariants.{Packet, Hop, Lose, Deliver, Forget, Expire, Update, LinkDown, LinkUp, Crash, Restart, Confirm, Resend}
 

@@ -7,9 +7,9 @@ use Rattle.std.specs.List.{range_with_len}
 use Rattle.std.proofs.lemmas.Grind.{flat_map-append}
 use Rattle.std.proofs.lemmas.Nat.{leading_length}
 use Rattle.std.proofs.lemmas.Nat.Bits.{bit_at_above}
-use Rattle.masks.specs.Masks.{has, switches}
-use Rattle.masks.specs.Computed.{least_in}
-use Rattle.masks.proofs.CallerLemmas.{least_below}
+use Rattle.base.specs.Masks.{has, switches}
+use Rattle.base.specs.ComputedMasks.{least_in}
+use Rattle.base.proofs.CallerLemmas.{least_below}
 use Rattle.policy_rules.proofs.CallerLemmas.{filter_more}
 use Rattle.net_file.specs.Net.{name_of, names_text}
 use Rattle.net_file.specs.declared.net.Net.{Net}

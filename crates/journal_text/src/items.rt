@@ -3,13 +3,13 @@ ghost use Rattle.net_file.specs.Net.{IsNet};
 ghost use Rattle.journal.specs.declared.item.Item.TheVariants as item;
 ghost use Rattle.journal_text.specs.Lines.{cause_text, how_text, item_line, journal_text, with_number, packet_at, two_text, via_text};
 ghost use Rattle.journal_text.specs.Sizes.{IsBodyOfType, IsItemOfType, IsShortRoute};
-ghost use Rattle.text_line.specs.Pushes.{pushed};
+ghost use Rattle.lines.specs.Pushes.{pushed};
 
 use crate::laws::lines_fit;
 use crate::messages::{push_body, push_receiver, push_ruled};
 use crate::rows::{push_named, push_named_number, push_numbered, push_pair, push_step};
 use journal::{Action, Cause, How, Item, Journal, SharedMessage, SharedRoute};
-use line_fields::{Line, push_name, push_names};
+use lines::{Line, push_name, push_names};
 use net_file::Net;
 use std::alloc::{AllocError, Global};
 use steps::Step;
@@ -43,7 +43,7 @@ pub fn lines(alloc: Global, items: &[Item], net: &Net) -> Result<Vec<u8>, AllocE
 }
 
 /// Makes the line that of the item, with its line feed.
-#[tactic(auto, using(text_line::proofs::CallerLemmas::pushed_append, text_line::proofs::CallerLemmas::pushed_whole))]
+#[tactic(auto, using(lines::proofs::CallerLemmas::pushed_append, lines::proofs::CallerLemmas::pushed_whole))]
 pub(crate) fn set_line(line: &mut Line, net: &Net, item: &Item)
     requires { IsNet net.now }
     ensures { line.new ≡ item_line net.now item.now ++ 10 ∷ [] }
@@ -54,7 +54,7 @@ pub(crate) fn set_line(line: &mut Line, net: &Net, item: &Item)
     line.push("\n");
 }
 
-#[tactic(auto, using(text_line::proofs::CallerLemmas::pushed_append))]
+#[tactic(auto, using(lines::proofs::CallerLemmas::pushed_append))]
 fn push_row(line: &mut Line, net: &Net, row: u32, step: &Step)
     ensures text { line.new ≡ pushed line.old (item_line net.now (item.Row row step.now)) }
     ensures of_type { IsItemOfType (item.Row row step.now) }
@@ -65,7 +65,7 @@ fn push_row(line: &mut Line, net: &Net, row: u32, step: &Step)
 }
 
 // A packet and a switch behind a text.
-#[tactic(auto, using(text_line::proofs::CallerLemmas::pushed_append))]
+#[tactic(auto, using(lines::proofs::CallerLemmas::pushed_append))]
 fn push_at(line: &mut Line, net: &Net, text: &str, packet: u32, s: u32)
     ensures { line.new ≡ pushed line.old (packet_at net.now text.now packet s) }
 {
@@ -75,7 +75,7 @@ fn push_at(line: &mut Line, net: &Net, text: &str, packet: u32, s: u32)
 }
 
 // The switches of a route.
-#[tactic(auto, using(text_line::proofs::CallerLemmas::pushed_append), unfolding(crate::specs::Lines::via_text))]
+#[tactic(auto, using(lines::proofs::CallerLemmas::pushed_append), unfolding(crate::specs::Lines::via_text))]
 fn push_via(line: &mut Line, net: &Net, route: &SharedRoute)
     ensures text { line.new ≡ pushed line.old (via_text net.now route.now) }
     ensures of_type { IsShortRoute route.now }
@@ -102,7 +102,7 @@ fn push_seeking(
 }
 
 // A packet's route behind a text.
-#[tactic(auto, using(text_line::proofs::CallerLemmas::pushed_append))]
+#[tactic(auto, using(lines::proofs::CallerLemmas::pushed_append))]
 fn push_route(line: &mut Line, net: &Net, text: &str, packet: u32, route: &SharedRoute)
     ensures text { line.new ≡ pushed line.old
         (with_number text.now packet ++ via_text net.now route.now) }
@@ -112,7 +112,7 @@ fn push_route(line: &mut Line, net: &Net, text: &str, packet: u32, route: &Share
     push_via(line, net, route);
 }
 
-#[tactic(auto, using(text_line::proofs::CallerLemmas::pushed_append))]
+#[tactic(auto, using(lines::proofs::CallerLemmas::pushed_append))]
 fn push_found(line: &mut Line, net: &Net, packet: u32, one: u32, two: u32)
     ensures { line.new ≡ pushed line.old (item_line net.now (item.FoundDown packet one two)) }
 {
@@ -121,7 +121,7 @@ fn push_found(line: &mut Line, net: &Net, packet: u32, one: u32, two: u32)
     push_name(line, net, two);
 }
 
-#[tactic(auto, using(text_line::proofs::CallerLemmas::pushed_append))]
+#[tactic(auto, using(lines::proofs::CallerLemmas::pushed_append))]
 fn push_how(line: &mut Line, net: &Net, how: How)
     ensures { line.new ≡ pushed line.old (how_text net.now how) }
 {
@@ -133,7 +133,7 @@ fn push_how(line: &mut Line, net: &Net, how: How)
     }
 }
 
-#[tactic(auto, using(text_line::proofs::CallerLemmas::pushed_append))]
+#[tactic(auto, using(lines::proofs::CallerLemmas::pushed_append))]
 fn push_decided(
     line: &mut Line,
     net: &Net,
@@ -154,7 +154,7 @@ fn push_decided(
 }
 
 // Two numbers, each behind a text.
-#[tactic(auto, using(text_line::proofs::CallerLemmas::pushed_append), unfolding(crate::specs::Lines::two_text))]
+#[tactic(auto, using(lines::proofs::CallerLemmas::pushed_append), unfolding(crate::specs::Lines::two_text))]
 fn push_two(line: &mut Line, text: &str, n: u32, next: &str, m: u32)
     ensures { line.new ≡ pushed line.old (two_text text.now n next.now m) }
 {
@@ -172,7 +172,7 @@ fn cause_text(cause: Cause) -> &'static str
     }
 }
 
-#[tactic(auto, using(text_line::proofs::CallerLemmas::pushed_append))]
+#[tactic(auto, using(lines::proofs::CallerLemmas::pushed_append))]
 fn push_stuck(line: &mut Line, net: &Net, packet: u32, switch: u32, cause: Cause)
     ensures { line.new ≡ pushed line.old
         (packet_at net.now (codes "  stuck") packet switch ++ codes " " ++ cause_text cause) }
@@ -182,7 +182,7 @@ fn push_stuck(line: &mut Line, net: &Net, packet: u32, switch: u32, cause: Cause
     line.push(cause_text(cause));
 }
 
-#[tactic(auto, using(text_line::proofs::CallerLemmas::pushed_append))]
+#[tactic(auto, using(lines::proofs::CallerLemmas::pushed_append))]
 fn push_sent(line: &mut Line, net: &Net, number: u32, message: &SharedMessage)
     ensures text { line.new ≡ pushed line.old (item_line net.now (item.Sent number message.now)) }
     ensures of_type { IsBodyOfType message.now.body }
@@ -195,7 +195,7 @@ fn push_sent(line: &mut Line, net: &Net, number: u32, message: &SharedMessage)
     push_body(line, net, &message.body);
 }
 
-#[tactic(auto, using(text_line::proofs::CallerLemmas::pushed_append))]
+#[tactic(auto, using(lines::proofs::CallerLemmas::pushed_append))]
 fn push_expired(line: &mut Line, net: &Net, switch: u32, place: u32, message: u32)
     ensures { line.new
         ≡ pushed line.old (item_line net.now (item.Expired switch place message)) }
@@ -205,7 +205,7 @@ fn push_expired(line: &mut Line, net: &Net, switch: u32, place: u32, message: u3
     line.push_number(u64::from(message));
 }
 
-#[tactic(auto, using(text_line::proofs::CallerLemmas::pushed_append))]
+#[tactic(auto, using(lines::proofs::CallerLemmas::pushed_append))]
 fn push_link(line: &mut Line, net: &Net, one: u32, two: u32, up: bool)
     ensures { line.new ≡ pushed line.old (item_line net.now (item.LinkIs one two up)) }
 {

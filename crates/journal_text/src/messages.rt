@@ -2,14 +2,14 @@ ghost use Rattle.std.specs.Prelude.{◌≡◌};
 ghost use Rattle.ctrl_msg.specs.declared.message.Body.TheVariants.{CacheRule};
 ghost use Rattle.journal_text.specs.Lines.{advert_text, body_text, boot_text, cache_text, named, receiver_text, ruled_text, version_text};
 ghost use Rattle.journal_text.specs.Sizes.{IsBodyOfType};
-ghost use Rattle.line_fields.specs.Sizes.{IsAction, IsNumber, IsRule};
-ghost use Rattle.text_line.specs.Pushes.{pushed};
+ghost use Rattle.lines.specs.Sizes.{IsAction, IsNumber, IsRule};
+ghost use Rattle.lines.specs.Pushes.{pushed};
 
 use crate::names::push_mask;
 use crate::rows::{push_named_number, push_numbered};
 use ctrl_msg::{Body, Receiver};
 use failover::Advert;
-use line_fields::{Line, push_action, push_name, push_rule, push_word};
+use lines::{Line, push_action, push_name, push_rule, push_word};
 use net_file::Net;
 use policy_rules::Action;
 use ternary::Word;
@@ -25,7 +25,7 @@ pub(crate) fn push_receiver(line: &mut Line, net: &Net, to: Receiver)
 }
 
 // Adds a boot, behind what was said before it.
-#[tactic(auto, using(text_line::proofs::CallerLemmas::pushed_append))]
+#[tactic(auto, using(lines::proofs::CallerLemmas::pushed_append))]
 fn push_boot(line: &mut Line, text: &str, boot: u32)
     ensures { line.new ≡ pushed line.old (boot_text text.now boot) }
 {
@@ -34,7 +34,7 @@ fn push_boot(line: &mut Line, text: &str, boot: u32)
     line.push_number(u64::from(boot));
 }
 
-#[tactic(auto, using(text_line::proofs::CallerLemmas::pushed_append))]
+#[tactic(auto, using(lines::proofs::CallerLemmas::pushed_append))]
 fn push_version(line: &mut Line, text: &str, boot: u32, version: u32)
     ensures { line.new ≡ pushed line.old (version_text text.now boot version) }
 {
@@ -43,14 +43,14 @@ fn push_version(line: &mut Line, text: &str, boot: u32, version: u32)
     line.push_number(u64::from(version));
 }
 
-#[tactic(auto, using(text_line::proofs::CallerLemmas::pushed_append))]
+#[tactic(auto, using(lines::proofs::CallerLemmas::pushed_append))]
 fn push_booted(line: &mut Line, net: &Net, text: &str, switch: u32, boot: u32)
     ensures { line.new ≡ pushed line.old (boot_text (named net.now text.now switch) boot) }
 {
     push_named_number(line, net, text, switch, " boot ", boot);
 }
 
-#[tactic(auto, using(text_line::proofs::CallerLemmas::pushed_append))]
+#[tactic(auto, using(lines::proofs::CallerLemmas::pushed_append))]
 fn push_answer(line: &mut Line, net: &Net, text: &str, switch: u32, boot: u32, version: u32)
     ensures { line.new
         ≡ pushed line.old (version_text (named net.now text.now switch) boot version) }
@@ -61,7 +61,7 @@ fn push_answer(line: &mut Line, net: &Net, text: &str, switch: u32, boot: u32, v
 }
 
 /// Adds a rule and its action.
-#[tactic(auto, using(text_line::proofs::CallerLemmas::pushed_append), unfolding(crate::specs::Lines::ruled_text))]
+#[tactic(auto, using(lines::proofs::CallerLemmas::pushed_append), unfolding(crate::specs::Lines::ruled_text))]
 pub(crate) fn push_ruled(line: &mut Line, rule: Option<u32>, action: Action)
     ensures text { line.new ≡ pushed line.old (ruled_text rule action) }
     ensures of_type { IsRule rule × IsAction action }
@@ -82,7 +82,7 @@ fn push_cache(line: &mut Line, version: u32, word: &Word, rule: Option<u32>, act
     push_ruled(line, rule, action);
 }
 
-#[tactic(auto, using(text_line::proofs::CallerLemmas::pushed_append))]
+#[tactic(auto, using(lines::proofs::CallerLemmas::pushed_append))]
 fn push_advert(line: &mut Line, net: &Net, advert: &Advert)
     ensures text { line.new ≡ pushed line.old (advert_text net.now advert.now) }
     ensures of_type { IsNumber advert.now.boot × IsNumber advert.now.seq }

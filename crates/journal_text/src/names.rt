@@ -1,11 +1,11 @@
 ghost use Rattle.std.specs.Prelude.{◌≡◌, ◌<◌, ◌++◌, [], if◌then◌else◌, filter, codes};
-ghost use Rattle.masks.specs.Masks.{has, switches};
+ghost use Rattle.base.specs.Masks.{has, switches};
 ghost use Rattle.net_file.specs.Net.{name_of, names_text};
 ghost use Rattle.journal_text.specs.Lines.{mask_text};
-ghost use Rattle.text_line.specs.Pushes.{pushed};
+ghost use Rattle.lines.specs.Pushes.{pushed};
 
-use line_fields::{Line, push_name};
-use masks::has;
+use base::has;
+use lines::{Line, push_name};
 use net_file::Net;
 
 /// Adds the names of a mask's switches, ascending, each behind a blank, or a dash for none.
@@ -19,7 +19,7 @@ pub(crate) fn push_mask(line: &mut Line, net: &Net, mask: u64)
     }
 }
 
-#[tactic(auto, using(crate::proofs::MaskLemmas::names_more, crate::proofs::MaskLemmas::names_none, crate::proofs::MaskLemmas::names_all, text_line::proofs::CallerLemmas::pushed_nothing))]
+#[tactic(auto, using(crate::proofs::MaskLemmas::names_more, crate::proofs::MaskLemmas::names_none, crate::proofs::MaskLemmas::names_all, lines::proofs::CallerLemmas::pushed_nothing))]
 fn push_switches(line: &mut Line, net: &Net, mask: u64)
     requires { 0 < mask }
     ensures { line.new ≡ pushed line.old (names_text net.now (filter (has mask) switches)) }
@@ -31,7 +31,7 @@ fn push_switches(line: &mut Line, net: &Net, mask: u64)
 }
 
 // Adds the name of the switch, behind a blank, where the test holds.
-#[tactic(auto, using(text_line::proofs::CallerLemmas::pushed_append))]
+#[tactic(auto, using(lines::proofs::CallerLemmas::pushed_append))]
 fn push_if(line: &mut Line, net: &Net, test: bool, s: u32)
     ensures { line.new
         ≡ pushed line.old (if test then codes " " ++ name_of net.now s else []) }

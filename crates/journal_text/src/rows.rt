@@ -2,15 +2,15 @@ ghost use Rattle.std.specs.Prelude.{◌≡◌, ◌++◌, decimal};
 ghost use Rattle.journal_text.specs.Lines.{named, with_number, pair_text, step_text};
 ghost use Rattle.journal_text.specs.Sizes.{IsStepOfType};
 ghost use Rattle.steps.specs.declared.step.Step.TheVariants.{Packet};
-ghost use Rattle.text_line.specs.Pushes.{pushed};
+ghost use Rattle.lines.specs.Pushes.{pushed};
 
 use five_tuple::Header;
-use line_fields::{Line, push_fields, push_name};
+use lines::{Line, push_fields, push_name};
 use net_file::Net;
 use steps::Step;
 
 /// Adds a number behind a text.
-#[tactic(auto, using(text_line::proofs::CallerLemmas::pushed_append))]
+#[tactic(auto, using(lines::proofs::CallerLemmas::pushed_append))]
 pub(crate) fn push_numbered(line: &mut Line, text: &str, n: u32)
     ensures { line.new ≡ pushed line.old (with_number text.now n) }
 {
@@ -20,7 +20,7 @@ pub(crate) fn push_numbered(line: &mut Line, text: &str, n: u32)
 }
 
 /// Adds a switch's name behind a text.
-#[tactic(auto, using(text_line::proofs::CallerLemmas::pushed_append))]
+#[tactic(auto, using(lines::proofs::CallerLemmas::pushed_append))]
 pub(crate) fn push_named(line: &mut Line, net: &Net, text: &str, s: u32)
     ensures { line.new ≡ pushed line.old (named net.now text.now s) }
 {
@@ -30,7 +30,7 @@ pub(crate) fn push_named(line: &mut Line, net: &Net, text: &str, s: u32)
 }
 
 /// Adds a switch's name and a number, each behind a text.
-#[tactic(auto, using(text_line::proofs::CallerLemmas::pushed_append))]
+#[tactic(auto, using(lines::proofs::CallerLemmas::pushed_append))]
 pub(crate) fn push_named_number(line: &mut Line, net: &Net, text: &str, s: u32, next: &str, n: u32)
     ensures { line.new ≡ pushed line.old (named net.now text.now s ++ next.now ++ decimal n) }
 {
@@ -40,7 +40,7 @@ pub(crate) fn push_named_number(line: &mut Line, net: &Net, text: &str, s: u32, 
 }
 
 /// Adds the names of two switches behind a text.
-#[tactic(auto, using(text_line::proofs::CallerLemmas::pushed_append))]
+#[tactic(auto, using(lines::proofs::CallerLemmas::pushed_append))]
 pub(crate) fn push_pair(line: &mut Line, net: &Net, text: &str, one: u32, two: u32)
     ensures { line.new ≡ pushed line.old (pair_text net.now text.now one two) }
 {
@@ -49,7 +49,7 @@ pub(crate) fn push_pair(line: &mut Line, net: &Net, text: &str, one: u32, two: u
     push_name(line, net, two);
 }
 
-#[tactic(auto, using(text_line::proofs::CallerLemmas::pushed_append))]
+#[tactic(auto, using(lines::proofs::CallerLemmas::pushed_append))]
 fn push_packet(line: &mut Line, net: &Net, switch: u32, header: &Header)
     ensures text { line.new ≡ pushed line.old (step_text net.now (Packet switch header.now)) }
     ensures of_type { IsStepOfType (Packet switch header.now) }

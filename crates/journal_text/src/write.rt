@@ -5,7 +5,7 @@ ghost use Rattle.shelf.specs.SinkWrites.{IsAfterWrite};
 
 use crate::items::set_line;
 use journal::Journal;
-use line_fields::Line;
+use lines::Line;
 use net_file::Net;
 use shelf::{Block, Sink, SinkError};
 

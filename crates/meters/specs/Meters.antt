@@ -1,7 +1,7 @@
 -- Meters: what contracts know of one, and which meters stay.
 use Rattle.std.specs.Prelude.{◌≡◌, ◌==◌, ℕ, Bool, true, false, not, List, [], ◌∷◌, ◌++◌, length, map, filter, take}
 use Rattle.std.specs.List.{list_any, range_with_len}
-use Rattle.masks.specs.Masks.{has}
+use Rattle.base.specs.Masks.{has}
 use Rattle.policy_rules.specs.declared.packet.Leaving.{Leaving}
 use Rattle.meters.specs.declared.meter.Stay.{Stay}
 use Rattle.meters.specs.Seen.{Seen}

@@ -1,6 +1,6 @@
 //! The meters of a network's ports.
 ghost use Rattle.std.specs.Prelude.{◌≡◌, ◌∷◌, [], map, filter, OnOk};
-ghost use Rattle.masks.specs.Masks.{has};
+ghost use Rattle.base.specs.Masks.{has};
 ghost use Rattle.meters.specs.Meters.{kept, kept_meters, GoesOnKept};
 
 use crate::meter::{Meter, Stay};
@@ -66,7 +66,7 @@ impl<M: Meter> Board<M> {
 fn has_port(ports: u64, port: u32) -> bool
     ensures { result ≡ has ports port }
 {
-    port < 64 && masks::has(ports, port)
+    port < 64 && base::has(ports, port)
 }
 
 /// Lets a meter of this port note the leaving, and leaves a meter of another port as it is.

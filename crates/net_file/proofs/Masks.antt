@@ -3,9 +3,9 @@ use Rattle.std.proofs.Common.{ℕ, ◌≡◌, ◌^◌, ◌<◌, ◌≤◌, Bool,
 use Rattle.std.specs.Prelude.{bit_or, nat_eq, ◌==◌}
 use Rattle.std.specs.Int.{bit_at}
 use Rattle.std.proofs.lemmas.Bool.{cases_eq, eq-eqb, ne_eqb}
-use Rattle.masks.proofs.CallerLemmas as masks
-use Rattle.masks.specs.Masks.{has}
-use Rattle.masks.specs.Computed.{mask_of}
+use Rattle.base.proofs.CallerLemmas as masks
+use Rattle.base.specs.Masks.{has}
+use Rattle.base.specs.ComputedMasks.{mask_of}
 
 abbrev pub in_mask : ℕ → ℕ → Bool
 in_mask mask k = bit_at mask k == 1

@@ -15,11 +15,11 @@ use Rattle.net_file.specs.declared.net.SwitchRow.{SwitchRow}
 use Rattle.net_file.specs.declared.net.LinkRow.{LinkRow}
 use Rattle.net_file.specs.declared.net.Net.{Net}
 use Rattle.net_file.specs.Keys.{at_key, number_within, of_type, within}
-use Rattle.masks.specs.Computed.{mask_of}
+use Rattle.base.specs.ComputedMasks.{mask_of}
 use Rattle.net_file.specs.Net.{AreApart, AreOther, IsLink, IsNet, IsSwitchRow, is_name}
 use Rattle.net_file.specs.Reading.{are_distinct, are_new, array_in, document_of, end_read, ends_in, link_array, link_of, link_with, name_in, net_read, net_of, number_stated, ports_in, rows_read, setting_read, switch_array, switch_read, switch_with}
 use Rattle.net_file.specs.Refusals.{require, with_value}
-use Rattle.failure.specs.Refusals.{in_row}
+use Rattle.base.specs.Refusals.{in_row}
 use Rattle.net_file.specs.Owners.{have_name, have_port, switch_number}
 use Rattle.net_file.specs.Joins.{are_linked, has_port, joins}
 use Rattle.net_file.proofs.Masks.{in_mask, in_mask_of, in_mask_past, mask_of_small}

@@ -3,10 +3,10 @@ use Rattle.std.proofs.Common.{ℕ, ◌≡◌, ◌+◌, Ok, Result, List, [], ◌
 use Rattle.toml.specs.Data.{Data}
 use Rattle.net_file.specs.declared.error.NetRefusal.{NetRefusal}
 use Rattle.net_file.specs.Refusals.{with_value}
-use Rattle.failure.specs.Refusals.{IsRefusal, in_row}
-use Rattle.failure.specs.declared.error.Failure.{Failure}
-use Rattle.failure.specs.declared.error.Failure.TheVariants.{Refused, NoMemory}
-use Rattle.failure.specs.declared.row.InRow.{InRow}
+use Rattle.base.specs.Refusals.{IsRefusal, in_row}
+use Rattle.base.specs.declared.error.Failure.{Failure}
+use Rattle.base.specs.declared.error.Failure.TheVariants.{Refused, NoMemory}
+use Rattle.base.specs.declared.row.InRow.{InRow}
 use Rattle.net_file.specs.Reading.{rows_read}
 
 -- the next value states a row

@@ -5,7 +5,7 @@ use Rattle.net_file.specs.declared.net.SwitchRow.{SwitchRow}
 use Rattle.net_file.specs.declared.ports.Ports.{Ports}
 use Rattle.net_file.specs.Joins.{owner_of, has_port, are_linked}
 use Rattle.net_file.specs.declared.net.LinkRow.{LinkRow}
-use Rattle.masks.specs.Computed.{mask_of}
+use Rattle.base.specs.ComputedMasks.{mask_of}
 
 -- what the table says of a port
 abbrev pub port_owner : Ports → ℕ → Option ℕ

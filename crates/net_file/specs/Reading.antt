@@ -5,11 +5,11 @@ use Rattle.std.specs.Str.{is_utf8}
 use Rattle.toml.specs.Data.{Data, Members, as_integer, as_str, as_array, as_table}
 use Rattle.toml.specs.Parse.{parse_document}
 use Rattle.net_file.specs.Keys.{at_key, items_list, number_within, of_type, within}
-use Rattle.masks.specs.Computed.{mask_of}
+use Rattle.base.specs.ComputedMasks.{mask_of}
 use Rattle.net_file.specs.Net.{is_name}
 use Rattle.net_file.specs.Refusals.{require, with_value}
-use Rattle.failure.specs.Refusals.{in_row}
-use Rattle.failure.specs.declared.row.InRow.{InRow}
+use Rattle.base.specs.Refusals.{in_row}
+use Rattle.base.specs.declared.row.InRow.{InRow}
 use Rattle.net_file.specs.declared.error.NetRefusal.{NetRefusal}
 use Rattle.net_file.specs.declared.error.NetRefusal.TheVariants as refusal
 use Rattle.net_file.specs.declared.net.SwitchRow.{SwitchRow}

@@ -1,8 +1,8 @@
 ghost use Rattle.std.specs.Prelude.{◌≡◌};
-ghost use Rattle.failure.specs.declared.error.Failure.TheVariants.{Refused};
+ghost use Rattle.base.specs.declared.error.Failure.TheVariants.{Refused};
 ghost use Rattle.net_file.specs.Refusals.{net_code};
 
-use failure::{Failure, InRow};
+use base::{Failure, InRow};
 
 /// What is wrong with a network's text.
 #[derive(Clone, Copy, Debug, PartialEq, Eq)]

@@ -2,12 +2,12 @@ ghost use Rattle.std.specs.Prelude.{◌≡◌, ◌≤◌, ◌<◌, Ok, [], IfOk,
 ghost use Rattle.toml.specs.View.{table_view, view};
 ghost use Rattle.net_file.specs.Nets.{are_linked, end_read, ends_in, link_array, link_of, links_in};
 ghost use Rattle.net_file.specs.Outcomes.{IsRead, seen_values};
-ghost use Rattle.failure.specs.Refusals.{IsRefusal};
+ghost use Rattle.base.specs.Refusals.{IsRefusal};
 
 use crate::error::{NetError, NetRefusal};
 use crate::keys::{array_in, table_in, value_at};
 use crate::net::{LinkRow, SwitchRow, number_in};
-use failure::InRow;
+use base::InRow;
 use std::alloc::Global;
 use toml::{Table, Value};
 

@@ -2,8 +2,7 @@ ghost use Rattle.std.specs.Prelude.{◌≡◌, ◌≤◌, ◌<◌, ◌==◌, ℕ
 ghost use Rattle.net_file.specs.Nets.{AreOwners, IsLink, IsNet, joins, links_of, owner_of, port_mask, solo_net, switch_number};
 
 use crate::ports::{Ports, owners};
-use lists::Listing;
-use masks::{has, with};
+use base::{Listing, has, with};
 use std::alloc::{AllocError, AllocFailed, Global};
 use std::marker::Model;
 

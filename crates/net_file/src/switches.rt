@@ -4,13 +4,12 @@ ghost use Rattle.toml.specs.Data.{as_integer};
 ghost use Rattle.toml.specs.View.{table_view, view};
 ghost use Rattle.net_file.specs.Nets.{IsMask, are_name_bytes, are_new, have_name, have_port, is_label, is_name, is_name_byte, name_at, port_bits, port_read, ports_at, ports_of, row_stated, switch_array, switch_read, switch_with, switches_read};
 ghost use Rattle.net_file.specs.Outcomes.{IsRead, seen_values};
-ghost use Rattle.failure.specs.Refusals.{IsRefusal, in_row};
+ghost use Rattle.base.specs.Refusals.{IsRefusal, in_row};
 
 use crate::error::{NetError, NetRefusal};
 use crate::keys::{array_in, setting_of, table_in, text_in, value_at, within};
 use crate::net::{Name, SwitchRow};
-use failure::InRow;
-use masks::{has, with};
+use base::{InRow, has, with};
 use std::alloc::Global;
 use toml::{Table, Value};
 

@@ -9,11 +9,11 @@
 
 ghost use Rattle.std.specs.Prelude.{ℕ, ◌≡◌, ◌+◌, ◌<◌, ◌≤◌, ◌^◌, Ok, Err, List, length, slice_index, All, AllPairs, MatchOption, IfOk, IfErr, if◌then◌else◌, nat_eq};
 ghost use Rattle.std.specs.List.{list_any, range_with_len};
-ghost use Rattle.failure.specs.Refusals.{IfRefused};
+ghost use Rattle.base.specs.Refusals.{IfRefused};
 ghost use Rattle.placement.specs.Order.{in_order};
 ghost use Rattle.placement.specs.Placement.{is_earlier, is_lighter, has_room, with_room, AreFirst, IsPlacement, LacksRoom, MeetsPlacement, RefusesPlacement, placement_of};
 
-use failure::Failure;
+use base::Failure;
 use policy_rules::Targets;
 use std::alloc::{AllocError, Global};
 use std::cmp::Reverse;

@@ -13,7 +13,7 @@ use Rattle.policy_rules.specs.declared.policy.Row.{Row}
 use Rattle.policy_rules.specs.Repeats.{IsFirstRepeat, has_priority}
 use Rattle.policy_file.specs.declared.error.PolicyRefusal.{PolicyRefusal}
 use Rattle.policy_file.specs.declared.error.PolicyRefusal.TheVariants as why
-use Rattle.failure.specs.declared.row.InRow.{InRow}
+use Rattle.base.specs.declared.row.InRow.{InRow}
 use Rattle.policy_file.specs.Reading.{IsReadUpTo, State, first_some, policy_heading, refusal_after, refusal_at, row_read, rows_of, rows_under_heading, states_priority}
 
 -- ---- the first number that has something

@@ -7,7 +7,7 @@ use Rattle.csv_records.specs.Texts.{is_heading, records_of}
 use Rattle.five_tuple.specs.Texts.{number_up_to, prefix_of, range_of, proto_of}
 use Rattle.policy_rules.specs.Read.{action_of}
 use Rattle.policy_rules.specs.declared.policy.Row.{Row}
-use Rattle.failure.specs.declared.row.InRow.{InRow}
+use Rattle.base.specs.declared.row.InRow.{InRow}
 use Rattle.policy_file.specs.declared.error.PolicyRefusal.{PolicyRefusal}
 use Rattle.policy_file.specs.declared.error.PolicyRefusal.TheVariants as why
 

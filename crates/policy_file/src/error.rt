@@ -1,7 +1,7 @@
 ghost use Rattle.std.specs.Prelude.{◌≡◌};
 ghost use Rattle.policy_file.specs.Reading.{policy_code};
 
-use failure::{Failure, InRow};
+use base::{Failure, InRow};
 
 /// Why a policy's text is refused.
 #[derive(Clone, Copy, Debug, PartialEq, Eq)]

@@ -2,7 +2,7 @@ ghost use Rattle.std.specs.Prelude.{◌≡◌, ◌<◌, All, IfNone, IfSome, IsT
 ghost use Rattle.std.specs.Result.{result_err};
 ghost use Rattle.policy_file.specs.Ports.{first_without_port, names_port_of};
 
-use masks::has;
+use base::has;
 use policy_rules::{Action, Policy, Row};
 use thiserror::Error;
 

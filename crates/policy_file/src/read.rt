@@ -1,12 +1,12 @@
 ghost use Rattle.std.specs.Prelude.{◌≡◌, ◌≤◌, Ok, IfOk, IfErr, All, length};
 ghost use Rattle.policy_rules.specs.Policies.{HasSmallPort, IsPolicy};
 ghost use Rattle.policy_file.specs.Reading.{IsReadUpTo, policy_of};
-ghost use Rattle.failure.specs.Refusals.{IsRefusal};
+ghost use Rattle.base.specs.Refusals.{IsRefusal};
 
 use crate::error::{PolicyError, PolicyRefusal};
 use crate::row::{is_heading, read_row};
+use base::{Failure, InRow};
 use csv_records::{ByteRecord, Records};
-use failure::{Failure, InRow};
 use policy_rules::{Policy, Row};
 use std::alloc::{AllocError, Global};
 

@@ -1,6 +1,6 @@
 -- One to four switches, held in four places.
 use Rattle.std.specs.Prelude.{ℕ, ◌≡◌, ◌-◌, ◌<◌, ◌≤◌, List, length, take, drop, replicate}
-use Rattle.lists.specs.Filled.{filled, filled-take}
+use Rattle.base.specs.Filled.{filled, filled-take}
 use Rattle.policy_rules.specs.declared.targets.Targets.TheInside.{Inside}
 
 -- of the four places, one or more are in the list; those past it are 0

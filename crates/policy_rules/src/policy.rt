@@ -2,9 +2,9 @@ ghost use Rattle.std.specs.Prelude.{◌≡◌, ◌<◌, ◌^◌, nat_lt, true, I
 ghost use Rattle.std.specs.Option.{option_map_or};
 ghost use Rattle.five_tuple.specs.Header.{IsPortRange, IsProtocol};
 ghost use Rattle.policy_rules.specs.Policies.{IsFirstMatch, IsHighestMatch, IsPolicy, IsSoundRow, RefusesRows, hit_of, row_matches, scan};
-ghost use Rattle.failure.specs.Refusals.{IfRefused};
+ghost use Rattle.base.specs.Refusals.{IfRefused};
 
-use failure::Failure;
+use base::Failure;
 use five_tuple::{Fields, Header, PortRange, Prefix, Proto};
 use std::alloc::{AllocError, Global};
 use std::collections::HashSet;

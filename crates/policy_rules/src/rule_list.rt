@@ -1,6 +1,6 @@
 ghost use Rattle.std.specs.Prelude.{◌≡◌, ◌+◌, ◌<◌, ◌≤◌, ◌^◌, ◌∷◌, [], All, Err, IfOk, IfErr, OnOk, Some, map, option_map, length};
-ghost use Rattle.failure.specs.Refusals.{IfRefused};
-ghost use Rattle.failure.specs.declared.error.Failure.TheVariants.{Refused};
+ghost use Rattle.base.specs.Refusals.{IfRefused};
+ghost use Rattle.base.specs.declared.error.Failure.TheVariants.{Refused};
 ghost use Rattle.five_tuple.specs.Headers.{IsHeader, IsPortBlock, cover_of};
 ghost use Rattle.five_tuple.specs.declared.header.Header.{Header};
 ghost use Rattle.policy_rules.specs.Policies.{AppendsRanked, IsPolicy, IsRuleList, IsSoundRow, RefusesRules, by_falling_priority, entries_of, first_rule, hit_of_rule, ranked_from, rules_of, scan, with_default, with_hit, word_of_row, word_total};
@@ -9,7 +9,7 @@ use crate::laws::rule_list_laws;
 use crate::policy::{Hit, Policy, Row};
 use crate::rules::Rule;
 use crate::words::word_of_row;
-use failure::Failure;
+use base::Failure;
 use five_tuple::{PortBlock, count_blocks};
 use std::alloc::{AllocError, Global};
 use std::cmp::Reverse;

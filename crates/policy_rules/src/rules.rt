@@ -4,8 +4,8 @@ ghost use Rattle.five_tuple.specs.Header.{IsHeader, number_of};
 ghost use Rattle.policy_rules.specs.Rules.{is_held, first_rule};
 
 use crate::policy::Action;
+use base::SharedList;
 use five_tuple::Header;
-use lists::SharedList;
 use ternary::Word;
 
 /// A rule as a switch holds it: a row of a policy, or its default, for the headers of one word.

@@ -8,7 +8,7 @@ use Rattle.steps.specs.declared.step.Step.{Step}
 use Rattle.steps.specs.declared.step.Step.TheVariants.{Deliver, Hop, Packet}
 use Rattle.steps.specs.Steps.{IsEvent, IsStep}
 use Rattle.steps.specs.Limits.{max_events}
-use Rattle.way_laws.specs.Drains.{drain_left}
+use Rattle.packet_laws.specs.Drains.{drain_left}
 use Rattle.update_machine.specs.Answers.{IsReached}
 use Rattle.update_machine.specs.Full.{HasRoom}
 use Rattle.update_machine.specs.Messages.{next_waiting}

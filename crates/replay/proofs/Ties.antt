@@ -4,7 +4,7 @@ use Rattle.steps.specs.Limits.{max_events}
 use Rattle.update_machine.specs.Answers.{IsReached}
 use Rattle.update_machine.specs.Packets.{next_packet}
 use Rattle.world.specs.State.{IsTied, WorldValue, setting_at}
-use Rattle.world_ties.specs.Tied.{AreTied, Tied}
+use Rattle.refinement.specs.Tied.{AreTied, Tied}
 
 pub tie_of : (world : WorldValue) → IsTied world
     → Tied (setting_at world) world.journal world.switches world.travelling world.packets

@@ -7,11 +7,11 @@ ghost use Rattle.replay.specs.Playing.{BeginsEvent, Happens, StopsWithin, brough
 ghost use Rattle.world.specs.State.{setting_at};
 
 use crate::noting::note_left;
-use failure::Failure;
+use base::Failure;
 use meters::{Board, Meter};
+use packet_laws::{deliveries_rise, drains_end};
 use std::alloc::Global;
 use steps::{Event, Step};
-use way_laws::{deliveries_rise, drains_end};
 use world::{Full, World};
 
 /// Takes all steps of an event of this row: the one that it names; for a drain a hop of the least

@@ -12,7 +12,7 @@ ghost use Rattle.replay.specs.Playing.{IsPlanRefusal};
 
 use crate::error::ReplayError;
 use crate::event_steps::take_steps;
-use failure::Failure;
+use base::Failure;
 use journal::Journal;
 use meters::{Board, Meter};
 use net_file::Net;

@@ -26,7 +26,7 @@ use Rattle.steps.specs.declared.step.Step.{Step}
 use Rattle.steps.specs.declared.step.Step.TheVariants as step
 use Rattle.schedule.specs.Kinds.{kind_of}
 use Rattle.schedule.specs.Reading.{AreSoundEvents, events_in, events_of, events_under_heading, no_schedule_heading, refused_row, refusals_from}
-use Rattle.failure.specs.declared.row.InRow.{InRow}
+use Rattle.base.specs.declared.row.InRow.{InRow}
 use Rattle.schedule.specs.Rows.{event_of, event_with, file_in, header_read, link_in, number_read, schedule_heading, switch_in}
 use Rattle.schedule.specs.declared.error.ScheduleRefusal.{ScheduleRefusal}
 use Rattle.schedule.specs.declared.error.ScheduleRefusal.TheVariants as why

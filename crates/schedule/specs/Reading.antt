@@ -8,7 +8,7 @@ use Rattle.net_file.specs.declared.net.Net.{Net}
 use Rattle.steps.specs.Steps.{IsEvent}
 use Rattle.steps.specs.Limits.{max_events}
 use Rattle.steps.specs.declared.step.Event.{Event}
-use Rattle.failure.specs.declared.row.InRow.{InRow}
+use Rattle.base.specs.declared.row.InRow.{InRow}
 use Rattle.schedule.specs.Rows.{event_of, schedule_heading}
 use Rattle.schedule.specs.declared.error.ScheduleRefusal.{ScheduleRefusal}
 use Rattle.schedule.specs.declared.error.ScheduleRefusal.TheVariants as why

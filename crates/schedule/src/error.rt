@@ -1,7 +1,7 @@
 ghost use Rattle.std.specs.Prelude.{◌≡◌, ◌≤◌};
 ghost use Rattle.schedule.specs.Refusals.{schedule_code};
 
-use failure::{Failure, InRow};
+use base::{Failure, InRow};
 
 /// Why a schedule's text is refused.
 #[derive(Clone, Copy, Debug, PartialEq, Eq)]

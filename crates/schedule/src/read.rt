@@ -3,13 +3,13 @@ ghost use Rattle.net_file.specs.Net.{IsNet};
 ghost use Rattle.steps.specs.Steps.{IsEvent};
 ghost use Rattle.steps.specs.Limits.{max_events};
 ghost use Rattle.schedule.specs.Reading.{schedule_of};
-ghost use Rattle.failure.specs.Refusals.{IsRefusal};
+ghost use Rattle.base.specs.Refusals.{IsRefusal};
 
 use crate::error::{ScheduleError, ScheduleRefusal};
 use crate::laws::schedule_laws;
 use crate::row::{is_heading, read_event};
+use base::InRow;
 use csv_records::{ByteRecord, Records};
-use failure::InRow;
 use net_file::Net;
 use std::alloc::Global;
 use steps::{Event, MAX_EVENTS};

@@ -2,8 +2,8 @@
 use Rattle.std.proofs.Common.{ℕ, ◌^◌, ◌<◌, ◌≤◌, List, ◌∷◌, [], ◌++◌, length, arith}
 use Rattle.std.specs.Prelude.{codes, decimal}
 use Rattle.std.proofs.lemmas.Fmt.{length-decimal-le}
-use Rattle.line_fields.proofs.Lengths.{IsWithin, action_within, all_of, name_within, names_within, number, joined_within, rule_within, widened, with_text, word_within}
-use Rattle.line_fields.specs.Sizes.{IsAction, IsNumber, IsRule}
+use Rattle.lines.proofs.Lengths.{IsWithin, action_within, all_of, name_within, names_within, number, joined_within, rule_within, widened, with_text, word_within}
+use Rattle.lines.specs.Sizes.{IsAction, IsNumber, IsRule}
 use Rattle.net_file.specs.Laws.{NameLaws}
 use Rattle.net_file.specs.Net.{IsNet, name_of}
 use Rattle.net_file.specs.declared.net.Net.{Net}

@@ -1,16 +1,16 @@
 ghost use Rattle.std.specs.Prelude.{◌≡◌, ◌≤◌, ◌<◌, ◌^◌, ◌++◌, OnOk, length};
-ghost use Rattle.line_fields.specs.Sizes.{IsAction, IsNumber, IsRule};
+ghost use Rattle.lines.specs.Sizes.{IsAction, IsNumber, IsRule};
 ghost use Rattle.show_text.specs.Text.{with_line_feed, part_text, region_text, rule_lines, rule_text_of, targets_text};
-ghost use Rattle.text_line.specs.Pushes.{pushed};
+ghost use Rattle.lines.specs.Pushes.{pushed};
 
-use line_fields::{Line, push_action, push_names, push_rule, push_word};
+use lines::{Line, push_action, push_names, push_rule, push_word};
 use net_file::Net;
 use policy_rules::{Partition, Rule, Targets};
 use std::alloc::AllocError;
 use ternary::Word;
 
 /// Adds the start of a partition's line.
-#[tactic(auto, using(text_line::proofs::CallerLemmas::pushed_append))]
+#[tactic(auto, using(lines::proofs::CallerLemmas::pushed_append))]
 pub fn push_region(entry: &mut Line, number: u64, region: &Word)
     ensures { entry.new ≡ pushed entry.old (region_text number region.now) }
 {
@@ -21,7 +21,7 @@ pub fn push_region(entry: &mut Line, number: u64, region: &Word)
 }
 
 /// Adds a partition with the number of its rules.
-#[tactic(auto, using(text_line::proofs::CallerLemmas::pushed_append))]
+#[tactic(auto, using(lines::proofs::CallerLemmas::pushed_append))]
 pub fn push_part(entry: &mut Line, part: &Partition)
     ensures text { entry.new ≡ pushed entry.old (part_text part.now) }
     ensures of_type { (part.now.number < 2 ^ 64) × (length part.now.rules < 2 ^ 64) }
@@ -32,7 +32,7 @@ pub fn push_part(entry: &mut Line, part: &Partition)
 }
 
 /// Adds the names of targets, each behind a blank.
-#[tactic(auto, using(text_line::proofs::CallerLemmas::pushed_append))]
+#[tactic(auto, using(lines::proofs::CallerLemmas::pushed_append))]
 pub fn push_targets(entry: &mut Line, net: &Net, targets: &Targets)
     ensures text { entry.new ≡ pushed entry.old (targets_text net.now targets.now) }
     ensures few { length targets.now ≤ 4 }
@@ -42,7 +42,7 @@ pub fn push_targets(entry: &mut Line, net: &Net, targets: &Targets)
 }
 
 // Adds what a rule's line says.
-#[tactic(auto, using(text_line::proofs::CallerLemmas::pushed_append))]
+#[tactic(auto, using(lines::proofs::CallerLemmas::pushed_append))]
 fn push_rule_text(entry: &mut Line, rule: &Rule)
     ensures text { entry.new ≡ pushed entry.old (rule_text_of rule.now) }
     ensures of_type { IsNumber rule.now.rank × IsRule rule.now.rule × IsAction rule.now.action }
@@ -58,7 +58,7 @@ fn push_rule_text(entry: &mut Line, rule: &Rule)
 }
 
 // Makes the line that of a rule.
-#[tactic(auto, using(text_line::proofs::CallerLemmas::pushed_append, text_line::proofs::CallerLemmas::pushed_whole, crate::proofs::Sizes::rule_fits))]
+#[tactic(auto, using(lines::proofs::CallerLemmas::pushed_append, lines::proofs::CallerLemmas::pushed_whole, crate::proofs::Sizes::rule_fits))]
 fn set_rule(entry: &mut Line, rule: &Rule)
     ensures { entry.new ≡ with_line_feed (rule_text_of rule.now) }
 {

@@ -7,11 +7,11 @@ use Rattle.std.specs.Bool.{IsTrue, IsFalse}
 use Rattle.std.specs.Option.{MatchOption}
 use Rattle.std.proofs.lemmas.Option.{get_or_from_slice_get}
 use Rattle.policy_rules.specs.declared.packet.Cause.{Cause}
-use Rattle.masks.proofs.CallerLemmas.{has-zero}
+use Rattle.base.proofs.CallerLemmas.{has-zero}
 use Rattle.failover.proofs.Rows.{has_known}
 use Rattle.failover.proofs.Searching.{known_route_is_route}
 use Rattle.failover.specs.Links.{is_link, known_links, neighbours_named, named_links, IsPath}
-use Rattle.masks.specs.Masks.{has}
+use Rattle.base.specs.Masks.{has}
 use Rattle.failover.specs.Paths.{IsRoute}
 use Rattle.failover.specs.Routes.{route_of}
 use Rattle.failover.specs.declared.advert.Advert.{Advert}

@@ -19,7 +19,7 @@ use Rattle.policy_rules.specs.declared.rules.Rule.{Rule}
 use Rattle.policy_rules.specs.Hosted.{Hosted}
 use Rattle.net_file.specs.Owners.{port_owner}
 use Rattle.failover.specs.Links.{with_link}
-use Rattle.masks.specs.Masks.{has}
+use Rattle.base.specs.Masks.{has}
 use Rattle.failover.specs.Routes.{route_of}
 use Rattle.tunnel.specs.Moves.{here, next, tunnel_begun}
 use Rattle.tunnel.specs.Tunnel.{TunnelValue}

@@ -4,7 +4,7 @@
 use Rattle.std.specs.Prelude.{⊤, ℕ, Bool, true, not, ◌&&◌, ◌||◌, ◌==◌, max, nat_le, nat_lt, if◌then◌else◌, Option, Some, None, List, [], ◌∷◌, ◌++◌, filter, map}
 use Rattle.std.specs.Option.{option_map_or}
 use Rattle.failover.specs.Adverts.{after_hearing, is_news}
-use Rattle.masks.specs.Masks.{has, switches}
+use Rattle.base.specs.Masks.{has, switches}
 use Rattle.failover.specs.declared.advert.Advert.{Advert}
 use Rattle.switch_table.specs.Cache.{accepted, raised}
 use Rattle.switch_table.specs.Tables.{AreSoundTables}

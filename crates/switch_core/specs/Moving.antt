@@ -1,7 +1,7 @@
 -- What becomes of a packet that is on its way at a switch, as a function. What it says is the
 -- relation `IsHop`, which allows nothing else.
 use Rattle.std.specs.Prelude.{ℕ, Bool, true, Option, Some, None, if◌then◌else◌, List}
-use Rattle.masks.specs.Masks.{has}
+use Rattle.base.specs.Masks.{has}
 use Rattle.tunnel.specs.Tunnel.{TunnelValue}
 use Rattle.tunnel.specs.Moves.{next, advanced, marked_down, on_route, route_from_here}
 use Rattle.switch_core.specs.declared.answers.HopEnd.{HopEnd}

@@ -1,5 +1,5 @@
+use base::Listing;
 use ctrl_msg::{Body, Message};
-use lists::Listing;
 use policy_rules::{Action, Cause, How, Leg};
 use tunnel::Tunnel;
 

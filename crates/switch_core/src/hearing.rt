@@ -7,9 +7,9 @@ ghost use Rattle.switch_core.specs.Hearing.{IsSoundBody, collected_to, flood, wi
 use crate::answers::{Heard, Replies};
 use crate::kept::KeptTables;
 use crate::switch::Switch;
+use base::has;
 use ctrl_msg::{Body, Message, Receiver, SharedTables};
 use failover::Advert;
-use masks::has;
 use std::alloc::{AllocError, Global};
 use switch_table::CacheEntry;
 

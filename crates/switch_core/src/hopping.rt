@@ -4,7 +4,7 @@ ghost use Rattle.switch_core.specs.Switches.{call_counted, hopped, is_free, link
 
 use crate::answers::{Hop, HopEnd};
 use crate::switch::Switch;
-use masks::has;
+use base::has;
 use tunnel::Tunnel;
 
 impl Switch {

@@ -1,4 +1,4 @@
-use lists::SharedList;
+use base::SharedList;
 use policy_rules::{Partition, Targets};
 use ternary::Word;
 

@@ -2,9 +2,9 @@
 use Rattle.std.proofs.Common.{ℕ, ◌≡◌, ◌+◌, ◌-◌, ◌*◌, ◌/◌, ◌%◌, ◌^◌, ◌<◌, ◌≤◌, ◌==◌, ◌⊎◌, inl, inr, Bool, true, false, not, List, [], refl, ap, sym, ◌∙◌, length, arith, eqb-true, eq-eqb}
 use Rattle.std.proofs.lemmas.Bool.{cases_lt}
 use Rattle.std.proofs.lemmas.List.{get_or_past}
-use Rattle.masks.specs.Masks.{has}
-use Rattle.masks.specs.Computed.{least_in}
-use Rattle.masks.proofs.CallerLemmas.{has-zero, has_least, least_below, least_lt}
+use Rattle.base.specs.Masks.{has}
+use Rattle.base.specs.ComputedMasks.{least_in}
+use Rattle.base.proofs.CallerLemmas.{has-zero, has_least, least_below, least_lt}
 use Rattle.travelling.specs.Marks.{AreLevels, AreOfBlocks, IsLeastMarked, IsNoneMarked, has_marks, is_marked, mask_at}
 
 pub no_levels : AreLevels [] [] []

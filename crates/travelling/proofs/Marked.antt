@@ -9,9 +9,9 @@ use Rattle.std.proofs.lemmas.Bool.Decides.{nat_tests}
 use Rattle.std.proofs.lemmas.List.{get_or_past}
 use Rattle.std.proofs.lemmas.Nat.{shr_le, shr-shr}
 use Rattle.std.proofs.lemmas.Nat.Bits.{bit_at_xor, bit_at-lt, bit_at-pow_same, bit_at-pow_other}
-use Rattle.masks.specs.Masks.{has}
-use Rattle.masks.specs.Computed.{least_in}
-use Rattle.masks.proofs.CallerLemmas.{has-zero, has_above, has_least, least_below}
+use Rattle.base.specs.Masks.{has}
+use Rattle.base.specs.ComputedMasks.{least_in}
+use Rattle.base.proofs.CallerLemmas.{has-zero, has_above, has_least, least_below}
 use Rattle.travelling.specs.Marks.{flipped_if, has_marks, is_marked}
 use Rattle.travelling.specs.Travelling.{AreMarked, Travellers, stands_at, traveller}
 use Rattle.travelling.specs.declared.travelling.Traveller.{Traveller}

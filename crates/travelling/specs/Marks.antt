@@ -1,7 +1,7 @@
 -- Where packets stand, as masks: bit i % 64 of the mask of i / 64 and a switch says that packet i
 -- stands at the switch. Masks of the same form say which of these masks have a bit.
 use Rattle.std.specs.Prelude.{ℕ, ◌≡◌, ◌+◌, ◌*◌, ◌/◌, ◌%◌, ◌<◌, ◌≤◌, ◌==◌, Bool, true, false, not, if◌then◌else◌, Option, List, MatchOption, length, slice_index_or}
-use Rattle.masks.specs.Masks.{has}
+use Rattle.base.specs.Masks.{has}
 
 -- the mask of the numbers of this block of 64 at the switch
 abbrev pub mask_at : List ℕ → ℕ → ℕ → ℕ

@@ -8,7 +8,7 @@ ghost use Rattle.travelling.specs.Marks.{AreOfBlocks, IsLeastMarked, IsNextInBlo
 ghost use Rattle.travelling.specs.Travelling.{stands_at};
 
 use crate::kept::Kept;
-use masks::only_if;
+use base::only_if;
 use std::alloc::{AllocError, Global};
 use std::marker::Model;
 

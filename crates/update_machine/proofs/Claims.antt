@@ -10,8 +10,8 @@ use Rattle.std.proofs.lemmas.List.{set_past}
 use Rattle.failover.specs.Links.{has_link, no_links, with_link}
 use Rattle.failover.proofs.Balls.{or_cases}
 use Rattle.failover.proofs.LinkSets.{has_link-none}
-use Rattle.masks.specs.Masks.{has}
-use Rattle.masks.proofs.CallerLemmas.{has_mask, has-or, has-pow_other}
+use Rattle.base.specs.Masks.{has}
+use Rattle.base.proofs.CallerLemmas.{has_mask, has-or, has-pow_other}
 use Rattle.net_file.specs.Joins.{are_linked, joins}
 use Rattle.partition.specs.Plan.{Hosted}
 use Rattle.policy_rules.specs.declared.policy.Row.{Row}

@@ -23,8 +23,8 @@ use Rattle.update_machine.specs.Causes.{present_step}
 use Rattle.update_machine.specs.Travels.{ingress_of, travels, next_travelling, leg_of}
 use Rattle.update_machine.specs.Ways.{route_in, route_place, next_switch, found_down}
 use Rattle.update_machine.specs.LinkMasks.{near}
-use Rattle.masks.specs.Masks.{has, switches}
-use Rattle.masks.specs.Computed.{mask_where, mask_of, least_in}
+use Rattle.base.specs.Masks.{has, switches}
+use Rattle.base.specs.ComputedMasks.{mask_where, mask_of, least_in}
 use Rattle.failover.specs.Adverts.{is_news, after_hearing, first_adverts}
 use Rattle.failover.specs.Links.{named_links, is_link, known_links, has_link, with_link}
 use Rattle.failover.specs.Routes.{wider, ball, nearer, onward, links_away, route_to, first_route, route_of}

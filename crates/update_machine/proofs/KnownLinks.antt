@@ -13,7 +13,7 @@ use Rattle.failover.proofs.Adverts.{by_origin-first, by_origin-hearing, by_origi
 use Rattle.failover.proofs.Newest.{held_newest}
 use Rattle.failover.proofs.Rows.{has_known, isolated_tells}
 use Rattle.failover.proofs.Searching.{known_route_is_route}
-use Rattle.masks.specs.Masks.{has, switches}
+use Rattle.base.specs.Masks.{has, switches}
 use Rattle.net_file.specs.Joins.{owner_of}
 use Rattle.net_file.specs.Owners.{links_of}
 use Rattle.policy_rules.specs.declared.packet.Leg.TheVariants.{Exit}

@@ -3,8 +3,8 @@ use Rattle.std.proofs.Common.{ℕ, ◌≡◌, Some, None, List, [], ◌∷◌, �
 use Rattle.ctrl_msg.specs.declared.message.Body.{Body}
 use Rattle.ctrl_msg.specs.declared.message.Body.TheVariants.{Collect, Install, Stamp}
 use Rattle.failover.specs.Adverts.{after_hearing, first_adverts, is_news}
-use Rattle.masks.specs.Masks.{switches}
-use Rattle.masks.specs.Computed.{mask_of, mask_where}
+use Rattle.base.specs.Masks.{switches}
+use Rattle.base.specs.ComputedMasks.{mask_of, mask_where}
 use Rattle.steps.specs.declared.step.Step.TheVariants as step
 use Rattle.journal.specs.declared.item.Item.{Item}
 use Rattle.journal.specs.declared.item.Item.TheVariants as item

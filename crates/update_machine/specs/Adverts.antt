@@ -3,7 +3,7 @@
 use Rattle.std.specs.Prelude.{ℕ, ◌+◌, Bool, true, false, not, ◌&&◌, ◌==◌, if◌then◌else◌, Option, Some, None, List, ◌++◌, count_by, filter_map, slice_set}
 use Rattle.failover.specs.Adverts.{held}
 use Rattle.failover.specs.Isolated.{is_isolated}
-use Rattle.masks.specs.Masks.{switches}
+use Rattle.base.specs.Masks.{switches}
 use Rattle.failover.specs.Routes.{route_of}
 use Rattle.failover.specs.declared.advert.Advert.{Advert}
 use Rattle.journal.specs.declared.item.Item.{Item}

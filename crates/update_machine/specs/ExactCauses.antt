@@ -1,7 +1,7 @@
 -- The causes of what packets find, as the functions say that give their routes.
 use Rattle.std.specs.Prelude.{ℕ, ◌≡◌, Some, List, find, option_map, All, IsFalse}
 use Rattle.failover.specs.Links.{IsReachable}
-use Rattle.masks.specs.Masks.{has}
+use Rattle.base.specs.Masks.{has}
 use Rattle.policy_rules.specs.Hosted.{is_in}
 use Rattle.policy_rules.specs.declared.packet.Leg.{Leg}
 use Rattle.policy_rules.specs.declared.packet.Leg.TheVariants.{Seek, Exit}

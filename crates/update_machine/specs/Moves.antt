@@ -7,7 +7,7 @@ use Rattle.cache_maker.specs.Independent.{widen}
 use Rattle.ctrl_msg.specs.declared.message.Body.TheVariants.{CacheRule}
 use Rattle.ctrl_msg.specs.declared.message.Message.{Message}
 use Rattle.ctrl_msg.specs.declared.message.Receiver.TheVariants as receiver
-use Rattle.masks.specs.Masks.{has}
+use Rattle.base.specs.Masks.{has}
 use Rattle.five_tuple.specs.Header.{number_of}
 use Rattle.five_tuple.specs.declared.header.Header.{Header}
 use Rattle.five_tuple.specs.HeaderNumbers.{header_of}

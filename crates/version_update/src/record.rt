@@ -1,7 +1,7 @@
 ghost use Rattle.std.specs.Prelude.{◌≡◌, ◌<◌, ◌≤◌};
 ghost use Rattle.version_update.specs.Record.{is_member, has_acked, first_record, takes_hello, hello_recorded, takes_installed, after_installed, takes_stamped, after_stamped, after_over, opens_at, opened_record};
 
-use masks::has;
+use base::has;
 
 /// How a switch stands to the versions of a policy.
 #[derive(Clone, Copy, Debug, PartialEq, Eq)]

@@ -9,10 +9,10 @@ use Rattle.std.proofs.lemmas.List.{take-append-drop, length-map, take_all}
 use Rattle.ctrl_msg.specs.declared.message.Message.{Message}
 use Rattle.wire.specs.Messages.{message, IsSpelling}
 use Rattle.wire.specs.Frames.{frame, frames_from, frames_of, pieces, piece_of, place_in_frame, slices, cut, head_len, most_of_piece, AreFrames}
-use Rattle.failure.specs.Refusals.{IfRefused}
-use Rattle.failure.specs.declared.error.Failure.{Failure}
+use Rattle.base.specs.Refusals.{IfRefused}
+use Rattle.base.specs.declared.error.Failure.{Failure}
 use Rattle.wire.specs.declared.error.Malformed.{Malformed}
-use Rattle.failure.proofs.CallerLemmas.{IfRefused-weaker}
+use Rattle.base.proofs.Refusals.{IfRefused-weaker}
 use Rattle.wire.specs.Assembly.{AreRising, AreNone}
 use Rattle.wire.proofs.Framing.{pieces_of_frames}
 use Rattle.wire.proofs.Decoding.{one_message}

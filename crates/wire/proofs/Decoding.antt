@@ -4,10 +4,10 @@ use Rattle.std.specs.Prelude.{IfOk, IfErr}
 use Rattle.std.proofs.lemmas.Bool.{eqb-true}
 use Rattle.std.proofs.lemmas.List.{append-nil, nil_from_length}
 use Rattle.ctrl_msg.specs.declared.message.Message.{Message}
-use Rattle.failure.specs.Refusals.{IfRefused}
-use Rattle.failure.specs.declared.error.Failure.{Failure}
+use Rattle.base.specs.Refusals.{IfRefused}
+use Rattle.base.specs.declared.error.Failure.{Failure}
 use Rattle.wire.specs.declared.error.Malformed.{Malformed}
-use Rattle.failure.proofs.CallerLemmas.{IfRefused-weaker}
+use Rattle.base.proofs.Refusals.{IfRefused-weaker}
 use Rattle.wire.specs.Messages.{message, whole, IsSpelling}
 use Rattle.wire.specs.Reading.{Gives}
 use Rattle.wire.proofs.Laws.{AreBytes, then_some, passed, some_is}

@@ -6,10 +6,10 @@ use Rattle.std.proofs.lemmas.Bool.{cases_lt, cases_eq, lt-ltb, le-ltb, ltb-false
 use Rattle.std.proofs.lemmas.Bool.Decides.{nat_tests, eqb_tells}
 use Rattle.ctrl_msg.specs.declared.message.Message.{Message}
 use Rattle.wire.specs.declared.assembler.Spot.TheVariants.{Held, New}
-use Rattle.failure.specs.Refusals.{IfRefused}
-use Rattle.failure.specs.declared.error.Failure.{Failure}
+use Rattle.base.specs.Refusals.{IfRefused}
+use Rattle.base.specs.declared.error.Failure.{Failure}
 use Rattle.wire.specs.declared.error.Malformed.{Malformed}
-use Rattle.failure.proofs.CallerLemmas.{IfRefused-weaker}
+use Rattle.base.proofs.Refusals.{IfRefused-weaker}
 use Rattle.wire.specs.Frames.{place_in_frame, count_in_frame, AreFrames}
 use Rattle.wire.specs.Assembly.{held_at, with_frame, AreAllHeld, AreRising, AreTogether, IsOfCount, IsRefusedFrame, too_short, too_long, past_the_count, another_count, another_frame, no_message, Agree, AreNone, IsAssembled, IsFed, Joins, IsSpot}
 use Rattle.wire.proofs.Laws.{AreBytes, some_is, passed}

@@ -1,10 +1,10 @@
 -- Reading and writing items one after the other, as a loop does.
 use Rattle.std.proofs.Common.{◌≡◌, ℕ, suc, ◌-◌, ◌+◌, ◌≤◌, ◌<◌, List, [], ◌∷◌, ◌++◌, Option, Some, None, refl, sym, ap, ◌∙◌, append_assoc, arith}
 use Rattle.std.proofs.lemmas.List.{append-nil}
-use Rattle.failure.specs.Refusals.{IfRefused}
-use Rattle.failure.specs.declared.error.Failure.{Failure}
+use Rattle.base.specs.Refusals.{IfRefused}
+use Rattle.base.specs.declared.error.Failure.{Failure}
 use Rattle.wire.specs.declared.error.Malformed.{Malformed}
-use Rattle.failure.proofs.CallerLemmas.{IfRefused-weaker}
+use Rattle.base.proofs.Refusals.{IfRefused-weaker}
 use Rattle.wire.specs.Format.{Format, then_read, read_items}
 
 -- what was read before, and what is still read

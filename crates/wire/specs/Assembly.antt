@@ -4,8 +4,8 @@ use Rattle.std.specs.List.{insert}
 use Rattle.ctrl_msg.specs.declared.message.Message.{Message}
 use Rattle.wire.specs.declared.assembler.Spot.{Spot}
 use Rattle.wire.specs.declared.assembler.Spot.TheVariants.{Refused, Held, New}
-use Rattle.failure.specs.Refusals.{IfRefused}
-use Rattle.failure.specs.declared.error.Failure.{Failure}
+use Rattle.base.specs.Refusals.{IfRefused}
+use Rattle.base.specs.declared.error.Failure.{Failure}
 use Rattle.wire.specs.declared.error.Malformed.{Malformed}
 use Rattle.wire.specs.Frames.{AreFrames, place_in_frame, count_in_frame, piece_of, frame}
 

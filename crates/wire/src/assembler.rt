@@ -1,7 +1,7 @@
 ghost use Rattle.std.specs.Prelude.{◌≡◌, ◌<◌, ◌≤◌, ◌↔◌, [], length, IsSome, IfOk, IfSome, OnOk, OnErr, IfErr, nat_le};
 ghost use Rattle.std.specs.Option.{option_copied};
 ghost use Rattle.std.specs.List.{insert, position, position_or_len};
-ghost use Rattle.failure.specs.Refusals.{IfRefused};
+ghost use Rattle.base.specs.Refusals.{IfRefused};
 ghost use Rattle.wire.specs.Frames.{AreFrames, count_in_frame, place_in_frame};
 ghost use Rattle.wire.specs.Assembly.{Agree, AreAllHeld, AreRising, AreTogether, IsAssembled, IsFed, IsRefusedFrame, IsSpot, held_at, with_frame};
 

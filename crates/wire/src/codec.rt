@@ -1,6 +1,6 @@
 ghost use Rattle.std.specs.Prelude.{◌≡◌, ◌<◌, ◌++◌, true, OnOk, IfOk, IfErr};
 ghost use Rattle.ctrl_msg.specs.declared.message.Message.{Message};
-ghost use Rattle.failure.specs.Refusals.{IfRefused};
+ghost use Rattle.base.specs.Refusals.{IfRefused};
 ghost use Rattle.wire.specs.Fields as form;
 ghost use Rattle.wire.specs.Messages as kinds;
 ghost use Rattle.wire.specs.Messages.{AreShort, FieldsSuit, HasSpelling, IsSpelling, IsReceiver, cache_rule_of, kind_number, made, read_fields, whole};

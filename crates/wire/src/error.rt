@@ -1,4 +1,4 @@
-use failure::Failure;
+use base::Failure;
 use thiserror::Error;
 
 /// The bytes are the spelling of no message.

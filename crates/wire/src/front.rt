@@ -1,7 +1,7 @@
 //! What stands before the tables in the spelling of an installation.
 ghost use Rattle.std.specs.Prelude.{◌≡◌, ◌++◌, ℕ, true, IfOk, IfErr, OnOk};
 ghost use Rattle.ctrl_msg.specs.declared.message.Receiver.{Receiver};
-ghost use Rattle.failure.specs.Refusals.{IfRefused};
+ghost use Rattle.base.specs.Refusals.{IfRefused};
 ghost use Rattle.wire.specs.Messages.{IsFront, IsReceiver, front, read_front, spelled_front};
 ghost use Rattle.wire.specs.Reading.{Gives};
 

@@ -1,6 +1,6 @@
 -- The parts of a world in which nothing happened yet are as the empty journal says.
-use Rattle.std.proofs.Common.{◌≡◌, List, []}
-use Rattle.bag.specs.Posts.{Post}
+use Rattle.std.proofs.Common.{◌≡◌, List, [], ℕ, sym, subst}
+use Rattle.message_bag.specs.Posts.{Post}
 use Rattle.controller.specs.Controller.{ControllerValue}
 use Rattle.journal.specs.declared.item.Item.{Item}
 use Rattle.net_file.specs.Net.{IsNet}
@@ -8,12 +8,11 @@ use Rattle.net_file.specs.Owners.{AreOwners}
 use Rattle.net_file.specs.declared.net.Net.{Net}
 use Rattle.net_file.specs.declared.ports.Ports.{Ports}
 use Rattle.policy_rules.specs.declared.policy.Row.{Row}
-use Rattle.policy_store.specs.Files.{FilesValue}
-use Rattle.std.proofs.Common.{ℕ, sym, subst}
+use Rattle.world.specs.Files.{FilesValue}
 use Rattle.switch_core.specs.State.{SwitchValue}
 use Rattle.travelling.specs.Travelling.{Travellers}
 use Rattle.update_machine.specs.Setting.{setting_of}
-use Rattle.world_ties.specs.Tied.{AreTied}
+use Rattle.refinement.specs.Tied.{AreTied}
 
 -- where the files are of this network and these policies, and nothing was written, posted or sent
 -- on its way

@@ -6,11 +6,11 @@ use Rattle.switch_core.specs.State.{SwitchValue}
 use Rattle.update_machine.specs.Full.{HasRoom, IsFull}
 use Rattle.update_machine.specs.Setting.{Setting}
 use Rattle.update_machine.specs.declared.full.TheConstants.{FULL_AT}
-use Rattle.failure.specs.declared.error.Failure.{Failure}
-use Rattle.failure.specs.declared.error.Failure.TheVariants.{NoMemory}
+use Rattle.base.specs.declared.error.Failure.{Failure}
+use Rattle.base.specs.declared.error.Failure.TheVariants.{NoMemory}
 use Rattle.world.specs.NoStep.{no_step}
 use Rattle.world.specs.declared.error.Full.{Full}
-use Rattle.world_ties.specs.Tied.{AreTied, Control}
+use Rattle.refinement.specs.Tied.{AreTied, Control}
 use Rattle.travelling.specs.Travelling.{Travellers}
 
 pub is_full : (control : Control) (setting : Setting) (journal : List Item)

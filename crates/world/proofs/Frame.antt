@@ -3,20 +3,20 @@
 use Rattle.std.proofs.Common.{ℕ, ◌≡◌, ◌+◌, List, [], ◌∷◌, ◌++◌, refl, sym, subst, ◌∙◌, arith, rules}
 use Rattle.std.specs.Prelude.{Err, IsErr, Ok, OnErr, OnOk, Result}
 use Rattle.std.proofs.lemmas.Result.{on_err_weaker, on_ok_weaker}
-use Rattle.bag.specs.Posts.{Post}
+use Rattle.message_bag.specs.Posts.{Post}
 use Rattle.controller.specs.Controller.{ControllerValue}
 use Rattle.journal.specs.declared.item.Item.{Item}
 use Rattle.journal.specs.declared.item.Item.TheVariants as item
 use Rattle.steps.specs.declared.step.Step.{Step}
 use Rattle.update_machine.specs.Pieces.{piece, step_items}
 use Rattle.update_machine.specs.Setting.{Setting, setting_of}
-use Rattle.policy_store.specs.Files.{FilesValue}
+use Rattle.world.specs.Files.{FilesValue}
 use Rattle.world.specs.Parts.{AreTiedIn, BeginsStep, Goes, HasBegun, IsReadyForStep, KeepNet, Plays, control_in, setting_in}
 use Rattle.world.specs.State.{comes_in}
-use Rattle.world_ties.specs.Tied.{AreTied, Control}
+use Rattle.refinement.specs.Tied.{AreTied, Control}
 use Rattle.world_log.specs.Writing.{IsPart}
 use Rattle.world.specs.declared.parts.Parts.{Parts}
-use Rattle.world_ties.proofs.OneItem.{grown}
+use Rattle.refinement.proofs.OneItem.{grown}
 use Rattle.world_log.proofs.Writing.{both_ok, by_error, grown_more, part_none, step_part, step_written}
 
 -- nothing was done to the files and the ports

@@ -7,12 +7,12 @@ use Rattle.journal.specs.declared.item.Item.{Item}
 use Rattle.update_machine.specs.Packets.{next_packet}
 use Rattle.update_machine.specs.Setting.{Setting}
 use Rattle.update_machine.specs.Travels.{next_travelling, travels}
-use Rattle.way_laws.specs.Facts.{what_is_known}
+use Rattle.packet_laws.specs.Facts.{what_is_known}
 use Rattle.world.specs.State.{IsTied, WorldValue, setting_at}
-use Rattle.world_ties.specs.Tied.{AreTied}
-use Rattle.world_ties.specs.Travellers.{traveller_in, traveller_of}
+use Rattle.refinement.specs.Tied.{AreTied}
+use Rattle.refinement.specs.Travellers.{traveller_in, traveller_of}
 use Rattle.travelling.specs.Travelling.{IsNextFrom, Travellers, traveller}
-use Rattle.world_ties.proofs.Known.{reached_known}
+use Rattle.refinement.proofs.Known.{reached_known}
 
 -- the least number from here on that satisfies the test
 abbrev IsLeast : (ℕ → Bool) → ℕ → Option ℕ → Type 0

@@ -4,18 +4,18 @@ use Rattle.std.specs.Prelude.{find, not, ◌&&◌, is_some, option_map}
 use Rattle.std.specs.List.{range_with_len}
 use Rattle.std.specs.Option.{option_map_or}
 use Rattle.std.proofs.lemmas.List.{length-map}
-use Rattle.bag.specs.Deliveries as statuses
-use Rattle.bag.specs.Posts as bag
-use Rattle.bag.proofs.Numbered.{numbered_map}
-use Rattle.bag.specs.declared.deliveries.Status.{Status}
+use Rattle.message_bag.specs.Deliveries as statuses
+use Rattle.message_bag.specs.Posts as bag
+use Rattle.message_bag.proofs.Numbered.{numbered_map}
+use Rattle.message_bag.specs.declared.deliveries.Status.{Status}
 use Rattle.ctrl_msg.specs.declared.message.Message.{Message}
 use Rattle.journal.specs.declared.item.Item.{Item}
 use Rattle.update_machine.specs.Folds.{count_of}
 use Rattle.update_machine.specs.Messages.{is_deliverable, is_forgotten, is_sending, is_waiting, next_message, next_waiting, was_delivered}
 use Rattle.update_machine.specs.Links.{message_of}
 use Rattle.world.specs.State.{IsTied, WorldValue}
-use Rattle.world_ties.specs.Tied.{AreTied}
-use Rattle.world_ties.specs.Bags.{IsBagOf, post_in}
+use Rattle.refinement.specs.Tied.{AreTied}
+use Rattle.refinement.specs.Bags.{IsBagOf, post_in}
 
 find_same : (one other : ℕ → Bool) → ((n : ℕ) → one n ≡ other n) → (numbers : List ℕ)
     → find one numbers ≡ find other numbers

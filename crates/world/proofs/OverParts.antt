@@ -1,7 +1,7 @@
 -- The steps of packets over the parts of a world.
 use Rattle.std.proofs.Common.{ℕ, ◌≡◌, ◌+◌, ◌<◌, Some, List, ◌∷◌, ◌++◌, length, sym, subst, get_or, set, arith}
 use Rattle.std.specs.Prelude.{OnOk, Result, slice_index}
-use Rattle.bag.specs.Posts.{Post}
+use Rattle.message_bag.specs.Posts.{Post}
 use Rattle.five_tuple.specs.declared.header.Header.{Header}
 use Rattle.journal.specs.declared.item.Item.{Item}
 use Rattle.journal.specs.declared.item.Item.TheVariants as item
@@ -11,16 +11,16 @@ use Rattle.tunnel.specs.Moves.{here}
 use Rattle.update_machine.specs.Pieces.{piece}
 use Rattle.world_log.specs.Packets.{coming_in, entry, hop_written, hop_posts, hop_traveller, hopped_switch}
 use Rattle.world.specs.Parts.{IsReadyForStep, control_in, setting_in}
-use Rattle.world_ties.specs.Tied.{AreTied}
+use Rattle.refinement.specs.Tied.{AreTied}
 use Rattle.travelling.specs.Travelling.{Travellers, WithOne, traveller}
 use Rattle.world_log.specs.Writing.{entered_items, entered_posts, entered_traveller}
 use Rattle.world.specs.declared.parts.Parts.{Parts}
 use Rattle.travelling.specs.declared.travelling.Traveller.{Traveller}
-use Rattle.world_ties.proofs.Asking.{can_ask, within_here, number_of_packet}
-use Rattle.world_ties.proofs.CanAsk.{CanAsk}
-use Rattle.world_ties.proofs.HopTie.{hop_piece_of, hop_tied}
-use Rattle.world_ties.proofs.Incoming.{come_piece, come_tied}
-use Rattle.world_ties.proofs.Switches.{switch_is, switch_there}
+use Rattle.refinement.proofs.Asking.{can_ask, within_here, number_of_packet}
+use Rattle.refinement.proofs.CanAsk.{CanAsk}
+use Rattle.refinement.proofs.HopTie.{hop_piece_of, hop_tied}
+use Rattle.refinement.proofs.Incoming.{come_piece, come_tied}
+use Rattle.refinement.proofs.Switches.{switch_is, switch_there}
 use Rattle.world_log.proofs.Writing.{both_ok, three_ok}
 
 -- ---- a packet that comes in

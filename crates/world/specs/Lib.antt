@@ -1,3 +1,4 @@
+pub mod Files
 pub mod NoStep
 pub mod State
 pub mod Parts

@@ -1,6 +1,6 @@
 -- Why a step isn't taken.
-use Rattle.failure.specs.declared.error.Failure.{Failure}
-use Rattle.failure.specs.declared.error.Failure.TheVariants.{Refused}
+use Rattle.base.specs.declared.error.Failure.{Failure}
+use Rattle.base.specs.declared.error.Failure.TheVariants.{Refused}
 use Rattle.world.specs.declared.error.Full.{Full}
 
 -- no step begins: so many messages were sent

@@ -10,7 +10,7 @@ use Rattle.update_machine.specs.Pieces.{piece}
 use Rattle.steps.specs.Steps.{IsStep}
 use Rattle.update_machine.specs.Setting.{Setting, setting_of}
 use Rattle.world.specs.State.{WorldValue, comes_in}
-use Rattle.world_ties.specs.Tied.{AreTied, Control}
+use Rattle.refinement.specs.Tied.{AreTied, Control}
 use Rattle.world_log.specs.Writing.{IsPart}
 use Rattle.world.specs.declared.parts.Parts.{Parts}
 

@@ -1,6 +1,6 @@
 -- A world as contracts see it.
 use Rattle.std.specs.Prelude.{ℕ, ◌≡◌, Bool, false, List, []}
-use Rattle.bag.specs.Posts.{Post}
+use Rattle.message_bag.specs.Posts.{Post}
 use Rattle.controller.specs.Controller.{ControllerValue}
 use Rattle.policy_rules.specs.declared.policy.Row.{Row}
 use Rattle.journal.specs.declared.item.Item.{Item}
@@ -10,7 +10,7 @@ use Rattle.steps.specs.declared.step.Step.TheVariants.{Packet}
 use Rattle.switch_core.specs.State.{SwitchValue}
 use Rattle.update_machine.specs.Setting.{Setting, setting_of}
 use Rattle.travelling.specs.Travelling.{Travellers}
-use Rattle.world_ties.specs.Tied.{AreTied}
+use Rattle.refinement.specs.Tied.{AreTied}
 
 pub record WorldValue : Type 0 where
   pub net : Net

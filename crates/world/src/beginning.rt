@@ -2,8 +2,8 @@ ghost use Rattle.std.specs.Prelude.{◌≡◌, length, map, IfOk};
 ghost use Rattle.std.specs.List.{range_with_len};
 ghost use Rattle.controller.specs.Controllers.{PlanValue, first_controller};
 ghost use Rattle.net_file.specs.Net.{IsNet};
-ghost use Rattle.usable_links.specs.Linking.{AreNear};
-ghost use Rattle.world_ties.specs.Begun.{IsFirstController, switch_begun};
+ghost use Rattle.refinement.specs.Linking.{AreNear};
+ghost use Rattle.refinement.specs.Begun.{IsFirstController, switch_begun};
 
 use controller::Controller;
 use failover::Database;
@@ -15,7 +15,7 @@ use switch_core::Switch;
 ///
 /// # Errors
 /// Want of memory alone.
-#[tactic(auto, using(world_ties::proofs::Firsts::first_own))]
+#[tactic(auto, using(refinement::proofs::Firsts::first_own))]
 pub fn switches_of(
     alloc: Global,
     net: &Net,

@@ -6,13 +6,13 @@ ghost use Rattle.controller.specs.declared.sends.Act.TheVariants.{Post};
 ghost use Rattle.steps.specs.declared.step.Step.TheVariants.{Confirm as ConfirmStep, Resend as ResendStep, Update as UpdateStep};
 ghost use Rattle.world.specs.Parts.{HasBegun, Plays};
 
+use crate::files::Compiled;
 use crate::parts::Parts;
+use base::Failure;
 use controller::{Act, SubmitError};
-use failure::Failure;
 use journal::{Item, Message};
-use policy_store::Compiled;
+use refinement::told_again;
 use std::alloc::{AllocError, Global};
-use usable_links::told_again;
 
 impl Parts {
     /// The policy of the file becomes the newest version, unless it has no plan or the controller

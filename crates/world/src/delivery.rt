@@ -1,10 +1,10 @@
 //! Messages that are delivered: who hears them, and what is sent upon them.
 ghost use Rattle.std.specs.Prelude.{◌≡◌, ◌+◌, ◌-◌, ◌^◌, ◌<◌, ◌≤◌, ◌++◌, All, OnOk, OnErr, length, map};
-ghost use Rattle.bag.specs.Posts.{posted};
+ghost use Rattle.message_bag.specs.Posts.{posted};
 ghost use Rattle.controller.specs.Controllers.{ControllerValue, NamesThere, SettlesWith, hearing, marks_after};
 ghost use Rattle.steps.specs.declared.step.Step.TheVariants.{Deliver as DeliverStep};
 ghost use Rattle.update_machine.specs.Messages.{sent_from};
-ghost use Rattle.usable_links.specs.Linking.{AreRelinked, all_told, near_all};
+ghost use Rattle.refinement.specs.Linking.{AreRelinked, all_told, near_all};
 ghost use Rattle.world.specs.Parts.{HasBegun, KeepRest, Plays};
 ghost use Rattle.world_log.specs.Sending.{MayNote, MaySend, act_items, act_posts};
 ghost use Rattle.world_log.specs.Writing.{IsPart};
@@ -12,8 +12,8 @@ ghost use Rattle.world_log.specs.Writing.{IsPart};
 use crate::parts::Parts;
 use controller::Controller;
 use journal::{Body, Item, Receiver};
+use refinement::{relink, usable};
 use std::alloc::{AllocError, Global};
-use usable_links::{relink, usable};
 use world_log::Log;
 
 impl Parts {

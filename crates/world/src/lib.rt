@@ -6,7 +6,8 @@
 //! the messages that were sent, each as it was delivered or forgotten, the controller's marks and
 //! plans are those that the journal says, and so are the links that each switch can use. Behind a
 //! full journal no step begins (`Full`). Where memory runs out within a step, a part of the step's
-//! items is written, and no further step is taken.
+//! items is written, and no further step is taken. Each policy is compiled at most once, when it is
+//! first asked for, and all that take a plan share it (`Files`).
 //!
 //! ```text
 //! let mut world = World::begin(alloc, &net, policies)?;   // why the first policy has no plan
@@ -22,10 +23,12 @@ mod control;
 mod delivery;
 mod error;
 mod failures;
+mod files;
 mod parts;
 mod world;
 
 pub use controller::PlanError;
 pub use error::Full;
+pub use files::{Compiled, Files};
 pub use travelling::Traveller;
 pub use world::World;

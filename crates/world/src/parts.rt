@@ -1,11 +1,11 @@
 ghost use Rattle.steps.specs.declared.step.Step.TheVariants.{Expire as ExpireStep, Forget as ForgetStep, Hop as HopStep, Lose as LoseStep, Packet as PacketStep};
 ghost use Rattle.world.specs.Parts.{Goes, HasBegun, IsReadyForStep, Plays};
 
+use crate::files::Files;
 use controller::Controller;
 use five_tuple::Header;
 use journal::Item;
 use net_file::Ports;
-use policy_store::Files;
 use std::alloc::{AllocError, Global};
 use steps::Step;
 use switch_core::Switch;

@@ -1,11 +1,11 @@
 ghost use Rattle.std.specs.Prelude.{◌≡◌, ◌+◌, ◌-◌, ◌++◌, ◌<◌, ◌≤◌, false, true, [], length, slice_index_or, All, OnOk, OnErr, IfOk, IfErr, IsErrOf, is_some};
-ghost use Rattle.bag.specs.Posts.{next_waiting_post};
+ghost use Rattle.message_bag.specs.Posts.{next_waiting_post};
 ghost use Rattle.controller.specs.Plan.{RefusesPlan};
 ghost use Rattle.net_file.specs.Net.{IsNet};
 ghost use Rattle.policy_rules.specs.Policy.{IsPolicy};
 ghost use Rattle.update_machine.specs.Journals.{HasRoom, IsFull, NamesOwnPort, next_packet, next_travelling, next_waiting, piece, setting_of, travels};
 ghost use Rattle.steps.specs.Steps.{IsStep};
-ghost use Rattle.failure.specs.declared.error.Failure.TheVariants.{NoMemory};
+ghost use Rattle.base.specs.declared.error.Failure.TheVariants.{NoMemory};
 ghost use Rattle.world.specs.NoStep.{no_step};
 ghost use Rattle.world.specs.State.{IsBegun, IsTied, comes_in, setting_at};
 ghost use Rattle.travelling.specs.Travelling.{IsNextFrom, traveller};
@@ -13,21 +13,21 @@ ghost use Rattle.world_log.specs.Writing.{IsPart};
 
 use crate::beginning::switches_of;
 use crate::error::Full;
+use crate::files::Files;
 use crate::parts::Parts;
-use bag::Bag;
+use base::Failure;
 use controller::{Controller, PlanError, compile};
-use failure::Failure;
 use journal::Journal;
+use message_bag::Bag;
 use net_file::Net;
 use policy_rules::Policy;
-use policy_store::Files;
+use refinement::near_masks;
 use std::alloc::Global;
 use std::marker::Model;
 use steps::Step;
 use switch_core::Switch;
 use travelling::Travelling;
 use update_machine::FULL_AT;
-use usable_links::near_masks;
 use world_log::Log;
 
 /// A network of switches with its controller, the packets on their way in it, and the journal of

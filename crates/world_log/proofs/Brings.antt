@@ -4,8 +4,8 @@ use Rattle.std.specs.Prelude.{IfSome}
 use Rattle.std.specs.Option.{option_map_or}
 use Rattle.ctrl_msg.specs.declared.message.Body.TheVariants.{CacheRule}
 use Rattle.ctrl_msg.specs.declared.message.Receiver.TheVariants as receiver
-use Rattle.frame_laws.specs.Feeding.{HasShortSpelling}
-use Rattle.frame_laws.proofs.Lengths.{alone_short}
+use Rattle.message_bag.specs.Feeding.{HasShortSpelling}
+use Rattle.message_bag.proofs.Lengths.{alone_short}
 use Rattle.net_file.specs.declared.ports.Ports.{Ports}
 use Rattle.policy_rules.specs.declared.packet.Cause.{Cause}
 use Rattle.policy_rules.specs.declared.packet.Leg.{Leg}
@@ -25,9 +25,8 @@ use Rattle.ternary.specs.Word.{WordValue}
 use Rattle.travelling.specs.declared.travelling.Traveller.{Traveller}
 use Rattle.tunnel.specs.Tunnel.{TunnelValue}
 use Rattle.world_log.specs.Packets.{entry}
-use Rattle.travelling.specs.Travelling.{standing_at}
+use Rattle.travelling.specs.Travelling.{standing_at, Standing}
 use Rattle.world_log.specs.Writing.{answer_message, arrived_message, cache_message}
-use Rattle.travelling.specs.Travelling.{Standing}
 
 -- a cache rule to a switch below 64
 rule_spelled : (s version : ℕ) (word : WordValue) (rule : Option ℕ) (act : Action) → s < 64

@@ -2,11 +2,11 @@
 use Rattle.std.proofs.Common.{ℕ, ◌≡◌, ◌+◌, ◌<◌, ◌≤◌, List, [], ◌∷◌, ◌++◌, refl, ap, sym, ◌∙◌, length, length-append, length-take-le, append-nil, append_assoc, drop, get_or, map, subst, take, take-append-drop, arith}
 use Rattle.std.specs.Prelude.{All}
 use Rattle.std.proofs.lemmas.List.{get_or-append-add, get_or-map, get_or_append_left, length-map, map-append, take_more}
-use Rattle.bag.specs.Posts.{Post, posted}
+use Rattle.message_bag.specs.Posts.{Post, posted}
 use Rattle.controller.specs.declared.sends.Act.{Act}
 use Rattle.controller.specs.declared.sends.Act.TheVariants as act
 use Rattle.ctrl_msg.specs.declared.message.Message.{Message}
-use Rattle.frame_laws.specs.Feeding.{HasShortSpelling}
+use Rattle.message_bag.specs.Feeding.{HasShortSpelling}
 use Rattle.journal.specs.declared.item.Item.{Item}
 use Rattle.journal.specs.declared.item.Item.TheVariants as item
 use Rattle.update_machine.specs.Messages.{sent_from}

@@ -1,6 +1,6 @@
 -- What becomes of the journal and of the packets on their way as a packet comes in or moves on.
 use Rattle.std.specs.Prelude.{ℕ, ◌≡◌, ◌+◌, Option, Some, None, List, [], ◌∷◌, ◌++◌, Result, OnOk, OnErr, length}
-use Rattle.bag.specs.Posts.{Post}
+use Rattle.message_bag.specs.Posts.{Post}
 use Rattle.failover.specs.Links.{no_links}
 use Rattle.five_tuple.specs.declared.header.Header.{Header}
 use Rattle.journal.specs.declared.item.Item.{Item}

@@ -1,10 +1,10 @@
 -- Messages that are sent one after another, and what a controller does, as items of the journal.
 use Rattle.std.specs.Prelude.{⊤, ℕ, ◌+◌, ◌^◌, ◌<◌, List, [], ◌∷◌, ◌++◌, length, All}
-use Rattle.bag.specs.Posts.{Post, posted}
+use Rattle.message_bag.specs.Posts.{Post, posted}
 use Rattle.controller.specs.declared.sends.Act.{Act}
 use Rattle.controller.specs.declared.sends.Act.TheVariants as act
 use Rattle.ctrl_msg.specs.declared.message.Message.{Message}
-use Rattle.frame_laws.specs.Feeding.{HasShortSpelling}
+use Rattle.message_bag.specs.Feeding.{HasShortSpelling}
 use Rattle.journal.specs.declared.item.Item.{Item}
 use Rattle.journal.specs.declared.item.Item.TheVariants as item
 

@@ -1,6 +1,6 @@
 -- What the answers of a switch to a packet make of the journal and of the packet.
 use Rattle.std.specs.Prelude.{ℕ, ◌≡◌, Option, Some, None, option_map, List, [], ◌∷◌, ◌++◌, map}
-use Rattle.bag.specs.Posts.{Post, posted}
+use Rattle.message_bag.specs.Posts.{Post, posted}
 use Rattle.ctrl_msg.specs.declared.message.Body.{Body}
 use Rattle.ctrl_msg.specs.declared.message.Message.{Message}
 use Rattle.ctrl_msg.specs.declared.message.Receiver.TheVariants as receiver

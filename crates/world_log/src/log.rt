@@ -1,6 +1,6 @@
 ghost use Rattle.std.specs.Prelude.{◌≡◌, ◌+◌, ◌-◌, ◌^◌, ◌<◌, [], ◌∷◌, ◌++◌, Some, None, IfSome, IsSomeAnd, OnOk, OnErr, length, map, option_map};
-ghost use Rattle.bag.specs.Posts.{posted};
-ghost use Rattle.frame_laws.specs.Feeding.{HasShortSpelling};
+ghost use Rattle.message_bag.specs.Posts.{posted};
+ghost use Rattle.message_bag.specs.Feeding.{HasShortSpelling};
 ghost use Rattle.journal.specs.declared.item.Item.TheVariants.{Hopped as HoppedItem, Rerouted, Sent as SentItem, Stuck as StuckItem};
 ghost use Rattle.update_machine.specs.Journals.{sent_from, takes_route};
 ghost use Rattle.switch_core.specs.Verdicts.{next_at};
@@ -10,8 +10,8 @@ ghost use Rattle.travelling.specs.Travelling.{HasPlace, IsKeptOn, WithOne, begun
 ghost use Rattle.world_log.specs.Writing.{IsPart, decided_items, decided_traveller, end_item, exit_leg, left_item, messages_in};
 
 use crate::outcome::Onward;
-use bag::Bag;
 use journal::{Item, Journal, Leaving, Message, SharedMessage, SharedRoute};
+use message_bag::Bag;
 use policy_rules::{Action, Cause, Leg, Targets};
 use std::alloc::{AllocError, Global};
 use switch_core::{Decision, End, Hop, HopEnd};

@@ -1,5 +1,5 @@
 ghost use Rattle.std.specs.Prelude.{◌≡◌, ◌+◌, ◌-◌, ◌^◌, ◌<◌, ◌++◌, Some, None, IfOk, IfSome, IsSomeAnd, IsTrue, OnOk, OnErr, length};
-ghost use Rattle.frame_laws.specs.Feeding.{HasShortSpelling};
+ghost use Rattle.message_bag.specs.Feeding.{HasShortSpelling};
 ghost use Rattle.switch_core.specs.Switches.{CanLookUp, IsAtAuthority, answer_of, arrived_as, call_counted, entered_as, hopped, serves};
 ghost use Rattle.switch_core.specs.declared.answers.HopEnd.TheVariants.{Arrive};
 ghost use Rattle.world_log.specs.Outcomes.{answer_as, packet_standing};

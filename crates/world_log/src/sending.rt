@@ -1,6 +1,6 @@
 //! Messages that are sent one after another, and what the controller does, written into the log.
 ghost use Rattle.std.specs.Prelude.{◌≡◌, ◌+◌, ◌^◌, ◌<◌, ◌++◌, ◌∷◌, [], OnOk, OnErr, length, map};
-ghost use Rattle.bag.specs.Posts.{posted};
+ghost use Rattle.message_bag.specs.Posts.{posted};
 ghost use Rattle.controller.specs.declared.sends.Act.TheVariants.{Post};
 ghost use Rattle.update_machine.specs.Messages.{sent_from};
 ghost use Rattle.world_log.specs.Sending.{IsSpelled, MayNote, MaySend, act_item, act_items, act_post, act_posts};

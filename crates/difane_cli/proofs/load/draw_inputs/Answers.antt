@@ -1,4 +1,4 @@
-use Rattle.load_case.specs.Case.{case_seen}
+use Rattle.schedule.specs.Case.{case_seen}
 use Rattle.difane_cli.proofs.Begun.{drawn_ports}
 use Rattle.difane_cli.proofs.load.draw_inputs.Goals as goal
 

@@ -1,5 +1,5 @@
 use Rattle.std.proofs.Common.{ℕ, List, ap, subst, true, ◌∙◌}
-use Rattle.load_text.specs.Summary.{summary_text}
+use Rattle.journal_reports.specs.Summary.{summary_text}
 use Rattle.difane_cli.specs.Prints.{IsAfterText}
 use Rattle.difane_cli.proofs.AfterTexts.{text_written}
 use Rattle.difane_cli.proofs.playing.write_summary.Goals as goal

@@ -1,5 +1,5 @@
 use Rattle.std.proofs.Common.{◌≡◌, ℕ, ◌<◌, false, length}
-use Rattle.masks.specs.Masks.{has}
+use Rattle.base.specs.Masks.{has}
 use Rattle.failover.specs.Isolated.{links_of_each}
 use Rattle.failover.specs.Routes.{ball}
 use Rattle.failover.specs.Search.{AreBalls, IsEdge}

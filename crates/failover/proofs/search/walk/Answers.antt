@@ -2,7 +2,7 @@ use Rattle.std.proofs.Common.{ℕ, ◌≡◌, ◌+◌, ◌-◌, List, ◌∷◌,
 use Rattle.failover.specs.Isolated.{links_of_each}
 use Rattle.failover.specs.RouteList.{IsRouteList}
 use Rattle.std.specs.Int.Bits.{bit_and}
-use Rattle.masks.specs.Computed.{least_in}
+use Rattle.base.specs.ComputedMasks.{least_in}
 use Rattle.failover.specs.Routes.{nearer}
 use Rattle.failover.specs.Search.{along}
 use Rattle.failover.proofs.Rows.{row_of}

@@ -1,8 +1,8 @@
 use Rattle.std.proofs.Common.{◌<◌, ◌^◌, ◌∙◌, sym, ap, subst, ℕ, arith}
 use Rattle.std.specs.Int.{bit_not, w64}
 use Rattle.std.specs.Int.Bits.{bit_and, bit_xor}
-use Rattle.masks.specs.Computed.{least_in}
-use Rattle.masks.proofs.CallerLemmas.{least_lt, mask_of_lt}
+use Rattle.base.specs.ComputedMasks.{least_in}
+use Rattle.base.proofs.CallerLemmas.{least_lt, mask_of_lt}
 use Rattle.failover.specs.Links.{is_link}
 use Rattle.failover.specs.Isolated.{links_of_each}
 use Rattle.failover.proofs.RowLoop.{fewer_left, first_left, or_others}

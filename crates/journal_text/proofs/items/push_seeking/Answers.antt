@@ -1,5 +1,5 @@
 use Rattle.std.proofs.Common.{append_assoc, refl}
-use Rattle.text_line.proofs.CallerLemmas.{pushed_append}
+use Rattle.lines.proofs.CallerLemmas.{pushed_append}
 use Rattle.journal_text.proofs.items.push_seeking.Goals as goal
 
 pub returns-clause-text : goal.returns-clause-text

@@ -1,10 +1,10 @@
 use Rattle.std.proofs.Common.{ℕ, ◌≤◌, ◌++◌, Bool, List, [], length, ap, sym, ◌∙◌}
 use Rattle.std.specs.Prelude.{codes, filter, if◌then◌else◌}
 use Rattle.std.specs.List.{range_with_len}
-use Rattle.masks.specs.Masks.{has}
+use Rattle.base.specs.Masks.{has}
 use Rattle.net_file.specs.Net.{name_of, names_text}
-use Rattle.text_line.proofs.CallerLemmas.{pushed_append, pushed_nothing}
-use Rattle.text_line.specs.Pushes.{pushed}
+use Rattle.lines.proofs.CallerLemmas.{pushed_append, pushed_nothing}
+use Rattle.lines.specs.Pushes.{pushed}
 use Rattle.journal_text.proofs.MaskLemmas.{names_all, names_more, names_none}
 use Rattle.journal_text.proofs.names.push_switches.Goals as goal
 

@@ -1,9 +1,9 @@
 use Rattle.std.proofs.Common.{◌≡◌}
 use Rattle.std.specs.Prelude.{filter}
 use Rattle.std.specs.List.{range_with_len}
-use Rattle.masks.specs.Masks.{has}
+use Rattle.base.specs.Masks.{has}
 use Rattle.net_file.specs.Net.{names_text}
-use Rattle.text_line.specs.Pushes.{pushed}
+use Rattle.lines.specs.Pushes.{pushed}
 use Rattle.journal_text.proofs.names.push_switches.Given as goal
 
 abbrev pub invariant-loop-s : goal.invariant-loop-s

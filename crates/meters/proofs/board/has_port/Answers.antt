@@ -1,6 +1,6 @@
 use Rattle.std.proofs.Common.{◌≡◌, ◌∙◌, sym, nat_lt, false, arith}
 use Rattle.std.proofs.lemmas.Bool.Decides.{nat_tests}
-use Rattle.masks.proofs.CallerLemmas.{has_above}
+use Rattle.base.proofs.CallerLemmas.{has_above}
 use Rattle.meters.proofs.board.has_port.Goals as goal
 
 pub returns-else-port-lt64 : goal.returns-else-port-lt64

@@ -3,7 +3,7 @@ use Rattle.std.proofs.lemmas.Result.{IfOk-weaker, err_from_is_err_and}
 use Rattle.toml.specs.View.{table_view}
 use Rattle.net_file.specs.Net.{IsNet}
 use Rattle.net_file.specs.Reading.{document_of, net_read, net_of}
-use Rattle.failure.specs.Refusals.{in_row}
+use Rattle.base.specs.Refusals.{in_row}
 use Rattle.net_file.specs.declared.error.NetRefusal.TheVariants.{Toml}
 use Rattle.net_file.proofs.Sound.{net_of_document, sound_net}
 use Rattle.net_file.proofs.Steps.{refused_with}

@@ -1,7 +1,7 @@
 use Rattle.std.proofs.Common.{◌∙◌, sym, arith}
 use Rattle.std.proofs.lemmas.Bool.{le-ltb}
-use Rattle.masks.specs.Masks.{has}
-use Rattle.masks.proofs.CallerLemmas.{has_above}
+use Rattle.base.specs.Masks.{has}
+use Rattle.base.proofs.CallerLemmas.{has_above}
 use Rattle.policy_file.proofs.ports.has_port.Goals as goal
 
 pub returns-else-port-lt64 : goal.returns-else-port-lt64

@@ -1,6 +1,6 @@
 use Rattle.std.proofs.Common.{◌+◌, ◌*◌, ◌^◌, ◌<◌, arith}
-use Rattle.masks.specs.Computed.{least_in}
-use Rattle.masks.proofs.CallerLemmas.{least_lt}
+use Rattle.base.specs.ComputedMasks.{least_in}
+use Rattle.base.proofs.CallerLemmas.{least_lt}
 use Rattle.travelling.specs.Marks.{mask_at}
 use Rattle.travelling.proofs.Blocks.{block_within, first_marked, some_of}
 use Rattle.travelling.proofs.marks.first_of_block.Goals as goal

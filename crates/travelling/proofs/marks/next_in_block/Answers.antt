@@ -1,5 +1,5 @@
 use Rattle.std.proofs.Common.{ℕ, ◌≡◌, ◌+◌, ◌*◌, ◌/◌, ◌%◌, ◌^◌, ◌<◌, zero, suc, refl, get_or, arith}
-use Rattle.masks.specs.Computed.{least_in}
+use Rattle.base.specs.ComputedMasks.{least_in}
 use Rattle.travelling.proofs.Marked.{least_marked, none_before, none_in_mask, none_past, rest_below}
 use Rattle.travelling.proofs.marks.next_in_block.Goals as goal
 

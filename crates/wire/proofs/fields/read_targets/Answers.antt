@@ -1,7 +1,7 @@
 use Rattle.std.proofs.Common.{◌≡◌, ◌<◌, None, length, take, refl, ◌∙◌, arith}
 use Rattle.std.proofs.lemmas.List.{take_more_set, length-set}
 use Rattle.std.proofs.lemmas.Result.{err_from_is_err_and}
-use Rattle.failure.specs.Refusals.{IfRefused}
+use Rattle.base.specs.Refusals.{IfRefused}
 use Rattle.wire.specs.Fields.{switch, targets}
 use Rattle.wire.specs.Format.{read_items}
 use Rattle.wire.proofs.Items.{goes_on, stops, is_done}

@@ -2,7 +2,7 @@ use Rattle.std.proofs.Common.{◌≡◌, length, map}
 use Rattle.std.specs.List.{range_with_len}
 use Rattle.controller.specs.Controller.{first_controller}
 use Rattle.controller.specs.Plan.{PlanValue}
-use Rattle.world_ties.specs.Begun.{switch_begun}
+use Rattle.refinement.specs.Begun.{switch_begun}
 use Rattle.world.proofs.beginning.switches_of.Given as goal
 
 abbrev pub invariant-loop-number : goal.invariant-loop-number

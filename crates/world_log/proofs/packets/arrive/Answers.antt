@@ -3,7 +3,7 @@
 use Rattle.std.proofs.Common.{◌≡◌, ◌+◌, ◌++◌, length, subst}
 use Rattle.std.specs.Prelude.{IfSome, OnErr, OnOk, unwrap_or}
 use Rattle.failover.specs.Links.{no_links}
-use Rattle.frame_laws.specs.Feeding.{HasShortSpelling}
+use Rattle.message_bag.specs.Feeding.{HasShortSpelling}
 use Rattle.switch_core.specs.Answering.{arrived, arrived_on}
 use Rattle.switch_core.specs.Ends.{around}
 use Rattle.switch_core.specs.Verdicts.{arrived_as}

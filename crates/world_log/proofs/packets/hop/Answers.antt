@@ -1,7 +1,7 @@
 -- What the switch answered is what the definitions of a hop say.
 use Rattle.std.proofs.Common.{◌≡◌, ◌+◌, ◌++◌, List, refl, ap, sym, subst, ◌∙◌, length}
 use Rattle.std.proofs.lemmas.Result.{on_err_weaker, on_ok_weaker}
-use Rattle.bag.specs.Posts.{Post}
+use Rattle.message_bag.specs.Posts.{Post}
 use Rattle.switch_core.specs.State.{SwitchValue}
 use Rattle.world_log.specs.Packets.{ended_items, hop_written, turned_items}
 use Rattle.travelling.specs.Travelling.{WithOne}

@@ -1,6 +1,6 @@
 use Rattle.std.proofs.Common.{◌∙◌, None, arith, sym, subst}
 use Rattle.std.proofs.lemmas.List.FromFn.{fill_by_all}
-use Rattle.masks.specs.Masks.{switches}
+use Rattle.base.specs.Masks.{switches}
 use Rattle.failover.specs.Adverts.{first_of, first_adverts}
 use Rattle.failover.specs.Newest.{AreByOrigin}
 use Rattle.failover.proofs.Adverts.{by_origin-first}

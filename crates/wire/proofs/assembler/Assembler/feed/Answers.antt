@@ -1,6 +1,6 @@
 use Rattle.std.proofs.Common.{subst}
 use Rattle.std.specs.Prelude.{IfErr, OnOk}
-use Rattle.failure.specs.Refusals.{IfRefused}
+use Rattle.base.specs.Refusals.{IfRefused}
 use Rattle.wire.specs.Assembly.{IsRefusedFrame}
 use Rattle.wire.proofs.assembler.Assembler.feed.Goals as goal
 

@@ -9,7 +9,7 @@ use Rattle.world_log.specs.Sending.{MayNote}
 use Rattle.world.proofs.Frame.{goes_nothing, net_stays, none_in, nothing_goes}
 use Rattle.world.proofs.GoesTold.{goes_acting}
 use Rattle.world.proofs.OverSwitches.{known_in, place_in}
-use Rattle.world_ties.proofs.GoneSwitches.{gone_may, gone_piece, gone_tied, still_up}
+use Rattle.refinement.proofs.GoneSwitches.{gone_may, gone_piece, gone_tied, still_up}
 use Rattle.world.proofs.parts.Parts.confirm.Goals as goal
 
 pub index-requires : goal.index-requires

@@ -1,19 +1,19 @@
 use Rattle.std.proofs.Common.{◌≡◌, ◌+◌, ◌++◌, ◌∷◌, true, List, map, set, refl, ap, sym, subst, ◌∙◌, append_assoc, length, arith}
 use Rattle.std.proofs.lemmas.List.{length-set}
 use Rattle.std.proofs.lemmas.Result.{on_err_weaker, on_ok_weaker}
-use Rattle.bag.specs.Posts.{posted}
+use Rattle.message_bag.specs.Posts.{posted}
 use Rattle.ctrl_msg.specs.declared.message.Message.{Message}
 use Rattle.journal.specs.declared.item.Item.{Item}
 use Rattle.journal.specs.declared.item.Item.TheVariants as item
 use Rattle.steps.specs.declared.step.Step.TheVariants.{Crash}
 use Rattle.switch_core.specs.State.{SwitchValue}
 use Rattle.update_machine.specs.Messages.{sent_from}
-use Rattle.usable_links.specs.Linking.{all_told, near_all}
+use Rattle.refinement.specs.Linking.{all_told, near_all}
 use Rattle.world.specs.Parts.{control_in, setting_in}
-use Rattle.world_ties.specs.Tied.{AreTied}
+use Rattle.refinement.specs.Tied.{AreTied}
 use Rattle.travelling.specs.Travelling.{WithoutAt, numbers_at}
 use Rattle.world_log.specs.Writing.{IsPart}
-use Rattle.world_ties.proofs.Crashed.{crash_may, crash_next, crash_piece, crash_tied, same_switch, stays_down}
+use Rattle.refinement.proofs.Crashed.{crash_may, crash_next, crash_piece, crash_tied, same_switch, stays_down}
 use Rattle.world.proofs.Frame.{goes, goes_nothing, net_stays, none_ok, nothing_goes}
 use Rattle.world.proofs.GoesTold.{same_control}
 use Rattle.world.proofs.OverSwitches.{few_in, place_in, switch_in}

@@ -1,10 +1,10 @@
 use Rattle.std.proofs.Common.{◌≡◌, ◌+◌, ◌<◌, ◌++◌, ◌∷◌, List, OnOk, OnErr, get_or, length, map, set, refl, ap, sym, subst, ◌∙◌, arith}
 use Rattle.std.specs.Prelude.{is_some}
-use Rattle.bag.specs.Deliveries.{delivered}
+use Rattle.message_bag.specs.Deliveries.{delivered}
 use Rattle.std.proofs.lemmas.List.{length-set}
 use Rattle.std.proofs.lemmas.Result.{on_ok_weaker}
-use Rattle.bag.specs.Posts.{posted, with_delivered, with_status}
-use Rattle.bag.proofs.Numbered.{length_changed}
+use Rattle.message_bag.specs.Posts.{posted, with_delivered, with_status}
+use Rattle.message_bag.proofs.Numbered.{length_changed}
 use Rattle.controller.specs.Controller.{ControllerValue}
 use Rattle.controller.specs.Sends.{hearing}
 use Rattle.ctrl_msg.specs.declared.message.Message.{Message}
@@ -14,16 +14,16 @@ use Rattle.steps.specs.declared.step.Step.TheVariants.{Deliver}
 use Rattle.switch_core.specs.Hearing.{IsSoundBody, replies}
 use Rattle.update_machine.specs.Messages.{sent_from}
 use Rattle.world.specs.Parts.{control_in, setting_in}
-use Rattle.usable_links.specs.Linking.{all_told, near_all}
+use Rattle.refinement.specs.Linking.{all_told, near_all}
 use Rattle.world_log.specs.Sending.{MayNote, MaySend, act_items, act_posts}
-use Rattle.world_ties.specs.Tied.{AreTied}
-use Rattle.world_ties.proofs.Delivering.{found_there}
+use Rattle.refinement.specs.Tied.{AreTied}
+use Rattle.refinement.proofs.Delivering.{found_there}
 use Rattle.world_log.specs.Writing.{IsPart}
 use Rattle.world.proofs.GoesTold.{first_goes, goes_told, same_control}
-use Rattle.world_ties.proofs.HeardBy.{control_may, control_piece, control_tied, first_piece, names_known, shut_may, shut_piece, shut_tied, undelivered}
+use Rattle.refinement.proofs.HeardBy.{control_may, control_piece, control_tied, first_piece, names_known, shut_may, shut_piece, shut_tied, undelivered}
 use Rattle.world.proofs.OverSwitches.{few_in}
-use Rattle.world_ties.proofs.HearReady.{hear_ready, usable_here}
-use Rattle.world_ties.proofs.Opening.{opening_may, opening_next, opening_piece, opening_tied}
+use Rattle.refinement.proofs.HearReady.{hear_ready, usable_here}
+use Rattle.refinement.proofs.Opening.{opening_may, opening_next, opening_piece, opening_tied}
 use Rattle.world.proofs.Frame.{goes_nothing, net_stays, none_in, nothing_goes}
 use Rattle.world_log.proofs.Writing.{both_ok, step_part, step_written}
 use Rattle.world.proofs.parts.Parts.deliver.Goals as goal

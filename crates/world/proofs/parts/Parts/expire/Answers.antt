@@ -1,6 +1,6 @@
 use Rattle.std.proofs.Common.{Some, None, refl, sym, ◌∙◌}
 use Rattle.journal.specs.declared.item.Item.TheVariants as item
-use Rattle.world_ties.proofs.Expiring.{expired_tied}
+use Rattle.refinement.proofs.Expiring.{expired_tied}
 use Rattle.world.proofs.Frame.{goes_one, net_stays, none_in, plane_stays}
 use Rattle.world.proofs.OverSwitches.{place_in}
 use Rattle.world.proofs.parts.Parts.expire.Goals as goal

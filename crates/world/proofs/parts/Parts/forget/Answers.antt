@@ -1,7 +1,7 @@
 use Rattle.std.proofs.Common.{refl, sym, ◌∙◌}
 use Rattle.journal.specs.declared.item.Item.TheVariants as item
-use Rattle.bag.specs.Posts.{with_forgotten}
-use Rattle.world_ties.proofs.Delivering.{forgotten_tied, unforgotten}
+use Rattle.message_bag.specs.Posts.{with_forgotten}
+use Rattle.refinement.proofs.Delivering.{forgotten_tied, unforgotten}
 use Rattle.world.proofs.Frame.{goes_nothing, goes_one, net_stays, none_in, plane_stays}
 use Rattle.world.proofs.parts.Parts.forget.Goals as goal
 

@@ -7,9 +7,9 @@ use Rattle.switch_core.specs.Answering.{IsAtAuthority}
 use Rattle.switch_core.specs.Moving.{hopped}
 use Rattle.switch_core.specs.declared.answers.HopEnd.TheVariants.{Arrive}
 use Rattle.world_log.proofs.Passing.{of_kept}
-use Rattle.world_ties.proofs.Asking.{can_ask, ingress_below, within_here, number_of_packet}
+use Rattle.refinement.proofs.Asking.{can_ask, ingress_below, within_here, number_of_packet}
 use Rattle.world.proofs.Frame.{goes_nothing, goes_quiet, net_stays, none_in, plane_stays}
-use Rattle.world_ties.proofs.HopTie.{hop_left}
+use Rattle.refinement.proofs.HopTie.{hop_left}
 use Rattle.world.proofs.OverParts.{hop_is, hop_ties}
 use Rattle.world.proofs.parts.Parts.hop.Goals as goal
 

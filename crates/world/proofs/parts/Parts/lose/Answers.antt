@@ -2,7 +2,7 @@ use Rattle.std.proofs.Common.{refl, sym, ◌∙◌}
 use Rattle.journal.specs.declared.item.Item.TheVariants as item
 use Rattle.world.specs.Parts.{control_in, setting_in}
 use Rattle.world.proofs.Frame.{goes_one, net_stays, none_in, plane_stays}
-use Rattle.world_ties.proofs.Losing.{lost, not_lost}
+use Rattle.refinement.proofs.Losing.{lost, not_lost}
 use Rattle.world.proofs.parts.Parts.lose.Goals as goal
 
 pub returns-then-not-remove : goal.returns-then-not-remove

@@ -1,8 +1,8 @@
 use Rattle.std.proofs.Common.{refl, arith}
 use Rattle.std.proofs.lemmas.Result.{on_ok_weaker}
 use Rattle.world.proofs.Frame.{goes_quiet, net_stays, plane_stays}
-use Rattle.world_ties.proofs.Asking.{can_look_up}
-use Rattle.world_ties.proofs.Incoming.{come_fits}
+use Rattle.refinement.proofs.Asking.{can_look_up}
+use Rattle.refinement.proofs.Incoming.{come_fits}
 use Rattle.world.proofs.OverParts.{come_is, come_ties}
 use Rattle.world.proofs.OverSwitches.{place_in}
 use Rattle.world.proofs.parts.Parts.packet.Goals as goal

@@ -5,13 +5,13 @@ use Rattle.controller.specs.declared.sends.Act.{Act}
 use Rattle.controller.specs.declared.sends.Act.TheVariants.{Post}
 use Rattle.journal.specs.declared.item.Item.TheVariants as item
 use Rattle.steps.specs.declared.step.Step.TheVariants.{Resend}
-use Rattle.usable_links.specs.Linking.{told_again}
+use Rattle.refinement.specs.Linking.{told_again}
 use Rattle.world.specs.Parts.{control_in, setting_in}
 use Rattle.world_log.specs.Sending.{MayNote, act_items, act_posts}
 use Rattle.world.proofs.Frame.{goes_nothing, goes_quiet, net_stays, none_in, nothing_goes, plane_stays}
 use Rattle.world.proofs.GoesTold.{as_noted}
 use Rattle.world.proofs.OverSwitches.{few_in, known_in, place_in, switch_in}
-use Rattle.world_ties.proofs.SentAgain.{acts_same, again_may, again_piece, again_tied, sent_tied, silent}
+use Rattle.refinement.proofs.SentAgain.{acts_same, again_may, again_piece, again_tied, sent_tied, silent}
 use Rattle.world.proofs.parts.Parts.resend.Goals as goal
 use Rattle.world.proofs.parts.Parts.resend.Goals.{After-are_none}
 

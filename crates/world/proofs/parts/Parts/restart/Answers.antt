@@ -1,14 +1,14 @@
 use Rattle.std.proofs.Common.{◌≡◌, ◌+◌, ◌<◌, ◌++◌, ◌∷◌, [], OnOk, false, length, refl, ap, sym, subst, ◌∙◌, arith}
 use Rattle.std.proofs.lemmas.List.{get_or_default}
 use Rattle.std.proofs.lemmas.Result.{on_err_weaker, on_ok_weaker}
-use Rattle.bag.specs.Posts.{posted}
+use Rattle.message_bag.specs.Posts.{posted}
 use Rattle.ctrl_msg.specs.declared.message.Body.TheVariants.{Hello}
 use Rattle.ctrl_msg.specs.Kinds.{to_controller}
-use Rattle.frame_laws.specs.Feeding.{HasShortSpelling}
+use Rattle.message_bag.specs.Feeding.{HasShortSpelling}
 use Rattle.journal.specs.declared.item.Item.TheVariants as item
 use Rattle.switch_core.specs.State.{SwitchValue}
-use Rattle.world_ties.proofs.Sendable.{hello_spelled}
-use Rattle.world_ties.proofs.Booting.{boot_next, boot_piece, boot_tied, up_already}
+use Rattle.refinement.proofs.Sendable.{hello_spelled}
+use Rattle.refinement.proofs.Booting.{boot_next, boot_piece, boot_tied, up_already}
 use Rattle.world.proofs.Frame.{goes_nothing, net_stays, none_in, nothing_goes}
 use Rattle.world.proofs.GoesTold.{goes_told}
 use Rattle.world.proofs.OverSwitches.{few_in, place_in, switch_in}

@@ -1,20 +1,20 @@
 use Rattle.std.proofs.Common.{ℕ, ◌≡◌, ◌+◌, ◌<◌, ◌++◌, ◌∷◌, [], Bool, true, false, List, length, map, max, min, refl, ap, sym, subst, ◌∙◌, arith}
 use Rattle.std.specs.Bool.{beq}
-use Rattle.bag.specs.Posts.{posted}
+use Rattle.message_bag.specs.Posts.{posted}
 use Rattle.ctrl_msg.specs.declared.message.Message.{Message}
 use Rattle.journal.specs.declared.item.Item.{Item}
 use Rattle.journal.specs.declared.item.Item.TheVariants as item
 use Rattle.update_machine.specs.Messages.{sent_from}
-use Rattle.usable_links.specs.Linking.{all_told, link_step, near_all}
+use Rattle.refinement.specs.Linking.{all_told, link_step, near_all}
 use Rattle.world.specs.Parts.{HasBegun, control_in, setting_in}
 use Rattle.world.specs.declared.parts.Parts.{Parts}
 use Rattle.world.specs.State.{comes_in}
-use Rattle.world_ties.specs.Tied.{AreTied}
+use Rattle.refinement.specs.Tied.{AreTied}
 use Rattle.world.proofs.Frame.{goes_nothing, net_stays, nothing_goes}
 use Rattle.world.proofs.GoesTold.{goes_told, same_control}
 use Rattle.world.proofs.OverSwitches.{few_in}
-use Rattle.world_ties.proofs.LinksChange.{numbers_left}
-use Rattle.world_ties.proofs.LinkRows.{ends_below, same_tied, set_may, set_piece, set_tied}
+use Rattle.refinement.proofs.LinksChange.{numbers_left}
+use Rattle.refinement.proofs.LinkRows.{ends_below, same_tied, set_may, set_piece, set_tied}
 use Rattle.world_log.proofs.Writing.{both_ok}
 use Rattle.world.proofs.parts.Parts.set_link.Goals as goal
 

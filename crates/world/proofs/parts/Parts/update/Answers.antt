@@ -1,21 +1,21 @@
 use Rattle.std.proofs.Common.{ℕ, ◌≡◌, ◌≢◌, ◌+◌, ◌-◌, ◌++◌, ◌∷◌, [], List, Err, get_or, refl, ap, sym, subst, ◌∙◌, rules}
 use Rattle.std.specs.Prelude.{OnErr, OnOk, Result}
-use Rattle.world_ties.specs.Controller.{IsPlanOfNext}
-use Rattle.failure.specs.declared.error.Failure.TheVariants.{Refused}
+use Rattle.refinement.specs.Controller.{IsPlanOfNext}
+use Rattle.base.specs.declared.error.Failure.TheVariants.{Refused}
 use Rattle.controller.specs.Controller.{ControllerValue}
 use Rattle.controller.specs.Sends.{submitting}
 use Rattle.controller.specs.declared.sends.Act.{Act}
 use Rattle.journal.specs.declared.item.Item.{Item}
 use Rattle.journal.specs.declared.item.Item.TheVariants as item
 use Rattle.steps.specs.declared.step.Step.TheVariants.{Update}
-use Rattle.policy_store.specs.Files.{FilesValue, IsCompiled}
+use Rattle.world.specs.Files.{FilesValue, IsCompiled}
 use Rattle.update_machine.specs.Pieces.{piece}
 use Rattle.world.specs.Parts.{BeginsStep, Goes, setting_in}
 use Rattle.world.specs.declared.parts.Parts.{Parts}
 use Rattle.world_log.specs.Sending.{MayNote}
 use Rattle.world.proofs.Frame.{goes_one, net_stays, none_in, not_err, nothing_goes, plane_stays}
 use Rattle.world.proofs.GoesTold.{goes_acting}
-use Rattle.world_ties.proofs.Submitting.{live_piece, planned_next, refused_piece, refused_tied, submitted_may, submitted_piece, submitted_tied, unplanned_next, versions_piece}
+use Rattle.refinement.proofs.Submitting.{live_piece, planned_next, refused_piece, refused_tied, submitted_may, submitted_piece, submitted_tied, unplanned_next, versions_piece}
 use Rattle.world.proofs.parts.Parts.update.Goals as goal
 use Rattle.world.proofs.parts.Parts.update.Goals.{In-Planned}
 

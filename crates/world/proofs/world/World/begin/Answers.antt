@@ -3,7 +3,7 @@ use Rattle.std.specs.Prelude.{Ok}
 use Rattle.std.proofs.lemmas.List.{get_or_default}
 use Rattle.partition.specs.Plan.{plan_of}
 use Rattle.world.proofs.Begun.{as_begun, net_begun, owners_begun}
-use Rattle.world_ties.proofs.Starting.{begun_tied}
+use Rattle.refinement.proofs.Starting.{begun_tied}
 use Rattle.world.proofs.world.World.begin.Goals as goal
 
 pub invariant_of-result : goal.invariant_of-result

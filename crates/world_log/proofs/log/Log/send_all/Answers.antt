@@ -1,5 +1,5 @@
 use Rattle.std.proofs.Common.{refl, subst, sym, length, ◌+◌, ◌∙◌, arith}
-use Rattle.frame_laws.specs.Feeding.{HasShortSpelling}
+use Rattle.message_bag.specs.Feeding.{HasShortSpelling}
 use Rattle.update_machine.specs.Messages.{sent_from}
 use Rattle.world_log.specs.Writing.{IsPart}
 use Rattle.world_log.proofs.Sends.{spelled_at, sent_begun, sent_few, sent_more, sent_part}

@@ -1,6 +1,0 @@
-use Rattle.advert_laws.proofs.BothCauses.{behind_both}
-use Rattle.advert_laws.proofs.Origins.{of_switches}
-use Rattle.advert_laws.proofs.laws.adverts_are_of_switches.Goals as goal
-
-pub returns : goal.returns
-returns c = behind_both _ of_switches

@@ -1,2 +1,0 @@
-pub mod Adverts
-pub mod Sends

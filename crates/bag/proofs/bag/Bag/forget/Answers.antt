@@ -1,7 +1,0 @@
-use Rattle.bag.specs.Deliveries.{forgotten}
-use Rattle.bag.proofs.Zipped.{posts_changed}
-use Rattle.bag.proofs.bag.Bag.forget.Goals as goal
-
-pub returns : goal.returns
-returns c = posts_changed forgotten c.self.inside.frames c.self.inside.deliveries _ _ c.args.number
-    c.self.invariant c.self.view_is c.forget.ensures

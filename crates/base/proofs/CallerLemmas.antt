@@ -1,0 +1,161 @@
+-- Masks number by number.
+use Rattle.std.proofs.Common.{◌≡◌, ◌≢◌, ℕ, zero, suc, ◌+◌, ◌^◌, ◌<◌, ◌≤◌, min, max, Bool, true, false, ◌&&◌, ◌||◌, ◌==◌, List, [], ◌∷◌, length, get_or, refl, sym, ◌∙◌, ap, arith}
+use Rattle.std.specs.Int.{w64}
+use Rattle.std.specs.Int.Bits.{bit_and, bit_or}
+use Rattle.std.proofs.lemmas.Bool.Decides.{nat_tests}
+use Rattle.std.proofs.lemmas.Nat.{pow_below, pow_pos, or_lt}
+use Rattle.std.proofs.lemmas.Nat.Bits.{bit_at_and, bit_at_or, bit_at-lt, bit_at-zero, bit_at-pow_same, bit_at-pow_other, bit_at_above, same_from_bits, same_from_bits_below, bit_at-trailing_zeros}
+use Rattle.std.proofs.lemmas.List.FromFn.{get_or-range_with_len}
+use Rattle.base.specs.Masks.{has, switches}
+use Rattle.base.specs.ComputedMasks.{mask_of, mask_where, only_if, least_in}
+use Rattle.base.specs.MaskLaws.{MaskLaws}
+
+-- ---- one switch of a mask
+
+bit_or_test : (a b c : ℕ) → a < 2 → b < 2 → c ≡ max a b → (c == 1) ≡ ((a == 1) || (b == 1))
+bit_or_test a b c a_fits b_fits e = grind (arith, nat_tests)
+
+bit_and_test : (a b c : ℕ) → a < 2 → b < 2 → c ≡ min a b → (c == 1) ≡ ((a == 1) && (b == 1))
+bit_and_test a b c a_fits b_fits e = grind (arith, nat_tests)
+
+pub has-or : (a b k : ℕ) → has (bit_or a b) k ≡ (has a k || has b k)
+unfolding has
+has-or a b k = bit_or_test _ _ _ (bit_at-lt a k) (bit_at-lt b k) (bit_at_or a b k)
+
+pub has-and : (a b k : ℕ) → has (bit_and a b) k ≡ (has a k && has b k)
+unfolding has
+has-and a b k = bit_and_test _ _ _ (bit_at-lt a k) (bit_at-lt b k) (bit_at_and a b k)
+
+pub has-zero : (k : ℕ) → has 0 k ≡ false
+unfolding has
+has-zero k = ap (λ d. d == 1) (bit_at-zero k)
+
+pub has-pow_same : (k : ℕ) → has (2 ^ k) k ≡ true
+unfolding has
+has-pow_same k = ap (λ d. d == 1) (bit_at-pow_same k)
+
+pub has-pow_other : (k j : ℕ) → j ≢ k → has (2 ^ k) j ≡ false
+unfolding has
+has-pow_other k j apart = ap (λ d. d == 1) (bit_at-pow_other k j apart)
+
+pub has_above : (mask k : ℕ) → mask < 2 ^ 64 → 64 ≤ k → has mask k ≡ false
+unfolding has
+has_above mask k fits past = ap (λ d. d == 1) (bit_at_above mask 64 k fits past)
+
+same_bit : (a b : ℕ) → a < 2 → b < 2 → (a == 1) ≡ (b == 1) → a ≡ b
+same_bit a b a_fits b_fits e = grind (arith, nat_tests)
+
+-- masks of the same switches are equal
+pub same_masks : (a b : ℕ) → a < 2 ^ 64 → b < 2 ^ 64 → ((k : ℕ) → k < 64 → has a k ≡ has b k) →
+    a ≡ b
+unfolding has
+same_masks a b a_fits b_fits h =
+    same_from_bits_below 64 a b a_fits b_fits
+    (λ k below. same_bit _ _ (bit_at-lt a k) (bit_at-lt b k) (h k below))
+
+pub has_only_same : (test : Bool) (k : ℕ) → has (only_if test k) k ≡ test
+has_only_same true k = has-pow_same k
+has_only_same false k = has-zero k
+
+pub has_only_other : (test : Bool) (k j : ℕ) → j ≢ k → has (only_if test k) j ≡ false
+has_only_other true k j apart = has-pow_other k j apart
+has_only_other false k j apart = has-zero j
+
+-- ---- masks of the places that pass
+
+or_false : (a : Bool) → (a || false) ≡ a
+or_false true = refl
+or_false false = refl
+
+pub mask_where_below : {X : Type 0} (test : X → Bool) (k : ℕ) (xs : List X) (z : ℕ) → z < k →
+    has (mask_where test k xs) z ≡ false
+unfolding mask_where
+mask_where_below test k [] z below = has-zero z
+mask_where_below test k (x ∷ xs) z below =
+    let apart : z ≢ k = omega arith in
+    let rest = mask_where_below test (k + 1) xs z (omega arith) in
+    rw (has-or, has_only_other _ _ _ apart, rest) refl
+
+pub mask_where_at : {X : Type 0} (test : X → Bool) (k : ℕ) (xs : List X) (d : X) (z j : ℕ) →
+    z ≡ k + j →
+    j < length xs → has (mask_where test k xs) z ≡ test (get_or xs j d)
+unfolding mask_where
+mask_where_at test k [] d z j e below = absurd (omega arith)
+mask_where_at test k (x ∷ xs) d z zero e below =
+    let same : z ≡ k = omega arith in
+    rw (has-or, mask_where_below test (k + 1) xs z (omega arith), same, has_only_same) (or_false _)
+mask_where_at test k (x ∷ xs) d z (suc j) e below =
+    let apart : z ≢ k = omega arith in
+    rw (has-or, has_only_other _ _ _ apart)
+    (mask_where_at test (k + 1) xs d z j (omega arith) (omega arith))
+
+pub only_if_lt : (test : Bool) (k n : ℕ) → k < n → only_if test k < 2 ^ n
+only_if_lt true k n below = pow_below k n below
+only_if_lt false k n below = pow_pos n
+
+pub mask_where_lt : {X : Type 0} (test : X → Bool) (k : ℕ) (xs : List X) (n : ℕ) →
+    k + length xs ≤ n →
+    mask_where test k xs < 2 ^ n
+unfolding mask_where
+mask_where_lt test k [] n fits = pow_pos n
+mask_where_lt test k (x ∷ xs) n fits =
+    or_lt n _ _ (only_if_lt (test x) k n (omega arith)) (mask_where_lt test (k + 1) xs n
+    (omega arith))
+
+-- ---- the least switch
+
+least_test : (d : ℕ) → d ≡ 1 → (d == 1) ≡ true
+least_test d e = grind (arith, nat_tests)
+
+zero_test : (d : ℕ) → d ≡ 0 → (d == 1) ≡ false
+zero_test d e = grind (arith, nat_tests)
+
+pub least_lt : (mask : ℕ) → 0 < mask → mask < 2 ^ 64 → least_in mask < 64
+unfolding least_in
+least_lt mask some fits = (bit_at-trailing_zeros w64 mask some fits).0
+
+pub has_least : (mask : ℕ) → 0 < mask → mask < 2 ^ 64 → has mask (least_in mask) ≡ true
+unfolding least_in has
+has_least mask some fits = least_test _ (bit_at-trailing_zeros w64 mask some fits).1
+
+pub least_below : (mask : ℕ) → 0 < mask → mask < 2 ^ 64 → (j : ℕ) → j < least_in mask →
+    has mask j ≡ false
+unfolding least_in has
+least_below mask some fits j below =
+    zero_test _ ((bit_at-trailing_zeros w64 mask some fits).2 j below)
+
+-- masks with the same switches are equal, whatever their width
+pub same_sets : (a b : ℕ) → ((k : ℕ) → has a k ≡ has b k) → a ≡ b
+unfolding has
+same_sets a b h = same_from_bits a b (λ k. same_bit _ _ (bit_at-lt a k) (bit_at-lt b k) (h k))
+
+-- ---- masks of the numbers that pass
+
+pub length-switches : length switches ≡ 64
+unfolding switches
+length-switches = refl
+
+pub get_or-switches : (k : ℕ) → k < 64 → get_or switches k 0 ≡ k
+unfolding switches
+get_or-switches k below = get_or-range_with_len 0 64 k 0 below ∙ omega arith
+
+pub has_mask : (test : ℕ → Bool) (k : ℕ) → k < 64 → has (mask_of test) k ≡ test k
+unfolding mask_of
+has_mask test k below = mask_where_at test 0 switches 0 k k (omega arith)
+    (omega (arith, length-switches)) ∙ ap test (get_or-switches k below)
+
+pub mask_of_lt : (test : ℕ → Bool) → mask_of test < 2 ^ 64
+unfolding mask_of
+mask_of_lt test = mask_where_lt test 0 switches 64 (omega (arith, length-switches))
+
+pub has_mask_past : (test : ℕ → Bool) (k : ℕ) → 64 ≤ k → has (mask_of test) k ≡ false
+has_mask_past test k past = has_above (mask_of test) k (mask_of_lt test) past
+
+pub mask_of_is : (mask : ℕ) (test : ℕ → Bool) → mask < 2 ^ 64
+    → ((k : ℕ) → k < 64 → has mask k ≡ test k) → mask ≡ mask_of test
+mask_of_is mask test fits same =
+    same_masks mask (mask_of test) fits (mask_of_lt test)
+    (λ k below. same k below ∙ sym (has_mask test k below))
+
+pub laws : MaskLaws
+laws = record { small = mask_of_lt; bits = has_mask; past = has_above; unique = mask_of_is }

@@ -1,0 +1,21 @@
+-- Sets of the numbers that pass a test, as masks, and the least number of a set.
+use Rattle.std.specs.Prelude.{ℕ, ◌+◌, ◌^◌, Bool, if◌then◌else◌, List, [], ◌∷◌, bit_or}
+use Rattle.std.specs.Int.{trailing_zeros, w64}
+use Rattle.base.specs.Masks.{switches}
+
+-- the set of this one number, or of none
+abbrev pub only_if : Bool → ℕ → ℕ
+only_if test k = if test then 2 ^ k else 0
+
+-- the places, counted from k, of the elements that pass a test
+unfoldable pub mask_where : {X : Type 0} → (X → Bool) → ℕ → List X → ℕ
+mask_where test k [] = 0
+mask_where test k (x ∷ xs) = bit_or (only_if (test x) k) (mask_where test (k + 1) xs)
+
+-- the numbers below 64 that pass a test
+unfoldable pub mask_of : (ℕ → Bool) → ℕ
+mask_of test = mask_where test 0 switches
+
+-- the least number of a set that isn't empty
+unfoldable pub least_in : ℕ → ℕ
+least_in mask = trailing_zeros w64 mask

@@ -1,0 +1,5 @@
+pub mod Refusals
+pub mod Filled
+pub mod Masks
+pub mod ComputedMasks
+pub mod MaskLaws

@@ -1,0 +1,33 @@
+//! What all other crates stand on: why a call gives no value, lists and shared values as other
+//! crates hold them, and sets of small numbers.
+//!
+//! `Failure` says what a call refuses, by a type of its own with its message, or want of memory;
+//! `?` makes one of a failure of memory. A reader of a text refuses `InRow` of its refusals. A
+//! `Listing` owns its items; the clones of a `SharedList` share its items, and those of a `Shared`
+//! its value, so that contracts see what is in them and nothing of how it is held. A mask is a set
+//! of numbers below 64, as of switches and of ports, held as the bits of a number.
+//!
+//! ```text
+//! pub fn build(alloc: Global, rules: &[Rule], cap: u32) -> Result<Tree, Failure<TooManyLeaves>>
+//!
+//! let route = Shared::new(alloc, route)?;
+//! let same = route.clone()?; // copies no route
+//!
+//! let ends = with(only_if(true, 3), 5); // 0b101000
+//! has(ends, 5) // true
+//! ```
+#![tactic(auto)]
+
+mod error;
+mod listing;
+mod masks;
+mod row;
+mod shared;
+mod shared_list;
+
+pub use error::Failure;
+pub use listing::Listing;
+pub use masks::{has, mask_laws, only_if, with};
+pub use row::InRow;
+pub use shared::Shared;
+pub use shared_list::SharedList;

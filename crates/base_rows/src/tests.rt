@@ -1,5 +1,0 @@
-mod headers;
-mod partitions;
-mod placements;
-mod rule_lists;
-mod words;

@@ -1,0 +1,14 @@
+mod boards;
+mod differing_words;
+mod finders;
+mod headers;
+mod networks;
+mod partitions;
+mod placements;
+mod policies;
+mod records;
+mod rule_lists;
+mod rule_trees;
+mod schedules;
+mod shelves;
+mod words;

@@ -1,0 +1,30 @@
+-- Each item of any steps has both its causes.
+use Rattle.std.proofs.Common.{List, []}
+use Rattle.journal.specs.declared.item.Item.{Item}
+use Rattle.update_machine.specs.Causes.{HaveCauses}
+use Rattle.update_machine.specs.Pieces.{piece}
+use Rattle.update_machine.specs.Setting.{Setting}
+use Rattle.update_machine.proofs.CallerLemmas.{PiecesHave}
+use Rattle.control_laws.specs.Always.{HoldsBehindItems}
+use Rattle.control_laws.specs.ItemCauses.{HasItemCause}
+use Rattle.control_laws.proofs.BehindItems.{behind_items}
+use Rattle.control_laws.proofs.Facts.{Both, have_both}
+use Rattle.control_laws.proofs.Pieces.{pieces_have}
+use Rattle.control_laws.proofs.LinkCauses.{HasLinkCause}
+use Rattle.control_laws.proofs.Stepping.{pieces_caused}
+
+abbrev pub HasBothCauses : Setting → List Item → Item → Type 0
+HasBothCauses setting = Both (HasItemCause setting) (HasLinkCause setting)
+
+pieces_have_both : (setting : Setting) → PiecesHave (HasBothCauses setting) setting
+pieces_have_both setting journal row step =
+    have_both (HasItemCause setting) (HasLinkCause setting) journal
+    (piece setting journal row step) (pieces_have setting journal row step)
+    (pieces_caused setting journal row step)
+
+-- so a fact that holds where items have both causes holds behind each item
+pub behind_both : (Holds : Setting → List Item → Type 0)
+    → ((setting : Setting) (journal : List Item) → HaveCauses (HasBothCauses setting) [] journal
+    → Holds setting journal)
+    → HoldsBehindItems Holds
+behind_both Holds caused = behind_items Holds HasBothCauses pieces_have_both caused

@@ -1,0 +1,89 @@
+-- The boot in which a switch heard tables is known.
+use Rattle.std.proofs.Common.{ℕ, ◌≡◌, ◌≤◌, ◌==◌, Bool, true, false, if◌then◌else◌, Option, Some, None, List, [], ◌∷◌, ◌++◌, refl, arith}
+use Rattle.std.specs.Prelude.{◌||◌, IsTrue, unwrap_or}
+use Rattle.std.specs.List.{list_any}
+use Rattle.std.specs.Option.{option_map_or}
+use Rattle.std.proofs.lemmas.Bool.{eqb-true}
+use Rattle.std.proofs.lemmas.List.Folds.{list_any-append}
+use Rattle.ctrl_msg.specs.declared.message.Body.{Body}
+use Rattle.ctrl_msg.specs.declared.message.Body.TheVariants.{Install}
+use Rattle.journal.specs.declared.item.Item.{Item}
+use Rattle.journal.specs.declared.item.Item.TheVariants as item
+use Rattle.update_machine.specs.Boots.{boot_of, heard, said_to}
+use Rattle.update_machine.specs.Marks.{known_boot}
+use Rattle.update_machine.specs.Settling.{to_switch}
+use Rattle.update_machine.specs.Versions.{installs}
+use Rattle.control_laws.specs.BootLaws.{BootsAreKnown}
+use Rattle.control_laws.proofs.Boots.{known_rises}
+use Rattle.control_laws.proofs.Grown.{boot_more, heard_more}
+use Rattle.control_laws.proofs.SwitchBlocks.{said_parts}
+
+abbrev pub HeardAreKnown : List Item → Type 0
+HeardAreKnown journal = (s version : ℕ) → IsTrue (list_any (installs version) (heard journal s))
+    → boot_of journal s ≤ known_boot journal s
+
+-- a body that is heard
+heard_now : (before : List Item) (s number v : ℕ) (body : Body) → BootsAreKnown before
+    → said_to before s number ≡ Some body → IsTrue (installs v body)
+    → boot_of before s ≤ known_boot before s
+heard_now before s number v (Install boot tables) boots said is =
+    let parts = said_parts before s number (Install boot tables) said in
+    let own : boot ≡ boot_of before s = eqb-true boot (boot_of before s) parts.own in
+    let past : boot ≤ known_boot before s =
+    boots.sent number (to_switch s (Install boot tables)) parts.sent in
+    omega (arith, own, past)
+heard_now before s number v body boots said is = absurd cc
+
+pub heard_known : (before : List Item) (next : Item) → BootsAreKnown before
+    → HeardAreKnown before → HeardAreKnown (before ++ next ∷ [])
+heard_known before (item.Down t) boots known s v is =
+    rw (boot_more before (item.Down t) s)
+    (by_test (t == s) (rw (heard_more before (item.Down t) s) at is))
+  where
+    by_test : (b : Bool) → IsTrue (list_any (installs v) (if b then [] else heard before s))
+        → boot_of before s ≤ known_boot (before ++ item.Down t ∷ []) s
+    by_test true none = absurd cc
+    by_test false is =
+        omega (arith, known s v is, known_rises before (item.Down t) s)
+heard_known before (item.Booted t boot) boots known s v is =
+    rw (boot_more before (item.Booted t boot) s)
+    (by_test (t == s) (rw (heard_more before (item.Booted t boot) s) at is))
+  where
+    by_test : (b : Bool) → IsTrue (list_any (installs v) (if b then [] else heard before s))
+        → unwrap_or (if b then Some boot else None) (boot_of before s)
+        ≤ known_boot (before ++ item.Booted t boot ∷ []) s
+    by_test true none = absurd cc
+    by_test false is =
+        omega (arith, known s v is, known_rises before (item.Booted t boot) s)
+heard_known before (item.Delivered number) boots known s v is =
+    rw (boot_more before (item.Delivered number) s)
+    (by_said (said_to before s number) refl
+    (rw (heard_more before (item.Delivered number) s) at is))
+  where
+    rises : known_boot before s ≤ known_boot (before ++ item.Delivered number ∷ []) s
+    rises = known_rises before (item.Delivered number) s
+
+    by_parts : (b c : Bool) → IsTrue (b || (c || false))
+        → (IsTrue b → boot_of before s ≤ known_boot before s)
+        → (IsTrue c → boot_of before s ≤ known_boot before s)
+        → boot_of before s ≤ known_boot before s
+    by_parts true c is one other = one refl
+    by_parts false true is one other = other refl
+    by_parts false false is one other = absurd cc
+
+    by_said : (said : Option Body) → said_to before s number ≡ said
+        → IsTrue (list_any (installs v)
+        (option_map_or (λ body. heard before s ++ body ∷ []) said (heard before s)))
+        → boot_of before s ≤ known_boot (before ++ item.Delivered number ∷ []) s
+    by_said None e is = omega (arith, known s v is, rises)
+    by_said (Some body) e is =
+        let here : boot_of before s ≤ known_boot before s =
+        by_parts (list_any (installs v) (heard before s)) (installs v body)
+        (rw (list_any-append (installs v) (heard before s) (body ∷ [])) at is)
+        (known s v) (heard_now before s number v body boots e) in
+        omega (arith, here, rises)
+heard_known before next boots known s v is =
+    let same : IsTrue (list_any (installs v) (heard before s)) =
+    rw (heard_more before next s) at is in
+    rw (boot_more before next s)
+    (omega (arith, known s v same, known_rises before next s))

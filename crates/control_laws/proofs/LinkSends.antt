@@ -1,0 +1,271 @@
+-- How many adverts are sent where the links of one switch change.
+use Rattle.std.proofs.Common.{ℕ, ◌≡◌, ◌≢◌, ◌+◌, ◌*◌, ◌≤◌, ◌==◌, Bool, true, false, not, ◌&&◌, ◌||◌, cond, ◌⊎◌, List, [], ◌∷◌, length, map, refl, ap, sym, ◌∙◌, arith, inl, inr, sum_by}
+use Rattle.std.specs.Prelude.{IsTrue, filter}
+use Rattle.std.specs.List.{flat_map, list_any, range_with_len}
+use Rattle.std.proofs.Math.Nat.{mul-le-mul_right}
+use Rattle.std.proofs.lemmas.Bool.{and_parts, cases_eq, cases_lt, eq-eqb, eqb-true}
+use Rattle.std.proofs.lemmas.List.{length-map}
+use Rattle.std.proofs.lemmas.List.Concat.{length-flat_map}
+use Rattle.std.proofs.lemmas.List.FromFn.{length-range_with_len}
+use Rattle.std.proofs.lemmas.List.Sums.{sum_by-le-sum_by}
+use Rattle.ctrl_msg.specs.declared.message.Message.{Message}
+use Rattle.failover.specs.Adverts.{held}
+use Rattle.base.specs.Masks.{has, switches}
+use Rattle.net_file.specs.Net.{IsNet}
+use Rattle.net_file.specs.declared.net.LinkRow.{LinkRow}
+use Rattle.net_file.specs.Joins.{are_linked, joins}
+use Rattle.net_file.specs.Owners.{links_of}
+use Rattle.net_file.proofs.Masks.{in_mask_of, in_mask_past, mask_of_small}
+use Rattle.journal.specs.declared.item.Item.{Item}
+use Rattle.update_machine.specs.Adverts.{adverts_known, held_adverts, own_advert}
+use Rattle.update_machine.specs.Deliveries.{advert_to, has_changed, messages_of, messages_over}
+use Rattle.update_machine.specs.Links.{is_usable}
+use Rattle.update_machine.specs.Setting.{Setting}
+use Rattle.update_machine.specs.SwitchNumbers.{switches_of}
+use Rattle.update_machine.specs.LinkMasks.{near, usable_links}
+use Rattle.control_laws.proofs.NetLinks.{linked_by_mask}
+use Rattle.control_laws.proofs.Sums.{length_filter_less, length_given_less, met_once, once, pairs_few, sum_each, sum_filter, sum_plus, sum_some, sum_times}
+
+-- ---- which links change
+
+-- only links of one switch can be used now that couldn't, or can't that could
+pub record ChangesAt (before now : List Item) (t : ℕ) : Type 0 where
+  pub others : (link : LinkRow) → link.one ≢ t → link.two ≢ t →
+      is_usable now link ≡ is_usable before link
+
+-- each end of a link that joins two switches is one of them
+joined_ends : (x y : ℕ) (link : LinkRow) → joins x y link ≡ true
+    → ((link.one ≡ x) ⊎ (link.one ≡ y)) × ((link.two ≡ x) ⊎ (link.two ≡ y))
+joined_ends x y link joined = by_order (link.one == x && link.two == y) refl joined
+  where
+    by_order : (b : Bool) → (link.one == x && link.two == y) ≡ b
+        → (b || (link.one == y && link.two == x)) ≡ true
+        → ((link.one ≡ x) ⊎ (link.one ≡ y)) × ((link.two ≡ x) ⊎ (link.two ≡ y))
+    by_order true e is =
+        let parts = and_parts (link.one == x) (link.two == y) e in
+        (inl (eqb-true link.one x parts.0), inr (eqb-true link.two y parts.1))
+    by_order false e is =
+        let parts = and_parts (link.one == y) (link.two == x) is in
+        (inr (eqb-true link.one y parts.0), inl (eqb-true link.two x parts.1))
+
+away : (x y z end : ℕ) → x ≢ z → y ≢ z → (end ≡ x) ⊎ (end ≡ y) → end ≢ z
+away x y z end one two (inl e) = λ same. one (sym e ∙ same)
+away x y z end one two (inr e) = λ same. two (sym e ∙ same)
+
+-- links of other switches join as before
+linked_same : (before now : List Item) (t s k : ℕ) → ChangesAt before now t → s ≢ t → k ≢ t
+    → (links : List LinkRow)
+    → are_linked (filter (is_usable now) links) s k
+    ≡ are_linked (filter (is_usable before) links) s k
+linked_same before now t s k changes other far [] = refl
+linked_same before now t s k changes other far (link ∷ links) =
+    by_joins (joins s k link) refl (linked_same before now t s k changes other far links)
+  where
+    skipped : (b : Bool) (rest : List LinkRow) → joins s k link ≡ false
+        → list_any (joins s k) (cond b (link ∷ rest) rest) ≡ list_any (joins s k) rest
+    skipped true rest e = rw e refl
+    skipped false rest e = refl
+
+    by_joins : (joined : Bool) → joins s k link ≡ joined
+        → list_any (joins s k) (filter (is_usable now) links)
+        ≡ list_any (joins s k) (filter (is_usable before) links)
+        → list_any (joins s k)
+        (cond (is_usable now link) (link ∷ filter (is_usable now) links)
+        (filter (is_usable now) links))
+        ≡ list_any (joins s k)
+        (cond (is_usable before link) (link ∷ filter (is_usable before) links)
+        (filter (is_usable before) links))
+    by_joins false e rest =
+        skipped (is_usable now link) (filter (is_usable now) links) e ∙ rest
+        ∙ sym (skipped (is_usable before link) (filter (is_usable before) links) e)
+    by_joins true e rest =
+        let ends = joined_ends s k link e in
+        let same : is_usable now link ≡ is_usable before link =
+        changes.others link (away s k t link.one other far ends.0)
+        (away s k t link.two other far ends.1) in
+        rw same (by_usable (is_usable before link))
+      where
+        by_usable : (b : Bool)
+            → list_any (joins s k) (cond b (link ∷ filter (is_usable now) links)
+            (filter (is_usable now) links))
+            ≡ list_any (joins s k) (cond b (link ∷ filter (is_usable before) links)
+            (filter (is_usable before) links))
+        by_usable true = ap (λ c. joins s k link || c) rest
+        by_usable false = rest
+
+-- a mask of neighbours, bit by bit
+same_bits : (one other : List LinkRow) (s k : ℕ) → are_linked one s k ≡ are_linked other s k
+    → has (links_of one s) k ≡ has (links_of other s) k
+unfolding has
+same_bits one other s k same = elim (cases_lt k 64) [
+  | inl small ↦ in_mask_of (are_linked one s) k small ∙ same
+      ∙ sym (in_mask_of (are_linked other s) k small)
+  | inr past ↦ in_mask_past (links_of one s) k (mask_of_small (are_linked one s)) past
+      ∙ sym (in_mask_past (links_of other s) k (mask_of_small (are_linked other s)) past)
+]
+
+same_neighbour : (setting : Setting) (before now : List Item) (t s k : ℕ)
+    → ChangesAt before now t → s ≢ t → k ≢ t
+    → has (near setting now s) k ≡ has (near setting before s) k
+unfolding near
+same_neighbour setting before now t s k changes other far =
+    same_bits (usable_links setting now) (usable_links setting before) s k
+    (linked_same before now t s k changes other far setting.net.links)
+
+-- a link became usable
+abbrev is_new : Setting → List Item → List Item → ℕ → ℕ → Bool
+is_new setting before now s k =
+    has (near setting now s) k && not (has (near setting before s) k)
+
+new_at : (setting : Setting) (before now : List Item) (t s k : ℕ) → ChangesAt before now t
+    → once (is_new setting before now s k) ≤ once (t == s) + once (t == k)
+new_at setting before now t s k changes = elim (cases_eq s t) [
+  | inl same ↦
+      let here : once (t == s) ≡ 1 = ap once (eq-eqb t s (sym same)) in
+      omega (arith, here, at_most_one (is_new setting before now s k))
+  | inr other ↦ elim (cases_eq k t) [
+    | inl same ↦
+        let here : once (t == k) ≡ 1 = ap once (eq-eqb t k (sym same)) in
+        omega (arith, here, at_most_one (is_new setting before now s k))
+    | inr far ↦
+        omega (
+          arith,
+          none_new (has (near setting now s) k) (has (near setting before s) k)
+              (same_neighbour setting before now t s k changes other far),
+        )
+  ]
+]
+  where
+    at_most_one : (b : Bool) → once b ≤ 1
+    at_most_one true = omega arith
+    at_most_one false = omega arith
+
+    none_new : (b c : Bool) → b ≡ c → once (b && not c) ≡ 0
+    none_new true true e = refl
+    none_new true false e = absurd cc
+    none_new false c e = refl
+
+-- ---- what a switch tells a neighbour
+
+pub held_few : (setting : Setting) (journal : List Item) (s : ℕ)
+    → length (held_adverts setting journal s) ≤ 64
+unfolding held_adverts switches
+held_few setting journal s =
+    omega (
+      arith,
+      length_given_less (held (adverts_known setting journal s)) (range_with_len 0 64),
+      length-range_with_len 0 64,
+    )
+
+over_few : (setting : Setting) (before now : List Item) (s k : ℕ)
+    → cond (has (near setting now s) k) (length (messages_over setting before now s k)) 0
+    ≤ once (has (near setting now s) k) + 63 * once (is_new setting before now s k)
+over_few setting before now s k =
+    by_links (has (near setting now s) k) (has (near setting before s) k)
+  where
+    by_links : (b c : Bool)
+        → cond b (length {A = Message} (elim c [
+          | true ↦ advert_to k (own_advert setting now s) ∷ []
+          | false ↦ map (advert_to k) (held_adverts setting now s)
+        ])) 0 ≤ once b + 63 * once (b && not c)
+    by_links true true = omega arith
+    by_links true false =
+        omega (
+          arith,
+          held_few setting now s,
+          length-map (held_adverts setting now s) (advert_to k),
+        )
+    by_links false c = omega arith
+
+constant_few : (setting : Setting) → IsNet setting.net → (b : ℕ)
+    → sum_by (λ k. b) (switches_of setting) ≤ 64 * b
+constant_few setting net b =
+    let few : length (switches_of setting) ≤ 64 =
+    omega (arith, length-range_with_len 0 (length setting.net.switches), net.few_switches) in
+    omega (
+      arith,
+      sum_each (λ k. b) b (switches_of setting) (λ k. omega arith),
+      mul-le-mul_right b few,
+    )
+
+-- what a switch tells: one advert over each link that can be used, and 63 more over each new one
+by_few : (setting : Setting) (before now : List Item) (t s : ℕ) → IsNet setting.net
+    → ChangesAt before now t
+    → length (messages_of setting before now s)
+    ≤ sum_by (λ k. once (has (near setting now s) k)) (switches_of setting)
+    + 63 * (64 * once (t == s) + 1)
+by_few setting before now t s net changes =
+    let all : List ℕ = switches_of setting in
+    let fresh : ℕ → ℕ = λ k. once (is_new setting before now s k) in
+    omega (
+      arith,
+      length-flat_map (messages_over setting before now s)
+          (filter (has (near setting now s)) all),
+      sum_filter (λ k. length (messages_over setting before now s k)) (has (near setting now s)) all,
+      sum_by-le-sum_by
+          (λ k. cond (has (near setting now s) k) (length (messages_over setting before now s k)) 0)
+          (λ k. once (has (near setting now s) k) + 63 * fresh k) all
+          (λ k. over_few setting before now s k),
+      sum_plus (λ k. once (has (near setting now s) k)) (λ k. 63 * fresh k) all,
+      sum_times 63 fresh all,
+      sum_by-le-sum_by fresh (λ k. once (t == s) + once (t == k)) all
+          (λ k. new_at setting before now t s k changes),
+      sum_plus (λ k. once (t == s)) (λ k. once (t == k)) all,
+      constant_few setting net (once (t == s)),
+      met_once t 0 (length setting.net.switches),
+    )
+
+-- ---- what all tell
+
+-- what the switches tell whose links changed
+abbrev pub all_told : Setting → List Item → List Item → List Message
+all_told setting before now =
+    flat_map (messages_of setting before now)
+    (filter (has_changed setting before now) (switches_of setting))
+
+pairs_near : (setting : Setting) (now : List Item) → IsNet setting.net
+    → sum_by (λ s. sum_by (λ k. once (has (near setting now s) k)) (switches_of setting))
+    (switches_of setting) ≤ 512
+unfolding near
+pairs_near setting now net =
+    let links : List LinkRow = usable_links setting now in
+    let all : List ℕ = switches_of setting in
+    omega (
+      arith,
+      sum_by-le-sum_by (λ s. sum_by (λ k. once (has (links_of links s) k)) all)
+          (λ s. sum_by (λ k. once (are_linked links s k)) all) all
+          (λ s. sum_by-le-sum_by (λ k. once (has (links_of links s) k))
+          (λ k. once (are_linked links s k)) all
+          (λ k. implied (has (links_of links s) k) (are_linked links s k)
+          (linked_by_mask links s k))),
+      pairs_few links (length setting.net.switches) (length setting.net.switches),
+      length_filter_less (is_usable now) setting.net.links,
+      net.few_links,
+    )
+  where
+    implied : (b c : Bool) → (IsTrue b → IsTrue c) → once b ≤ once c
+    implied true c is = rw (is refl) (omega arith)
+    implied false c is = omega arith
+
+pub changes_few : (setting : Setting) (before now : List Item) (t : ℕ) → IsNet setting.net
+    → ChangesAt before now t
+    → length (all_told setting before now) ≤ 8576
+changes_few setting before now t net changes =
+    let all : List ℕ = switches_of setting in
+    let row : ℕ → ℕ = λ s. sum_by (λ k. once (has (near setting now s) k)) all in
+    let more : ℕ → ℕ = λ s. 64 * once (t == s) + 1 in
+    omega (
+      arith,
+      length-flat_map (messages_of setting before now)
+          (filter (has_changed setting before now) all),
+      sum_some (λ s. length (messages_of setting before now s)) (has_changed setting before now) all,
+      sum_by-le-sum_by (λ s. length (messages_of setting before now s))
+          (λ s. row s + 63 * more s) all (λ s. by_few setting before now t s net changes),
+      sum_plus row (λ s. 63 * more s) all,
+      sum_times 63 more all,
+      sum_plus (λ s. 64 * once (t == s)) (λ s. 1) all,
+      sum_times 64 (λ s. once (t == s)) all,
+      met_once t 0 (length setting.net.switches),
+      constant_few setting net 1,
+      pairs_near setting now net,
+    )

@@ -1,0 +1,38 @@
+-- What is sent again has its causes: a switch tells what it holds, the controller no advert.
+use Rattle.std.proofs.Common.{ℕ, List, map}
+use Rattle.std.specs.Prelude.{filter, not}
+use Rattle.std.specs.List.{AllByRecursion}
+use Rattle.journal.specs.declared.item.Item.{Item}
+use Rattle.update_machine.specs.Adverts.{held_adverts}
+use Rattle.update_machine.specs.Deliveries.{advert_to}
+use Rattle.update_machine.specs.Marks.{has_acked}
+use Rattle.update_machine.specs.Pieces.{resend_items}
+use Rattle.update_machine.specs.Setting.{Setting}
+use Rattle.update_machine.specs.Settling.{install_for, unacked, versions_from_current}
+use Rattle.control_laws.proofs.Resent.{each_by_controller, each_to_member, later_versions, resent_has}
+use Rattle.control_laws.proofs.Sends.{each, each_map}
+use Rattle.control_laws.proofs.Sent.{each_by_switch}
+use Rattle.control_laws.proofs.LinkCauses.{HasLinkCause, HaveLinkCauses}
+use Rattle.control_laws.proofs.Telling.{Tells, each_neighbour, held_told, sends_told}
+
+unacked_told : (setting : Setting) (journal : List Item) (s : ℕ) (versions : List ℕ)
+    → AllByRecursion (Tells setting journal) (unacked setting journal s versions)
+unacked_told setting journal s versions =
+    each_map (Tells setting journal) (λ version. install_for setting journal version s)
+    (filter (λ version. not (has_acked journal s version)) versions)
+    (each (λ version. Tells setting journal (install_for setting journal version s))
+    (λ version. tt) (filter (λ version. not (has_acked journal s version)) versions))
+
+pub resend_caused : (setting : Setting) (s : ℕ) (journal : List Item)
+    → HaveLinkCauses setting journal (resend_items setting s journal)
+resend_caused setting s journal =
+    resent_has (HasLinkCause setting) (Tells setting journal) setting s journal tt
+    (sends_told setting journal)
+    (each_by_switch (Tells setting journal) setting journal s (λ up. tt)
+    (each_neighbour setting journal s
+    (λ neighbour. map (advert_to neighbour) (held_adverts setting journal s))
+    (held_told setting journal s)))
+    (each_by_controller (Tells setting journal) setting journal s
+    (λ none member. each_to_member (Tells setting journal) setting journal s tt
+    (unacked_told setting journal s (later_versions journal)) tt (λ some. tt))
+    (λ none. unacked_told setting journal s (versions_from_current journal)))

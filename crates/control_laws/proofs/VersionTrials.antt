@@ -1,0 +1,194 @@
+-- Versions, computed: what a switch holds, as the tables of a second version reach it before its
+-- stamp does, and what is planned.
+use Rattle.std.proofs.Common.{ℕ, ◌≡◌, ◌≤◌, false, true, List, [], ◌∷◌, ◌++◌, length, refl, ap, sym, subst, ◌∙◌, arith, inl, inr}
+use Rattle.std.specs.Prelude.{IsTrue}
+use Rattle.std.proofs.lemmas.Bool.{cases_lt}
+use Rattle.ctrl_msg.specs.declared.message.Body.TheVariants.{Install, OpenAt, Stamp, Collect}
+use Rattle.switch_table.specs.declared.tables.Tables.{Tables}
+use Rattle.journal.specs.declared.item.Item.{Item}
+use Rattle.journal.specs.declared.item.Item.TheVariants as item
+use Rattle.update_machine.specs.Boots.{boot_of, heard, is_up}
+use Rattle.update_machine.specs.Causes.{HaveCauses}
+use Rattle.update_machine.specs.Marks.{controller_heard, current_mark, is_over, known_boot, retired_mark}
+use Rattle.update_machine.specs.Settling.{to_switch}
+use Rattle.update_machine.specs.Versions.{HasPlan, holds_version, next_plan, next_policy, stamp_of, tables_at, version_count}
+use Rattle.update_machine.specs.Links.{serves, message_of}
+use Rattle.update_machine.proofs.Examples.{open_net, plan_q, tables_of, versions}
+use Rattle.update_machine.proofs.ExampleVersions.{first_planned, none_of_7, second_plan, second_planned}
+use Rattle.control_laws.specs.ItemCauses.{HasItemCause}
+use Rattle.control_laws.specs.Planned.{AreTablesOf, BringsTables, TablesArePlanned, VersionsArePlanned}
+use Rattle.control_laws.specs.Serving.{HoldsStamp, ServingHold}
+use Rattle.control_laws.proofs.Planned.{tables_planned}
+use Rattle.control_laws.proofs.Serving.{serving_hold}
+
+abbrev pub second : Tables
+second = record { version = 2; parts = []; auth = [] }
+
+abbrev sent : List Item
+sent = item.Sent 1 (to_switch 0 (Install 1 second)) ∷ item.Delivered 1 ∷ item.Current 2 ∷ []
+
+abbrev installed : List Item
+installed = item.Submitted 2 2 ∷ sent
+
+abbrev stamped : List Item
+stamped = item.Sent 2 (to_switch 0 (Stamp 1 2)) ∷ item.Delivered 2 ∷ []
+
+only_two : (version : ℕ) → 2 ≤ version → version ≤ 2 → 2 ≡ version
+only_two version above below = omega (arith, above, below)
+
+only_one : (version : ℕ) → 1 ≤ version → version ≤ 1 → 1 ≡ version
+only_one version above below = omega (arith, above, below)
+
+holds_both : HoldsStamp (installed ++ stamped) 0
+unfolding boot_of heard is_up current_mark retired_mark message_of holds_version stamp_of
+holds_both = record {
+  stamp = refl;
+  held = λ version below. elim (cases_lt version 2) [
+    | inl less ↦ inr less
+    | inr above ↦ inl (subst (λ v. IsTrue (holds_version (installed ++ stamped) 0 v))
+        (only_two version above below) refl)
+  ];
+  retired = omega arith;
+  current = omega arith;
+}
+
+-- a switch without the tables of its stamp doesn't hold it
+abbrev untold : List Item
+untold = item.Submitted 2 2 ∷ item.Current 2 ∷ stamped
+
+not_without_tables : HoldsStamp untold 0 → ⊥
+unfolding boot_of heard is_up current_mark retired_mark message_of holds_version stamp_of
+not_without_tables holds = let no : false ≡ true = holds.stamp in absurd cc
+
+-- nor one that is told to drop them
+abbrev dropped : List Item
+dropped =
+    (installed ++ stamped) ++ item.Sent 3 (to_switch 0 (Collect 1 2)) ∷ item.Delivered 3 ∷ []
+
+not_dropped : HoldsStamp dropped 0 → ⊥
+unfolding boot_of heard is_up current_mark retired_mark message_of holds_version stamp_of
+not_dropped holds = let no : false ≡ true = holds.stamp in absurd cc
+
+-- a switch that serves without its tables doesn't hold its stamp
+not_while_serving : ServingHold open_net untold → ⊥
+unfolding serves
+not_while_serving hold = not_without_tables (hold 0 (omega arith) refl)
+
+-- ---- plans and tables, of the second of two files
+
+abbrev two_versions : List Item
+two_versions = item.Submitted 2 2 ∷ []
+
+two_planned : VersionsArePlanned open_net two_versions
+unfolding retired_mark version_count
+two_planned = record {
+  few = omega arith;
+  live = omega arith;
+  planned = λ first version above below. elim (cases_lt 1 version) [
+    | inl later ↦ subst (HasPlan open_net two_versions) (only_two version later below)
+        (second_planned [] [] tt)
+    | inr own ↦ subst (HasPlan open_net two_versions) (only_one version above own)
+        (first_planned two_versions)
+  ];
+}
+
+-- nine versions that aren't retired are one too many, and so is a file without a policy
+not_nine : VersionsArePlanned open_net (versions 9 0) → ⊥
+unfolding retired_mark version_count
+not_nine are = absurd (omega (arith, are.live))
+
+not_of_no_file : VersionsArePlanned open_net (item.Submitted 7 2 ∷ []) → ⊥
+unfolding version_count
+not_of_no_file are =
+    none_of_7 [] (are.planned (first_planned []) 2 (omega arith) (omega arith))
+
+its_tables : AreTablesOf open_net two_versions 0 (tables_of plan_q 2 0)
+unfolding version_count
+its_tables = record {
+  first = omega arith;
+  last = omega arith;
+  planned = sym (of_second []);
+  later = λ items. sym (of_second items);
+}
+  where
+    of_second : (items : List Item)
+        → tables_at open_net (two_versions ++ items) 2 0 ≡ tables_of plan_q 2 0
+    of_second items = ap (λ plan. tables_of plan 2 0) (second_plan [] items tt)
+
+-- the tables of the second version have a partition
+not_second : (items : List Item)
+    → second ≡ tables_at open_net (item.Submitted 2 2 ∷ items) 2 0 → ⊥
+not_second items is =
+    let parts : 0 ≡ 1 =
+    ap (λ (tables : Tables). length tables.parts)
+    (is ∙ ap (λ plan. tables_of plan 2 0) (second_plan [] items tt)) in
+    absurd (omega (arith, parts))
+
+not_others : AreTablesOf open_net two_versions 0 second → ⊥
+not_others are = not_second [] are.planned
+
+brings_its : BringsTables open_net two_versions 0 (Install 1 (tables_of plan_q 2 0))
+brings_its = its_tables
+
+brings_others : BringsTables open_net two_versions 0 (Install 1 second) → ⊥
+brings_others = not_others
+
+-- a body without tables brings none that are wrong
+brings_none : BringsTables open_net two_versions 0 (OpenAt 1 7)
+brings_none = tt
+
+-- ---- whole journals
+
+-- the second version was submitted, and its tables were sent to switch 0, which heard them
+abbrev told : List Item
+told =
+    item.Submitted 2 2 ∷ item.Sent 1 (to_switch 0 (Install 1 (tables_of plan_q 2 0)))
+    ∷ item.Delivered 1 ∷ []
+
+told_rightly : HaveCauses (HasItemCause open_net) [] told
+unfolding version_count retired_mark known_boot is_over controller_heard next_policy next_plan
+told_rightly = (
+  record {
+    next = refl;
+    there = refl;
+    planned = refl;
+    live = λ met. omega (arith, met);
+    few = λ met. omega (arith, met);
+  },
+  (
+    record {
+      to = record { known = refl; not_over = refl };
+      version = 2;
+      which = inl refl;
+      there = omega arith;
+      planned = its_tables.planned;
+    },
+    (tt, tt),
+  ),
+)
+
+-- each switch serves, and goes on to stamp with the first version
+serve_once_told : ServingHold open_net told
+serve_once_told = serving_hold open_net told told_rightly
+
+tables_once_told : TablesArePlanned open_net told
+tables_once_told = tables_planned open_net told told_rightly
+
+-- tables that aren't planned break it where they are sent, and where they are heard
+not_of_no_plan : TablesArePlanned open_net installed → ⊥
+unfolding message_of
+not_of_no_plan are = not_second sent (are.sent 0 1 1 second refl).planned
+
+not_heard_of_no_plan : TablesArePlanned open_net installed → ⊥
+unfolding heard is_up boot_of message_of
+not_heard_of_no_plan are =
+    let own : AreTablesOf open_net installed 0 second = are.heard 0 0 (OpenAt 1 1) (omega arith) in
+    not_second sent own.planned
+
+-- and so does a version that is held without being there
+not_held_unless_there :
+    TablesArePlanned open_net
+    (item.Sent 1 (to_switch 0 (Install 1 second)) ∷ item.Delivered 1 ∷ [])
+    → ⊥
+unfolding holds_version heard is_up boot_of message_of version_count
+not_held_unless_there are = let there = are.held 0 2 refl in absurd (omega (arith, there.1))

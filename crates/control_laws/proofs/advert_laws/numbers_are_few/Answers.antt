@@ -1,0 +1,6 @@
+use Rattle.control_laws.proofs.BehindItems.{at_ends}
+use Rattle.control_laws.proofs.Fitting.{numbers_few}
+use Rattle.control_laws.proofs.advert_laws.numbers_are_few.Goals as goal
+
+pub returns : goal.returns
+returns c = at_ends _ numbers_few

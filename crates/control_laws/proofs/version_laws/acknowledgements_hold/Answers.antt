@@ -1,0 +1,6 @@
+use Rattle.control_laws.proofs.Pieces.{always}
+use Rattle.control_laws.proofs.AcksHeld.{acks_held}
+use Rattle.control_laws.proofs.version_laws.acknowledgements_hold.Goals as goal
+
+pub returns : goal.returns
+returns c = always _ acks_held

@@ -1,0 +1,5 @@
+use Rattle.control_laws.proofs.Named.{bodies_named}
+use Rattle.control_laws.proofs.version_laws.bodies_name_what_is_there.Goals as goal
+
+pub returns : goal.returns
+returns c = bodies_named

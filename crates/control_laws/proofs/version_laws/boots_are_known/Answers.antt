@@ -1,0 +1,6 @@
+use Rattle.control_laws.proofs.Pieces.{always}
+use Rattle.control_laws.proofs.Openings.{caused_known}
+use Rattle.control_laws.proofs.version_laws.boots_are_known.Goals as goal
+
+pub returns : goal.returns
+returns c = always _ (λ setting journal have. (caused_known setting journal have).boots)

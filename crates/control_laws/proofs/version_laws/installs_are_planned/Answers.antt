@@ -1,0 +1,6 @@
+use Rattle.control_laws.proofs.Pieces.{always}
+use Rattle.control_laws.proofs.Bounded.{installs_planned}
+use Rattle.control_laws.proofs.version_laws.installs_are_planned.Goals as goal
+
+pub returns : goal.returns
+returns c = always _ installs_planned

@@ -1,0 +1,6 @@
+use Rattle.control_laws.proofs.Pieces.{always}
+use Rattle.control_laws.proofs.Marks.{bounded}
+use Rattle.control_laws.proofs.version_laws.marks_are_bounded.Goals as goal
+
+pub returns : goal.returns
+returns c = always _ bounded

@@ -1,0 +1,6 @@
+use Rattle.control_laws.proofs.Pieces.{always}
+use Rattle.control_laws.proofs.Rising.{behind}
+use Rattle.control_laws.proofs.version_laws.retired_stays_behind.Goals as goal
+
+pub returns : goal.returns
+returns c = always _ behind

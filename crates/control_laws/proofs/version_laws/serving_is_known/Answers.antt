@@ -1,0 +1,7 @@
+use Rattle.control_laws.proofs.Pieces.{always}
+use Rattle.control_laws.proofs.Openings.{caused_known, serving_known}
+use Rattle.control_laws.proofs.version_laws.serving_is_known.Goals as goal
+
+pub returns : goal.returns
+returns c = always _
+    (λ setting journal have. serving_known journal (caused_known setting journal have))

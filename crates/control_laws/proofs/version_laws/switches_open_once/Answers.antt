@@ -1,0 +1,7 @@
+use Rattle.control_laws.proofs.Pieces.{always}
+use Rattle.control_laws.proofs.Openings.{caused_known, one_opening}
+use Rattle.control_laws.proofs.version_laws.switches_open_once.Goals as goal
+
+pub returns : goal.returns
+returns c = always _
+    (λ setting journal have. one_opening journal (caused_known setting journal have).openings)

@@ -1,0 +1,6 @@
+use Rattle.control_laws.proofs.Pieces.{always}
+use Rattle.control_laws.proofs.Versions.{caused_numbered}
+use Rattle.control_laws.proofs.version_laws.versions_are_numbered.Goals as goal
+
+pub returns : goal.returns
+returns c = always _ caused_numbered

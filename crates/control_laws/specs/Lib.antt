@@ -1,0 +1,15 @@
+pub mod ItemCauses
+pub mod Always
+pub mod BootLaws
+pub mod Heard
+pub mod Acknowledged
+pub mod Bounds
+pub mod Serving
+pub mod Planned
+pub mod Authorities
+pub mod Named
+pub mod Rises
+pub mod Steps
+pub mod Laws
+pub mod Adverts
+pub mod Sends

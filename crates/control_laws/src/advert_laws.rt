@@ -1,0 +1,48 @@
+//! The laws.
+ghost use Rattle.std.specs.Prelude.{List, []};
+ghost use Rattle.net_file.specs.Net.{IsNet};
+ghost use Rattle.update_machine.specs.Journals.{HasRoom, HaveRoom, Setting, StepOfRow, after_steps};
+ghost use Rattle.control_laws.specs.Always.{HoldsBehindItems, HoldsAlways, HoldsAtEnds};
+ghost use Rattle.control_laws.specs.Adverts.{AdvertsAreOfSwitches, LinksAreThere, OwnAreNewest};
+ghost use Rattle.control_laws.specs.Sends.{NumbersAreFew, NumbersFit, StepsSendFew};
+
+/// Each advert that is sent, heard or held names links of the network alone, and so do the links
+/// that a switch knows, and its routes.
+pub fn adverts_name_links()
+    ensures { HoldsBehindItems LinksAreThere }
+{}
+
+/// No advert that is sent, heard or held is newer than the own one of its origin.
+pub fn own_adverts_are_newest()
+    ensures { HoldsBehindItems OwnAreNewest }
+{}
+
+/// In a network each advert that is sent, heard, or held by a switch of it is of one of its
+/// switches.
+pub fn adverts_are_of_switches()
+    ensures { HoldsBehindItems (λ setting journal.
+        IsNet setting.net → AdvertsAreOfSwitches setting journal) }
+{}
+
+/// On a network, which has at most 64 switches and 256 links, each step sends at most 10,000
+/// messages.
+pub fn steps_send_few()
+    ensures { HoldsAlways (λ setting journal. IsNet setting.net
+        → StepsSendFew setting journal) }
+{}
+
+/// Behind each step, boots and the numbers of own adverts are few for the messages that were sent.
+pub fn numbers_are_few()
+    ensures { HoldsAtEnds (λ setting journal. IsNet setting.net
+        → NumbersAreFew setting journal) }
+{}
+
+/// Where a step may begin, and where each step began with room in the journal, all these numbers
+/// fit, and the next ones do.
+pub fn numbers_fit()
+    ensures before { (setting : Setting) (steps : List StepOfRow) → IsNet setting.net
+        → HasRoom (after_steps setting [] steps)
+        → NumbersFit setting (after_steps setting [] steps) }
+    ensures behind { (setting : Setting) (steps : List StepOfRow) → IsNet setting.net
+        → HaveRoom setting [] steps → NumbersFit setting (after_steps setting [] steps) }
+{}

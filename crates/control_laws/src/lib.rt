@@ -1,0 +1,25 @@
+//! What the controller and the switches tell each other, whatever steps are taken: boots, versions,
+//! marks and adverts.
+//!
+//! What stands before each item of switches and their controller, what switches acknowledged and
+//! hold, how the marks bound each other and where they rise; what adverts say of the network's
+//! links, how many messages steps send, and how far boots and the numbers of adverts rise. And what
+//! messages name, over journals of steps of a network.
+//!
+//! Laws over journals of any steps. No code: each function stands for the law that it ensures.
+#![tactic(auto)]
+
+mod advert_laws;
+mod version_laws;
+
+pub use advert_laws::{
+    adverts_are_of_switches, adverts_name_links, numbers_are_few, numbers_fit,
+    own_adverts_are_newest, steps_send_few,
+};
+pub use version_laws::{
+    acknowledgements_hold, bodies_name_what_is_there, boots_are_known, current_rises_rightly,
+    installs_are_planned, items_have_causes, marks_are_bounded, marks_settle, members_acknowledged,
+    other_steps_leave_controller, retired_stays_behind, serving_is_known, serving_switches_hold,
+    stamps_are_acked_first, switches_open_once, tables_are_planned, versions_are_numbered,
+    versions_are_planned,
+};

@@ -1,0 +1,113 @@
+//! The laws.
+ghost use Rattle.std.specs.Prelude.{[], ℕ, ◌++◌, ◌≤◌, List, IsFalse};
+ghost use Rattle.net_file.specs.Net.{IsNet};
+ghost use Rattle.update_machine.specs.Journals.{AreSettled, ControllerKeeps, HaveCauses, Item, Setting, Step, VersionsAreNumbered, next_retired, piece, retired_mark};
+ghost use Rattle.control_laws.specs.Laws.{AcksHold, BodiesNameThere, BootsAreKnown, HasItemCause, HoldsAlways, HoldsAtEnds, HoldsReached, InstallsArePlanned, IsAckedFirst, MarksAreBounded, MembersAcknowledged, OpensAtOneVersion, RisesRightly, ServingHold, ServingIsKnown, TablesArePlanned, VersionsArePlanned, asks_controller};
+
+/// Each item of switches and their controller has its cause in the journal before it.
+pub fn items_have_causes()
+    ensures { HoldsAlways (λ setting journal. HaveCauses (HasItemCause setting) [] journal) }
+{}
+
+/// The versions that are there are those from 1 to their count.
+pub fn versions_are_numbered()
+    ensures { HoldsAlways (λ setting journal. VersionsAreNumbered journal) }
+{}
+
+/// The known boot of a switch is at most its own, and no message to it or of it carries a greater
+/// one.
+pub fn boots_are_known()
+    ensures { HoldsAlways (λ setting journal. BootsAreKnown journal) }
+{}
+
+/// A switch is opened at one version in each of its boots, however often it is told so.
+pub fn switches_open_once()
+    ensures { HoldsAlways (λ setting journal. OpensAtOneVersion journal) }
+{}
+
+/// A switch that serves is a member, in the boot that is known of it; a switch that is up in the
+/// boot that is known of it isn't over.
+pub fn serving_is_known()
+    ensures { HoldsAlways (λ setting journal. ServingIsKnown journal) }
+{}
+
+/// What a switch acknowledged in its boot it heard in that boot, and stamps with, as long as it is
+/// up.
+pub fn acknowledgements_hold()
+    ensures { HoldsAlways (λ setting journal. (s : ℕ) → AcksHold journal s) }
+{}
+
+/// The tables that are sent to a switch are those that the plan of a version gives to it.
+pub fn installs_are_planned()
+    ensures { HoldsAlways (λ setting journal. InstallsArePlanned setting journal) }
+{}
+
+/// A switch is told to stamp with a version only once it acknowledged its tables in its boot, and
+/// only with a version that is current or was.
+pub fn stamps_are_acked_first()
+    ensures { HoldsAlways (λ setting journal. HaveCauses (IsAckedFirst setting) [] journal) }
+{}
+
+/// A member acknowledged each version from the one at which it was opened to the current one, and a
+/// switch that serves stamps at least with what it is known to stamp with.
+pub fn members_acknowledged()
+    ensures { HoldsAlways (λ setting journal. MembersAcknowledged setting journal) }
+{}
+
+/// The current version is there; retired versions are below it and below the acknowledged stamp of
+/// each member, and so is what a member is told to drop.
+pub fn marks_are_bounded()
+    ensures { HoldsAlways (λ setting journal. MarksAreBounded setting journal) }
+{}
+
+/// A switch that serves holds the version with which it stamps, and each version up to the current
+/// one that isn't below its stamp; its stamp is above all that is retired, and at most current.
+pub fn serving_switches_hold()
+    ensures { HoldsAlways (λ setting journal. ServingHold setting journal) }
+{}
+
+/// There are at most 64 versions, at most eight of which aren't retired, and each has a plan.
+pub fn versions_are_planned()
+    ensures { HoldsAlways (λ setting journal. VersionsArePlanned setting journal) }
+{}
+
+/// Tables that were sent to a switch, and those that it heard, are those that the plan of their
+/// version gives to it, and stay so however the journal goes on; a version that it holds is there.
+pub fn tables_are_planned()
+    ensures { HoldsAlways (λ setting journal. TablesArePlanned setting journal) }
+{}
+
+/// Each message that was sent is to a switch of the network, or of one and to the controller, and
+/// its version is there; so is what switches and the controller heard.
+pub fn bodies_name_what_is_there()
+    ensures { HoldsReached (λ setting journal.
+        IsNet setting.net → BodiesNameThere setting journal) }
+{}
+
+/// The current mark rises only to a version that is there, and only where each member acknowledged
+/// every version above the old mark up to it.
+pub fn current_rises_rightly()
+    ensures { HoldsAlways (λ setting journal. HaveCauses (RisesRightly setting) [] journal) }
+{}
+
+/// The retired mark is never above what the members' acknowledged stamps allow, nor in the middle
+/// of a step.
+pub fn retired_stays_behind()
+    ensures { HoldsAlways (λ setting journal.
+        retired_mark journal ≤ next_retired setting journal) }
+{}
+
+/// What the controller knows changes in three kinds of steps alone: what is delivered to it, an
+/// update, and the confirmation that a switch is over.
+pub fn other_steps_leave_controller()
+    ensures { (setting : Setting) (journal : List Item) (row : ℕ) (step : Step)
+        → IsFalse (asks_controller journal step)
+        → ControllerKeeps journal (journal ++ piece setting journal row step) }
+{}
+
+/// At the end of each step the marks are settled: no version above the current one is acknowledged
+/// by all members, no joining switch acknowledged the current one, and retired is as far as the
+/// members' stamps allow.
+pub fn marks_settle()
+    ensures { HoldsAtEnds (λ setting journal. AreSettled setting journal) }
+{}

@@ -1,0 +1,79 @@
+-- Where nothing is left to do the network is quiet.
+use Rattle.std.proofs.Common.{ℕ, ◌≡◌, ◌≤◌, ◌<◌, ◌⊎◌, ◌&&◌, Bool, true, false, not, Some, None, List, [], ◌∷◌, refl, ap, sym, ◌∙◌, arith, inl, inr}
+use Rattle.std.specs.Prelude.{IsTrue, IsFalse, cond, find}
+use Rattle.std.specs.List.{range_with_len}
+use Rattle.std.proofs.lemmas.List.Elements.{All-from_recursion}
+use Rattle.journal.specs.declared.item.Item.{Item}
+use Rattle.update_machine.specs.Causes.{HaveCauses}
+use Rattle.update_machine.specs.Folds.{count_of}
+use Rattle.update_machine.specs.Messages.{is_deliverable, is_forgotten, is_sending, is_waiting, next_message, next_waiting, was_delivered}
+use Rattle.update_machine.specs.Quiet.{IsQuiet, IsReceived, Sending, matters, sendings}
+use Rattle.update_machine.specs.Setting.{Setting}
+use Rattle.control_laws.specs.Always.{HoldsBehindItems}
+use Rattle.control_laws.proofs.BehindItems.{behind_items}
+use Rattle.control_laws.proofs.Told.{each_weaker}
+use Rattle.convergence_laws.specs.Finished.{IsFinished}
+use Rattle.convergence_laws.proofs.Lists.{IsIn, in_range}
+use Rattle.convergence_laws.proofs.Sendings.{IsInOrder, IsTraced, caused_traced, pieces_in_order}
+
+-- what isn't found passes nowhere
+none_found : (test : ℕ → Bool) (x : ℕ) (xs : List ℕ) → find test xs ≡ None → IsIn x xs
+    → IsFalse (test x)
+none_found test x [] none is = absurd is
+none_found test x (y ∷ xs) none is =
+    by_test (test y) refl none is (none_found test x xs)
+  where
+    by_test : (b : Bool) → test y ≡ b → cond b (Some y) (find test xs) ≡ None
+        → (y ≡ x) ⊎ IsIn x xs → (find test xs ≡ None → IsIn x xs → IsFalse (test x))
+        → IsFalse (test x)
+    by_test true e none is rest = absurd cc
+    by_test false e none (inl here) rest = sym (ap test here) ∙ e
+    by_test false e none (inr later) rest = rest none later
+
+-- so a message that was sent was delivered
+not_waiting : (journal : List Item) (number : ℕ) → next_waiting journal ≡ None → 1 ≤ number
+    → number < next_message journal → IsFalse (is_waiting journal number)
+unfolding next_waiting next_message
+not_waiting journal number none first below =
+    none_found (is_waiting journal) number (range_with_len 1 (count_of is_sending journal)) none
+    (in_range number 1 (count_of is_sending journal) first (omega (arith, below)))
+
+all_delivered : (setting : Setting) (journal : List Item) → IsFinished setting journal
+    → (x : Sending) → IsTraced journal x → IsTrue (was_delivered journal x.number)
+unfolding is_deliverable
+all_delivered setting journal finished x traced =
+    by_delivered (was_delivered journal x.number) refl
+    (not_waiting journal x.number finished.waiting traced.first traced.number)
+  where
+    deliverable : is_deliverable journal x.number ≡ true
+    deliverable =
+        let sent = traced.message in
+        let kept : is_forgotten journal x.number ≡ false = finished.forgotten x.number in
+        rw (sent, kept) refl
+
+    by_delivered : (b : Bool) → was_delivered journal x.number ≡ b
+        → IsFalse (is_deliverable journal x.number && not b)
+        → IsTrue (was_delivered journal x.number)
+    by_delivered true e waits = e
+    by_delivered false e waits =
+        let clash : true ≡ false =
+        sym (ap (λ b. b && true) deliverable) ∙ waits in
+        absurd cc
+
+finished_quiet : (setting : Setting) (journal : List Item)
+    → HaveCauses (IsInOrder setting) [] journal → IsFinished setting journal
+    → IsQuiet setting journal
+finished_quiet setting journal have finished = record {
+  switches = finished.switches;
+  messages = All-from_recursion (λ x. IsTrue (matters journal x) → IsReceived journal x)
+      (sendings journal)
+      (each_weaker (IsTraced journal) (λ x. IsTrue (matters journal x) → IsReceived journal x)
+      (λ x traced matter. inl (all_delivered setting journal finished x traced))
+      (sendings journal) (caused_traced setting journal have).each);
+}
+
+pub finished_behind :
+    HoldsBehindItems (λ setting journal. IsFinished setting journal → IsQuiet setting journal)
+finished_behind =
+    behind_items (λ setting journal. IsFinished setting journal → IsQuiet setting journal)
+    IsInOrder pieces_in_order finished_quiet

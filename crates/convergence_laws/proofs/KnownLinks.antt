@@ -1,0 +1,216 @@
+-- So of links that end where it reaches a switch knows exactly those that can be used.
+use Rattle.std.proofs.Common.{ℕ, ◌≡◌, ◌≢◌, ◌<◌, ◌⊎◌, ◌==◌, ◌&&◌, Bool, true, false, not, None, List, [], ◌∷◌, ◌++◌, map, length, get_or, set, refl, ap, sym, subst, ◌∙◌, arith, inl, inr, get_or-set_other, get_or-set_same}
+use Rattle.std.specs.Prelude.{All, IsTrue, slice_index}
+use Rattle.std.specs.List.{AllByRecursion}
+use Rattle.std.proofs.lemmas.Bool.{cases_eq}
+use Rattle.std.proofs.lemmas.Bool.Decides.{nat_tests}
+use Rattle.std.proofs.lemmas.List.{length-map}
+use Rattle.std.proofs.lemmas.List.Elements.{All-from_recursion}
+use Rattle.failover.specs.Links.{is_link, neighbours_named, named_links, has_link, AreJoined, IsReachable, LinksLead}
+use Rattle.failover.proofs.Searching.{length-known_links, straight_path}
+use Rattle.base.specs.Masks.{has}
+use Rattle.net_file.specs.Joins.{are_linked}
+use Rattle.net_file.proofs.Places.{links}
+use Rattle.journal.specs.declared.item.Item.{Item}
+use Rattle.steps.specs.Steps.{HasSwitch}
+use Rattle.update_machine.specs.Adverts.{adverts_known, own_advert, route_from}
+use Rattle.update_machine.specs.LinkMasks.{near, adverts_of_others, links_known}
+use Rattle.update_machine.specs.Setting.{Setting}
+use Rattle.update_machine.proofs.CallerLemmas.{has_known_link, known_places, unreached}
+use Rattle.control_laws.proofs.NetLinks.{ends_serve, near_linked, second, claimed_mask}
+use Rattle.convergence_laws.specs.Converged.{AreUnusable, HasConverged, LeadsOver, Reaches}
+use Rattle.convergence_laws.proofs.Changed.{ends_there}
+use Rattle.convergence_laws.proofs.Converged.{AreQuiet, HoldsOwn, IsThere, adverts_reach, reached_holds, small_of, serving_up}
+use Rattle.convergence_laws.proofs.Near.{near_both}
+
+-- ---- what a switch is told of one that it reaches
+
+mask_known : (setting : Setting) (journal : List Item) (s z : ℕ) → s < 64
+    → HoldsOwn setting journal s z
+    → slice_index (named_links (adverts_known setting journal s) s (near setting journal s)) z
+    ≡ near setting journal z
+unfolding named_links own_advert
+mask_known setting journal s z small holds = by_place (cases_eq z s) holds
+  where
+    rows : List ℕ
+    rows = map neighbours_named (adverts_known setting journal s)
+
+    within : s < length rows
+    within = omega (
+      arith,
+      small,
+      known_places setting journal s,
+      length-map (adverts_known setting journal s) neighbours_named,
+    )
+
+    by_place : (z ≡ s) ⊎ (z ≢ s) → HoldsOwn setting journal s z
+        → get_or (set rows s (near setting journal s)) z 0 ≡ near setting journal z
+    by_place (inl same) holds =
+        ap (λ x. get_or (set rows s (near setting journal s)) x 0) same
+        ∙ get_or-set_same rows s (near setting journal s) 0 within
+        ∙ ap (near setting journal) (sym same)
+    by_place (inr apart) (inl same) = absurd (apart (sym same))
+    by_place (inr apart) (inr known) =
+        get_or-set_other rows s z (near setting journal s) 0 apart
+        ∙ claimed_mask (adverts_known setting journal s) z
+        ∙ ap neighbours_named known
+
+-- ---- known links
+
+reach_more : (setting : Setting) (journal : List Item) (from at next : ℕ)
+    → Reaches setting journal from at → IsTrue (has (near setting journal at) next)
+    → Reaches setting journal from next
+reach_more setting journal from at next reaches linked = record {
+  rest = reaches.rest ++ next ∷ [];
+  leads = longer from reaches.rest reaches.leads;
+}
+  where
+    longer : (start : ℕ) (rest : List ℕ) → LeadsOver setting journal at start rest
+        → LeadsOver setting journal next start (rest ++ next ∷ [])
+    longer start [] leads =
+        (subst (λ x. IsTrue (has (near setting journal x) next)) (sym leads) linked, refl)
+    longer start (step ∷ rest) leads = (leads.0, longer step rest leads.1)
+
+four : (w x y z : Bool) → w ≡ false → x ≡ true → y ≡ true → z ≡ false
+    → (not w && x && y && not z) ≡ true
+four w x y z p q r t = rw (p, q, r, t) refl
+
+known_usable : (setting : Setting) (journal : List Item) → AreQuiet setting journal
+    → (s one other : ℕ) (down : List ℕ) → IsThere setting journal s
+    → Reaches setting journal s one → one < 64 → other < 64
+    → AreJoined (links_known setting journal s down) one other
+    → IsTrue (has (near setting journal one) other)
+unfolding is_link
+known_usable setting journal are s one other down is reaches small fits joined =
+    let rows : List ℕ =
+    named_links (adverts_known setting journal s) s (near setting journal s) in
+    let told : is_link rows down one other ≡ true =
+    sym (has_known_link setting journal s down one other small fits) ∙ joined in
+    let named : has (slice_index rows one) other ≡ true = second _ _ _ _ told in
+    subst (λ mask. IsTrue (has mask other))
+    (mask_known setting journal s one (small_of setting are.net s is.there)
+    (reached_holds setting journal are s one is reaches)) named
+
+usable_known : (setting : Setting) (journal : List Item) → AreQuiet setting journal
+    → (s one other : ℕ) (down : List ℕ) → IsThere setting journal s
+    → Reaches setting journal s one → AreUnusable setting journal down
+    → IsTrue (has (near setting journal one) other)
+    → AreJoined (links_known setting journal s down) one other
+unfolding is_link
+usable_known setting journal are s one other down is reaches unusable linked =
+    has_known_link setting journal s down one other small fits
+    ∙ four (one == other) (has (slice_index rows one) other) (has (slice_index rows other) one)
+    (has_link down one other) apart named back (unusable one other linked)
+  where
+    rows : List ℕ
+    rows = named_links (adverts_known setting journal s) s (near setting journal s)
+
+    s_small : s < 64
+    s_small = small_of setting are.net s is.there
+
+    small : one < 64
+    small = small_of setting are.net one
+        (ends_there setting journal one other are.net linked).one
+
+    fits : other < 64
+    fits = small_of setting are.net other
+        (ends_there setting journal one other are.net linked).other
+
+    apart : (one == other) ≡ false
+    apart = by_test (one == other) refl
+      where
+        by_test : (b : Bool) → (one == other) ≡ b → (one == other) ≡ false
+        by_test false e = e
+        by_test true e =
+            let same : one ≡ other = grind (arith, nat_tests) in
+            let clash : true ≡ false =
+            sym (near_linked setting journal one other linked)
+            ∙ ap (are_linked setting.net.links one) (sym same)
+            ∙ links.not_itself setting.net one are.net in
+            absurd cc
+
+    named : has (slice_index rows one) other ≡ true
+    named = ap (λ mask. has mask other)
+        (mask_known setting journal s one s_small
+        (reached_holds setting journal are s one is reaches)) ∙ linked
+
+    back : has (slice_index rows other) one ≡ true
+    back = ap (λ mask. has mask one)
+        (mask_known setting journal s other s_small
+        (reached_holds setting journal are s other is
+        (reach_more setting journal s one other reaches linked)))
+        ∙ near_both setting journal one other small linked
+
+-- where links lead is a switch with a number below 64
+reached_small : (setting : Setting) (journal : List Item) → AreQuiet setting journal
+    → (s target : ℕ) → HasSwitch setting.net s → (rest : List ℕ)
+    → LeadsOver setting journal target s rest → target < 64
+reached_small setting journal are s target there [] leads =
+    omega (arith, leads, small_of setting are.net s there)
+reached_small setting journal are s target there (next ∷ rest) leads =
+    reached_small setting journal are next target
+    (ends_there setting journal s next are.net leads.0).other rest leads.1
+
+-- ---- routes
+
+leads_known : (setting : Setting) (journal : List Item) → AreQuiet setting journal
+    → (s target : ℕ) (down : List ℕ) → IsThere setting journal s
+    → AreUnusable setting journal down → (at : ℕ) (rest : List ℕ) → Reaches setting journal s at
+    → LeadsOver setting journal target at rest
+    → LinksLead (links_known setting journal s down) target at rest
+leads_known setting journal are s target down is unusable at [] reaches leads = leads
+leads_known setting journal are s target down is unusable at (next ∷ rest) reaches leads = (
+  small_of setting are.net next (ends_there setting journal at next are.net leads.0).other,
+  usable_known setting journal are s at next down is reaches unusable leads.0,
+  leads_known setting journal are s target down is unusable next rest
+      (reach_more setting journal s at next reaches leads.0) leads.1,
+)
+
+each_unreached : (P Q : ℕ → Type 0) → ((x : ℕ) → P x → Q x) → (xs : List ℕ)
+    → AllByRecursion P xs → AllByRecursion Q xs
+each_unreached P Q f [] all = tt
+each_unreached P Q f (x ∷ xs) all = (f x all.0, each_unreached P Q f xs all.1)
+
+-- a way over links that can be used is one over known links
+way_known : (setting : Setting) (journal : List Item) → AreQuiet setting journal
+    → (s target : ℕ) (down : List ℕ) → AreUnusable setting journal down → (rest : List ℕ)
+    → LeadsOver setting journal target s rest
+    → LinksLead (links_known setting journal s down) target s rest
+way_known setting journal are s target down unusable [] leads = leads
+way_known setting journal are s target down unusable (next ∷ rest) leads =
+    leads_known setting journal are s target down (record {
+      there = (ends_there setting journal s next are.net leads.0).one;
+      up = serving_up setting journal are s (ends_serve setting journal s next leads.0).0;
+    }) unusable s (next ∷ rest) (record { rest = []; leads = refl }) leads
+
+stuck_apart : (setting : Setting) (journal : List Item) → AreQuiet setting journal
+    → (s : ℕ) (targets down : List ℕ) → HasSwitch setting.net s
+    → AreUnusable setting journal down → route_from setting journal s targets down ≡ None
+    → All (λ target. Reaches setting journal s target → ⊥) targets
+stuck_apart setting journal are s targets down there unusable none =
+    All-from_recursion (λ target. Reaches setting journal s target → ⊥) targets
+    (each_unreached
+    (λ target. IsReachable (links_known setting journal s down) s target → ⊥)
+    (λ target. Reaches setting journal s target → ⊥)
+    (λ target unreached reaches. unreached
+    (straight_path (links_known setting journal s down) s target reaches.rest
+    (length-known_links (adverts_of_others setting journal s) s (near setting journal s) down)
+    (small_of setting are.net s there)
+    (way_known setting journal are s target down unusable reaches.rest reaches.leads))) targets
+    (unreached setting journal s targets down none))
+
+-- ---- together
+
+pub quiet_converged : (setting : Setting) (journal : List Item) → AreQuiet setting journal
+    → HasConverged setting journal
+quiet_converged setting journal are = record {
+  adverts = λ s origin apart reaches. adverts_reach setting journal are s origin apart reaches;
+  links = λ s one other down there up reaches fits unusable. (
+    known_usable setting journal are s one other down (record { there = there; up = up }) reaches
+        (reached_small setting journal are s one there reaches.rest reaches.leads) fits,
+    usable_known setting journal are s one other down (record { there = there; up = up }) reaches
+        unusable,
+  );
+  stuck = λ s targets down there unusable none.
+      stuck_apart setting journal are s targets down there unusable none;
+}

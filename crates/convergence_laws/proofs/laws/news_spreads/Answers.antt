@@ -1,0 +1,5 @@
+use Rattle.convergence_laws.proofs.Told.{news_at_ends}
+use Rattle.convergence_laws.proofs.laws.news_spreads.Goals as goal
+
+pub returns : goal.returns
+returns c = news_at_ends

@@ -1,0 +1,42 @@
+-- What switches that can use a link between them tell each other. That adverts reach all switches
+-- is the reliable flooding of OSPF (RFC 2328, section 13); acknowledgements are not needed here, as
+-- a quiet network lost nothing that matters.
+use Rattle.std.specs.Prelude.{ℕ, ◌≡◌, ◌<◌, ◌⊎◌, Some, List, Contains, IsTrue, IsFalse}
+use Rattle.failover.specs.Adverts.{is_newer}
+use Rattle.failover.specs.declared.advert.Advert.{Advert}
+use Rattle.base.specs.Masks.{has}
+use Rattle.journal.specs.declared.item.Item.{Item}
+use Rattle.update_machine.specs.Adverts.{advert_known}
+use Rattle.update_machine.specs.Boots.{boot_of}
+use Rattle.update_machine.specs.Deliveries.{advert_to}
+use Rattle.update_machine.specs.LinkMasks.{near}
+use Rattle.update_machine.specs.Quiet.{sendings}
+use Rattle.update_machine.specs.Setting.{Setting}
+
+-- of the same origin, and at least as new
+pub record IsAsNew (advert than : Advert) : Type 0 where
+  pub origin : advert.origin ≡ than.origin
+  pub new : IsFalse (is_newer than advert)
+
+-- the switch holds an advert that is at least as new
+pub record HoldsAsNew (setting : Setting) (journal : List Item) (s : ℕ) (than : Advert)
+    : Type 0 where
+  pub advert : Advert
+  pub held : advert_known setting journal s than.origin ≡ Some advert
+  pub as_new : IsAsNew advert than
+
+-- one was sent to it in its present boot
+pub record IsSentAsNew (journal : List Item) (s : ℕ) (than : Advert) : Type 0 where
+  pub number : ℕ
+  pub advert : Advert
+  pub sent : Contains (sendings journal)
+      (record { number = number; message = advert_to s advert; boot = boot_of journal s })
+  pub as_new : IsAsNew advert than
+
+-- over a link that can be used each end holds adverts at least as new as those of the other end, or
+-- one was sent to it in its present boot
+abbrev pub NewsSpreads : Setting → List Item → Type 0
+NewsSpreads setting journal = (s neighbour origin : ℕ) (advert : Advert)
+    → IsTrue (has (near setting journal s) neighbour) → origin < 64
+    → advert_known setting journal s origin ≡ Some advert
+    → HoldsAsNew setting journal neighbour advert ⊎ IsSentAsNew journal neighbour advert

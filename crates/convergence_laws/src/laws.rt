@@ -1,0 +1,53 @@
+//! The laws.
+ghost use Rattle.std.specs.Prelude.{List};
+ghost use Rattle.net_file.specs.Net.{IsNet};
+ghost use Rattle.update_machine.specs.Journals.{Event, IsQuiet, Item, Setting};
+ghost use Rattle.control_laws.specs.Always.{HoldsAtEnds, HoldsBehindItems};
+ghost use Rattle.convergence_laws.specs.Laws.{EndsFinished, GetStuckApart, HasConverged, IsFinished, IsUpdated, NewsSpreads};
+
+/// Over each link that can be used, each end holds adverts at least as new as those of the other
+/// end, or one was sent to it in its present boot: at the end of each step, quiet or not.
+pub fn news_spreads()
+    ensures { HoldsAtEnds (λ setting journal. IsNet setting.net → NewsSpreads setting journal) }
+{}
+
+/// In a quiet network each switch holds the own advert of each switch that it reaches over links
+/// that can be used; so of the links that end where it reaches it knows exactly those that can be
+/// used, and it finds no route only where it reaches no target.
+pub fn quiet_networks_have_converged()
+    ensures { HoldsAtEnds (λ setting journal.
+        IsNet setting.net → IsQuiet setting journal → HasConverged setting journal) }
+{}
+
+/// In a quiet network a step makes a packet that had found no link down stuck only where no target
+/// of its leg is reached over links that can be used.
+pub fn packets_get_stuck_apart()
+    ensures { HoldsAtEnds (λ setting journal.
+        IsNet setting.net → IsQuiet setting journal → GetStuckApart setting journal) }
+{}
+
+/// In a quiet network every switch that is up serves and stamps with the newest version, which is
+/// the current one, and each version before it is retired.
+pub fn quiet_networks_are_updated()
+    ensures { HoldsAtEnds (λ setting journal. IsQuiet setting journal → IsUpdated setting journal) }
+{}
+
+/// A network is quiet where no message waits, none was forgotten, and each switch is up, or the
+/// controller doesn't wait for it.
+pub fn finished_networks_are_quiet()
+    ensures { HoldsBehindItems (λ setting journal.
+        IsFinished setting journal → IsQuiet setting journal) }
+{}
+
+/// A schedule that ends with a flush leaves no message waiting. So where none was forgotten, and
+/// each switch that went down came up again or was confirmed, its network is quiet: it has
+/// converged, and every switch that is up stamps with the newest version.
+pub fn flushed_networks_have_converged()
+    ensures quiet { (setting : Setting) (events : List Event) (journal : List Item)
+        → EndsFinished setting events journal → IsQuiet setting journal }
+    ensures converged { (setting : Setting) (events : List Event) (journal : List Item)
+        → IsNet setting.net → EndsFinished setting events journal
+        → HasConverged setting journal }
+    ensures updated { (setting : Setting) (events : List Event) (journal : List Item)
+        → EndsFinished setting events journal → IsUpdated setting journal }
+{}

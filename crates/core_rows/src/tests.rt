@@ -1,5 +1,0 @@
-mod lines;
-mod marks;
-mod messages;
-mod routes;
-mod sends;

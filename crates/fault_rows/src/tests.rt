@@ -1,3 +1,0 @@
-mod campus;
-mod days;
-mod full;

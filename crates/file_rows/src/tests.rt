@@ -1,5 +1,0 @@
-mod networks;
-mod policies;
-mod records;
-mod schedules;
-mod shelves;

@@ -1,4 +1,0 @@
-mod Spans
-mod Installs
-mod Posting
-mod ComingOut

@@ -1,5 +1,0 @@
-use Rattle.frame_laws.proofs.Installing.{installed}
-use Rattle.frame_laws.proofs.laws.frames_behind_the_first_say_the_tables.Goals as goal
-
-pub returns : goal.returns
-returns c = installed

@@ -1,5 +1,0 @@
-use Rattle.frame_laws.proofs.Versions.{of_another_version}
-use Rattle.frame_laws.proofs.laws.frames_of_another_version.Goals as goal
-
-pub returns : goal.returns
-returns c = of_another_version

@@ -1,0 +1,78 @@
+-- What is counted of one more item.
+use Rattle.std.specs.Prelude.{unwrap_or}
+use Rattle.std.specs.Option.{option_or}
+use Rattle.std.proofs.Common.{◌≡◌, ℕ, ◌+◌, ◌<◌, ◌^◌, Bool, true, false, Option, Some, None, List, [], ◌∷◌, ◌++◌, length, refl, ap, ◌∙◌, arith}
+use Rattle.std.proofs.lemmas.List.Sums.{count_by-le-length}
+use Rattle.journal.specs.declared.item.Item.{Item}
+use Rattle.update_machine.specs.Folds.{count_of, last_told}
+use Rattle.update_machine.specs.Marks.{current_mark, retired_mark, tells_current, tells_retired}
+use Rattle.update_machine.specs.Packets.{is_packet}
+use Rattle.update_machine.proofs.CallerLemmas.{count_of_append, last_told_append}
+use Rattle.journal_reports.specs.Summary.{CountsHaveRoom, counted_with, counts_of, is_cached, is_closed, is_dropped, is_entered, is_left, is_lost, is_sent, is_stuck, one_more}
+
+count_more : (test : Item → Bool) (before : List Item) (item : Item)
+    → count_of test (before ++ item ∷ []) ≡ one_more (test item) (count_of test before)
+count_more test before item = count_of_append test before (item ∷ []) ∙ go (test item) refl
+  where
+    go : (b : Bool) → test item ≡ b
+        → count_of test before + count_of test (item ∷ []) ≡ one_more b (count_of test before)
+    go true e = rw e (omega arith)
+    go false e = rw e (omega arith)
+
+told_more : (tells : Item → Option ℕ) (before : List Item) (item : Item) (other : ℕ)
+    → unwrap_or (last_told tells (before ++ item ∷ [])) other
+    ≡ unwrap_or (tells item) (unwrap_or (last_told tells before) other)
+told_more tells before item other =
+    ap (λ o. unwrap_or o other) (last_told_append tells before (item ∷ []))
+    ∙ go (tells item) (last_told tells before)
+  where
+    go : (told earlier : Option ℕ) → unwrap_or (option_or (option_or None told) earlier) other
+        ≡ unwrap_or told (unwrap_or earlier other)
+    go None earlier = refl
+    go (Some x) earlier = refl
+
+pub counts_more : (before : List Item) (item : Item)
+    → counts_of (before ++ item ∷ []) ≡ counted_with (counts_of before) item
+unfolding current_mark retired_mark
+counts_more before item = rw (
+  count_more is_packet before item,
+  count_more is_closed before item,
+  count_more is_left before item,
+  count_more is_dropped before item,
+  count_more is_lost before item,
+  count_more is_stuck before item,
+  count_more is_entered before item,
+  count_more is_cached before item,
+  count_more is_sent before item,
+  told_more tells_current before item 1,
+  told_more tells_retired before item 0,
+) refl
+
+pub counts_start : counts_of [] ≡ record {
+  packets = 0;
+  closed = 0;
+  delivered = 0;
+  dropped = 0;
+  lost = 0;
+  stuck = 0;
+  travelling = 0;
+  cached = 0;
+  messages = 0;
+  current = 1;
+  retired = 0;
+}
+unfolding current_mark retired_mark
+counts_start = refl
+
+pub counts_room : (items : List Item) → length items + 1 < 2 ^ 64 → CountsHaveRoom (counts_of items)
+counts_room items room = record {
+  packets = omega (arith, count_by-le-length is_packet items, room);
+  closed = omega (arith, count_by-le-length is_closed items, room);
+  delivered = omega (arith, count_by-le-length is_left items, room);
+  dropped = omega (arith, count_by-le-length is_dropped items, room);
+  lost = omega (arith, count_by-le-length is_lost items, room);
+  stuck = omega (arith, count_by-le-length is_stuck items, room);
+  travelling = omega (arith, count_by-le-length is_entered items, room);
+  cached = omega (arith, count_by-le-length is_cached items, room);
+  messages = omega (arith, count_by-le-length is_sent items, room);
+}

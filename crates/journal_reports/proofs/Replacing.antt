@@ -1,0 +1,206 @@
+-- What says as much as another message.
+use Rattle.std.proofs.Common.{ℕ, ◌≡◌, ◌⊎◌, ◌&&◌, ◌||◌, ◌==◌, Bool, true, false, refl, ap, sym, subst, ◌∙◌, arith, inl, inr}
+use Rattle.std.specs.Prelude.{IsTrue, IsFalse, nat_le}
+use Rattle.std.proofs.lemmas.Bool.{and_parts, eq-eqb, eqb-true, or_right}
+use Rattle.std.proofs.lemmas.Bool.Decides.{nat_tests}
+use Rattle.ctrl_msg.specs.declared.message.Body.{Body}
+use Rattle.ctrl_msg.specs.declared.message.Body.TheVariants.{Install, OpenAt, Stamp, Collect, CacheRule, Advertise, Hello, Installed, Stamped}
+use Rattle.ctrl_msg.specs.declared.message.Message.{Message}
+use Rattle.ctrl_msg.specs.declared.message.Receiver.{Receiver}
+use Rattle.ctrl_msg.specs.declared.message.Receiver.TheVariants as receiver
+use Rattle.failover.specs.Adverts.{is_newer}
+use Rattle.failover.specs.declared.advert.Advert.{Advert}
+use Rattle.switch_table.specs.declared.tables.Tables.{Tables}
+use Rattle.update_machine.specs.Quiet.{is_later_body}
+use Rattle.journal_reports.specs.Judging.{is_same, is_same_receiver, says_again, says_as_much}
+
+-- ---- of three messages
+
+pub advert_means : (one other : Advert) (b : Bool) → is_same one other ≡ b
+    → (b || (one.origin == other.origin && is_newer one other)) ≡ true
+    → (one ≡ other) ⊎ IsTrue (one.origin == other.origin && is_newer one other)
+advert_means one other true e says = inl (same_advert one other e)
+  where
+    same_advert : (one other : Advert) → is_same one other ≡ true → one ≡ other
+    same_advert one other e =
+        let parts = and_parts _ _ e in
+        let first = and_parts _ _ parts.0 in
+        let second = and_parts _ _ first.0 in
+        let origin : one.origin ≡ other.origin = eqb-true _ _ second.0 in
+        let boot : one.boot ≡ other.boot = eqb-true _ _ second.1 in
+        let seq : one.seq ≡ other.seq = eqb-true _ _ first.1 in
+        let up : one.up ≡ other.up = eqb-true _ _ parts.1 in
+        ap (λ o. record { origin = o; boot = one.boot; seq = one.seq; up = one.up }) origin
+        ∙ ap (λ b. record { origin = other.origin; boot = b; seq = one.seq; up = one.up }) boot
+        ∙ ap (λ n. record { origin = other.origin; boot = other.boot; seq = n; up = one.up }) seq
+        ∙ ap (λ u. record { origin = other.origin; boot = other.boot; seq = other.seq; up = u }) up
+advert_means one other false e says = inr says
+
+newer_through : (one two three : Advert) → is_newer one two ≡ true → is_newer two three ≡ true
+    → is_newer one three ≡ true
+newer_through one two three first second = grind (arith, nat_tests)
+
+adverts_through : (one two three : Advert)
+    → (is_same one two || (one.origin == two.origin && is_newer one two)) ≡ true
+    → (is_same two three || (two.origin == three.origin && is_newer two three)) ≡ true
+    → (is_same one three || (one.origin == three.origin && is_newer one three)) ≡ true
+adverts_through one two three first second =
+    by_means (advert_means one two (is_same one two) refl first)
+    (advert_means two three (is_same two three) refl second)
+  where
+    by_means : (one ≡ two) ⊎ IsTrue (one.origin == two.origin && is_newer one two)
+        → (two ≡ three) ⊎ IsTrue (two.origin == three.origin && is_newer two three)
+        → (is_same one three || (one.origin == three.origin && is_newer one three)) ≡ true
+    by_means (inl same) next =
+        subst (λ a. (is_same a three || (a.origin == three.origin && is_newer a three)) ≡ true)
+        (sym same) second
+    by_means (inr newer) (inl same) =
+        subst (λ a. (is_same one a || (one.origin == a.origin && is_newer one a)) ≡ true)
+        same first
+    by_means (inr newer) (inr new) =
+        let mine = and_parts _ _ newer in
+        let its = and_parts _ _ new in
+        let origin : (one.origin == three.origin) ≡ true =
+        eq-eqb one.origin three.origin
+        (eqb-true one.origin two.origin mine.0 ∙ eqb-true two.origin three.origin its.0) in
+        let newest : is_newer one three ≡ true = newer_through one two three mine.1 its.1 in
+        let new_of : (one.origin == three.origin && is_newer one three) ≡ true =
+        rw (origin, newest) refl in
+        ap (λ b. is_same one three || b) new_of ∙ or_right (is_same one three) true refl
+
+body_through : (one two three : Body) → says_as_much one two ≡ true → says_as_much two three ≡ true
+    → says_as_much one three ≡ true
+body_through (Install boot tables) (Install of other) (Install own third) first second =
+    grind (arith, nat_tests)
+body_through (OpenAt boot version) (OpenAt of other) (OpenAt own third) first second =
+    grind (arith, nat_tests)
+body_through (Stamp boot version) (Stamp of other) (Stamp own third) first second =
+    grind (arith, nat_tests)
+body_through (Collect boot version) (Collect of other) (Collect own third) first second =
+    grind (arith, nat_tests)
+body_through (Advertise one) (Advertise two) (Advertise three) first second =
+    adverts_through one two three first second
+body_through (Hello s boot) (Hello t of) (Hello r own) first second = grind (arith, nat_tests)
+body_through (Installed s boot version) (Installed t of other) (Installed r own third) first second =
+    grind (arith, nat_tests)
+body_through (Stamped s boot version) (Stamped t of other) (Stamped r own third) first second =
+    grind (arith, nat_tests)
+body_through one two three first second = absurd cc
+
+receiver_through : (one two three : Receiver) → is_same_receiver one two ≡ true
+    → is_same_receiver two three ≡ true → is_same_receiver one three ≡ true
+receiver_through (receiver.Switch s) (receiver.Switch t) (receiver.Switch r) first second =
+    grind (arith, nat_tests)
+receiver_through receiver.Controller receiver.Controller receiver.Controller first second = refl
+receiver_through one two three first second = absurd cc
+
+pub says_through : (one two three : Message) → says_again one two ≡ true
+    → says_again two three ≡ true → says_again one three ≡ true
+says_through one two three first second =
+    let a = and_parts _ _ first in
+    let b = and_parts _ _ second in
+    let to : is_same_receiver one.to three.to ≡ true =
+    receiver_through one.to two.to three.to a.0 b.0 in
+    let body : says_as_much one.body three.body ≡ true =
+    body_through one.body two.body three.body a.1 b.1 in
+    rw (to, body) refl
+
+-- ---- what it says is the same or more
+
+-- tables of one version are the same
+abbrev pub Agree : Body → Body → Type 0
+Agree later earlier = (boot of : ℕ) (one other : Tables) → later ≡ Install boot one
+    → earlier ≡ Install of other → one.version ≡ other.version → one ≡ other
+
+body_means : (later earlier : Body) → Agree later earlier → says_as_much later earlier ≡ true
+    → (later ≡ earlier) ⊎ IsTrue (is_later_body later earlier)
+body_means (Install boot tables) (Install of other) agree says =
+    let parts = and_parts _ _ says in
+    let same : boot ≡ of = eqb-true boot of parts.0 in
+    let its : tables ≡ other = agree boot of tables other refl refl (eqb-true _ _ parts.1) in
+    inl cc
+body_means (OpenAt boot version) (OpenAt of other) agree says = grind (arith, nat_tests)
+body_means (Stamp boot version) (Stamp of other) agree says = grind (arith, nat_tests)
+body_means (Collect boot version) (Collect of other) agree says = grind (arith, nat_tests)
+body_means (Advertise one) (Advertise other) agree says =
+    elim (advert_means one other (is_same one other) refl says) [
+      | inl same ↦ inl (ap Advertise same)
+      | inr newer ↦ inr newer
+    ]
+body_means (Hello s boot) (Hello t of) agree says = grind (arith, nat_tests)
+body_means (Installed s boot version) (Installed t of other) agree says = grind (arith, nat_tests)
+body_means (Stamped s boot version) (Stamped t of other) agree says = grind (arith, nat_tests)
+body_means later earlier agree says = absurd cc
+
+pub receiver_means : (later earlier : Receiver) → is_same_receiver later earlier ≡ true
+    → later ≡ earlier
+receiver_means (receiver.Switch s) (receiver.Switch t) same = ap receiver.Switch (eqb-true s t same)
+receiver_means receiver.Controller receiver.Controller same = refl
+receiver_means later earlier same = absurd cc
+
+pub says_means : (later earlier : Message)
+    → ((boot of : ℕ) (one other : Tables) → later.to ≡ earlier.to → later.body ≡ Install boot one
+    → earlier.body ≡ Install of other → one.version ≡ other.version → one ≡ other)
+    → says_again later earlier ≡ true
+    → (later.to ≡ earlier.to)
+    × ((later.body ≡ earlier.body) ⊎ IsTrue (is_later_body later.body earlier.body))
+says_means later earlier agree says =
+    let parts = and_parts _ _ says in
+    let to : later.to ≡ earlier.to = receiver_means later.to earlier.to parts.0 in (
+      to,
+      body_means later.body earlier.body
+          (λ boot of one other mine its same. agree boot of one other to mine its same) parts.1,
+    )
+
+-- ---- and what says the same or more says as much, but of cache rules
+
+abbrev pub is_cache_rule : Body → Bool
+is_cache_rule (CacheRule version word rule action) = true
+is_cache_rule _ = false
+
+itself : (n : ℕ) → (n == n) ≡ true
+itself n = eq-eqb n n refl
+
+up_itself : (n : ℕ) → nat_le n n ≡ true
+up_itself n = grind (arith, nat_tests)
+
+body_itself : (body : Body) → IsFalse (is_cache_rule body) → says_as_much body body ≡ true
+body_itself (Install boot tables) plain = rw (itself boot, itself tables.version) refl
+body_itself (OpenAt boot version) plain = rw (itself boot, itself version) refl
+body_itself (Stamp boot version) plain = rw (itself boot, up_itself version) refl
+body_itself (Collect boot version) plain = rw (itself boot, up_itself version) refl
+body_itself (Advertise advert) plain =
+    rw (itself advert.origin, itself advert.boot, itself advert.seq, itself advert.up) refl
+body_itself (Hello s boot) plain = rw (itself s, itself boot) refl
+body_itself (Installed s boot version) plain =
+    rw (itself s, itself boot, itself version) refl
+body_itself (Stamped s boot version) plain =
+    rw (itself s, itself boot, up_itself version) refl
+body_itself body plain = absurd cc
+
+later_says : (later earlier : Body) → IsTrue (is_later_body later earlier)
+    → says_as_much later earlier ≡ true
+later_says (Stamp boot version) (Stamp of other) later = grind (arith, nat_tests)
+later_says (Collect boot version) (Collect of other) later = grind (arith, nat_tests)
+later_says (Stamped s boot version) (Stamped t of other) later = grind (arith, nat_tests)
+later_says (Advertise one) (Advertise other) later =
+    rw later (or_right (is_same one other) true refl)
+later_says later earlier is = absurd cc
+
+receiver_itself : (to : Receiver) → is_same_receiver to to ≡ true
+receiver_itself (receiver.Switch s) = itself s
+receiver_itself receiver.Controller = refl
+
+pub means_says : (later earlier : Message) → IsFalse (is_cache_rule earlier.body)
+    → later.to ≡ earlier.to
+    → (later.body ≡ earlier.body) ⊎ IsTrue (is_later_body later.body earlier.body)
+    → says_again later earlier ≡ true
+means_says later earlier plain to says =
+    let same : is_same_receiver later.to earlier.to ≡ true =
+    subst (λ r. is_same_receiver r earlier.to ≡ true) (sym to) (receiver_itself earlier.to) in
+    let body : says_as_much later.body earlier.body ≡ true = elim says [
+      | inl is ↦ subst (λ b. says_as_much b earlier.body ≡ true) (sym is)
+          (body_itself earlier.body plain)
+      | inr later_is ↦ later_says later.body earlier.body later_is
+    ] in
+    rw (same, body) refl

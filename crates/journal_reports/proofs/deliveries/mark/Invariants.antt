@@ -1,0 +1,10 @@
+use Rattle.std.proofs.Common.{ℕ, ◌≡◌, ◌+◌, ◌-◌, false, length}
+use Rattle.std.specs.Prelude.{slice_index_or}
+use Rattle.journal_reports.proofs.deliveries.mark.Given as goal
+
+abbrev pub invariant-loop-marks : goal.invariant-loop-marks
+invariant-loop-marks l = (n : ℕ) → slice_index_or l.marks.items n false
+    ≡ slice_index_or l.initial.marks.items n false
+
+abbrev pub decreases-loop-marks : goal.decreases-loop-marks
+decreases-loop-marks l = l.number + 1 - length l.marks.items

@@ -1,0 +1,18 @@
+use Rattle.std.proofs.Common.{◌∙◌, ◌∷◌, [], ◌++◌, ap, sym, take}
+use Rattle.std.proofs.lemmas.List.{take_more}
+use Rattle.journal_reports.specs.Summary.{counted_with, counts_of}
+use Rattle.journal_reports.proofs.Counts.{counts_more, counts_start}
+use Rattle.journal_reports.proofs.summary.count.Goals as goal
+
+pub loop-item-init : goal.loop-item-init
+loop-item-init c = sym counts_start
+
+pub loop-item-preserved : goal.loop-item-preserved
+loop-item-preserved c =
+    let items = c.args.items.now in
+    let i = c.loop-item.item-index in
+    let item = c.item-item.result in
+    c.note.ensures ∙ ap (λ counts. counted_with counts item) c.loop-item.invariant
+    ∙ sym (counts_more (take i items) item)
+    ∙ ap counts_of (ap (λ x. take i items ++ x ∷ []) c.item-item.is
+    ∙ sym (take_more items i item c.loop-item-test.true))

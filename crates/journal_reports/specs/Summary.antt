@@ -1,0 +1,131 @@
+-- What became of the packets of a play, what was sent in it, and which versions it ended with.
+use Rattle.std.specs.Prelude.{ℕ, ◌<◌, ◌+◌, ◌-◌, ◌^◌, Bool, true, false, if◌then◌else◌, unwrap_or, List, [], ◌∷◌, ◌++◌, codes, decimal, Option, Some, None}
+use Rattle.journal.specs.declared.item.Item.{Item}
+use Rattle.journal.specs.declared.item.Item.TheVariants as item
+use Rattle.policy_rules.specs.declared.packet.How.{How}
+use Rattle.policy_rules.specs.declared.packet.How.TheVariants as how
+use Rattle.update_machine.specs.Folds.{count_of}
+use Rattle.update_machine.specs.Marks.{current_mark, retired_mark, tells_current, tells_retired}
+use Rattle.update_machine.specs.Packets.{is_packet}
+use Rattle.journal_reports.specs.declared.summary.Summary.{Summary}
+
+-- ---- which items are counted
+
+abbrev pub is_entered : Item → Bool
+is_entered (item.Entered packet switch header) = true
+is_entered _ = false
+
+abbrev pub is_closed : Item → Bool
+is_closed (item.Closed packet switch) = true
+is_closed _ = false
+
+abbrev pub is_left : Item → Bool
+is_left (item.Left packet port leaving) = true
+is_left _ = false
+
+abbrev pub is_dropped : Item → Bool
+is_dropped (item.Dropped packet) = true
+is_dropped _ = false
+
+abbrev pub is_lost : Item → Bool
+is_lost (item.Lost packet) = true
+is_lost _ = false
+
+abbrev pub is_stuck : Item → Bool
+is_stuck (item.Stuck packet switch cause leg down) = true
+is_stuck _ = false
+
+abbrev pub is_by_cache : How → Bool
+is_by_cache (how.Cached message) = true
+is_by_cache _ = false
+
+-- a decision by a cached rule
+abbrev pub is_cached : Item → Bool
+is_cached (item.Decided packet version rule action how) = is_by_cache how
+is_cached _ = false
+
+abbrev pub is_sent : Item → Bool
+is_sent (item.Sent number message) = true
+is_sent _ = false
+
+-- ---- the summary
+
+-- how many items of each kind there are, and the marks at the end; as travelling, all that came in
+abbrev pub counts_of : List Item → Summary
+counts_of journal = record {
+  packets = count_of is_packet journal;
+  closed = count_of is_closed journal;
+  delivered = count_of is_left journal;
+  dropped = count_of is_dropped journal;
+  lost = count_of is_lost journal;
+  stuck = count_of is_stuck journal;
+  travelling = count_of is_entered journal;
+  cached = count_of is_cached journal;
+  messages = count_of is_sent journal;
+  current = current_mark journal;
+  retired = retired_mark journal;
+}
+
+-- a packet that came in and neither left, nor was dropped or lost, nor is stuck, still travels
+abbrev pub with_travelling : Summary → Summary
+with_travelling s = record s { travelling = s.travelling - (s.delivered + s.dropped + s.lost + s.stuck) }
+
+abbrev pub summary_of : List Item → Summary
+summary_of journal = with_travelling (counts_of journal)
+
+-- ---- one more item
+
+abbrev pub one_more : Bool → ℕ → ℕ
+one_more counts n = if counts then n + 1 else n
+
+abbrev pub counted_with : Summary → Item → Summary
+counted_with s item = record {
+  packets = one_more (is_packet item) s.packets;
+  closed = one_more (is_closed item) s.closed;
+  delivered = one_more (is_left item) s.delivered;
+  dropped = one_more (is_dropped item) s.dropped;
+  lost = one_more (is_lost item) s.lost;
+  stuck = one_more (is_stuck item) s.stuck;
+  travelling = one_more (is_entered item) s.travelling;
+  cached = one_more (is_cached item) s.cached;
+  messages = one_more (is_sent item) s.messages;
+  current = unwrap_or (tells_current item) s.current;
+  retired = unwrap_or (tells_retired item) s.retired;
+}
+
+-- no count is at its type's end
+pub record CountsHaveRoom (s : Summary) : Type 0 where
+  pub packets : s.packets + 1 < 2 ^ 64
+  pub closed : s.closed + 1 < 2 ^ 64
+  pub delivered : s.delivered + 1 < 2 ^ 64
+  pub dropped : s.dropped + 1 < 2 ^ 64
+  pub lost : s.lost + 1 < 2 ^ 64
+  pub stuck : s.stuck + 1 < 2 ^ 64
+  pub travelling : s.travelling + 1 < 2 ^ 64
+  pub cached : s.cached + 1 < 2 ^ 64
+  pub messages : s.messages + 1 < 2 ^ 64
+
+-- ---- its text
+
+-- a title, a blank, a number and a line feed
+abbrev pub count_line : List ℕ → ℕ → List ℕ
+count_line title count = title ++ 32 ∷ decimal count ++ 10 ∷ []
+
+abbrev pub summary_text : Summary → List ℕ
+summary_text s =
+    count_line (codes "packets") s.packets
+    ++ count_line (codes "closed") s.closed
+    ++ count_line (codes "delivered") s.delivered
+    ++ count_line (codes "dropped") s.dropped
+    ++ count_line (codes "lost") s.lost
+    ++ count_line (codes "stuck") s.stuck
+    ++ count_line (codes "travelling") s.travelling
+    ++ count_line (codes "cached") s.cached
+    ++ count_line (codes "messages") s.messages
+    ++ count_line (codes "current") s.current
+    ++ count_line (codes "retired") s.retired
+
+-- the eleven counts of the journal; a play that stopped full has none
+abbrev pub counts_text : List Item → Option ℕ → List ℕ
+counts_text journal None = summary_text (summary_of journal)
+counts_text journal (Some row) = []

@@ -1,0 +1,32 @@
+//! What a finished journal says as a whole, read in one pass: its summary, and whether its network
+//! is quiet.
+//!
+//! `summarize` counts what became of the packets, how many decisions cached rules made, and what
+//! was sent, and takes the marks of the versions at the end; `summary_text` gives the eleven lines
+//! that the load generator prints. `quiet` answers exactly whether the network is quiet, for each
+//! journal of steps of the network (`answers_are_plain`): it goes over the items once for all
+//! switches, and keeps for each the messages that still matter and that nothing delivered replaces.
+//! In a quiet network all has converged, by the laws of `convergence_laws`.
+//!
+//! ```text
+//! let is_quiet = quiet(alloc, &played.journal, &net)?; // Err: want of memory alone
+//! let text = summary_text(alloc, &summarize(&played.journal))?;
+//! ```
+#![tactic(auto)]
+
+mod deliveries;
+mod judge;
+mod lane;
+mod laws;
+mod life;
+mod pending;
+mod summary;
+mod text;
+mod waiting;
+
+pub use journal::Journal;
+pub use judge::quiet;
+pub use laws::answers_are_plain;
+pub use net_file::Net;
+pub use summary::{Summary, summarize};
+pub use text::summary_text;

@@ -1,2 +1,0 @@
-mod HexPairs
-pub mod Lengths

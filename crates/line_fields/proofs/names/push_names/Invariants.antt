@@ -1,7 +1,0 @@
-use Rattle.std.proofs.Common.{◌≡◌, take}
-use Rattle.net_file.specs.Net.{names_text}
-use Rattle.text_line.specs.Pushes.{pushed}
-use Rattle.line_fields.proofs.names.push_names.Given as goal
-
-abbrev pub invariant-loop-s : goal.invariant-loop-s
-invariant-loop-s l = l.line ≡ pushed l.initial.line (names_text l.net (take l.s-index l.switches))

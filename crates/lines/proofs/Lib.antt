@@ -1,0 +1,5 @@
+pub mod CallerLemmas
+mod PieceLemmas
+mod ShortNumbers
+mod HexPairs
+pub mod Lengths

@@ -1,0 +1,7 @@
+use Rattle.std.proofs.Common.{arith}
+use Rattle.std.proofs.lemmas.Grind.{common_steps}
+use Rattle.lines.proofs.CallerLemmas.{pushed_append}
+use Rattle.lines.proofs.names.push_names.Goals as goal
+
+pub loop-s-preserved : goal.loop-s-preserved
+loop-s-preserved c = grind (arith, common_steps, pushed_append)

@@ -1,0 +1,27 @@
+//! One line of text in a fixed array, which takes no memory, and what is put at its end.
+//!
+//! A `Line` holds the first 2,048 bytes of what was pushed to it. Contracts see the bytes that it
+//! holds; each push promises that its text stands behind them, as far as there is room: a number,
+//! a packet's header, a word, a rule, an action, a switch's name, each in the printed form that its
+//! own crate defines.
+//!
+//! ```text
+//! let mut line = Line::new();
+//! line.push("row ");
+//! line.push_number(7);
+//! push_name(&mut line, &net, 0);
+//! sink.write(line.bytes()); // row 7 a
+//! ```
+#![tactic(auto)]
+
+mod digits;
+mod fields;
+mod line;
+mod names;
+mod pieces;
+mod rules;
+
+pub use fields::{push_address, push_fields};
+pub use line::Line;
+pub use names::{push_name, push_names};
+pub use rules::{push_action, push_rule, push_word};

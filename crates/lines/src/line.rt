@@ -1,0 +1,91 @@
+ghost use Rattle.std.specs.Prelude.{◌≡◌, ◌≤◌, [], length, decimal};
+ghost use Rattle.lines.specs.Pushes.{pushed};
+
+use crate::digits::put_short;
+use crate::pieces::put;
+use itoa::Buffer;
+use std::marker::Model;
+
+/// How many bytes a line holds.
+pub(crate) const LINE_BYTES: usize = 2048;
+
+/// The first 2,048 bytes of a text that is made piece by piece. Contracts see these bytes.
+#[derive(Drop)]
+pub struct Line {
+    bytes: [u8; 2048],
+    len: usize,
+}
+
+impl Model for Line {
+    ghost use Rattle.std.specs.Prelude.{List, ℕ, take, ◌≤◌};
+
+    ghost Value = { List ℕ };
+
+    ghost view = { λ line. take line.len line.bytes };
+
+    ghost invariant = { λ line. line.len ≤ 2048 };
+}
+
+impl Line {
+    /// An empty line.
+    pub fn new() -> Line
+        ensures { result ≡ [] }
+    {
+        Line {
+            bytes: [0; 2048],
+            len: 0,
+        }
+    }
+
+    /// The bytes that the line holds.
+    pub fn bytes(&self) -> &[u8]
+        ensures held { result.now ≡ self.now }
+        ensures within { length result.now ≤ 2048 }
+    {
+        &self.bytes[..self.len]
+    }
+
+    /// Empties the line.
+    pub fn clear(&mut self)
+        ensures { self.new ≡ [] }
+    {
+        self.len = 0;
+    }
+
+    /// Adds bytes.
+    #[inline]
+    pub fn push_bytes(&mut self, piece: &[u8])
+        ensures { self.new ≡ pushed self.old piece.now }
+    {
+        self.len = put(&mut self.bytes, self.len, piece);
+    }
+
+    /// Adds a text.
+    #[inline]
+    pub fn push(&mut self, piece: &str)
+        ensures { self.new ≡ pushed self.old piece.now }
+    {
+        self.push_bytes(piece.as_bytes());
+    }
+
+    /// Adds a number in decimal digits.
+    pub fn push_number(&mut self, n: u64)
+        ensures { self.new ≡ pushed self.old (decimal n) }
+    {
+        if n < 1_000_000 && self.len <= LINE_BYTES - 6 {
+            self.len = put_short(&mut self.bytes, self.len, n);
+        } else {
+            self.push_long_number(n);
+        }
+    }
+
+    // Adds a number of any length.
+    #[cold]
+    #[inline(never)]
+    fn push_long_number(&mut self, n: u64)
+        ensures { self.new ≡ pushed self.old (decimal n) }
+    {
+        let mut buffer = Buffer::new();
+        self.push(buffer.format(n));
+    }
+}

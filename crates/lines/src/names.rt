@@ -1,0 +1,29 @@
+ghost use Rattle.std.specs.Prelude.{◌≡◌};
+ghost use Rattle.net_file.specs.Net.{name_of, names_text};
+ghost use Rattle.lines.specs.Pushes.{pushed};
+
+use crate::line::Line;
+use net_file::Net;
+
+/// Adds the name of the switch of this number, if the network has it.
+pub fn push_name(line: &mut Line, net: &Net, s: u32)
+    ensures { line.new ≡ pushed line.old (name_of net.now s) }
+{
+    let name = match net.switches.items().get(s as usize) {
+        Some(row) => row.name.bytes(),
+        None => b"",
+    };
+    line.push_bytes(name);
+}
+
+/// Adds the names of switches, each behind a blank.
+#[tactic(auto, using(crate::proofs::CallerLemmas::pushed_append, crate::proofs::CallerLemmas::pushed_nothing))]
+pub fn push_names(line: &mut Line, net: &Net, switches: &[u32])
+    ensures { line.new ≡ pushed line.old (names_text net.now switches.now) }
+{
+    let _within = line.bytes();
+    for s in switches {
+        line.push(" ");
+        push_name(line, net, *s);
+    }
+}

@@ -1,8 +1,0 @@
-use Rattle.std.proofs.Common.{subst, sym}
-use Rattle.load_case.specs.Case.{IsPlayable}
-use Rattle.load_case.proofs.Cases.{case_playable}
-use Rattle.load_case.proofs.case.load_case.Goals as goal
-
-pub returns-clause-playable : goal.returns-clause-playable
-returns-clause-playable c =
-    subst IsPlayable (sym c.in_ok-case.ensures.case) (case_playable c.args.n c.requires.1)

@@ -1,7 +1,0 @@
-use Rattle.std.proofs.Common.{subst, sym}
-use Rattle.net_file.specs.Net.{IsNet}
-use Rattle.load_case.proofs.Nets.{load_net_sound}
-use Rattle.load_case.proofs.net.net.Goals as goal
-
-pub returns-clause-sound : goal.returns-clause-sound
-returns-clause-sound c = subst IsNet (sym c.in_ok-net.ensures) load_net_sound

@@ -1,7 +1,0 @@
-use Rattle.std.proofs.Common.{◌≡◌, map}
-use Rattle.std.specs.List.{range_with_len}
-use Rattle.load_case.specs.Case.{switch_row}
-use Rattle.load_case.proofs.net.ring.Given as goal
-
-abbrev pub invariant-loop-i : goal.invariant-loop-i
-invariant-loop-i l = l.rows.items ≡ map switch_row (range_with_len 0 l.i)

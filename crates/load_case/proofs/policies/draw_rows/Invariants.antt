@@ -1,9 +1,0 @@
-use Rattle.std.proofs.Common.{◌≡◌}
-use Rattle.load_case.specs.Case.{rows_drawn}
-use Rattle.load_case.proofs.policies.draw_rows.Given as goal
-
-abbrev pub invariant-loop-k : goal.invariant-loop-k
-invariant-loop-k l = record {
-  rows : l.rows.items ≡ (rows_drawn l.k l.initial.draws.state).0;
-  state : l.draws.state ≡ (rows_drawn l.k l.initial.draws.state).1;
-}

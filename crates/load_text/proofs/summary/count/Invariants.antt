@@ -1,6 +1,0 @@
-use Rattle.std.proofs.Common.{◌≡◌, take}
-use Rattle.load_text.specs.Summary.{counts_of}
-use Rattle.load_text.proofs.summary.count.Given as goal
-
-abbrev pub invariant-loop-item : goal.invariant-loop-item
-invariant-loop-item l = l.counts ≡ counts_of (take l.item-index l.items)

@@ -1,0 +1,24 @@
+-- A message is known by its frames, for proofs of the crates above too.
+use Rattle.std.proofs.Common.{◌≡◌, Bool, true, false, if◌then◌else◌, [], refl, sym, ◌∙◌}
+use Rattle.ctrl_msg.specs.declared.message.Message.{Message}
+use Rattle.message_bag.proofs.Coming.{same_message}
+use Rattle.wire.specs.Frames.{frames}
+use Rattle.wire.specs.Messages.{message as form}
+use Rattle.message_bag.specs.Posts.{framed}
+
+-- of a message that has a spelling they are its frames
+pub framed_is : (m : Message) → form.fits m ≡ true → framed m ≡ frames m
+unfolding framed
+framed_is m fits = rw fits refl
+
+pub known_by_frames : (m other : Message) → form.fits m ≡ true → framed other ≡ framed m → other ≡ m
+unfolding framed
+known_by_frames m other fits same =
+    by_fit (form.fits other) refl (same ∙ framed_is m fits)
+  where
+    by_fit : (b : Bool) → form.fits other ≡ b → (if b then frames other else []) ≡ frames m
+        → other ≡ m
+    by_fit true is are =
+        same_message m other (frames m) (record { fits = fits; frames_are = refl })
+        (record { fits = is; frames_are = sym are })
+    by_fit false is none = absurd (cc none)

@@ -1,0 +1,99 @@
+-- An installation is spelled as its front and its tables.
+use Rattle.std.proofs.Common.{◌≡◌, ℕ, ◌+◌, ◌-◌, ◌≤◌, true, ◌&&◌, List, [], ◌∷◌, ◌++◌, length, add-one, refl, sym, ap, ◌∙◌, append_assoc, arith}
+use Rattle.std.specs.Int.{div_ceil}
+use Rattle.std.proofs.lemmas.Grind.{div_ceil_times}
+use Rattle.std.proofs.lemmas.List.{drop_at, length-append, take_at}
+use Rattle.ctrl_msg.specs.declared.message.Receiver.{Receiver}
+use Rattle.ctrl_msg.specs.declared.message.Receiver.TheVariants.{Switch, Controller}
+use Rattle.ctrl_msg.specs.declared.message.Body.TheVariants.{Install}
+use Rattle.switch_table.specs.declared.tables.Tables.{Tables}
+use Rattle.wire.specs.Fields.{n1, n4, partition, region, tables}
+use Rattle.wire.specs.Format.{list_of}
+use Rattle.wire.specs.Frames.{cut, frame, frames, frames_from, frames_of, most_of_piece, slices}
+use Rattle.wire.specs.Messages.{body, front, install_form, message, receiver, spelled_front, suits}
+use Rattle.wire.proofs.Cutting.{length-slices}
+use Rattle.wire.proofs.Framing.{length_n4}
+use Rattle.wire.proofs.Laws.{both_true}
+use Rattle.message_bag.specs.Installing.{frame_count, install_frames, table_frames, table_pieces}
+use Rattle.message_bag.proofs.Lengths.{length_kind, length_receiver}
+use Rattle.message_bag.proofs.Sized.{length_from}
+
+spelled : (to : Receiver) (boot : ℕ) (t : Tables)
+    → message.spell (record { to = to; body = Install boot t }) ≡ spelled_front to boot ++ tables.spell t
+unfolding message body install_form front
+spelled to boot t =
+    sym (append_assoc (receiver.spell to) (n1.spell 1 ++ n4.spell boot) (tables.spell t)
+    ∙ ap (λ u. receiver.spell to ++ u) (append_assoc (n1.spell 1) (n4.spell boot) (tables.spell t)))
+
+length_front : (to : Receiver) (boot : ℕ) → length (spelled_front to boot) ≡ 6
+unfolding front
+length_front to boot =
+    omega (
+      arith,
+      length-append (receiver.spell to) (n1.spell 1 ++ n4.spell boot),
+      length-append (n1.spell 1) (n4.spell boot),
+      length_receiver to,
+      length_kind (Install boot (record { version = 0; parts = []; auth = [] })),
+      length_n4 boot,
+    )
+
+cut_behind : (head rest : List ℕ) → length head ≡ 6
+    → cut 6 (head ++ rest) ≡ head ∷ slices (div_ceil (length rest) most_of_piece) most_of_piece rest
+cut_behind head rest len =
+    let left : length (head ++ rest) - 6 ≡ length rest = omega (arith, length-append head rest) in
+    rw (left, take_at head rest 6 len, drop_at head rest 6 len) refl
+
+pub installed : (to : Receiver) (boot : ℕ) (t : Tables)
+    → frames (record { to = to; body = Install boot t }) ≡ install_frames to boot t
+installed to boot t =
+    ap frames_of (ap (cut 6) (spelled to boot t) ∙ cut_behind (spelled_front to boot) (tables.spell t) (length_front to boot))
+    ∙ ap (λ n. frame 0 n (spelled_front to boot) ∷ frames_from 1 n (table_pieces t)) (sym (add-one (length (table_pieces t))))
+
+-- ---- which installations have a spelling
+
+pub fits_parts : (to : Receiver) (boot : ℕ) (t : Tables) → message.fits (record { to = to; body = Install boot t }) ≡ true
+    → (front.fits (to, (1, boot)) ≡ true) × (tables.fits t ≡ true) × (suits to (Install boot t) ≡ true)
+unfolding message body install_form front n1
+fits_parts to boot t fits =
+    let all = both_true (receiver.fits to && (n4.fits boot && tables.fits t)) (suits to (Install boot t)) fits in
+    let parts = both_true (receiver.fits to) (n4.fits boot && tables.fits t) all.0 in
+    let fields = both_true (n4.fits boot) (tables.fits t) parts.1 in
+    (rw (parts.0, fields.0) refl, fields.1, all.1)
+
+pub fits_whole : (to : Receiver) (boot : ℕ) (t : Tables) → front.fits (to, (1, boot)) ≡ true → tables.fits t ≡ true
+    → suits to (Install boot t) ≡ true → message.fits (record { to = to; body = Install boot t }) ≡ true
+unfolding message body install_form front n1
+fits_whole to boot t head rest is =
+    let parts = both_true (receiver.fits to) (n4.fits boot) head in
+    rw (parts.0, parts.1, rest, is) refl
+
+-- it doesn't matter of which boot and which tables
+pub suits_any : (to : Receiver) (i j : ℕ) (t u : Tables) → suits to (Install i t) ≡ suits to (Install j u)
+suits_any (Switch s) i j t u = refl
+suits_any Controller i j t u = refl
+
+-- ---- how many frames there are
+
+pub length_behind : (t : Tables) → length (table_frames t) + 1 ≡ frame_count t
+length_behind t = ap (λ n. n + 1) (length_from 1 (frame_count t) (table_pieces t))
+
+long_tables : (t : Tables) → 4 ≤ length (tables.spell t)
+unfolding tables
+long_tables t = omega (
+  arith,
+  length-append (n4.spell t.version) ((list_of n4 region).spell t.parts ++ (list_of n4 partition).spell t.auth),
+  length_n4 t.version,
+)
+
+-- tables are never spelled in no bytes
+pub some_behind : (t : Tables) → 1 ≤ length (table_frames t)
+some_behind t =
+    let bytes = tables.spell t in
+    let count = div_ceil (length bytes) most_of_piece in
+    omega (
+      arith,
+      length_from 1 (frame_count t) (table_pieces t),
+      length-slices count most_of_piece bytes,
+      div_ceil_times (length bytes) most_of_piece (omega arith),
+      long_tables t,
+    )

@@ -1,0 +1,7 @@
+use Rattle.message_bag.specs.Deliveries.{delivered}
+use Rattle.message_bag.proofs.Zipped.{posts_changed}
+use Rattle.message_bag.proofs.bag.Bag.deliver.Goals as goal
+
+pub returns : goal.returns
+returns c = posts_changed delivered c.self.inside.frames c.self.inside.deliveries _ _ c.args.number
+    c.self.invariant c.self.view_is c.deliver.ensures

@@ -1,0 +1,9 @@
+use Rattle.std.proofs.Common.{length, ap, sym, ◌∙◌}
+use Rattle.message_bag.proofs.Zipped.{length_of_zip}
+use Rattle.message_bag.proofs.bag.Bag.sent.Goals as goal
+
+pub returns : goal.returns
+returns c =
+    c.count.ensures
+    ∙ sym (length_of_zip c.self.inside.frames c.self.inside.deliveries c.self.invariant)
+    ∙ ap length c.self.view_is

@@ -1,0 +1,19 @@
+use Rattle.std.proofs.Common.{sym, subst, ◌∙◌, arith}
+use Rattle.message_bag.specs.Deliveries.{ArePassed}
+use Rattle.message_bag.proofs.Waiting.{taken_back, without_last}
+use Rattle.message_bag.proofs.deliveries.Deliveries.take_back.Goals as goal
+
+pub invariant_of-self : goal.invariant_of-self
+invariant_of-self c =
+    let all = c.self.inside.statuses.items in
+    let passed = c.self.inside.passed in
+    let before = c.requires.0 in
+    let is = c.self.view_is ∙ c.requires.1 in
+    subst (ArePassed passed)
+    (sym (c.truncate.ensures.items ∙ without_last _ all before is (omega arith)))
+    (taken_back passed before (subst (ArePassed passed) is c.self.invariant))
+
+pub returns : goal.returns
+returns c = λ before is.
+    c.truncate.ensures.items
+    ∙ without_last _ c.self.inside.statuses.items before (c.self.view_is ∙ is) (omega arith)

@@ -1,0 +1,25 @@
+use Rattle.std.proofs.Common.{◌≡◌, ◌++◌, ◌∷◌, [], List, map, ap, ◌∙◌, arith}
+use Rattle.std.proofs.lemmas.Grind.{common_steps}
+use Rattle.message_bag.specs.Kept.{First, first_in}
+use Rattle.message_bag.proofs.Posting.{on_err}
+use Rattle.message_bag.proofs.Spans.{all_stay, pushed}
+use Rattle.message_bag.proofs.firsts.Firsts.push.Goals as goal
+
+pub returns-in_err-push-clause-unchanged : goal.returns-in_err-push-clause-unchanged
+returns-in_err-push-clause-unchanged c =
+    let bytes = c.self.inside.bytes.items in
+    let spans = c.self.inside.spans.items in
+    let grown : c.extend_from_slice.new.self.items ≡ bytes ++ c.args.frame.now = grind (arith, common_steps) in
+    let same : c.push.new.self.items ≡ spans = grind (arith, common_steps) in
+    on_err c.from_residual-in_err-push.result
+    (ap (λ b. map (first_in b) c.push.new.self.items) grown ∙ ap (map (first_in (bytes ++ c.args.frame.now))) same
+    ∙ all_stay bytes c.args.frame.now spans c.self.invariant ∙ c.self.view_is)
+
+pub returns-clause-pushed : goal.returns-clause-pushed
+returns-clause-pushed c =
+    let bytes = c.self.inside.bytes.items in
+    let spans = c.self.inside.spans.items in
+    let grown : c.extend_from_slice.new.self.items ≡ bytes ++ c.args.frame.now = grind (arith, common_steps) in
+    pushed bytes c.args.frame.now c.extend_from_slice.new.self.items spans c.push.new.self.items _ c.self.invariant
+    grown c.in_ok-push.ensures.items (omega arith) (omega arith)
+    ∙ ap (λ (firsts : List First). firsts ++ (c.args.frame.now, c.args.tables) ∷ []) c.self.view_is

@@ -1,0 +1,161 @@
+#![tactic(auto, using(crate::proofs::Waiting::changed_from))]
+
+ghost use Rattle.std.specs.Prelude.{◌≡◌, ◌<◌, ◌+◌, ◌-◌, ◌^◌, [], ◌∷◌, ◌++◌, List, length, IsTrue, OnOk, OnErr};
+ghost use Rattle.message_bag.specs.Deliveries.{delivered, forgotten, is_deliverable, may_be_delivered, next_waiting, waiting, waits, IsFirstWaiting};
+ghost use Rattle.message_bag.specs.Numbered.{with_changed};
+ghost use Rattle.message_bag.specs.declared.deliveries.Status.{Status};
+
+use std::alloc::{AllocError, Global};
+use std::marker::Model;
+
+/// What became of a message.
+#[derive(Clone, Copy, Debug, Drop)]
+pub struct Status {
+    /// It was delivered at least once.
+    pub delivered: bool,
+    /// It is never delivered again.
+    pub forgotten: bool,
+}
+
+impl Status {
+    // Of a message that is posted now.
+    fn waiting() -> Status
+        ensures { result ≡ waiting }
+    {
+        Status {
+            delivered: false,
+            forgotten: false,
+        }
+    }
+
+    // Whether it was never delivered and isn't forgotten.
+    fn waits(self) -> bool
+        ensures { result ≡ waits self }
+    {
+        !self.delivered && !self.forgotten
+    }
+}
+
+/// What became of messages that are numbered from 1, wherever they are kept: at most 2^32 - 1 of
+/// them. Contracts see the list.
+#[derive(Drop)]
+pub struct Deliveries {
+    statuses: Vec<Status>,
+    // No message up to this number waits, and the next one does, where there is one. So it rises
+    // past each message once, and a search from 1 begins where it ends; so does one from behind the
+    // message that such a search gave and that was delivered since. Flushes look at each message
+    // once in all.
+    passed: u32,
+}
+
+impl Model for Deliveries {
+    ghost use Rattle.std.specs.Prelude.{List};
+    ghost use Rattle.message_bag.specs.Deliveries.{ArePassed};
+    ghost use Rattle.message_bag.specs.declared.deliveries.Status.{Status};
+
+    ghost Value = { List Status };
+
+    ghost view = { λ d. d.statuses.items };
+
+    ghost invariant = { λ d. ArePassed d.passed d.statuses.items };
+}
+
+impl Deliveries {
+    /// Of no message; it takes no memory yet.
+    pub fn new(alloc: Global) -> Deliveries
+        ensures { result ≡ [] }
+    {
+        Deliveries {
+            statuses: Vec::new(alloc),
+            passed: 0,
+        }
+    }
+
+    /// One more message waits.
+    ///
+    /// # Errors
+    /// Want of memory alone; nothing changes then.
+    pub fn add(&mut self) -> Result<(), AllocError>
+        requires { length self.old < 2 ^ 32 - 1 }
+        ensures added { OnOk result (self.new ≡ self.old ++ waiting ∷ []) }
+        ensures unchanged { OnErr result (self.new ≡ self.old) }
+    {
+        self.statuses.push(Status::waiting())?;
+        Ok(())
+    }
+
+    /// The last message, which waits, isn't there after all.
+    pub(crate) fn take_back(&mut self)
+        requires { (before : List Status) × (self.old ≡ before ++ waiting ∷ []) }
+        ensures { (before : List Status) → self.old ≡ before ++ waiting ∷ []
+            → self.new ≡ before }
+    {
+        self.statuses.truncate(self.statuses.len() - 1);
+    }
+
+    /// How many messages there are.
+    pub fn count(&self) -> u32
+        ensures { result ≡ length self.now }
+    {
+        self.statuses.len() as u32
+    }
+
+    /// Whether there is a message of this number that isn't forgotten.
+    pub fn may_be_delivered(&self, number: u32) -> bool
+        ensures { result ≡ is_deliverable self.now number }
+    {
+        if number == 0 {
+            return false;
+        }
+        match self.statuses.get(number as usize - 1) {
+            Some(status) => !status.forgotten,
+            None => false,
+        }
+    }
+
+    /// The message of this number was delivered, perhaps once more.
+    pub fn deliver(&mut self, number: u32)
+        requires { IsTrue (is_deliverable self.old number) }
+        ensures { self.new ≡ with_changed delivered self.old number }
+    {
+        self.statuses[number as usize - 1].delivered = true;
+        self.passed = first_waiting(&self.statuses, self.passed);
+    }
+
+    /// The message of this number is never delivered again.
+    pub fn forget(&mut self, number: u32)
+        requires { IsTrue (is_deliverable self.old number) }
+        ensures { self.new ≡ with_changed forgotten self.old number }
+    {
+        self.statuses[number as usize - 1].forgotten = true;
+        self.passed = first_waiting(&self.statuses, self.passed);
+    }
+
+    /// The least number at or above `from` of a message that was never delivered and isn't
+    /// forgotten; `None` exactly where there is none.
+    pub fn next_waiting(&self, from: u32) -> Option<u32>
+        ensures { result ≡ next_waiting self.now from }
+    {
+        let start = from.saturating_sub(1).max(self.passed);
+        let place = first_waiting(&self.statuses, start);
+        if place < self.count() {
+            Some(place + 1)
+        } else {
+            None
+        }
+    }
+}
+
+// The least place at or above this one of a message that waits; where there is none, the number of
+// messages, or this place if it lies above.
+fn first_waiting(statuses: &[Status], from: u32) -> u32
+    requires { length statuses.now < 2 ^ 32 }
+    ensures { IsFirstWaiting statuses.now from result }
+{
+    for place in from..statuses.len() as u32 {
+        if statuses[place as usize].waits() {
+            return place;
+        }
+    }
+    from.max(statuses.len() as u32)
+}

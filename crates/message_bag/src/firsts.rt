@@ -1,0 +1,84 @@
+ghost use Rattle.std.specs.Prelude.{◌≡◌, ◌≤◌, ◌++◌, ◌∷◌, ◌↔◌, [], Some, length, slice_get, IfSome, IsNone, OnErr, OnOk};
+
+use std::alloc::{AllocError, Global};
+use std::marker::Model;
+
+/// Where the bytes of a first frame lie, and under which number the frames behind it are kept, if
+/// there are any.
+#[derive(Clone, Copy, Debug, Drop)]
+pub struct Span {
+    start: usize,
+    len: usize,
+    tables: Option<usize>,
+}
+
+/// The first frames of messages, one after the other, each with the number of the frames behind it.
+/// Contracts see the list.
+#[derive(Drop)]
+pub struct Firsts {
+    bytes: Vec<u8>,
+    spans: Vec<Span>,
+}
+
+impl Model for Firsts {
+    ghost use Rattle.std.specs.Prelude.{List, Option, All, map};
+    ghost use Rattle.message_bag.specs.Kept.{First, IsWithin, first_in};
+
+    ghost Value = { List First };
+
+    ghost view = { λ f. map (first_in f.bytes.items) f.spans.items };
+
+    ghost invariant = { λ f. All (IsWithin f.bytes.items) f.spans.items };
+}
+
+impl Firsts {
+    /// Of no message; it takes no memory yet.
+    pub fn new(alloc: Global) -> Firsts
+        ensures { result ≡ [] }
+    {
+        Firsts {
+            bytes: Vec::new(alloc),
+            spans: Vec::new(alloc),
+        }
+    }
+
+    /// How many there are.
+    pub fn len(&self) -> usize
+        ensures { result ≡ length self.now }
+    {
+        self.spans.len()
+    }
+
+    /// One more, at the end.
+    ///
+    /// # Errors
+    /// Want of memory alone; nothing changes then.
+    pub fn push(&mut self, frame: &[u8], tables: Option<usize>) -> Result<(), AllocError>
+        ensures pushed { OnOk result (self.new ≡ self.old ++ (frame.now, tables) ∷ []) }
+        ensures unchanged { OnErr result (self.new ≡ self.old) }
+    {
+        let start = self.bytes.len();
+        self.bytes.extend_from_slice(frame)?;
+        self.spans.push(Span {
+            start,
+            len: frame.len(),
+            tables,
+        })?;
+        Ok(())
+    }
+
+    /// The one of this index.
+    pub fn get(&self, index: usize) -> Option<(&[u8], Option<usize>)>
+        ensures some { IfSome result (λ first. slice_get self.now index
+            ≡ Some (first.0.now, first.1)) }
+        ensures none { IsNone result ↔ (length self.now ≤ index) }
+    {
+        match self.spans.get(index) {
+            None => None,
+            Some(span) => {
+                let frame = &self.bytes[span.start..span.start + span.len];
+                Some((frame, span.tables))
+            }
+        }
+    }
+}

@@ -1,0 +1,139 @@
+ghost use Rattle.std.specs.Prelude.{◌≡◌, ◌<◌, ◌+◌, ◌-◌, ◌^◌, ◌++◌, ◌∷◌, ◌↔◌, ◌⊎◌, [], None, Some, true, length, IfOk, IfSome, IsNone, OnErr, OnOk};
+ghost use Rattle.ctrl_msg.specs.declared.message.Body.TheVariants.{Install};
+ghost use Rattle.wire.specs.Frames.{frames};
+ghost use Rattle.wire.specs.Messages.{HasSpelling, message as form};
+ghost use Rattle.message_bag.specs.Kept.{IsPosted, tables_version};
+
+use crate::firsts::Firsts;
+use crate::reading::{alone, tables_of};
+use crate::tables::{TableFrames, spell};
+use ctrl_msg::{Message, SharedTables};
+use std::alloc::{AllocError, Global};
+use std::marker::Model;
+use wire::append;
+
+/// The messages that were posted, numbered from 1 in their order. Contracts see the list of their
+/// frames.
+#[derive(Drop)]
+pub struct FrameBag {
+    firsts: Firsts,
+    tables: Vec<TableFrames>,
+    // The first frame of the message that is posted now.
+    scratch: Vec<u8>,
+}
+
+impl Model for FrameBag {
+    ghost use Rattle.std.specs.Prelude.{List, ℕ, All, map};
+    ghost use Rattle.message_bag.specs.Kept.{AreKeptFrames, frames_in};
+
+    ghost Value = { List (List (List ℕ)) };
+
+    ghost view = { λ b. map (frames_in b.tables.items) b.firsts };
+
+    ghost invariant = { λ b. All (AreKeptFrames b.tables.items) b.firsts };
+}
+
+impl FrameBag {
+    /// A bag in which nothing was posted; it takes no memory yet.
+    pub fn new(alloc: Global) -> FrameBag
+        ensures { result ≡ [] }
+    {
+        FrameBag {
+            firsts: Firsts::new(alloc),
+            tables: Vec::new(alloc),
+            scratch: Vec::new(alloc),
+        }
+    }
+
+    /// How many messages were posted.
+    pub fn len(&self) -> usize
+        ensures { result ≡ length self.now }
+    {
+        self.firsts.len()
+    }
+
+    /// Posts a message, and answers its number: one more than there were messages.
+    ///
+    /// # Errors
+    /// Want of memory alone; nothing changes then.
+    pub fn post(&mut self, alloc: Global, message: &Message) -> Result<u32, AllocError>
+        requires spelling { HasSpelling message.now }
+        requires short { length (form.spell message.now) < 2 ^ 40 }
+        requires few { length self.old < 2 ^ 32 - 1 }
+        ensures fits { OnOk result (form.fits message.now ≡ true) }
+        ensures number { IfOk result (λ number. number ≡ length self.old + 1) }
+        ensures posted { OnOk result (self.new ≡ self.old ++ frames message.now ∷ []) }
+        ensures unchanged { OnErr result (self.new ≡ self.old) }
+    {
+        match tables_of(&message.body) {
+            None => self.post_alone(message)?,
+            Some((boot, tables)) => self.post_tables(alloc, message, boot, tables)?,
+        }
+        Ok(self.len() as u32)
+    }
+
+    // Posts a message of one frame.
+    fn post_alone(&mut self, message: &Message) -> Result<(), AllocError>
+        requires spelling { HasSpelling message.now }
+        requires short { length (form.spell message.now) < 2 ^ 40 }
+        requires alone { tables_version message.now.body ≡ None }
+        ensures fits { OnOk result (form.fits message.now ≡ true) }
+        ensures posted { OnOk result (self.new ≡ self.old ++ frames message.now ∷ []) }
+        ensures unchanged { OnErr result (self.new ≡ self.old) }
+    {
+        self.scratch.clear();
+        self.scratch.extend_from_slice(&[0, 0, 0, 0, 0, 0, 0, 1])?;
+        append(&mut self.scratch, message)?;
+        self.firsts.push(&self.scratch, None)
+    }
+
+    // Posts an installation of these tables.
+    fn post_tables(
+        &mut self,
+        alloc: Global,
+        message: &Message,
+        boot: u32,
+        tables: &SharedTables,
+    ) -> Result<(), AllocError>
+        requires spelling { HasSpelling message.now }
+        requires short { length (form.spell message.now) < 2 ^ 40 }
+        requires carries { message.now.body ≡ Install boot tables.now }
+        ensures fits { OnOk result (form.fits message.now ≡ true) }
+        ensures posted { OnOk result (self.new ≡ self.old ++ frames message.now ∷ []) }
+        ensures unchanged { OnErr result (self.new ≡ self.old) }
+    {
+        let number = spell(
+            &mut self.tables,
+            &mut self.scratch,
+            alloc,
+            message,
+            boot,
+            tables,
+        )?;
+        self.firsts.push(&self.scratch, Some(number))
+    }
+
+    /// The message of this number, out of its frames; `None` exactly where none of this number was
+    /// posted.
+    ///
+    /// # Errors
+    /// Want of memory alone.
+    pub fn take(&self, alloc: Global, number: u32) -> Result<Option<Message>, AllocError>
+        ensures none { IfOk result (λ answer.
+            IsNone answer ↔ ((number ≡ 0) ⊎ (length self.now < number))) }
+        ensures message { IfOk result (λ answer.
+            IfSome answer (λ message. IsPosted self.now number message)) }
+    {
+        if number == 0 {
+            return Ok(None);
+        }
+        match self.firsts.get(number as usize - 1) {
+            None => Ok(None),
+            Some((frame, None)) => Ok(Some(alone(alloc, frame)?)),
+            Some((frame, Some(kept))) => {
+                let message = self.tables[kept].message(alloc, frame)?;
+                Ok(Some(message))
+            }
+        }
+    }
+}

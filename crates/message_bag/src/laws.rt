@@ -1,0 +1,49 @@
+//! The laws.
+ghost use Rattle.std.specs.Prelude.{◌≡◌, ◌∷◌, ◌↔◌, List, ℕ};
+ghost use Rattle.ctrl_msg.specs.declared.message.Body.TheVariants.{Install};
+ghost use Rattle.ctrl_msg.specs.declared.message.Message.{Message};
+ghost use Rattle.ctrl_msg.specs.declared.message.Receiver.{Receiver};
+ghost use Rattle.switch_table.specs.declared.tables.Tables.{Tables};
+ghost use Rattle.wire.specs.Assembly.{AreAllHeld, IsRefusedFrame};
+ghost use Rattle.wire.specs.Frames.{AreFrames, count_in_frame, frames, frames_of_version};
+ghost use Rattle.message_bag.specs.Feeding.{AreAllAmong, AreOf, HasFrames, held_after};
+ghost use Rattle.message_bag.specs.Installing.{install_frames};
+
+/// In whatever order the frames of a message come, and with whatever repeats: an assembler that was
+/// fed with them refuses none; all places are held exactly where each frame of the message has
+/// come; and then what is held is the message's frames.
+///
+/// So, as `Assembler::feed` ensures, it answers `None` until the last of them has come, and the
+/// message then and at each repeat.
+pub fn frames_come_in_any_order()
+    ensures taken { (m : Message) (f : List ℕ) (fed : List (List ℕ)) → HasFrames m
+        → AreOf m (f ∷ fed) → IsRefusedFrame (held_after fed) f → ⊥ }
+    ensures all_held { (m : Message) (f : List ℕ) (fed : List (List ℕ)) → HasFrames m
+        → AreOf m (f ∷ fed)
+        → (AreAllHeld (held_after (f ∷ fed)) (count_in_frame f) ↔ AreAllAmong m (f ∷ fed)) }
+    ensures whole { (m : Message) (fed : List (List ℕ)) → HasFrames m → AreOf m fed
+        → AreAllAmong m fed → held_after fed ≡ frames m }
+{}
+
+/// Frames are those of one message.
+pub fn frames_are_of_one_message()
+    ensures { (m other : Message) (fs : List (List ℕ)) → AreFrames m fs → AreFrames other fs
+        → other ≡ m }
+{}
+
+/// The frames of an installation behind its first one are spelled of the tables alone: they are the
+/// same whatever switch it is for, and in whatever boot. The first one says how many there are, the
+/// switch and the boot.
+pub fn frames_behind_the_first_say_the_tables()
+    ensures { (to : Receiver) (boot : ℕ) (tables : Tables)
+        → frames (record { to = to; body = Install boot tables })
+        ≡ install_frames to boot tables }
+{}
+
+/// An installation of the same tables under another version has the same frames, but for the four
+/// bytes of the version where the second one begins.
+pub fn frames_of_another_version()
+    ensures { (to : Receiver) (boot version : ℕ) (tables : Tables)
+        → frames (record { to = to; body = Install boot (record tables { version = version }) })
+        ≡ frames_of_version version (frames (record { to = to; body = Install boot tables })) }
+{}

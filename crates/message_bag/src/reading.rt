@@ -1,0 +1,129 @@
+//! Messages that are made of their frames again.
+ghost use Rattle.std.specs.Prelude.{◌≡◌, ◌∷◌, ◌↔◌, ℕ, [], true, None, drop, IfOk, IfSome, IsNone, IsSome, OnOk};
+ghost use Rattle.ctrl_msg.specs.declared.message.Body.TheVariants.{Install};
+ghost use Rattle.ctrl_msg.specs.declared.message.Receiver.{Receiver};
+ghost use Rattle.message_bag.specs.Installing.{table_frames};
+ghost use Rattle.wire.specs.Assembly.{AreAllHeld, IsRefusedFrame, with_frame};
+ghost use Rattle.wire.specs.Fields as fields;
+ghost use Rattle.wire.specs.Frames.{AreFrames, count_in_frame};
+ghost use Rattle.wire.specs.Messages.{IsFront};
+ghost use Rattle.message_bag.specs.Kept.{AreOfInstall, AreOfMessage, SayTables, tables_version};
+
+use ctrl_msg::{Body, Message, Receiver, SharedTables};
+use std::alloc::{AllocError, Global};
+use wire::{Assembler, Frames, WireError, decode, decode_front};
+
+/// How many bytes of a frame stand before its piece.
+const HEADER_LEN: usize = 8;
+
+/// The message of one frame, whose piece is the whole spelling.
+///
+/// # Errors
+/// Want of memory alone.
+pub fn alone(alloc: Global, frame: &[u8]) -> Result<Message, AllocError>
+    requires { AreOfMessage (frame.now ∷ []) }
+    ensures { IfOk result (λ message. AreFrames message (frame.now ∷ [])) }
+{
+    match decode(alloc, &frame[HEADER_LEN..]) {
+        Ok(message) => Ok(message),
+        Err(WireError::Refused(_)) => unreachable!(),
+        Err(WireError::NoMemory) => Err(AllocError),
+    }
+}
+
+// Feeds the assembler with a frame that it doesn't refuse.
+fn feed(
+    assembler: &mut Assembler,
+    alloc: Global,
+    frame: &[u8],
+) -> Result<Option<Message>, AllocError>
+    requires { IsRefusedFrame assembler.old frame.now → ⊥ }
+    ensures held { OnOk result (assembler.new ≡ with_frame assembler.old frame.now) }
+    ensures some { IfOk result (λ answer.
+        IsSome answer ↔ AreAllHeld assembler.new (count_in_frame frame.now)) }
+    ensures message { IfOk result (λ answer. IfSome answer (λ m. AreFrames m assembler.new)) }
+{
+    match assembler.feed(alloc, frame) {
+        Ok(answer) => Ok(answer),
+        Err(WireError::Refused(_)) => unreachable!(),
+        Err(WireError::NoMemory) => Err(AllocError),
+    }
+}
+
+// The message of this first frame and the other frames behind their first one.
+fn assembled(alloc: Global, first: &[u8], frames: &Frames) -> Result<Message, AllocError>
+    requires { AreOfMessage (first.now ∷ drop 1 frames.now) }
+    ensures { IfOk result (λ message. AreFrames message (first.now ∷ drop 1 frames.now)) }
+{
+    let mut assembler = Assembler::new(alloc);
+    let mut frame = first;
+    for place in 0..u32::MAX {
+        if let Some(message) = feed(&mut assembler, alloc, frame)? {
+            return Ok(message);
+        }
+        frame = match frames.get(place + 1) {
+            Some(next) => next,
+            None => unreachable!(),
+        };
+    }
+    unreachable!()
+}
+
+/// The boot and the tables of an installation.
+pub fn tables_of(body: &Body) -> Option<(u32, &SharedTables)>
+    ensures some { IfSome result (λ found. body.now ≡ Install found.0 found.1.now) }
+    ensures none { IsNone result → tables_version body.now ≡ None }
+{
+    match body {
+        Body::Install { boot, tables } => Some((*boot, tables)),
+        _ => None,
+    }
+}
+
+/// The tables that an installation carries, out of its frames.
+///
+/// # Errors
+/// Want of memory alone.
+pub fn tables_in(alloc: Global, frames: &Frames) -> Result<SharedTables, AllocError>
+    requires { AreOfInstall frames.now }
+    ensures { IfOk result (λ tables. SayTables tables frames.now) }
+{
+    let message = match frames.get(0) {
+        Some(first) => assembled(alloc, first, frames)?,
+        None => unreachable!(),
+    };
+    match tables_of(&message.body) {
+        Some((_, tables)) => tables.clone(),
+        None => unreachable!(),
+    }
+}
+
+// The receiver and the boot of an installation.
+fn front_of(alloc: Global, front: &[u8]) -> Result<(Receiver, u32), AllocError>
+    requires { (to : Receiver) × (boot : ℕ) × IsFront to boot front.now }
+    ensures { IfOk result (λ read. IsFront read.0 read.1 front.now) }
+{
+    match decode_front(alloc, front) {
+        Ok(read) => Ok(read),
+        Err(WireError::Refused(_)) => unreachable!(),
+        Err(WireError::NoMemory) => Err(AllocError),
+    }
+}
+
+/// The message of this first frame and the frames of these tables, which it shares.
+///
+/// # Errors
+/// Want of memory alone.
+pub fn shared(alloc: Global, first: &[u8], tables: &SharedTables) -> Result<Message, AllocError>
+    requires fits { fields.tables.fits tables.now ≡ true }
+    requires are { AreOfMessage (first.now ∷ table_frames tables.now) }
+    ensures { IfOk result (λ message.
+        AreFrames message (first.now ∷ table_frames tables.now)) }
+{
+    let (to, boot) = front_of(alloc, &first[HEADER_LEN..])?;
+    let tables = tables.clone()?;
+    Ok(Message {
+        to,
+        body: Body::Install { boot, tables },
+    })
+}

@@ -1,0 +1,230 @@
+//! The frames of tables, which installations of the same tables share.
+ghost use Rattle.std.specs.Prelude.{◌≡◌, ◌<◌, ◌^◌, ◌++◌, ◌∷◌, [], Some, true, drop, get_or, length, IfOk, IfSome, IsTrue, OnOk};
+ghost use Rattle.ctrl_msg.specs.declared.message.Body.TheVariants.{Install};
+ghost use Rattle.switch_table.specs.declared.tables.Tables.{Tables};
+ghost use Rattle.wire.specs.Frames.{AreFrames, frame, frames};
+ghost use Rattle.wire.specs.Messages.{HasSpelling, IsReceiver, front, message as form, spelled_front};
+ghost use Rattle.message_bag.specs.Kept.{AreOfMessage, IsGrown, IsInstallOf, SayRows, SayTables, frames_in};
+
+use crate::reading::{shared, tables_in};
+use crate::same::{are_same_tables, have_same_rows};
+use ctrl_msg::{Message, Receiver, SharedTables};
+use std::alloc::{AllocError, Global};
+use std::marker::Model;
+use switch_table::{PartRow, Tables};
+use wire::{Frames, append_front, split};
+
+/// How many bytes of a frame say its place and the count of frames.
+const HEADER_LEN: usize = 8;
+
+/// How many bits the number of a packet's header has.
+const HEADER_BITS: u32 = 104;
+
+/// The frames of an installation of some tables: those behind its first one say the tables, and
+/// each installation of the same tables that is posted shares them. Contracts see the frames.
+#[derive(Drop)]
+pub struct TableFrames {
+    // The tables as they come out of the frames: those of each message that is taken.
+    said: SharedTables,
+    frames: Frames,
+}
+
+impl Model for TableFrames {
+    ghost use Rattle.std.specs.Prelude.{List, ℕ};
+    ghost use Rattle.message_bag.specs.Kept.{SayTables};
+
+    ghost Value = { List (List ℕ) };
+
+    ghost view = { λ t. t.frames };
+
+    ghost invariant = { λ t. SayTables t.said t.frames };
+}
+
+impl TableFrames {
+    // Of an installation of these tables, which are spelled and read.
+    fn new(alloc: Global, message: &Message, tables: &Tables) -> Result<TableFrames, AllocError>
+        requires { IsInstallOf message.now tables.now }
+        ensures { IfOk result (SayTables tables.now) }
+    {
+        let frames = split(alloc, message)?;
+        let said = with_trees(alloc, tables_in(alloc, &frames)?)?;
+        Ok(TableFrames { said, frames })
+    }
+
+    // Of the same tables under another version, which are neither spelled nor read anew.
+    fn of_version(&self, alloc: Global, version: u32) -> Result<TableFrames, AllocError>
+        ensures { IfOk result (λ kept. (t : Tables) → SayTables t self.now
+            → SayTables (record t { version = version }) kept) }
+    {
+        let said = self.said.of_version(alloc, version)?;
+        let frames = self.frames.of_version(alloc, version)?;
+        Ok(TableFrames { said, frames })
+    }
+
+    // Whether they say these tables.
+    fn say(&self, tables: &Tables) -> bool
+        ensures { IsTrue result → SayTables tables.now self.now }
+    {
+        are_same_tables(self.said.tables(), tables)
+    }
+
+    // Whether they say these tables under some version.
+    fn say_rows(&self, tables: &Tables) -> bool
+        ensures { IsTrue result → SayRows tables.now self.now }
+    {
+        have_same_rows(self.said.tables(), tables)
+    }
+
+    // Writes at the end the first frame of an installation of these tables: only the receiver and
+    // the boot are its own.
+    fn put_first(&self, out: &mut Vec<u8>, to: Receiver, boot: u32) -> Result<(), AllocError>
+        requires { IsReceiver to }
+        ensures fits { OnOk result (front.fits (to, (1, boot)) ≡ true) }
+        ensures put { OnOk result (out.new.items
+            ≡ out.old.items ++ frame 0 (length self.now) (spelled_front to boot)) }
+    {
+        match self.frames.get(0) {
+            Some(own) => out.extend_from_slice(own.split_at(HEADER_LEN).0)?,
+            None => unreachable!(),
+        }
+        append_front(out, to, boot)
+    }
+
+    /// The message of this first frame and those behind it. All such messages share the tables.
+    ///
+    /// # Errors
+    /// Want of memory alone.
+    pub fn message(&self, alloc: Global, first: &[u8]) -> Result<Message, AllocError>
+        requires { AreOfMessage (first.now ∷ drop 1 self.now) }
+        ensures { IfOk result (λ message.
+            AreFrames message (first.now ∷ drop 1 self.now)) }
+    {
+        shared(alloc, first, &self.said)
+    }
+}
+
+// The same tables. They get trees where their regions may part all headers, as those of plans do:
+// trees over others might be far larger than the tables.
+fn with_trees(alloc: Global, tables: SharedTables) -> Result<SharedTables, AllocError>
+    ensures { IfOk result (λ grown. grown ≡ tables) }
+{
+    if are_whole(tables.tables().parts.items()) {
+        tables.with_trees(alloc)
+    } else {
+        Ok(tables)
+    }
+}
+
+// Whether the regions have, taken together, as many headers as there are.
+fn are_whole(rows: &[PartRow]) -> bool {
+    let mut headers: u128 = 0;
+    for row in rows {
+        let free = HEADER_BITS.saturating_sub(row.region.mask().count_ones());
+        headers = headers.saturating_add(1 << free);
+    }
+    headers == 1 << HEADER_BITS
+}
+
+// The number of the frames that say these tables. Most often they are among the last.
+fn find(kept: &[TableFrames], tables: &Tables) -> Option<usize>
+    ensures there { IfSome result (λ number. number < length kept.now) }
+    ensures say { IfSome result (λ number. SayTables tables.now (get_or kept.now number [])) }
+{
+    kept.iter().rposition(|frames| frames.say(tables))
+}
+
+// The number of the frames that say these tables under some version.
+fn find_rows(kept: &[TableFrames], tables: &Tables) -> Option<usize>
+    ensures there { IfSome result (λ number. number < length kept.now) }
+    ensures say { IfSome result (λ number. SayRows tables.now (get_or kept.now number [])) }
+{
+    kept.iter().rposition(|frames| frames.say_rows(tables))
+}
+
+// The frames of an installation of these tables: those that are there under another version, but
+// for the version, or its own.
+fn made(
+    kept: &[TableFrames],
+    alloc: Global,
+    message: &Message,
+    tables: &Tables,
+) -> Result<TableFrames, AllocError>
+    requires { IsInstallOf message.now tables.now }
+    ensures { IfOk result (SayTables tables.now) }
+{
+    match find_rows(kept, tables) {
+        Some(number) => Ok(kept[number].of_version(alloc, tables.version)?),
+        None => Ok(TableFrames::new(alloc, message, tables)?),
+    }
+}
+
+// The number of the kept frames that say the tables of this installation: of those that are there,
+// or of those that are made for it and kept from now on.
+fn keep(
+    kept: &mut Vec<TableFrames>,
+    alloc: Global,
+    message: &Message,
+    tables: &Tables,
+) -> Result<usize, AllocError>
+    requires { IsInstallOf message.now tables.now }
+    ensures there { IfOk result (λ number. number < length kept.new.items) }
+    ensures say { IfOk result (λ number.
+        SayTables tables.now (get_or kept.new.items number [])) }
+    ensures grown { IsGrown kept.old.items kept.new.items }
+{
+    match find(kept, tables) {
+        Some(number) => Ok(number),
+        None => {
+            let number = kept.len();
+            let own = made(kept, alloc, message, tables)?;
+            kept.push(own)?;
+            Ok(number)
+        }
+    }
+}
+
+// Writes at the end the first frame of an installation of the tables of this number.
+fn put_first_of(
+    kept: &[TableFrames],
+    number: usize,
+    out: &mut Vec<u8>,
+    to: Receiver,
+    boot: u32,
+) -> Result<(), AllocError>
+    requires there { number < length kept.now }
+    requires switch { IsReceiver to }
+    ensures fits { OnOk result (front.fits (to, (1, boot)) ≡ true) }
+    ensures put { OnOk result (out.new.items
+        ≡ out.old.items ++ frame 0 (length (get_or kept.now number [])) (spelled_front to boot)) }
+{
+    kept[number].put_first(out, to, boot)
+}
+
+/// Spells an installation: its first frame, in place of what was in the buffer, and the number of
+/// the kept frames that has the others. These are spelled only where none of the same rows and
+/// partitions are kept.
+///
+/// # Errors
+/// Want of memory alone.
+pub fn spell(
+    kept: &mut Vec<TableFrames>,
+    first: &mut Vec<u8>,
+    alloc: Global,
+    message: &Message,
+    boot: u32,
+    tables: &SharedTables,
+) -> Result<usize, AllocError>
+    requires spelling { HasSpelling message.now }
+    requires short { length (form.spell message.now) < 2 ^ 40 }
+    requires carries { message.now.body ≡ Install boot tables.now }
+    ensures there { IfOk result (λ number. number < length kept.new.items) }
+    ensures fits { OnOk result (form.fits message.now ≡ true) }
+    ensures own { IfOk result (λ number.
+        frames_in kept.new.items (first.new.items, Some number) ≡ frames message.now) }
+    ensures grown { IsGrown kept.old.items kept.new.items }
+{
+    let number = keep(kept, alloc, message, tables.tables())?;
+    first.clear();
+    put_first_of(kept, number, first, message.to, boot)?;
+    Ok(number)
+}

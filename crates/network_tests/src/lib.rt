@@ -1,0 +1,9 @@
+//! Worked values of the controller, messages, routes and journals, of a world's steps, and of
+//! networks that are quiet and others that aren't.
+//!
+//! Each public call once with ample memory, and lists and texts that are given from outside. Tests
+//! alone, so that none of those crates is proved a second time together with its tests.
+#![tactic(auto)]
+
+#[cfg(test)]
+mod tests;

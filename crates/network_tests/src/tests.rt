@@ -1,0 +1,7 @@
+mod lines;
+mod marks;
+mod messages;
+mod quiet_journals;
+mod routes;
+mod sends;
+mod worlds;

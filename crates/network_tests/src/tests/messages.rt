@@ -1,0 +1,97 @@
+//! Messages that come out of a bag again.
+ghost use Rattle.std.specs.Prelude.{IfOk};
+ghost use Rattle.wire.specs.Messages.{HasSpelling};
+
+use ctrl_msg::{Body, Message, Receiver, SharedTables};
+use message_bag::Bag;
+use std::alloc::Global;
+use std::test::Fail;
+use switch_table::{PartRows, Partitions, Tables};
+use wire::encode;
+
+// Tables of version 3 for switch 1.
+fn install(alloc: Global) -> Result<Message, Fail>
+    ensures { IfOk result HasSpelling }
+{
+    let tables = Tables {
+        version: 3,
+        parts: PartRows::new(Vec::new(alloc))?,
+        auth: Partitions::new(Vec::new(alloc))?,
+    };
+    let tables = SharedTables::new(alloc, tables)?;
+    Ok(Message {
+        to: Receiver::Switch(1),
+        body: Body::Install { boot: 2, tables },
+    })
+}
+
+// A switch that boots.
+fn hello() -> Message
+    ensures { HasSpelling result }
+{
+    Message {
+        to: Receiver::Controller,
+        body: Body::Hello { switch: 7, boot: 4 },
+    }
+}
+
+// The boot and the version that the message of this number tells.
+fn told(bag: &Bag, alloc: Global, number: u32) -> Result<Option<(Option<u32>, Option<u32>)>, Fail> {
+    match bag.get(alloc, number)? {
+        Some(message) => Ok(Some((message.body.boot(), message.body.version()))),
+        None => Ok(None),
+    }
+}
+
+// Posts a message that isn't too long, where the bag isn't full.
+fn post(bag: &mut Bag, alloc: Global, message: &Message) -> Result<u32, Fail>
+    requires { HasSpelling message.now }
+{
+    let bytes = encode(alloc, message)?;
+    if bytes.len() > 1 << 20 || bag.sent() == u32::MAX {
+        return Err(Fail::from("too long, or full"));
+    }
+    Ok(bag.post(alloc, message)?)
+}
+
+// Delivers the message, if it may be.
+fn deliver(bag: &mut Bag, number: u32) -> bool {
+    if !bag.may_be_delivered(number) {
+        return false;
+    }
+    bag.deliver(number);
+    true
+}
+
+// Forgets the message, if it is there.
+fn forget(bag: &mut Bag, number: u32) -> bool {
+    if !bag.may_be_delivered(number) {
+        return false;
+    }
+    bag.forget(number);
+    true
+}
+
+// Messages 1, an install, and 2, of a switch that boots.
+fn posted(alloc: Global, bag: &mut Bag) -> Result<bool, Fail> {
+    let hello = hello();
+    let first = post(bag, alloc, &install(alloc)?)?;
+    let second = post(bag, alloc, &hello)?;
+    Ok(hello.body.is_for_controller() && first == 1 && second == 2 && bag.sent() == 2)
+}
+
+#[test]
+fn messages_wait_until_they_are_delivered_or_forgotten(rt: HostRuntime) -> Result<(), Fail> {
+    let alloc = rt.alloc();
+    let mut bag = Bag::new(alloc);
+    assert!(rt; posted(alloc, &mut bag)?);
+    assert!(rt; told(&bag, alloc, 0)?.is_none());
+    assert!(rt; told(&bag, alloc, 1)? == Some((Some(2), Some(3))));
+    assert!(rt; deliver(&mut bag, 2));
+    assert!(rt; bag.next_waiting(0) == Some(1) && bag.next_waiting(2).is_none());
+    assert!(rt; deliver(&mut bag, 2) && forget(&mut bag, 1));
+    assert!(rt; told(&bag, alloc, 1)?.is_none());
+    assert!(rt; told(&bag, alloc, 2)? == Some((Some(4), None)));
+    assert!(rt; bag.next_waiting(1).is_none());
+    Ok(())
+}

@@ -1,0 +1,161 @@
+//! Whether networks of one and of two switches are quiet behind small journals.
+ghost use Rattle.std.specs.Prelude.{IfOk};
+ghost use Rattle.net_file.specs.Net.{IsNet};
+
+use journal::{Advert, Body, Item, Journal, Message, Receiver, SharedMessage, SharedTables};
+use journal_reports::quiet;
+use net_file::{Net, read_net, solo};
+use std::alloc::Global;
+use std::test::Fail;
+use switch_table::{PartRows, Partitions, Tables};
+
+fn two_switches(alloc: Global) -> Result<Net, Fail>
+    ensures { IfOk result IsNet }
+{
+    let text =
+        "switch = [{name = \"a\", ports = [1]}, {name = \"b\", ports = [2], authority = 100}]\n\
+        link = [{ ends = [\"a\", \"b\"] }]\n";
+    Ok(read_net(alloc, text.as_bytes())?)
+}
+
+fn one_switch(alloc: Global) -> Result<Net, Fail>
+    ensures { IfOk result IsNet }
+{
+    Ok(solo(alloc)?)
+}
+
+fn sent(alloc: Global, number: u32, to: Receiver, body: Body) -> Result<Item, Fail> {
+    let message = SharedMessage::new(alloc, Message { to, body })?;
+    Ok(Item::Sent { number, message })
+}
+
+// The message of this number is an Install of version 2.
+fn install(alloc: Global, number: u32) -> Result<Item, Fail> {
+    let tables = Tables {
+        version: 2,
+        parts: PartRows::new(Vec::new(alloc))?,
+        auth: Partitions::new(Vec::new(alloc))?,
+    };
+    let tables = SharedTables::new(alloc, tables)?;
+    sent(
+        alloc,
+        number,
+        Receiver::Switch(0),
+        Body::Install { boot: 1, tables },
+    )
+}
+
+// Pushes the item; nothing more is known of the journal.
+fn push(journal: &mut Journal, item: Item) -> Result<(), Fail> {
+    journal.push(item)?;
+    Ok(())
+}
+
+// Pushes the sending of the message; nothing more is known of the journal.
+fn send(
+    alloc: Global,
+    journal: &mut Journal,
+    number: u32,
+    to: Receiver,
+    body: Body,
+) -> Result<(), Fail> {
+    let item = sent(alloc, number, to, body)?;
+    push(journal, item)
+}
+
+fn is_quiet(alloc: Global, journal: &Journal, net: &Net) -> Result<bool, Fail>
+    requires { IsNet net.now }
+{
+    Ok(quiet(alloc, journal, net)?)
+}
+
+/// A switch that is down is missed until it is confirmed.
+#[test]
+fn crashes_are_confirmed(rt: HostRuntime) -> Result<(), Fail> {
+    let alloc = rt.alloc();
+    let net = two_switches(alloc)?;
+    let mut journal = Journal::empty(alloc);
+    assert!(rt; is_quiet(alloc, &journal, &net)?);
+    push(&mut journal, Item::Down { switch: 1 })?;
+    assert!(rt; !is_quiet(alloc, &journal, &net)?);
+    push(&mut journal, Item::OverNow { switch: 1 })?;
+    assert!(rt; is_quiet(alloc, &journal, &net)?);
+    Ok(())
+}
+
+// The first message of an update was forgotten, and sent again.
+fn push_update(alloc: Global, journal: &mut Journal) -> Result<(), Fail> {
+    push(journal, install(alloc, 1)?)?;
+    push(journal, Item::Forgotten { number: 1 })?;
+    push(journal, install(alloc, 2)?)
+}
+
+/// An update is answered though its first message was forgotten: it was sent again.
+#[test]
+fn updates_are_answered(rt: HostRuntime) -> Result<(), Fail> {
+    let alloc = rt.alloc();
+    let net = one_switch(alloc)?;
+    let mut journal = Journal::empty(alloc);
+    push_update(alloc, &mut journal)?;
+    assert!(rt; !is_quiet(alloc, &journal, &net)?);
+    push(&mut journal, Item::Delivered { number: 2 })?;
+    assert!(rt; is_quiet(alloc, &journal, &net)?);
+    let stamp = Body::Stamp {
+        boot: 1,
+        version: 2,
+    };
+    send(alloc, &mut journal, 3, Receiver::Switch(0), stamp)?;
+    assert!(rt; !is_quiet(alloc, &journal, &net)?);
+    Ok(())
+}
+
+// The advert of this number that the switch 1 tells in its boot is sent to the switch 0.
+fn advertise(alloc: Global, journal: &mut Journal, number: u32, seq: u32) -> Result<(), Fail> {
+    let advert = Advert {
+        origin: 1,
+        boot: 1,
+        seq,
+        up: 1,
+    };
+    send(
+        alloc,
+        journal,
+        number,
+        Receiver::Switch(0),
+        Body::Advertise { advert },
+    )
+}
+
+// Whether the network is quiet once two adverts of these numbers were sent, of which this message
+// was delivered and the other one forgotten.
+fn is_quiet_with(
+    alloc: Global,
+    net: &Net,
+    first: u32,
+    second: u32,
+    delivered: u32,
+) -> Result<bool, Fail>
+    requires { IsNet net.now }
+{
+    let mut journal = Journal::empty(alloc);
+    advertise(alloc, &mut journal, 1, first)?;
+    advertise(alloc, &mut journal, 2, second)?;
+    let forgotten = if delivered == 1 { 2 } else { 1 };
+    push(&mut journal, Item::Forgotten { number: forgotten })?;
+    push(&mut journal, Item::Delivered { number: delivered })?;
+    is_quiet(alloc, &journal, net)
+}
+
+/// A newer advert, or the same, replaces one that was sent before it, and none that was sent later.
+#[test]
+fn later_adverts_replace(rt: HostRuntime) -> Result<(), Fail> {
+    let alloc = rt.alloc();
+    let net = two_switches(alloc)?;
+    assert!(rt; is_quiet_with(alloc, &net, 1, 2, 2)?);
+    assert!(rt; is_quiet_with(alloc, &net, 2, 2, 2)?);
+    assert!(rt; !is_quiet_with(alloc, &net, 2, 1, 2)?);
+    assert!(rt; !is_quiet_with(alloc, &net, 1, 2, 1)?);
+    assert!(rt; !is_quiet_with(alloc, &net, 2, 2, 1)?);
+    assert!(rt; !is_quiet_with(alloc, &net, 2, 1, 1)?);
+    Ok(())
+}

@@ -1,0 +1,392 @@
+-- Each item that has its causes keeps all packets on their way, and all cache rules right: one
+-- induction by items.
+use Rattle.std.proofs.Common.{ℕ, ◌≡◌, ◌+◌, ◌≤◌, ◌==◌, Bool, true, false, Some, None, List, [], ◌∷◌, ◌++◌, refl, sym, subst, ◌∙◌, arith, inl, inr, ◌⊎◌}
+use Rattle.std.specs.Prelude.{All, IsTrue}
+use Rattle.std.proofs.lemmas.Bool.{eqb-true}
+use Rattle.std.proofs.lemmas.List.Elements.{All-nil, All-weaker}
+use Rattle.cache_maker.specs.Independent.{widen}
+use Rattle.ctrl_msg.specs.declared.message.Body.{Body}
+use Rattle.ctrl_msg.specs.declared.message.Body.TheVariants.{CacheRule}
+use Rattle.ctrl_msg.specs.declared.message.Message.{Message}
+use Rattle.five_tuple.specs.Header.{number_of}
+use Rattle.five_tuple.specs.declared.header.Header.{Header}
+use Rattle.journal.specs.declared.item.Item.{Item}
+use Rattle.journal.specs.declared.item.Item.TheVariants as item
+use Rattle.steps.specs.declared.step.Step.{Step}
+use Rattle.steps.specs.declared.step.Step.TheVariants.{Packet}
+use Rattle.update_machine.specs.Caches.{cache_of}
+use Rattle.update_machine.specs.Causes.{HaveCauses, present_step}
+use Rattle.update_machine.specs.Marks.{retired_mark}
+use Rattle.update_machine.specs.Links.{message_of}
+use Rattle.update_machine.specs.Moves.{AuthorityRule}
+use Rattle.update_machine.specs.Packets.{decision_of, header_in, next_packet}
+use Rattle.update_machine.specs.Setting.{Setting, IsSetting}
+use Rattle.update_machine.specs.Versions.{policy_at, plan_at}
+use Rattle.update_machine.specs.Travels.{leg_of, travels}
+use Rattle.update_machine.specs.Ways.{found_down}
+use Rattle.update_machine.proofs.CallerLemmas.{step_stays}
+use Rattle.control_laws.proofs.Facts.{AreKept, Behind, fact_on, have_weaker, with_fact}
+use Rattle.control_laws.proofs.Grown.{message_more}
+use Rattle.control_laws.proofs.Reached.{NamesOwn}
+use Rattle.control_laws.proofs.SwitchBlocks.{said_parts}
+use Rattle.control_laws.proofs.BothCauses.{HasBothCauses}
+use Rattle.control_laws.proofs.NetLinks.{links_there}
+use Rattle.packet_laws.specs.Rules.{IsRightEntry, IsRightRule}
+use Rattle.packet_laws.specs.OnWay.{IsUnknown}
+use Rattle.packet_laws.specs.Facts.{is_of_packet, facts_after, what_is_known}
+use Rattle.packet_laws.proofs.PacketFacts.{facts_named, facts_other}
+use Rattle.packet_laws.specs.Kept.{AllKept, BringsRight, IsJudged, IsKept}
+use Rattle.packet_laws.specs.Stages.{Blocked, CameIn, Judged, OnWay, Stage, stage_of, tells_stage}
+use Rattle.packet_laws.specs.WayCauses.{TellsRightly, TellsRule, WayCause}
+use Rattle.packet_laws.proofs.CacheRules.{cache_rule_right}
+use Rattle.packet_laws.proofs.Caches.{cache_holds}
+use Rattle.packet_laws.proofs.Growing.{Grows, grows, kept_on, right_on}
+use Rattle.packet_laws.proofs.Here.{IsHere, Rules, here_of, rules_of, some_same}
+use Rattle.packet_laws.proofs.Kept.{Knows, decided_after, entered_after, exiting_after, found_after, gone, hopped_after, rerouted_after, seeking_after}
+use Rattle.packet_laws.proofs.Lookups.{deciding}
+use Rattle.packet_laws.proofs.PacketBlocks.{stage_more, stage_stays}
+use Rattle.packet_laws.proofs.Rests.{IsAsked, IsWayItem, Past, numbered, switches_of_all, ways_of_all, with_past}
+use Rattle.packet_laws.proofs.Served.{packet_more}
+use Rattle.packet_laws.proofs.Pieces.{step_now}
+
+-- ---- steps that were asked for
+
+abbrev AreAsked : Setting → List Item → Type 0
+AreAsked setting journal = (step : Step) → present_step journal ≡ Some step
+    → NamesOwn setting step
+
+asked_kept : (setting : Setting) → AreKept (IsAsked setting) (AreAsked setting)
+asked_kept setting before (item.Row row step) asked are other present =
+    subst (NamesOwn setting)
+    (some_same (present_step (before ++ item.Row row step ∷ [])) step other
+    (step_now before row step) present) asked
+asked_kept setting before next asked are step present =
+    are step (sym (step_stays before (next ∷ []) (refl, tt)) ∙ present)
+
+present_asked : (setting : Setting) (journal : List Item)
+    → HaveCauses (IsWayItem setting) [] journal → AreAsked setting journal
+unfolding present_step
+present_asked setting journal have =
+    fact_on (IsAsked setting) (AreAsked setting) (asked_kept setting) [] journal
+    (have_weaker (IsWayItem setting) (IsAsked setting) (λ js next is. is.asked) [] journal have)
+    (λ step present. absurd cc)
+
+-- ---- what is known before an item
+
+pub record Before (setting : Setting) (before : List Item) : Type 0 where
+  pub is : IsSetting setting
+  pub have : HaveCauses (IsWayItem setting) [] before
+  pub kept : AllKept setting before
+
+both_of_all : (setting : Setting) (before : List Item)
+    → HaveCauses (IsWayItem setting) [] before → HaveCauses (HasBothCauses setting) [] before
+both_of_all setting before have =
+    have_weaker (IsWayItem setting) (HasBothCauses setting)
+    (λ js next is. record { first = is.switches; second = is.links }) [] before have
+
+pub knows : (setting : Setting) (before : List Item) (i : ℕ) → Before setting before
+    → Knows setting before i (stage_of before i)
+knows setting before i known = record {
+  is = known.is;
+  have = switches_of_all setting [] before known.have;
+  both = both_of_all setting before known.have;
+  links = links_there setting before (both_of_all setting before known.have);
+  kept = known.kept.packets i;
+}
+
+-- ---- packets
+
+same_packet : (packet i : ℕ) → (packet == i) ≡ true → packet ≡ i
+same_packet packet i e = eqb-true packet i e
+
+-- the packet that an item names
+named_as : (setting : Setting) (before : List Item) (packet i : ℕ) (next : Item) (stage : Stage)
+    → (packet == i) ≡ true → tells_stage i next ≡ Some stage
+    → IsKept setting before (facts_after (retired_mark before) next (what_is_known before packet))
+    (Some stage)
+    → IsKept setting before (facts_after (retired_mark before) next (what_is_known before i))
+    (stage_of (before ++ next ∷ []) i)
+named_as setting before packet i next stage named tells kept =
+    subst (IsKept setting before (facts_after (retired_mark before) next (what_is_known before i)))
+    (sym (stage_more before next i stage tells))
+    (subst (λ k. IsKept setting before (facts_after (retired_mark before) next (what_is_known before k))
+    (Some stage)) (same_packet packet i named) kept)
+
+named_after : (setting : Setting) (before : List Item) (next : Item) (i : ℕ)
+    → Before setting before → WayCause setting before next → is_of_packet i next ≡ true
+    → IsKept setting before (facts_after (retired_mark before) next (what_is_known before i))
+    (stage_of (before ++ next ∷ []) i)
+named_after setting before (item.Entered packet s header) i known way named =
+    let own : NamesOwn setting (Packet s header) =
+    present_asked setting before known.have (Packet s header) way.0.row in
+    let none : IsUnknown (what_is_known before packet) =
+    known.kept.unknown packet (omega (arith, way.0.number)) in
+    named_as setting before packet i (item.Entered packet s header) CameIn named
+    (rw named refl)
+    (entered_after setting before packet s header (what_is_known before packet) own.0 own.1
+    none.decision none.leg)
+named_after setting before (item.Seeking packet version partition route) i known way named =
+    named_as setting before packet i (item.Seeking packet version partition route) OnWay named
+    (rw named refl)
+    (seeking_after setting before packet (retired_mark before) version partition route
+    (knows setting before packet known) way)
+named_after setting before (item.Exiting packet route) i known way named =
+    named_as setting before packet i (item.Exiting packet route) OnWay named (rw named refl)
+    (exiting_after setting before packet (retired_mark before) route
+    (knows setting before packet known) way)
+named_after setting before (item.Rerouted packet route) i known way named =
+    named_as setting before packet i (item.Rerouted packet route) OnWay named (rw named refl)
+    (rerouted_after setting before packet (retired_mark before) route
+    (knows setting before packet known) way)
+named_after setting before (item.Hopped packet next) i known way named =
+    named_as setting before packet i (item.Hopped packet next) OnWay named (rw named refl)
+    (hopped_after setting before packet (retired_mark before) next
+    (knows setting before packet known) way)
+named_after setting before (item.FoundDown packet one two) i known way named =
+    named_as setting before packet i (item.FoundDown packet one two) Blocked named
+    (rw named refl)
+    (found_after setting before packet (retired_mark before) one two
+    (knows setting before packet known) way)
+named_after setting before (item.Decided packet version rule act by) i known way named =
+    named_as setting before packet i (item.Decided packet version rule act by) Judged named
+    (rw named refl)
+    (decided_after setting before packet (retired_mark before) version rule act by
+    (knows setting before packet known) known.kept.cached way)
+named_after setting before (item.Left packet port leaving) i known way named =
+    gone setting before _ _ refl
+named_after setting before (item.Dropped packet) i known way named = gone setting before _ _ refl
+named_after setting before (item.Lost packet) i known way named = gone setting before _ _ refl
+named_after setting before (item.Stuck packet switch cause leg down) i known way named =
+    gone setting before _ _ refl
+named_after setting before next i known way named = absurd cc
+
+unnamed_stage : (i : ℕ) (next : Item) → is_of_packet i next ≡ false → tells_stage i next ≡ None
+unnamed_stage i (item.Entered packet s header) e = rw e refl
+unnamed_stage i (item.Seeking packet version partition route) e = rw e refl
+unnamed_stage i (item.Exiting packet route) e = rw e refl
+unnamed_stage i (item.Rerouted packet route) e = rw e refl
+unnamed_stage i (item.Hopped packet next) e = rw e refl
+unnamed_stage i (item.FoundDown packet one two) e = rw e refl
+unnamed_stage i (item.Decided packet version rule act by) e = rw e refl
+unnamed_stage i _ e = refl
+
+packets_on : (setting : Setting) (before : List Item) (next : Item) → Before setting before
+    → IsWayItem setting before next → Grows setting before (before ++ next ∷ []) → (i : ℕ)
+    → IsKept setting (before ++ next ∷ []) (what_is_known (before ++ next ∷ []) i)
+    (stage_of (before ++ next ∷ []) i)
+packets_on setting before next known cause grow i = by_name (is_of_packet i next) refl
+  where
+    by_name : (b : Bool) → is_of_packet i next ≡ b
+        → IsKept setting (before ++ next ∷ []) (what_is_known (before ++ next ∷ []) i)
+        (stage_of (before ++ next ∷ []) i)
+    by_name true e =
+        subst (λ facts. IsKept setting (before ++ next ∷ []) facts
+        (stage_of (before ++ next ∷ []) i)) (sym (facts_named i before next e))
+        (kept_on setting before (before ++ next ∷ []) _ _ grow
+        (named_after setting before next i known cause.way e))
+    by_name false e =
+        subst (λ facts. IsKept setting (before ++ next ∷ []) facts
+        (stage_of (before ++ next ∷ []) i)) (sym (facts_other i before next e))
+        (subst (IsKept setting (before ++ next ∷ []) (what_is_known before i))
+        (sym (stage_stays before next i (unnamed_stage i next e)))
+        (kept_on setting before (before ++ next ∷ []) _ _ grow (known.kept.packets i)))
+
+-- ---- packets that didn't come in
+
+-- an item names a packet that travels, or the next one, which comes in
+named_travels : (setting : Setting) (before : List Item) (next : Item) (i : ℕ)
+    → WayCause setting before next → is_of_packet i next ≡ true
+    → IsTrue (travels before i)
+    ⊎ ((i ≡ next_packet before) × (next_packet (before ++ next ∷ []) ≡ next_packet before + 1))
+named_travels setting before (item.Entered packet s header) i way named =
+    inr (
+      sym (same_packet packet i named) ∙ way.0.number,
+      packet_more before (item.Entered packet s header),
+    )
+named_travels setting before (item.Seeking packet version partition route) i way named =
+    inl (subst (λ k. IsTrue (travels before k)) (same_packet packet i named) way.at.travelling)
+named_travels setting before (item.Exiting packet route) i way named =
+    inl (subst (λ k. IsTrue (travels before k)) (same_packet packet i named) way.by.at.travelling)
+named_travels setting before (item.Rerouted packet route) i way named =
+    inl (subst (λ k. IsTrue (travels before k)) (same_packet packet i named) way.at.travelling)
+named_travels setting before (item.Hopped packet next) i way named =
+    inl (subst (λ k. IsTrue (travels before k)) (same_packet packet i named) way.at.travelling)
+named_travels setting before (item.FoundDown packet one two) i way named =
+    inl (subst (λ k. IsTrue (travels before k)) (same_packet packet i named) way.at.travelling)
+named_travels setting before (item.Decided packet version rule act by) i way named =
+    inl (subst (λ k. IsTrue (travels before k)) (same_packet packet i named) way.at.travelling)
+named_travels setting before (item.Left packet port leaving) i way named =
+    inl (subst (λ k. IsTrue (travels before k)) (same_packet packet i named) way.at.travelling)
+named_travels setting before (item.Dropped packet) i way named =
+    inl (subst (λ k. IsTrue (travels before k)) (same_packet packet i named) way.at.travelling)
+named_travels setting before (item.Lost packet) i way named =
+    inl (subst (λ k. IsTrue (travels before k)) (same_packet packet i named) way.travelling)
+named_travels setting before (item.Stuck packet switch cause leg down) i way named =
+    inl (subst (λ k. IsTrue (travels before k)) (same_packet packet i named) way.at.travelling)
+named_travels setting before next i way named = absurd cc
+
+unknown_on : (setting : Setting) (before : List Item) (next : Item) → Before setting before
+    → WayCause setting before next → (i : ℕ) → next_packet (before ++ next ∷ []) ≤ i
+    → IsUnknown (what_is_known (before ++ next ∷ []) i)
+unknown_on setting before next known way i past = by_name (is_of_packet i next) refl
+  where
+    not_named : IsTrue (travels before i)
+        ⊎ ((i ≡ next_packet before) × (next_packet (before ++ next ∷ []) ≡ next_packet before + 1))
+        → IsUnknown (what_is_known (before ++ next ∷ []) i)
+    not_named (inl travelling) =
+        let number = numbered setting before (ways_of_all setting [] before known.have) i
+        travelling in
+        absurd (omega (arith, number.1, past, packet_more before next))
+    not_named (inr own) = absurd (omega (arith, own.0, own.1, past))
+
+    by_name : (b : Bool) → is_of_packet i next ≡ b → IsUnknown (what_is_known (before ++ next ∷ []) i)
+    by_name true e = not_named (named_travels setting before next i way e)
+    by_name false e =
+        subst IsUnknown (sym (facts_other i before next e))
+        (known.kept.unknown i (omega (arith, past, packet_more before next)))
+
+-- ---- messages
+
+brings_on : (setting : Setting) (before after : List Item) (body : Body)
+    → Grows setting before after → BringsRight setting before body
+    → BringsRight setting after body
+brings_on setting before after (CacheRule version word rule act) grow right =
+    right_on setting before after version word rule act grow right
+brings_on setting before after _ grow right = tt
+
+-- the rule that a switch tells is right
+told_right : (setting : Setting) (before : List Item) (message : Message)
+    → Before setting before → TellsRule setting before message
+    → BringsRight setting before message.body
+told_right setting before message known tells =
+    let i : ℕ = tells.packet in
+    let s : ℕ = tells.switch in
+    let knows_it : Knows setting before i (stage_of before i) = knows setting before i known in
+    let here : IsHere setting before i s =
+    here_of setting before i s (stage_of before i) known.is knows_it.have knows_it.kept tells.at in
+    let header : Header = here.under.header in
+    let judged : IsJudged setting before (what_is_known before i) header =
+    knows_it.kept.judged here.travelling tells.judged header here.under.entered in
+    let rules : Rules setting before (what_is_known before i) header tells.found.version tells.found =
+    rules_of setting before i s tells.found.version tells.found known.is knows_it.have here
+    judged.sought tells.finds in
+    let version : ℕ = tells.found.version in
+    let own : AuthorityRule = deciding version rules.finds in
+    let right : IsRightRule setting before version
+    (widen (number_of header) own.part.region own.part.rules own.place) own.rule.rule
+    own.rule.action =
+    record {
+      known = omega (arith, rules.not_retired);
+      current = rules.current;
+      decides = cache_rule_right setting (policy_at setting before version)
+          (plan_at setting before version) header rules.hosted rules.finds rules.planned
+          here.under.sound;
+    } in
+    subst (λ (m : Message). BringsRight setting before m.body) (sym tells.says)
+    (subst (λ h. IsRightRule setting before version
+    (widen (number_of h) tells.found.part.region tells.found.part.rules tells.found.place)
+    tells.found.rule.rule tells.found.rule.action) (sym here.header)
+    (subst (λ (f : AuthorityRule). IsRightRule setting before version
+    (widen (number_of header) f.part.region f.part.rules f.place) f.rule.rule f.rule.action)
+    (sym rules.same) right))
+
+sent_right : (setting : Setting) (before : List Item) (number : ℕ) (message : Message)
+    → Before setting before → WayCause setting before (item.Sent number message)
+    → BringsRight setting before message.body
+sent_right setting before number message known way = by_body message.body refl way
+  where
+    by_body : (body : Body) → message.body ≡ body
+        → WayCause setting before (item.Sent number message)
+        → BringsRight setting before message.body
+    by_body (CacheRule version word rule act) e way =
+        told_right setting before message known
+        (subst (λ b. TellsRightly setting before message b) e way)
+    by_body _ e way = subst (BringsRight setting before) (sym e) tt
+
+sent_on : (setting : Setting) (before : List Item) (next : Item) → Before setting before
+    → IsWayItem setting before next → Grows setting before (before ++ next ∷ [])
+    → (n : ℕ) (message : Message) → message_of (before ++ next ∷ []) n ≡ Some message
+    → BringsRight setting (before ++ next ∷ []) message.body
+sent_on setting before (item.Sent number sent) known cause grow n message is =
+    by_number (number == n) refl
+  where
+    by_number : (b : Bool) → (number == n) ≡ b
+        → BringsRight setting (before ++ item.Sent number sent ∷ []) message.body
+    by_number true e =
+        let same : Some sent ≡ Some message =
+        rw (message_more before (item.Sent number sent) n, e) at is in
+        let own : sent ≡ message = cc in
+        brings_on setting before _ message.body grow
+        (subst (λ (m : Message). BringsRight setting before m.body) own
+        (sent_right setting before number sent known cause.way))
+    by_number false e =
+        brings_on setting before _ message.body grow
+        (known.kept.sent n message (rw (message_more before (item.Sent number sent) n, e) at is))
+sent_on setting before next known cause grow n message is =
+    brings_on setting before (before ++ next ∷ []) message.body grow
+    (known.kept.sent n message (rw (message_more before next n) at is))
+
+-- ---- caches
+
+cached_on : (setting : Setting) (before : List Item) (next : Item) → Before setting before
+    → Grows setting before (before ++ next ∷ []) → (s : ℕ)
+    → All (IsRightEntry setting (before ++ next ∷ []))
+    (cache_of setting (before ++ next ∷ []) s).entries
+cached_on setting before next known grow s =
+    All-weaker (IsRightEntry setting before) (IsRightEntry setting (before ++ next ∷ []))
+    (λ entry right. right_on setting before (before ++ next ∷ []) entry.version entry.word
+    entry.rule entry.action grow right) _
+    (cache_holds (IsRightEntry setting before) setting s before next
+    (λ number version word rule act said.
+    known.kept.sent number _ (said_parts before s number (CacheRule version word rule act) said).sent)
+    (known.kept.cached s))
+
+-- ---- all of it
+
+pub kept_more : (setting : Setting) → IsSetting setting
+    → AreKept (Past (IsWayItem setting)) (AllKept setting)
+kept_more setting is before next cause kept =
+    let known : Before setting before = record { is = is; have = cause.past; kept = kept } in
+    let grow : Grows setting before (before ++ next ∷ []) =
+    grows setting before next (switches_of_all setting [] before cause.past)
+    cause.caused.switches in
+    record {
+      packets = packets_on setting before next known cause.caused grow;
+      unknown = unknown_on setting before next known cause.caused.way;
+      sent = sent_on setting before next known cause.caused grow;
+      cached = cached_on setting before next known grow;
+    }
+
+pub kept_at_first : (setting : Setting) → AllKept setting []
+unfolding what_is_known travels header_in decision_of leg_of found_down message_of cache_of
+kept_at_first setting = record {
+  packets = λ i. gone setting [] (what_is_known [] i) (stage_of [] i) refl;
+  unknown = λ i past. record {
+    header = refl;
+    travels = refl;
+    decision = refl;
+    leg = refl;
+    found = refl;
+  };
+  sent = λ n message is. absurd cc;
+  cached = λ s. All-nil (IsRightEntry setting []);
+}
+
+pub all_kept : (setting : Setting) (journal : List Item) → IsSetting setting
+    → HaveCauses (IsWayItem setting) [] journal → AllKept setting journal
+all_kept setting journal is have =
+    fact_on (Past (IsWayItem setting)) (AllKept setting) (kept_more setting is) [] journal
+    (with_past (IsWayItem setting) [] journal tt have) (kept_at_first setting)
+
+-- each item, where all is kept before it
+pub kept_before : (setting : Setting) (journal : List Item) → IsSetting setting
+    → HaveCauses (IsWayItem setting) [] journal
+    → HaveCauses (Behind (Past (IsWayItem setting)) (AllKept setting)) [] journal
+kept_before setting journal is have =
+    with_fact (Past (IsWayItem setting)) (AllKept setting) (kept_more setting is) [] journal
+    (with_past (IsWayItem setting) [] journal tt have) (kept_at_first setting)
+
+pub known_before : (setting : Setting) → IsSetting setting → (before : List Item) (next : Item)
+    → Behind (Past (IsWayItem setting)) (AllKept setting) before next → Before setting before
+known_before setting is before next behind =
+    record { is = is; have = behind.caused.past; kept = behind.known }

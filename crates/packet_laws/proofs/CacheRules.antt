@@ -1,0 +1,155 @@
+-- The cache rule of the rule by which a partition of a plan decides a header is right: the policy
+-- decides each header of its word so.
+use Rattle.std.proofs.Common.{ℕ, zero, suc, ◌≡◌, ◌^◌, ◌-◌, ◌<◌, ◌&&◌, Bool, true, false, cond, if◌then◌else◌, Option, Some, None, IsNone, List, [], ◌∷◌, map, take, refl, ap, sym, subst, ◌∙◌, arith}
+use Rattle.std.specs.Prelude.{All, IsSomeAnd, IsTrue, bit_and, find, option_map, slice_get}
+use Rattle.std.proofs.Math.Nat.{mod-eq_of_lt}
+use Rattle.std.proofs.lemmas.Bool.{eqb-true}
+use Rattle.std.proofs.lemmas.List.Elements.{All-tail}
+use Rattle.std.proofs.lemmas.Nat.{and_mask}
+use Rattle.std.proofs.lemmas.Option.{get_or_from_slice_get, slice_get-map, slice_get_within}
+use Rattle.cache_maker.specs.Independent.{IsIndependent, is_independent, widen, widened}
+use Rattle.cache_maker.proofs.Independence.{test_true}
+use Rattle.five_tuple.specs.Header.{IsHeader, number_of}
+use Rattle.five_tuple.specs.declared.header.Header.{Header}
+use Rattle.policy_rules.specs.Hosted.{is_in}
+use Rattle.policy_rules.specs.Scan.{scan}
+use Rattle.policy_rules.specs.RuleList.{hit_of_rule}
+use Rattle.policy_rules.specs.Rules.{first_rule, is_held}
+use Rattle.policy_rules.specs.declared.policy.Row.{Row}
+use Rattle.policy_rules.specs.declared.rules.Partition.{Partition}
+use Rattle.policy_rules.specs.declared.rules.Rule.{Rule}
+use Rattle.switch_table.specs.Tables.{Hosted, part_of}
+use Rattle.ternary.specs.Word.{WordValue, holds}
+use Rattle.ternary.specs.Meets.{covers_of, exact_word, free_of, meet_of}
+use Rattle.ternary.proofs.CallerLemmas.{covers_held, meet_disjoint}
+use Rattle.update_machine.specs.Setting.{Setting}
+use Rattle.packet_laws.proofs.Plans.{Finds, IsPlanned}
+
+-- ---- headers of a word
+
+none_of : (o : Option WordValue) → IsNone o → o ≡ None
+none_of None none = refl
+none_of (Some word) none = cc
+
+-- the rule that covers a word, which no earlier rule meets, is the first to hold what it holds
+first_found : (rules : List Rule) (index : ℕ) (rule : Rule) (word : WordValue) (number : ℕ)
+    → slice_get rules index ≡ Some rule → IsTrue (covers_of rule.word word)
+    → All (λ earlier. IsNone (meet_of word earlier.word)) (take index rules) →
+    IsTrue (holds word number) → find (is_held number) rules ≡ Some rule
+first_found [] index rule word number at covered earlier held = absurd cc
+first_found (first ∷ rules) zero rule word number at covered earlier held =
+    let here : holds rule.word number ≡ true = covers_held rule.word word number covered held in
+    let same : rule ≡ first = cc in
+    ap (λ b. cond b (Some first) (find (is_held number) rules))
+    (ap (is_held number) (sym same) ∙ here) ∙ ap Some (sym same)
+first_found (first ∷ rules) (suc index) rule word number at covered earlier held =
+    let apart : holds first.word number ≡ false =
+    sym (ap (λ b. b && holds first.word number) held)
+    ∙ meet_disjoint word first.word number
+    (none_of (meet_of word first.word) (earlier 0 first (omega arith))) in
+    ap (λ b. cond b (Some first) (find (is_held number) rules)) apart
+    ∙ first_found rules index rule word number at covered
+    (All-tail (λ later. IsNone (meet_of word later.word)) first (take index rules) earlier) held
+
+exact_number : (number other : ℕ) → number < 2 ^ 104 → other < 2 ^ 104
+    → IsTrue (holds (exact_word number) other) → other ≡ number
+unfolding holds
+exact_number number other bound fits held =
+    let kept : (n : ℕ) → n < 2 ^ 104 → bit_and n (2 ^ 104 - 1) ≡ n =
+    λ n small. and_mask n 104 ∙ mod-eq_of_lt small in
+    sym (kept other fits) ∙ eqb-true _ _ held ∙ kept number bound
+
+number_bound : (header : Header) → IsHeader header → number_of header < 2 ^ 104
+number_bound header sound =
+    omega (arith, sound.src, sound.dst, sound.sport, sound.dport, sound.proto)
+
+-- ---- headers of a partition
+
+-- the first rule of a partition of a plan decides each header of its region
+region_decides : (setting : Setting) (rows : List Row) (plan : List Hosted) (number : ℕ)
+    (hosted : Hosted) (header : Header) → IsPlanned setting rows plan → IsHeader header → slice_get plan number ≡ Some hosted
+    → IsTrue (is_in header (part_of hosted)) →
+    option_map hit_of_rule (first_rule hosted.0.rules header) ≡ Some
+    (scan rows header)
+region_decides setting rows plan number hosted header is sound at =
+    let parts : List Partition = map part_of plan in
+    let there : slice_get parts number ≡ Some (part_of hosted) =
+    slice_get-map part_of plan number ∙ ap (option_map part_of) at in
+    subst (λ (p : Partition). IsTrue (is_in header p)
+    → option_map hit_of_rule (first_rule p.rules header) ≡ Some
+    (scan rows header))
+    (get_or_from_slice_get parts number (part_of hosted) (part_of hosted) there)
+    (is.parts.sound.decides header sound number (part_of hosted)
+    (slice_get_within parts number (part_of hosted) there))
+
+-- the policy decides each header of the word by this rule
+abbrev Settles : List Row → Rule → WordValue → Type 0
+Settles rows rule word =
+    (header : Header) → IsHeader header → IsTrue (holds word (number_of header))
+    → scan rows header ≡ hit_of_rule rule
+
+some_same : {X : Type 0} (x y : X) → Some x ≡ Some y → x ≡ y
+some_same x y e = cc
+
+exact_settles : (setting : Setting) (rows : List Row) (plan : List Hosted) (header : Header)
+    (hosted : Hosted) (finds : Finds rows plan header hosted) → IsPlanned setting rows plan → IsHeader header
+    → Settles rows finds.rule (exact_word (number_of header))
+exact_settles setting rows plan header hosted finds is sound other fits held =
+    let same : number_of other ≡ number_of header =
+    exact_number (number_of header) (number_of other) (number_bound header sound)
+    (number_bound other fits) held in
+    some_same _ _ (sym (region_decides setting rows plan hosted.0.number hosted other is fits finds.at
+    (subst (λ n. IsTrue (holds hosted.0.region n)) (sym same) finds.holds))
+    ∙ ap (λ n. option_map hit_of_rule (find (is_held n) hosted.0.rules)) same
+    ∙ region_decides setting rows plan hosted.0.number hosted header is sound finds.at finds.holds)
+    ∙ sym finds.decides
+
+independent_settles : (setting : Setting) (rows : List Row) (plan : List Hosted) (header : Header)
+    (hosted : Hosted) (finds : Finds rows plan header hosted) (word : WordValue) → IsPlanned setting rows plan
+    → IsIndependent hosted.0.region hosted.0.rules finds.place word →
+    Settles rows finds.rule word
+independent_settles setting rows plan header hosted finds word is apart other fits held =
+    let covered : IsTrue (covers_of finds.rule.word word) =
+    subst (λ o. IsSomeAnd o (λ (rule : Rule). IsTrue (covers_of rule.word word))) finds.ruled
+    apart.in_rule in
+    let first : find (is_held (number_of other)) hosted.0.rules ≡ Some finds.rule =
+    first_found hosted.0.rules finds.place finds.rule word (number_of other) finds.ruled covered
+    apart.earlier held in
+    some_same _ _ (sym (region_decides setting rows plan hosted.0.number hosted other is fits finds.at
+    (covers_held hosted.0.region word (number_of other) apart.in_region held))
+    ∙ ap (option_map hit_of_rule) first)
+
+-- each bit is freed where that keeps the word independent
+widened_settles : (setting : Setting) (rows : List Row) (plan : List Hosted) (header : Header)
+    (hosted : Hosted) (finds : Finds rows plan header hosted) (n : ℕ) → IsPlanned setting rows plan → IsHeader header
+    → Settles rows finds.rule
+    (widened (number_of header) hosted.0.region hosted.0.rules finds.place n)
+unfolding widened
+widened_settles setting rows plan header hosted finds zero is sound = exact_settles setting rows plan header hosted
+    finds is sound
+widened_settles setting rows plan header hosted finds (suc n) is sound =
+    by_test (is_independent hosted.0.region hosted.0.rules finds.place (free_of before n)) refl
+    (widened_settles setting rows plan header hosted finds n is sound)
+  where
+    before : WordValue
+    before = widened (number_of header) hosted.0.region hosted.0.rules finds.place n
+
+    by_test : (b : Bool)
+        → is_independent hosted.0.region hosted.0.rules finds.place (free_of before n) ≡ b
+        → Settles rows finds.rule before →
+        Settles rows finds.rule (if b then free_of before n else before)
+    by_test true independent settled =
+        independent_settles setting rows plan header hosted finds (free_of before n) is
+        (test_true hosted.0.region hosted.0.rules finds.place (free_of before n) independent)
+    by_test false other settled = settled
+
+-- ---- the cache rule
+
+pub cache_rule_right : (setting : Setting) (rows : List Row) (plan : List Hosted)
+    (header : Header) (hosted : Hosted) (finds : Finds rows plan header hosted)
+    → IsPlanned setting rows plan → IsHeader header
+    → Settles rows finds.rule
+    (widen (number_of header) hosted.0.region hosted.0.rules finds.place)
+unfolding widen
+cache_rule_right setting rows plan header hosted finds is sound =
+    widened_settles setting rows plan header hosted finds 104 is sound

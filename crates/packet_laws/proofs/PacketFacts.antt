@@ -1,0 +1,105 @@
+-- What each item makes of the facts of a packet.
+use Rattle.std.proofs.Common.{ℕ, ◌≡◌, ◌≢◌, ◌==◌, Bool, true, false, if◌then◌else◌, None, List, [], ◌∷◌, ◌++◌, refl, ap, ◌∙◌, arith}
+use Rattle.std.specs.Prelude.{unwrap_or}
+use Rattle.std.specs.Option.{option_or}
+use Rattle.std.proofs.lemmas.Bool.Decides.{nat_tests}
+use Rattle.failover.specs.Links.{no_links}
+use Rattle.journal.specs.declared.item.Item.{Item}
+use Rattle.journal.specs.declared.item.Item.TheVariants as item
+use Rattle.update_machine.specs.Folds.{last_told}
+use Rattle.update_machine.specs.Marks.{retired_mark}
+use Rattle.update_machine.specs.Packets.{decision_of, header_in, standing, tells_decision, tells_header, tells_standing}
+use Rattle.update_machine.specs.Travels.{changes_leg, ingress_of, leg_of, tells_ingress, tells_travelling, travels}
+use Rattle.update_machine.specs.Ways.{changes_found, changes_hops, found_down, route_in, route_place, tells_route}
+use Rattle.update_machine.proofs.CallerLemmas.{folded_append, last_told_append}
+use Rattle.packet_laws.specs.Facts.{PacketFacts, changes_mark, entry_mark, is_of_packet, facts_after, what_is_known}
+
+-- the facts behind one more item, each by its own fold
+abbrev told_facts : List Item → ℕ → Item → PacketFacts
+told_facts before i item = record {
+  header = option_or (tells_header i item) (header_in before i);
+  ingress = option_or (tells_ingress i item) (ingress_of before i);
+  stands = option_or (tells_standing i item) (standing before i);
+  travels = unwrap_or (option_or (tells_travelling i item)
+      (last_told (tells_travelling i) before))
+      false;
+  decision = option_or (tells_decision i item) (decision_of before i);
+  leg = changes_leg i before (leg_of before i) item;
+  route = unwrap_or (option_or (tells_route i item) (last_told (tells_route i) before)) [];
+  hops = changes_hops i before (route_place before i) item;
+  found = changes_found i before (found_down before i) item;
+  mark = changes_mark i before (entry_mark before i) item;
+}
+
+facts_more : (before : List Item) (i : ℕ) (item : Item)
+    → what_is_known (before ++ item ∷ []) i ≡ told_facts before i item
+unfolding what_is_known header_in ingress_of standing travels decision_of leg_of route_in route_place
+    found_down entry_mark
+facts_more before i item =
+    rw (
+      last_told_append (tells_header i) before (item ∷ []),
+      last_told_append (tells_ingress i) before (item ∷ []),
+      last_told_append (tells_standing i) before (item ∷ []),
+      last_told_append (tells_travelling i) before (item ∷ []),
+      last_told_append (tells_decision i) before (item ∷ []),
+      folded_append (changes_leg i) None before (item ∷ []),
+      last_told_append (tells_route i) before (item ∷ []),
+      folded_append (changes_hops i) 0 before (item ∷ []),
+      folded_append (changes_found i) no_links before (item ∷ []),
+      folded_append (changes_mark i) 0 before (item ∷ []),
+    ) refl
+
+by_name : (before : List Item) (i : ℕ) (item : Item) (b : Bool) → is_of_packet i item ≡ b
+    → told_facts before i item
+    ≡ (if b then facts_after (retired_mark before) item (what_is_known before i) else what_is_known before i)
+unfolding what_is_known header_in ingress_of standing travels decision_of leg_of route_in route_place
+    found_down entry_mark
+by_name before i (item.Entered packet switch header) true e = rw e refl
+by_name before i (item.Entered packet switch header) false e = rw e refl
+by_name before i (item.Seeking packet version partition route) true e = rw e refl
+by_name before i (item.Seeking packet version partition route) false e = rw e refl
+by_name before i (item.Exiting packet route) true e = rw e refl
+by_name before i (item.Exiting packet route) false e = rw e refl
+by_name before i (item.Rerouted packet route) true e = rw e refl
+by_name before i (item.Rerouted packet route) false e = rw e refl
+by_name before i (item.Hopped packet switch) true e = rw e refl
+by_name before i (item.Hopped packet switch) false e = rw e refl
+by_name before i (item.FoundDown packet one two) true e = rw e refl
+by_name before i (item.FoundDown packet one two) false e = rw e refl
+by_name before i (item.Decided packet version rule action how) true e = rw e refl
+by_name before i (item.Decided packet version rule action how) false e = rw e refl
+by_name before i (item.Left packet port leaving) true e = rw e refl
+by_name before i (item.Left packet port leaving) false e = rw e refl
+by_name before i (item.Dropped packet) true e = rw e refl
+by_name before i (item.Dropped packet) false e = rw e refl
+by_name before i (item.Lost packet) true e = rw e refl
+by_name before i (item.Lost packet) false e = rw e refl
+by_name before i (item.Stuck packet switch cause leg down) true e = rw e refl
+by_name before i (item.Stuck packet switch cause leg down) false e = rw e refl
+by_name before i other true e = absurd cc
+by_name before i other false e = refl
+
+pub facts_grow : (i : ℕ) (before : List Item) (item : Item) →
+    what_is_known (before ++ item ∷ []) i
+    ≡ (if is_of_packet i item then facts_after (retired_mark before) item (what_is_known before i) else what_is_known
+    before i)
+facts_grow i before item =
+    facts_more before i item ∙ by_name before i item (is_of_packet i item) refl
+
+pub facts_named : (i : ℕ) (before : List Item) (item : Item) → is_of_packet i item ≡ true
+    → what_is_known (before ++ item ∷ []) i ≡ facts_after (retired_mark before) item (what_is_known before i)
+facts_named i before item named = facts_grow i before item
+    ∙ ap (λ b. if b then facts_after (retired_mark before) item (what_is_known before i) else what_is_known before
+    i) named
+
+pub facts_other : (i : ℕ) (before : List Item) (item : Item) → is_of_packet i item ≡ false
+    → what_is_known (before ++ item ∷ []) i ≡ what_is_known before i
+facts_other i before item other = facts_grow i before item
+    ∙ ap (λ b. if b then facts_after (retired_mark before) item (what_is_known before i) else what_is_known before
+    i) other
+
+pub own_number : (i : ℕ) → (i == i) ≡ true
+own_number i = grind (arith, nat_tests)
+
+pub other_number : (i j : ℕ) → j ≢ i → (i == j) ≡ false
+other_number i j apart = grind (arith, nat_tests)

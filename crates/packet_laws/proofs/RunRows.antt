@@ -1,0 +1,118 @@
+-- Moves that the abstract machine doesn't make: what a journal that is a run never says.
+use Rattle.std.proofs.Common.{ℕ, ◌≡◌, ◌<◌, Option, Some, None, List, length, ap, sym, subst, ◌∙◌, arith}
+use Rattle.std.specs.Prelude.{option_map}
+use Rattle.std.proofs.lemmas.Option.{slice_get_within}
+use Rattle.five_tuple.specs.declared.header.Header.{Header}
+use Rattle.policy_rules.specs.declared.policy.Action.{Action}
+use Rattle.policy_rules.specs.declared.policy.Action.TheVariants.{Drop, Out}
+use Rattle.policy_rules.specs.declared.policy.Hit.{Hit}
+use Rattle.policy_rules.specs.declared.policy.Row.{Row}
+use Rattle.update_machine.specs.Machine.{Decides, Dropped, End, Ends, Enters, LeftBy, Machine, Packet, Retires, Submits}
+use Rattle.packet_laws.proofs.Here.{some_same}
+
+-- ---- policies and the mark
+
+-- a version has the next number, and a file that is there
+not_past_the_next : (old new : Machine) (named : Option (List Row)) → length old.policies ≡ 1
+    → Submits old 3 named new → ⊥
+not_past_the_next old new named first submits = omega (arith, first, submits.newest)
+
+not_of_no_file : (old new : Machine) (version : ℕ) → Submits old version None new → ⊥
+not_of_no_file old new version submits = cc submits.there
+
+-- the newest version isn't retired, and none is retired twice
+not_the_newest : (old new : Machine) → length old.policies ≡ 2 → Retires old 2 new → ⊥
+not_the_newest old new two retires = omega (arith, two, retires.below_newest)
+
+not_again : (old new : Machine) → old.mark ≡ 1 → Retires old 1 new → ⊥
+not_again old new one retires = omega (arith, one, retires.rises)
+
+-- ---- packets
+
+not_in_twice : (old new : Machine) (packet : Packet) (header : Header)
+    → old.packets 1 ≡ Some packet → Enters old 1 header new → ⊥
+not_in_twice old new packet header entered enters =
+    let none : None ≡ Some packet = sym enters.unknown ∙ entered in cc
+
+not_decided_before_it_is_in : (old new : Machine) (version : ℕ) (hit : Hit)
+    → old.packets 1 ≡ None → Decides old 1 version hit new → ⊥
+not_decided_before_it_is_in old new version hit unknown decides =
+    let none : None ≡ Some decides.packet = sym unknown ∙ decides.entered in cc
+
+-- who is decided is undecided, and hasn't ended
+open_until_decided : (old new : Machine) (packet : Packet) (version : ℕ) (hit : Hit)
+    → old.packets 1 ≡ Some packet → Decides old 1 version hit new
+    → (packet.decision ≡ None) × (packet.end ≡ None)
+open_until_decided old new packet version hit entered decides =
+    subst (λ (p : Packet). (p.decision ≡ None) × (p.end ≡ None))
+    (some_same (old.packets 1) decides.packet packet decides.entered entered)
+    (decides.undecided, decides.not_ended)
+
+not_decided_twice : (old new : Machine) (packet : Packet) (version : ℕ) (first hit : Hit)
+    → old.packets 1 ≡ Some packet → packet.decision ≡ Some first
+    → Decides old 1 version hit new → ⊥
+not_decided_twice old new packet version first hit entered decided decides =
+    let was = open_until_decided old new packet version hit entered decides in
+    let none : None ≡ Some first = sym was.0 ∙ decided in cc
+
+not_decided_once_it_ended : (old new : Machine) (packet : Packet) (version : ℕ) (hit : Hit)
+    (end : End) → old.packets 1 ≡ Some packet → packet.end ≡ Some end
+    → Decides old 1 version hit new → ⊥
+not_decided_once_it_ended old new packet version hit end entered ended decides =
+    let was = open_until_decided old new packet version hit entered decides in
+    let none : None ≡ Some end = sym was.1 ∙ ended in cc
+
+not_by_a_version_to_come : (old new : Machine) (hit : Hit) → length old.policies ≡ 1
+    → Decides old 1 3 hit new → ⊥
+not_by_a_version_to_come old new hit one decides =
+    let within : 2 < length old.policies =
+    slice_get_within old.policies 2 decides.policy decides.submitted in
+    omega (arith, one, within)
+
+not_ended_twice : (old new : Machine) (packet : Packet) (first other : End)
+    → old.packets 1 ≡ Some packet → packet.end ≡ Some first → Ends old 1 other new → ⊥
+not_ended_twice old new packet first other entered ended ends =
+    let same : ends.packet ≡ packet =
+    some_same (old.packets 1) ends.packet packet ends.entered entered in
+    let none : None ≡ Some first = sym ends.not_ended ∙ ap (λ (p : Packet). p.end) same ∙ ended in
+    cc
+
+-- ---- ends are as they were decided
+
+-- the action of a packet's decision
+abbrev action_of : Packet → Option Action
+action_of packet = option_map (λ (hit : Hit). hit.action) packet.decision
+
+not_dropped_undecided : (old new : Machine) (packet : Packet) → old.packets 1 ≡ Some packet
+    → packet.decision ≡ None → Ends old 1 Dropped new → ⊥
+not_dropped_undecided old new packet entered undecided ends =
+    let same : ends.packet ≡ packet =
+    some_same (old.packets 1) ends.packet packet ends.entered entered in
+    let none : Some Drop ≡ None =
+    sym ends.may ∙ ap action_of same ∙ ap (option_map (λ (hit : Hit). hit.action)) undecided in
+    cc
+
+same_port : (port other : ℕ) → Some (Out port) ≡ Some (Out other) → port ≡ other
+same_port port other same = cc
+
+not_out_by_another_port : (old new : Machine) (packet : Packet) (hit : Hit)
+    → old.packets 1 ≡ Some packet → packet.decision ≡ Some hit → hit.action ≡ Out 2
+    → Ends old 1 (LeftBy 3) new → ⊥
+not_out_by_another_port old new packet hit entered decided by ends =
+    let same : ends.packet ≡ packet =
+    some_same (old.packets 1) ends.packet packet ends.entered entered in
+    let other : Some (Out 3) ≡ Some (Out 2) =
+    sym ends.may ∙ ap action_of same ∙ ap (option_map (λ (h : Hit). h.action)) decided
+    ∙ ap Some by in
+    omega (arith, same_port 3 2 other)
+
+not_dropped_that_is_let_out : (old new : Machine) (packet : Packet) (hit : Hit)
+    → old.packets 1 ≡ Some packet → packet.decision ≡ Some hit → hit.action ≡ Out 2
+    → Ends old 1 Dropped new → ⊥
+not_dropped_that_is_let_out old new packet hit entered decided by ends =
+    let same : ends.packet ≡ packet =
+    some_same (old.packets 1) ends.packet packet ends.entered entered in
+    let other : Some Drop ≡ Some (Out 2) =
+    sym ends.may ∙ ap action_of same ∙ ap (option_map (λ (h : Hit). h.action)) decided
+    ∙ ap Some by in
+    cc

@@ -1,0 +1,48 @@
+-- Packets come in by a row of their own, and are lost in a crash that happened: on journals of few
+-- items.
+use Rattle.std.proofs.Common.{◌≡◌, ◌⊎◌, false, true, Some, None, List, [], ◌∷◌, refl, inl, inr}
+use Rattle.journal.specs.declared.item.Item.{Item}
+use Rattle.journal.specs.declared.item.Item.TheVariants as item
+use Rattle.steps.specs.declared.step.Step.TheVariants.{Packet, Lose, Crash}
+use Rattle.update_machine.specs.Boots.{is_up}
+use Rattle.update_machine.specs.Packets.{next_packet, standing}
+use Rattle.update_machine.specs.Causes.{present_step}
+use Rattle.update_machine.specs.Travels.{travels}
+use Rattle.update_machine.specs.Links.{serves}
+use Rattle.update_machine.proofs.Examples.{one, open_net}
+use Rattle.packet_laws.specs.WayCauses.{IsLostInCrash, WayCause, ends_with_row, fallen}
+
+in_by_its_row : WayCause open_net (item.Row 1 (Packet 0 one) ∷ []) (item.Entered 1 0 one)
+unfolding next_packet present_step ends_with_row serves
+in_by_its_row = (record { number = refl; row = refl; behind = refl }, refl)
+
+not_two_by_one_row : WayCause open_net (item.Row 1 (Packet 0 one) ∷ item.Entered 1 0 one ∷ [])
+    (item.Entered 2 0 one) → ⊥
+unfolding ends_with_row
+not_two_by_one_row way = let last : false ≡ true = way.0.behind in cc
+
+-- the switch goes down, and its packet is lost
+abbrev crashed : List Item
+crashed =
+    item.Row 1 (Packet 0 one) ∷ item.Entered 1 0 one ∷ item.Row 2 (Crash 0) ∷ item.Down 0 ∷ []
+
+lost_with_it : WayCause open_net crashed (item.Lost 1)
+unfolding travels present_step fallen is_up standing
+lost_with_it = record {
+  travelling = refl;
+  how = inr (record { switch = 0; crashes = refl; fell = refl; down = refl; stands = refl });
+}
+
+-- but not once more, in a crash of a switch that is down already
+abbrev down_already : List Item
+down_already =
+    item.Row 1 (Packet 0 one) ∷ item.Entered 1 0 one ∷ item.Row 2 (Crash 0) ∷ item.Down 0
+    ∷ item.Row 3 (Crash 0) ∷ item.Nothing ∷ []
+
+not_lost_when_it_was_down : WayCause open_net down_already (item.Lost 1) → ⊥
+unfolding present_step fallen
+not_lost_when_it_was_down way = by_how way.how
+  where
+    by_how : (present_step down_already ≡ Some (Lose 1)) ⊎ IsLostInCrash down_already 1 → ⊥
+    by_how (inl row) = cc
+    by_how (inr crash) = let none : None ≡ Some crash.switch = crash.fell in cc

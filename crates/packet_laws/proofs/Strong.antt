@@ -1,0 +1,176 @@
+-- The strong causes follow from those that are read off the items, and from what is kept.
+use Rattle.std.proofs.Common.{ℕ, ◌≡◌, ◌<◌, Option, Some, None, List, [], length, sym, subst, ◌∙◌, arith, inl, inr, ◌⊎◌}
+use Rattle.std.specs.Prelude.{IsFalse, IsTrue}
+use Rattle.policy_rules.specs.declared.packet.Cause.{Cause}
+use Rattle.policy_rules.specs.declared.packet.How.{How}
+use Rattle.policy_rules.specs.declared.packet.Leg.{Leg}
+use Rattle.policy_rules.specs.declared.packet.Leg.TheVariants.{Seek, Exit}
+use Rattle.policy_rules.specs.declared.policy.Action.{Action}
+use Rattle.journal.specs.declared.item.Item.{Item}
+use Rattle.journal.specs.declared.item.Item.TheVariants as item
+use Rattle.update_machine.specs.Causes.{HaveCauses}
+use Rattle.update_machine.specs.Moves.{route_for}
+use Rattle.update_machine.specs.Ways.{found_down, targets_of}
+use Rattle.update_machine.specs.Setting.{Setting, IsSetting}
+use Rattle.update_machine.specs.Versions.{holds_version, stamp_of}
+use Rattle.update_machine.specs.Travels.{leg_of}
+use Rattle.control_laws.specs.ItemCauses.{HasItemCause}
+use Rattle.control_laws.proofs.Facts.{Behind, have_weaker}
+use Rattle.control_laws.proofs.Serving.{serving_hold}
+use Rattle.packet_laws.specs.OnWay.{IsOnLeg}
+use Rattle.packet_laws.specs.Facts.{PacketFacts, what_is_known}
+use Rattle.packet_laws.specs.Kept.{AllKept}
+use Rattle.packet_laws.specs.Stages.{stage_of}
+use Rattle.packet_laws.specs.StrongCauses.{AvoidsFound, FindsLinkDown, FurtherCause, IsOnRightLeg, IsStuckOnLeg, RaisesVersion, SeeksRightly, StrongCause}
+use Rattle.packet_laws.specs.WayCauses.{FindsNoRoute, IsBlockedOn, IsDecided, IsLookedUp, MeetsDown, TakesLeg, TakesRoute, WayCause}
+use Rattle.packet_laws.proofs.AllKept.{Before, kept_before, known_before, knows}
+use Rattle.packet_laws.proofs.Ends.{decision_out, leaves_rightly, mark_in, meets_link, seeks_rightly, stands_known, stuck_rightly}
+use Rattle.packet_laws.proofs.Here.{IsHere, here_of, leg_in, seeking_of, some_same}
+use Rattle.packet_laws.proofs.Kept.{IsDecidedNow, Knows, decided_now, stage_when, undecided_of}
+use Rattle.packet_laws.proofs.Rests.{IsWayItem, Past}
+use Rattle.packet_laws.proofs.Routes.{route_way}
+
+finds_link : (setting : Setting) (before : List Item) (i one two : ℕ)
+    → Knows setting before i (stage_of before i) → MeetsDown setting before i one two
+    → FindsLinkDown setting before i one two
+finds_link setting before i one two knows_it meets = record {
+  finds = record {
+    stands = stands_known setting before i one knows_it meets.at;
+    next = meets.goes_on;
+    unusable = meets.unusable;
+  };
+  linked = meets_link setting before i one two knows_it meets;
+}
+
+stuck_on_leg : (setting : Setting) (before : List Item) (i s : ℕ) (cause : Cause) (leg : Leg)
+    (down : List ℕ) → Knows setting before i (stage_of before i)
+    → FindsNoRoute setting before i s cause leg down
+    → IsStuckOnLeg setting before i s cause leg down
+stuck_on_leg setting before i s cause leg down knows_it finds = record {
+  stuck = stuck_rightly setting before i s cause leg down knows_it finds;
+  found = finds.found;
+  no_route = rw finds.found finds.none;
+  why = rw finds.found finds.why;
+  rightly = by_leg leg finds.on;
+}
+  where
+    here : IsHere setting before i s
+    here = here_of setting before i s (stage_of before i) knows_it.is knows_it.have knows_it.kept
+        finds.at
+
+    by_leg : (leg : Leg) → TakesLeg setting before i s leg ⊎ IsBlockedOn before i leg
+        → IsOnRightLeg before i leg
+    by_leg (Seek version partition) on =
+        seeks_rightly setting before i s version partition knows_it here on
+    by_leg (Exit port) on = tt
+
+decided_rightly : (setting : Setting) (before : List Item) (i version : ℕ) (rule : Option ℕ)
+    (act : Action) (by : How) → Before setting before → IsDecided setting before i version rule act by
+    → SeeksRightly before i version
+decided_rightly setting before i version rule act by known way =
+    let knows_it : Knows setting before i (stage_of before i) = knows setting before i known in
+    let s : ℕ = way.switch in
+    let here : IsHere setting before i s =
+    here_of setting before i s (stage_of before i) known.is knows_it.have knows_it.kept way.at in
+    let now : IsDecidedNow setting before i s version rule act here.under.header =
+    decided_now setting before i s version rule act by knows_it here (known.kept.cached s) way.by in
+    record {
+      undecided = decision_out before i None
+          (undecided_of setting before i s (stage_of before i) knows_it.kept here
+          (stage_when before i s version now.when));
+      not_retired = subst (λ m. m < version) (mark_in before i) now.rightly.not_retired;
+      current = now.rightly.current;
+    }
+
+-- a version that isn't held is below the stamp
+raises_version : (setting : Setting) (before : List Item) (i version partition : ℕ)
+    (route : List ℕ) → Knows setting before i (stage_of before i)
+    → TakesRoute setting before i (Seek version partition) route
+    → RaisesVersion before i version
+raises_version setting before i version partition route knows_it takes earlier part seeks =
+    by_lookup takes.takes.looked_up
+  where
+    facts : PacketFacts
+    facts = what_is_known before i
+
+    s : ℕ
+    s = takes.switch
+
+    here : IsHere setting before i s
+    here = here_of setting before i s (stage_of before i) knows_it.is knows_it.have knows_it.kept
+        takes.at
+
+    there : s < length setting.net.switches
+    there = subst (λ x. x < length setting.net.switches) (sym here.at) here.under.now
+
+    sought : facts.leg ≡ Some (Seek earlier part)
+    sought = leg_in before i (Some (Seek earlier part)) seeks
+
+    by_held : IsTrue (holds_version before s earlier) ⊎ (earlier < stamp_of before s)
+        → IsFalse (holds_version before s earlier) → earlier < version
+    by_held (inl held) missing = absurd cc
+    by_held (inr below) missing = omega (arith, below, takes.takes.stamp)
+
+    by_lookup : IsLookedUp before i s → earlier < version
+    by_lookup (inl came) =
+        let none : facts.leg ≡ None = (knows_it.kept.came_in here.travelling came).1 in
+        let clash : None ≡ Some (Seek earlier part) = sym none ∙ sought in
+        absurd cc
+    by_lookup (inr misses) =
+        let on : IsOnLeg setting before facts here.under.header (Seek earlier part) =
+        seeking_of setting before facts here.under.header earlier part
+        (knows_it.kept.on_way here.travelling (inl misses.arrives.moving)) here.under.entered
+        sought in
+        let same : Seek misses.version misses.partition ≡ Seek earlier part =
+        some_same (leg_of before i) (Seek misses.version misses.partition) (Seek earlier part)
+        misses.seeks seeks in
+        let version_same : misses.version ≡ earlier = cc in
+        by_held
+        ((serving_hold setting before knows_it.have s there takes.at.serving).held earlier
+        on.current)
+        (subst (λ v. IsFalse (holds_version before s v)) version_same misses.missing)
+
+route_avoids : (setting : Setting) (before : List Item) (i s : ℕ) (leg : Leg) (route : List ℕ)
+    → Knows setting before i (stage_of before i)
+    → route_for setting before i s leg ≡ Some route → AvoidsFound before i route
+route_avoids setting before i s leg route knows_it leads =
+    (route_way setting before s (targets_of setting before leg) (found_down before i) route
+    knows_it.links leads).avoids
+
+further : (setting : Setting) (before : List Item) (next : Item) → Before setting before
+    → HasItemCause setting before next → WayCause setting before next
+    → FurtherCause setting before next
+further setting before (item.Submitted file version) known cause way = cause
+further setting before (item.Retired version) known cause way = cause
+further setting before (item.Seeking packet version partition route) known cause way = (
+  raises_version setting before packet version partition route (knows setting before packet known)
+      way,
+  route_avoids setting before packet way.switch (Seek version partition) route
+      (knows setting before packet known) way.leads,
+)
+further setting before (item.Exiting packet route) known cause way =
+    route_avoids setting before packet way.by.switch (Exit way.port) route
+    (knows setting before packet known) way.by.leads
+further setting before (item.Rerouted packet route) known cause way =
+    route_avoids setting before packet way.switch way.leg route (knows setting before packet known)
+    way.leads
+further setting before (item.FoundDown packet one two) known cause way =
+    finds_link setting before packet one two (knows setting before packet known) way
+further setting before (item.Decided packet version rule act by) known cause way =
+    decided_rightly setting before packet version rule act by known way
+further setting before (item.Left packet port leaving) known cause way =
+    leaves_rightly setting before packet port leaving (knows setting before packet known) way
+further setting before (item.Stuck packet switch why leg down) known cause way =
+    stuck_on_leg setting before packet switch why leg down (knows setting before packet known) way
+further setting before next known cause way = tt
+
+pub strongly_caused : (setting : Setting) (journal : List Item) → IsSetting setting
+    → HaveCauses (IsWayItem setting) [] journal → HaveCauses (StrongCause setting) [] journal
+strongly_caused setting journal is have =
+    have_weaker (Behind (Past (IsWayItem setting)) (AllKept setting)) (StrongCause setting)
+    (λ before next behind. (
+      behind.caused.caused.way,
+      further setting before next (known_before setting is before next behind)
+          behind.caused.caused.switches behind.caused.caused.way,
+    )) [] journal
+    (kept_before setting journal is have)

@@ -1,0 +1,6 @@
+use Rattle.packet_laws.proofs.EndsCaused.{ends_caused}
+use Rattle.packet_laws.proofs.Reached.{reached}
+use Rattle.packet_laws.proofs.laws.ends_have_causes.Goals as goal
+
+pub returns : goal.returns
+returns c = reached _ (λ setting journal is have. ends_caused setting journal is have)

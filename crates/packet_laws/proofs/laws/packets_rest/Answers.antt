@@ -1,0 +1,5 @@
+use Rattle.packet_laws.proofs.Reached.{between}
+use Rattle.packet_laws.proofs.laws.packets_rest.Goals as goal
+
+pub returns : goal.returns
+returns c = between _ (λ setting journal is settled. settled.rests)

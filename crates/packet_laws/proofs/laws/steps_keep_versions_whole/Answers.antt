@@ -1,0 +1,19 @@
+use Rattle.packet_laws.proofs.Together.{together}
+use Rattle.packet_laws.proofs.laws.steps_keep_versions_whole.Goals as goal
+
+pub returns : goal.returns
+returns c = together (record {
+  causes = c.items_have_causes.ensures;
+  boots = c.boots_are_known.ensures;
+  serving = c.serving_is_known.ensures;
+  heard = c.acknowledgements_hold.ensures;
+  acknowledged = c.stamps_are_acked_first.ensures;
+  opened = c.switches_open_once.ensures;
+  sent = c.installs_are_planned.ensures;
+  tables = c.tables_are_planned.ensures;
+  members = c.members_acknowledged.ensures;
+  marks = c.marks_are_bounded.ensures;
+  holding = c.serving_switches_hold.ensures;
+  rules = c.cache_rules_are_right.ensures;
+  packets = c.packets_travel.ensures;
+})

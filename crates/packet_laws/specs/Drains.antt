@@ -1,0 +1,13 @@
+-- What a drain has yet to do.
+use Rattle.std.specs.Prelude.{ℕ, ◌-◌, List, sum_by}
+use Rattle.journal.specs.declared.item.Item.{Item}
+use Rattle.update_machine.specs.Travels.{packets_in}
+use Rattle.packet_laws.specs.Hops.{hops_taken, most_hops}
+
+-- the most hops that the packet may take yet
+abbrev pub hops_left : List Item → ℕ → ℕ
+hops_left journal i = most_hops - hops_taken journal i
+
+-- and all packets of the journal
+unfoldable pub drain_left : List Item → ℕ
+drain_left journal = sum_by (hops_left journal) (packets_in journal)

@@ -1,0 +1,67 @@
+-- What each item keeps of each packet and of each cache rule, whatever stage the packet is in.
+use Rattle.std.specs.Prelude.{⊤, ℕ, ◌≡◌, ◌+◌, ◌<◌, ◌≤◌, ◌⊎◌, Option, Some, None, List, All, IsTrue, IsFalse, slice_get}
+use Rattle.ctrl_msg.specs.declared.message.Body.{Body}
+use Rattle.ctrl_msg.specs.declared.message.Body.TheVariants.{CacheRule}
+use Rattle.ctrl_msg.specs.declared.message.Message.{Message}
+use Rattle.failover.specs.Links.{has_link}
+use Rattle.five_tuple.specs.declared.header.Header.{Header}
+use Rattle.policy_rules.specs.Scan.{scan}
+use Rattle.policy_rules.specs.declared.packet.Leg.TheVariants.{Seek}
+use Rattle.journal.specs.declared.item.Item.{Item}
+use Rattle.update_machine.specs.Caches.{cache_of}
+use Rattle.update_machine.specs.Marks.{current_mark}
+use Rattle.update_machine.specs.Links.{message_of}
+use Rattle.update_machine.specs.Packets.{Decision, next_packet}
+use Rattle.update_machine.specs.Setting.{Setting, NamesOwnPort}
+use Rattle.update_machine.specs.Versions.{policy_at}
+use Rattle.packet_laws.specs.Rules.{IsRightEntry, IsRightRule}
+use Rattle.packet_laws.specs.OnWay.{IsOnWay, IsSought, IsUnderWay, IsUnknown}
+use Rattle.packet_laws.specs.Facts.{PacketFacts, what_is_known}
+use Rattle.packet_laws.specs.Stages.{Blocked, CameIn, Judged, OnWay, Stage, stage_of}
+
+-- the route uses none of the links of the set
+abbrev pub Avoids : List ℕ → List ℕ → Type 0
+Avoids down route = (k one two : ℕ) → slice_get route k ≡ Some one
+    → slice_get route (k + 1) ≡ Some two → IsFalse (has_link down one two)
+
+-- it was decided by the first match of a version that wasn't retired as it came in and is at most
+-- the current one
+pub record IsJudged (setting : Setting) (journal : List Item) (facts : PacketFacts)
+    (header : Header) : Type 0 where
+  pub decision : Decision
+  pub decided : facts.decision ≡ Some decision
+  pub not_retired : facts.mark < decision.version
+  pub current : decision.version ≤ current_mark journal
+  pub first_match : scan (policy_at setting journal decision.version) header
+      ≡ record { rule = decision.rule; action = decision.action }
+  pub named : NamesOwnPort setting decision.action
+  pub sought : (version partition : ℕ) → facts.leg ≡ Some (Seek version partition)
+      → IsSought setting journal facts.mark header version partition
+
+-- what is kept of a packet of which this is known, in this stage: it is undecided as it comes in;
+-- it stands at its place of a route that leads to a target of its leg, also where it found the next
+-- link down; and while it moves on, its route uses no link that it found down
+pub record IsKept (setting : Setting) (journal : List Item) (facts : PacketFacts)
+    (stage : Option Stage) : Type 0 where
+  pub under_way : IsTrue facts.travels → IsUnderWay setting journal facts
+  pub came_in : IsTrue facts.travels → stage ≡ Some CameIn
+      → (facts.decision ≡ None) × (facts.leg ≡ None)
+  pub judged : IsTrue facts.travels → stage ≡ Some Judged
+      → (header : Header) → facts.header ≡ Some header → IsJudged setting journal facts header
+  pub on_way : IsTrue facts.travels → (stage ≡ Some OnWay) ⊎ (stage ≡ Some Blocked)
+      → IsOnWay setting journal facts
+  pub avoids : IsTrue facts.travels → stage ≡ Some OnWay → Avoids facts.found facts.route
+
+-- a cache rule that a body brings is right
+abbrev pub BringsRight : Setting → List Item → Body → Type 0
+BringsRight setting journal (CacheRule version word rule action) =
+    IsRightRule setting journal version word rule action
+BringsRight setting journal _ = ⊤
+
+-- all packets, those that didn't come in, all messages that were sent, and all caches
+pub record AllKept (setting : Setting) (journal : List Item) : Type 0 where
+  pub packets : (i : ℕ) → IsKept setting journal (what_is_known journal i) (stage_of journal i)
+  pub unknown : (i : ℕ) → next_packet journal ≤ i → IsUnknown (what_is_known journal i)
+  pub sent : (n : ℕ) (message : Message) → message_of journal n ≡ Some message
+      → BringsRight setting journal message.body
+  pub cached : (s : ℕ) → All (IsRightEntry setting journal) (cache_of setting journal s).entries

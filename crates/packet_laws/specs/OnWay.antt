@@ -1,0 +1,134 @@
+-- A packet on its way: it stands at a place of a route that ends at a target of its leg.
+use Rattle.std.specs.Prelude.{ℕ, ◌≡◌, ◌+◌, ◌-◌, ◌<◌, ◌≤◌, false, nat_eq, Option, Some, None, find, List, [], ◌∷◌, length, slice_get, IsTrue}
+use Rattle.std.specs.List.{list_any}
+use Rattle.failover.specs.Links.{no_links}
+use Rattle.base.specs.Masks.{has}
+use Rattle.failover.specs.RouteList.{IsRouteList}
+use Rattle.five_tuple.specs.Header.{IsHeader}
+use Rattle.five_tuple.specs.declared.header.Header.{Header}
+use Rattle.net_file.specs.Joins.{owner_of}
+use Rattle.net_file.specs.Owners.{links_of}
+use Rattle.policy_rules.specs.Hosted.{is_in}
+use Rattle.policy_rules.specs.declared.packet.Leg.{Leg}
+use Rattle.policy_rules.specs.declared.packet.Leg.TheVariants.{Seek, Exit}
+use Rattle.policy_rules.specs.declared.policy.Action.TheVariants.{Out}
+use Rattle.switch_table.specs.Tables.{Hosted, part_of}
+use Rattle.journal.specs.declared.item.Item.{Item}
+use Rattle.update_machine.specs.Marks.{current_mark, retired_mark}
+use Rattle.update_machine.specs.Packets.{Decision}
+use Rattle.update_machine.specs.Setting.{Setting}
+use Rattle.update_machine.specs.Versions.{plan_at}
+use Rattle.packet_laws.specs.Facts.{PacketFacts}
+
+-- ---- routes
+
+-- each switch of the route is joined to the next by a link of the network
+abbrev pub FollowsLinks : Setting → List ℕ → Type 0
+FollowsLinks setting route = (k one two : ℕ) → slice_get route k ≡ Some one →
+    slice_get route (k + 1) ≡ Some two → IsTrue (has (links_of setting.net.links one) two)
+
+-- its last switch is one of the targets
+pub record EndsAtTarget (route targets : List ℕ) : Type 0 where
+  pub target : ℕ
+  pub last : slice_get route (length route - 1) ≡ Some target
+  pub own : IsTrue (list_any (nat_eq target) targets)
+
+-- one to 64 distinct switches, each joined to the next, of which the last is one of the targets
+pub record LeadsTo (setting : Setting) (targets route : List ℕ) : Type 0 where
+  pub list : IsRouteList route
+  pub joined : FollowsLinks setting route
+  pub ends : EndsAtTarget route targets
+
+-- the route begins at this switch
+abbrev pub StartsAt : ℕ → List ℕ → Type 0
+StartsAt switch route = slice_get route 0 ≡ Some switch
+
+-- ---- legs
+
+-- a partition of a version's plan, by its place there, which is its number, whose region holds the
+-- header
+pub record IsPartitionOf (setting : Setting) (journal : List Item) (header : Header)
+    (version partition : ℕ) (hosted : Hosted) : Type 0 where
+  pub found : slice_get (plan_at setting journal version) partition ≡ Some hosted
+  pub number : hosted.0.number ≡ partition
+  pub first : find (λ other. is_in header (part_of other)) (plan_at setting journal version)
+      ≡ Some hosted
+  pub holds : IsTrue (is_in header (part_of hosted))
+
+-- a packet of this mark seeks the partition whose region holds its header, by a version that wasn't
+-- retired as it came in and is at most the current one
+pub record IsSought (setting : Setting) (journal : List Item) (mark : ℕ) (header : Header)
+    (version partition : ℕ) : Type 0 where
+  pub not_retired : mark < version
+  pub current : version ≤ current_mark journal
+  pub hosted : Hosted
+  pub own : IsPartitionOf setting journal header version partition hosted
+
+-- on its way to an authority switch it is undecided
+pub record IsSeeking (setting : Setting) (journal : List Item) (held : Option Decision) (mark : ℕ)
+    (route : List ℕ) (header : Header) (version partition : ℕ) : Type 0 where
+  pub undecided : held ≡ None
+  pub sought : IsSought setting journal mark header version partition
+  pub open sought use *
+  pub leads : LeadsTo setting hosted.1 route
+
+-- on its way out it was decided, by its port, whose switch its route leads to
+pub record IsExiting (setting : Setting) (held : Option Decision) (route : List ℕ) (port : ℕ)
+    : Type 0 where
+  pub decision : Decision
+  pub decided : held ≡ Some decision
+  pub action : decision.action ≡ Out port
+  pub owner : ℕ
+  pub has_port : owner_of setting.net.switches port ≡ Some owner
+  pub leads : LeadsTo setting (owner ∷ []) route
+
+-- what binds a packet of this decision, mark and route on its leg
+abbrev pub IsBound : Setting → List Item → Option Decision → ℕ → List ℕ → Header → Leg → Type 0
+IsBound setting journal held mark route header (Seek version partition) =
+    IsSeeking setting journal held mark route header version partition
+IsBound setting journal held mark route header (Exit port) = IsExiting setting held route port
+
+abbrev pub IsOnLeg : Setting → List Item → PacketFacts → Header → Leg → Type 0
+IsOnLeg setting journal facts header leg =
+    IsBound setting journal facts.decision facts.mark facts.route header leg
+
+-- ---- travelling packets
+
+-- it came in with a header, at a switch
+pub record HasComeIn (setting : Setting) (told : Option Header) (first : Option ℕ) : Type 0 where
+  pub header : Header
+  pub ingress : ℕ
+  pub entered : told ≡ Some header
+  pub sound : IsHeader header
+  pub came : first ≡ Some ingress
+  pub at_first : ingress < length setting.net.switches
+
+-- it stands at a switch
+pub record StandsThere (setting : Setting) (place : Option ℕ) : Type 0 where
+  pub switch : ℕ
+  pub stands : place ≡ Some switch
+  pub now : switch < length setting.net.switches
+
+-- a travelling packet has a header, came in at a switch, and stands at one
+pub record IsUnderWay (setting : Setting) (journal : List Item) (facts : PacketFacts) : Type 0 where
+  pub entry : HasComeIn setting facts.header facts.ingress
+  pub open entry use *
+  pub place : StandsThere setting facts.stands
+  pub open place use *
+  pub mark : facts.mark ≤ retired_mark journal
+
+-- and, once its switch is done with it, it stands at its place of the route of its leg
+pub record IsOnWay (setting : Setting) (journal : List Item) (facts : PacketFacts) : Type 0 where
+  pub under_way : IsUnderWay setting journal facts
+  pub leg : Leg
+  pub takes : facts.leg ≡ Some leg
+  pub on_leg : IsOnLeg setting journal facts under_way.header leg
+  pub stands : slice_get facts.route facts.hops ≡ Some under_way.switch
+
+-- of a packet that didn't come in nothing is known
+pub record IsUnknown (facts : PacketFacts) : Type 0 where
+  pub header : facts.header ≡ None
+  pub travels : facts.travels ≡ false
+  pub decision : facts.decision ≡ None
+  pub leg : facts.leg ≡ None
+  pub found : facts.found ≡ no_links

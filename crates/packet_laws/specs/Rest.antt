@@ -1,0 +1,25 @@
+-- A network between steps: each travelling packet is on its way, at a switch that serves.
+use Rattle.std.specs.Prelude.{ℕ, ◌≡◌, Some, List, IsTrue}
+use Rattle.journal.specs.declared.item.Item.{Item}
+use Rattle.update_machine.specs.Links.{serves}
+use Rattle.update_machine.specs.Packets.{standing}
+use Rattle.update_machine.specs.Travels.{travels}
+use Rattle.packet_laws.specs.Stages.{OnWay, stage_of}
+
+-- the packet stands at a switch that serves
+pub record IsServed (journal : List Item) (packet : ℕ) : Type 0 where
+  pub switch : ℕ
+  pub stands : standing journal packet ≡ Some switch
+  pub serving : IsTrue (serves journal switch)
+
+-- each travelling packet does so
+abbrev pub AreServed : List Item → Type 0
+AreServed journal = (packet : ℕ) → IsTrue (travels journal packet) → IsServed journal packet
+
+-- a packet that travels is on its way
+abbrev pub IsMoving : List Item → ℕ → Type 0
+IsMoving journal packet = IsTrue (travels journal packet) → stage_of journal packet ≡ Some OnWay
+
+pub record AreResting (journal : List Item) : Type 0 where
+  pub served : AreServed journal
+  pub moving : (packet : ℕ) → IsMoving journal packet

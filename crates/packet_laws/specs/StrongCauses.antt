@@ -1,0 +1,84 @@
+-- Causes as strong as a reader may ask. With them a run whose rows are the schedule's keeps the
+-- promise: each packet is decided by one whole version that wasn't retired as it came in, or was
+-- lost by a row, or was stuck where no route was known.
+use Rattle.std.specs.Prelude.{⊤, ℕ, ◌≡◌, ◌<◌, ◌≤◌, Some, None, List}
+use Rattle.policy_rules.specs.declared.packet.Cause.{Cause}
+use Rattle.policy_rules.specs.declared.packet.Leg.{Leg}
+use Rattle.policy_rules.specs.declared.packet.Leg.TheVariants.{Seek, Exit}
+use Rattle.journal.specs.declared.item.Item.{Item}
+use Rattle.journal.specs.declared.item.Item.TheVariants as item
+use Rattle.steps.specs.Steps.{HasLink}
+use Rattle.update_machine.specs.Adverts.{route_from}
+use Rattle.update_machine.specs.Causes.{LeavesRightly}
+use Rattle.update_machine.specs.Marks.{current_mark}
+use Rattle.update_machine.specs.Moves.{cause_at}
+use Rattle.update_machine.specs.Packets.{decision_of}
+use Rattle.update_machine.specs.Setting.{Setting}
+use Rattle.update_machine.specs.Travels.{leg_of}
+use Rattle.update_machine.specs.Ways.{found_down, targets_of}
+use Rattle.update_machine.specs.ExactCauses.{FindsNextDown, FindsNoPath}
+use Rattle.control_laws.specs.ItemCauses.{RetiresRightly, SubmitsRightly}
+use Rattle.packet_laws.specs.Facts.{entry_mark}
+use Rattle.packet_laws.specs.Kept.{Avoids}
+use Rattle.packet_laws.specs.WayCauses.{WayCause}
+
+-- a link of the network, from where the packet stands to the next switch of its route, which its
+-- switch can't use
+pub record FindsLinkDown (setting : Setting) (before : List Item) (packet one two : ℕ) : Type 0
+  where
+    pub finds : FindsNextDown setting before packet one two
+    pub linked : HasLink setting.net one two
+
+-- on its way to an authority, and as it is decided, the packet is undecided, and its version wasn't
+-- retired as it came in and is at most the current one
+pub record SeeksRightly (before : List Item) (packet version : ℕ) : Type 0 where
+  pub undecided : decision_of before packet ≡ None
+  pub not_retired : entry_mark before packet < version
+  pub current : version ≤ current_mark before
+
+abbrev pub IsOnRightLeg : List Item → ℕ → Leg → Type 0
+IsOnRightLeg before packet (Seek version partition) = SeeksRightly before packet version
+IsOnRightLeg before packet (Exit port) = ⊤
+
+-- the packet is stuck with the links that it found down, and by the one cause: its switch finds no
+-- route
+pub record IsStuckOnLeg (setting : Setting) (before : List Item) (packet switch : ℕ)
+    (cause : Cause) (leg : Leg) (down : List ℕ) : Type 0 where
+  pub stuck : FindsNoPath setting before packet switch leg
+  pub found : down ≡ found_down before packet
+  pub no_route : route_from setting before switch (targets_of setting before leg) down ≡ None
+  pub why : cause ≡ cause_at setting before switch down leg
+  pub rightly : IsOnRightLeg before packet leg
+
+-- a lookup on the way raises the version that the packet seeks
+abbrev pub RaisesVersion : List Item → ℕ → ℕ → Type 0
+RaisesVersion before packet version = (earlier partition : ℕ)
+    → leg_of before packet ≡ Some (Seek earlier partition) → earlier < version
+
+-- a route uses no link that the packet found down
+abbrev pub AvoidsFound : List Item → ℕ → List ℕ → Type 0
+AvoidsFound before packet route = Avoids (found_down before packet) route
+
+-- what is asked of an item beyond its cause
+abbrev pub FurtherCause : Setting → List Item → Item → Type 0
+FurtherCause setting before (item.Submitted file version) =
+    SubmitsRightly setting before file version
+FurtherCause setting before (item.Retired version) = RetiresRightly setting before version
+FurtherCause setting before (item.Seeking packet version partition route) =
+    RaisesVersion before packet version × AvoidsFound before packet route
+FurtherCause setting before (item.Exiting packet route) = AvoidsFound before packet route
+FurtherCause setting before (item.Rerouted packet route) = AvoidsFound before packet route
+FurtherCause setting before (item.FoundDown packet one two) =
+    FindsLinkDown setting before packet one two
+FurtherCause setting before (item.Decided packet version rule action how) =
+    SeeksRightly before packet version
+FurtherCause setting before (item.Left packet port leaving) =
+    LeavesRightly setting before packet port leaving
+FurtherCause setting before (item.Stuck packet switch cause leg down) =
+    IsStuckOnLeg setting before packet switch cause leg down
+FurtherCause setting before _ = ⊤
+
+-- the cause of an item, and what is asked beyond it
+abbrev pub StrongCause : Setting → List Item → Item → Type 0
+StrongCause setting before next =
+    WayCause setting before next × FurtherCause setting before next

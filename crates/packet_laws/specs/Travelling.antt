@@ -1,0 +1,38 @@
+-- What holds of a travelling packet between steps, and of cache rules at any time.
+use Rattle.std.specs.Prelude.{ℕ, ◌≡◌, ◌<◌, ◌⊎◌, Some, List, All, IsTrue, length}
+use Rattle.ctrl_msg.specs.declared.message.Message.{Message}
+use Rattle.policy_rules.specs.declared.packet.Leg.TheVariants.{Seek}
+use Rattle.journal.specs.declared.item.Item.{Item}
+use Rattle.update_machine.specs.Caches.{cache_of}
+use Rattle.update_machine.specs.Ways.{found_down, route_in}
+use Rattle.update_machine.specs.Setting.{Setting}
+use Rattle.update_machine.specs.Versions.{holds_version, stamp_of}
+use Rattle.update_machine.specs.Travels.{leg_of, travels}
+use Rattle.update_machine.specs.Links.{serves, message_of}
+use Rattle.packet_laws.specs.Rules.{IsRightEntry}
+use Rattle.packet_laws.specs.OnWay.{IsOnWay}
+use Rattle.packet_laws.specs.Facts.{what_is_known}
+use Rattle.packet_laws.specs.Kept.{Avoids, BringsRight}
+use Rattle.packet_laws.specs.Rest.{IsServed}
+
+-- the packet stands at its place of a route that leads over links of the network to a target of its
+-- leg, and uses none that it found down; its switch serves; and the version by which it seeks an
+-- authority is held by each switch that serves, or below the stamp of that switch
+pub record IsTravelling (setting : Setting) (journal : List Item) (packet : ℕ) : Type 0 where
+  pub on_way : IsOnWay setting journal (what_is_known journal packet)
+  pub served : IsServed journal packet
+  pub avoids : Avoids (found_down journal packet) (route_in journal packet)
+  pub held : (version partition s : ℕ) → leg_of journal packet ≡ Some (Seek version partition)
+      → s < length setting.net.switches → IsTrue (serves journal s)
+      → IsTrue (holds_version journal s version) ⊎ (version < stamp_of journal s)
+
+abbrev pub PacketsTravel : Setting → List Item → Type 0
+PacketsTravel setting journal = (packet : ℕ) → IsTrue (travels journal packet)
+    → IsTravelling setting journal packet
+
+-- each cache rule that was sent, and each that a switch caches, is of a version that is at most the
+-- current one, and this version's policy decides each header of its word so
+pub record RulesAreRight (setting : Setting) (journal : List Item) : Type 0 where
+  pub sent : (n : ℕ) (message : Message) → message_of journal n ≡ Some message
+      → BringsRight setting journal message.body
+  pub cached : (s : ℕ) → All (IsRightEntry setting journal) (cache_of setting journal s).entries

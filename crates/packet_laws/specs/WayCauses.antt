@@ -1,0 +1,316 @@
+-- The causes of packets' items: what stands in the journal just before each, as the switch that
+-- writes it finds it. The causes are read off the items alone, for steps of all kinds; packets are
+-- those of Yu, Rexford, Freedman and Wang, "Scalable Flow-Based Networking with DIFANE".
+use Rattle.std.specs.Prelude.{⊤, ℕ, Bool, ◌≡◌, ◌==◌, ◌⊎◌, true, false, Option, Some, None, unwrap_or, List, IsTrue, IsFalse}
+use Rattle.ctrl_msg.specs.declared.message.Body.{Body}
+use Rattle.ctrl_msg.specs.declared.message.Body.TheVariants.{CacheRule}
+use Rattle.ctrl_msg.specs.declared.message.Message.{Message}
+use Rattle.base.specs.Masks.{has}
+use Rattle.five_tuple.specs.declared.header.Header.{Header}
+use Rattle.policy_rules.specs.declared.packet.Cause.{Cause}
+use Rattle.policy_rules.specs.declared.packet.How.{How}
+use Rattle.policy_rules.specs.declared.packet.How.TheVariants as how
+use Rattle.policy_rules.specs.declared.packet.Leaving.{Leaving}
+use Rattle.policy_rules.specs.declared.packet.Leg.{Leg}
+use Rattle.policy_rules.specs.declared.packet.Leg.TheVariants.{Seek, Exit}
+use Rattle.policy_rules.specs.declared.policy.Action.{Action}
+use Rattle.policy_rules.specs.declared.policy.Action.TheVariants as action
+use Rattle.switch_table.specs.declared.cache.CacheEntry.{CacheEntry}
+use Rattle.switch_table.specs.declared.search.Found.TheVariants as found
+use Rattle.journal.specs.declared.item.Item.{Item}
+use Rattle.journal.specs.declared.item.Item.TheVariants as item
+use Rattle.steps.specs.declared.step.Step.TheVariants.{Packet, Lose, Crash, Restart, Update}
+use Rattle.update_machine.specs.Boots.{is_up}
+use Rattle.update_machine.specs.Caches.{lookup_at}
+use Rattle.update_machine.specs.Folds.{last_told}
+use Rattle.update_machine.specs.LinkMasks.{near}
+use Rattle.update_machine.specs.Moves.{AuthorityRule, authority_rule, cache_rule, cause_at, first_place, header_at, leaves, route_for}
+use Rattle.update_machine.specs.Packets.{Decision, decision_of, next_packet, standing}
+use Rattle.update_machine.specs.Setting.{Setting}
+use Rattle.update_machine.specs.Causes.{IsLinkStep, present_step}
+use Rattle.update_machine.specs.Versions.{holds_version, stamp_of}
+use Rattle.update_machine.specs.Travels.{ingress_of, is_at, leg_of, travels}
+use Rattle.update_machine.specs.Ways.{found_down, next_switch, owner}
+use Rattle.update_machine.specs.Links.{serves}
+use Rattle.packet_laws.specs.Stages.{Blocked, CameIn, Judged, OnWay, stage_of}
+
+-- ---- where it is
+
+-- the packet travels, and stands at the switch, which serves
+pub record IsAt (before : List Item) (packet switch : ℕ) : Type 0 where
+  pub travelling : IsTrue (travels before packet)
+  pub stands : unwrap_or (standing before packet) 0 ≡ switch
+  pub serving : IsTrue (serves before switch)
+
+abbrev pub tells_row : Item → Option Bool
+tells_row (item.Row row step) = Some true
+tells_row _ = Some false
+
+-- the last item is the row of a step
+unfoldable pub ends_with_row : List Item → Bool
+ends_with_row journal = unwrap_or (last_told tells_row journal) false
+
+-- it comes in, or is refused, right behind its row, under the next number
+pub record IsOfRow (before : List Item) (packet switch : ℕ) (header : Header) : Type 0 where
+  pub number : packet ≡ next_packet before
+  pub row : present_step before ≡ Some (Packet switch header)
+  pub behind : IsTrue (ends_with_row before)
+
+-- it is on its way, and its route ends here
+pub record Arrives (before : List Item) (packet : ℕ) : Type 0 where
+  pub moving : stage_of before packet ≡ Some OnWay
+  pub last : next_switch before packet ≡ None
+
+-- it arrives where it seeks an authority, at a switch that doesn't hold the version
+pub record Misses (before : List Item) (packet switch : ℕ) : Type 0 where
+  pub arrives : Arrives before packet
+  pub version : ℕ
+  pub partition : ℕ
+  pub seeks : leg_of before packet ≡ Some (Seek version partition)
+  pub missing : IsFalse (holds_version before switch version)
+
+-- the switch looks it up: it just came in, or arrived by a version that isn't held
+abbrev pub IsLookedUp : List Item → ℕ → ℕ → Type 0
+IsLookedUp before packet switch =
+    (stage_of before packet ≡ Some CameIn) ⊎ Misses before packet switch
+
+-- ---- legs
+
+-- the lookup, under the switch's stamp, sends it to the targets of the partition
+pub record IsRedirected (setting : Setting) (before : List Item)
+    (packet switch version partition : ℕ) : Type 0 where
+  pub looked_up : IsLookedUp before packet switch
+  pub targets : List ℕ
+  pub answer : lookup_at setting before switch (header_at before packet)
+      ≡ found.Redirect partition targets
+  pub stamp : version ≡ stamp_of before switch
+
+-- it was decided by a port of another switch
+pub record IsSentOut (setting : Setting) (before : List Item) (packet switch port : ℕ) : Type 0
+  where
+    pub judged : stage_of before packet ≡ Some Judged
+    pub decision : Decision
+    pub decided : decision_of before packet ≡ Some decision
+    pub action : decision.action ≡ action.Out port
+    pub elsewhere : (owner setting port == switch) ≡ false
+
+abbrev pub TakesLeg : Setting → List Item → ℕ → ℕ → Leg → Type 0
+TakesLeg setting before packet switch (Seek version partition) =
+    IsRedirected setting before packet switch version partition
+TakesLeg setting before packet switch (Exit port) = IsSentOut setting before packet switch port
+
+-- it found a link down on this leg
+pub record IsBlockedOn (before : List Item) (packet : ℕ) (leg : Leg) : Type 0 where
+  pub blocked : stage_of before packet ≡ Some Blocked
+  pub takes : leg_of before packet ≡ Some leg
+
+-- it takes the leg from its switch, by the route that this one knows
+pub record TakesRoute (setting : Setting) (before : List Item) (packet : ℕ) (leg : Leg)
+    (route : List ℕ) : Type 0 where
+  pub switch : ℕ
+  pub at : IsAt before packet switch
+  pub takes : TakesLeg setting before packet switch leg
+  pub leads : route_for setting before packet switch leg ≡ Some route
+
+pub record TakesExit (setting : Setting) (before : List Item) (packet : ℕ) (route : List ℕ)
+    : Type 0 where
+  pub port : ℕ
+  pub by : TakesRoute setting before packet (Exit port) route
+
+-- it takes another route on its leg
+pub record TakesDetour (setting : Setting) (before : List Item) (packet : ℕ) (route : List ℕ)
+    : Type 0 where
+  pub switch : ℕ
+  pub at : IsAt before packet switch
+  pub leg : Leg
+  pub blocked : IsBlockedOn before packet leg
+  pub leads : route_for setting before packet switch leg ≡ Some route
+
+-- its switch knows no route for the leg, which it takes or on which it found a link down
+pub record FindsNoRoute (setting : Setting) (before : List Item) (packet switch : ℕ)
+    (cause : Cause) (leg : Leg) (down : List ℕ) : Type 0 where
+  pub at : IsAt before packet switch
+  pub on : TakesLeg setting before packet switch leg ⊎ IsBlockedOn before packet leg
+  pub none : route_for setting before packet switch leg ≡ None
+  pub why : cause ≡ cause_at setting before switch (found_down before packet) leg
+  pub found : down ≡ found_down before packet
+
+-- it moves on to the next switch of its route, over a link that can be used
+pub record MovesOver (setting : Setting) (before : List Item) (packet next : ℕ) : Type 0 where
+  pub switch : ℕ
+  pub at : IsAt before packet switch
+  pub moving : stage_of before packet ≡ Some OnWay
+  pub goes_on : next_switch before packet ≡ Some next
+  pub usable : IsTrue (has (near setting before switch) next)
+
+-- or can't use that link
+pub record MeetsDown (setting : Setting) (before : List Item) (packet one two : ℕ) : Type 0 where
+  pub at : IsAt before packet one
+  pub moving : stage_of before packet ≡ Some OnWay
+  pub goes_on : next_switch before packet ≡ Some two
+  pub unusable : IsFalse (has (near setting before one) two)
+
+-- ---- decisions
+
+-- the switch's lookup gives the place of a rule of its own
+pub record AnswersHere (setting : Setting) (before : List Item)
+    (packet switch version partition place : ℕ) : Type 0 where
+  pub answer : lookup_at setting before switch (header_at before packet)
+      ≡ found.Authority partition place
+  pub stamp : version ≡ stamp_of before switch
+
+-- the packet seeks the partition, where this is the first rule that holds its header
+pub record IsSoughtHere (setting : Setting) (before : List Item)
+    (packet version partition place : ℕ) : Type 0 where
+  pub seeks : leg_of before packet ≡ Some (Seek version partition)
+  pub first : place ≡ first_place setting before version partition (header_at before packet)
+
+-- an authority rule of the switch for the packet
+pub record AuthorityFinds (setting : Setting) (before : List Item) (packet switch version : ℕ)
+    (found : AuthorityRule) : Type 0 where
+  pub partition : ℕ
+  pub place : ℕ
+  pub rule : authority_rule setting before version partition place ≡ Some found
+  pub says : AnswersHere setting before packet switch version partition place
+      ⊎ IsSoughtHere setting before packet version partition place
+
+-- a cached rule decides it
+pub record CacheDecides (setting : Setting) (before : List Item) (packet switch version : ℕ)
+    (rule : Option ℕ) (action : Action) (message : ℕ) : Type 0 where
+  pub looked_up : IsLookedUp before packet switch
+  pub entry : CacheEntry
+  pub answer : lookup_at setting before switch (header_at before packet) ≡ found.Cached entry
+  pub of_version : version ≡ entry.version
+  pub by_rule : rule ≡ entry.rule
+  pub says : action ≡ entry.action
+  pub brought : message ≡ entry.message
+
+-- it arrives at an authority that holds the version
+pub record ReachesAuthority (before : List Item) (packet switch version : ℕ) : Type 0 where
+  pub arrives : Arrives before packet
+  pub partition : ℕ
+  pub seeks : leg_of before packet ≡ Some (Seek version partition)
+  pub held : IsTrue (holds_version before switch version)
+
+-- an authority rule decides it, where it is looked up or arrives
+pub record AuthorityDecides (setting : Setting) (before : List Item) (packet switch version : ℕ)
+    (rule : Option ℕ) (action : Action) (partition : ℕ) : Type 0 where
+  pub found : AuthorityRule
+  pub finds : AuthorityFinds setting before packet switch version found
+  pub when : IsLookedUp before packet switch ⊎ ReachesAuthority before packet switch version
+  pub by_rule : rule ≡ found.rule.rule
+  pub says : action ≡ found.rule.action
+  pub of_part : partition ≡ found.part.number
+
+abbrev pub DecidesBy : Setting → List Item → ℕ → ℕ → ℕ → Option ℕ → Action → How → Type 0
+DecidesBy setting before packet switch version rule action (how.Cached message) =
+    CacheDecides setting before packet switch version rule action message
+DecidesBy setting before packet switch version rule action (how.Authority authority partition) =
+    (authority ≡ switch)
+    × AuthorityDecides setting before packet switch version rule action partition
+
+pub record IsDecided (setting : Setting) (before : List Item) (packet version : ℕ)
+    (rule : Option ℕ) (action : Action) (how : How) : Type 0 where
+  pub switch : ℕ
+  pub at : IsAt before packet switch
+  pub by : DecidesBy setting before packet switch version rule action how
+
+-- the authority rule that decided the packet is told to its ingress, another switch
+pub record TellsRule (setting : Setting) (before : List Item) (message : Message) : Type 0 where
+  pub packet : ℕ
+  pub switch : ℕ
+  pub at : IsAt before packet switch
+  pub judged : stage_of before packet ≡ Some Judged
+  pub found : AuthorityRule
+  pub finds : AuthorityFinds setting before packet switch found.version found
+  pub decided : decision_of before packet ≡ Some (record {
+    version = found.version;
+    rule = found.rule.rule;
+    action = found.rule.action;
+  })
+  pub apart : is_at switch (ingress_of before packet) ≡ false
+  pub says : message
+      ≡ cache_rule found (unwrap_or (ingress_of before packet) 0) (header_at before packet)
+
+-- ---- ends
+
+-- it was just decided by a port of its switch, or arrives there
+abbrev pub IsAtPort : Setting → List Item → ℕ → ℕ → ℕ → Type 0
+IsAtPort setting before packet switch port =
+    ((stage_of before packet ≡ Some Judged) × ((owner setting port == switch) ≡ true)
+    × ((decision : Decision) × (decision_of before packet ≡ Some decision)
+    × (decision.action ≡ action.Out port)))
+    ⊎ (Arrives before packet × (leg_of before packet ≡ Some (Exit port)))
+
+pub record LeavesHere (setting : Setting) (before : List Item) (packet port : ℕ)
+    (leaving : Leaving) : Type 0 where
+  pub switch : ℕ
+  pub at : IsAt before packet switch
+  pub at_port : IsAtPort setting before packet switch port
+  pub own : item.Left packet port leaving ≡ leaves before packet port
+
+-- it was just decided to drop it
+pub record IsDroppedHere (before : List Item) (packet : ℕ) : Type 0 where
+  pub switch : ℕ
+  pub at : IsAt before packet switch
+  pub judged : stage_of before packet ≡ Some Judged
+  pub decision : Decision
+  pub decided : decision_of before packet ≡ Some decision
+  pub action : decision.action ≡ action.Drop
+
+abbrev pub tells_fall : Item → Option (Option ℕ)
+tells_fall (item.Row row step) = Some None
+tells_fall (item.Down switch) = Some (Some switch)
+tells_fall _ = None
+
+-- the switch that went down in the step that is being taken
+unfoldable pub fallen : List Item → Option ℕ
+fallen journal = unwrap_or (last_told tells_fall journal) None
+
+-- it stands at a switch that went down in its crash, and not before
+pub record IsLostInCrash (before : List Item) (packet : ℕ) : Type 0 where
+  pub switch : ℕ
+  pub crashes : present_step before ≡ Some (Crash switch)
+  pub fell : fallen before ≡ Some switch
+  pub down : IsFalse (is_up before switch)
+  pub stands : standing before packet ≡ Some switch
+
+pub record IsLostHere (before : List Item) (packet : ℕ) : Type 0 where
+  pub travelling : IsTrue (travels before packet)
+  pub how : (present_step before ≡ Some (Lose packet)) ⊎ IsLostInCrash before packet
+
+-- ---- all items
+
+abbrev pub TellsRightly : Setting → List Item → Message → Body → Type 0
+TellsRightly setting before message (CacheRule version word rule action) =
+    TellsRule setting before message
+TellsRightly setting before message _ = ⊤
+
+-- each item of packets and of cache rules, and each that changes a switch or a link or submits a
+-- version, has its cause in the journal before it
+abbrev pub WayCause : Setting → List Item → Item → Type 0
+WayCause setting before (item.Entered packet switch header) =
+    IsOfRow before packet switch header × IsTrue (serves before switch)
+WayCause setting before (item.Closed packet switch) =
+    ((header : Header) × IsOfRow before packet switch header) × IsFalse (serves before switch)
+WayCause setting before (item.Seeking packet version partition route) =
+    TakesRoute setting before packet (Seek version partition) route
+WayCause setting before (item.Exiting packet route) = TakesExit setting before packet route
+WayCause setting before (item.Rerouted packet route) = TakesDetour setting before packet route
+WayCause setting before (item.Hopped packet switch) = MovesOver setting before packet switch
+WayCause setting before (item.FoundDown packet one two) = MeetsDown setting before packet one two
+WayCause setting before (item.Decided packet version rule action how) =
+    IsDecided setting before packet version rule action how
+WayCause setting before (item.Left packet port leaving) =
+    LeavesHere setting before packet port leaving
+WayCause setting before (item.Dropped packet) = IsDroppedHere before packet
+WayCause setting before (item.Lost packet) = IsLostHere before packet
+WayCause setting before (item.Stuck packet switch cause leg down) =
+    FindsNoRoute setting before packet switch cause leg down
+WayCause setting before (item.Sent number message) =
+    TellsRightly setting before message message.body
+WayCause setting before (item.Down switch) = present_step before ≡ Some (Crash switch)
+WayCause setting before (item.Booted switch boot) = present_step before ≡ Some (Restart switch)
+WayCause setting before (item.LinkIs one two up) = IsLinkStep (present_step before) one two up
+WayCause setting before (item.Submitted file version) = present_step before ≡ Some (Update file)
+WayCause setting before _ = ⊤

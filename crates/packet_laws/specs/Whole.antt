@@ -1,0 +1,42 @@
+-- What each step keeps, so that no packet is decided by half of an old version and half of a new
+-- one.
+use Rattle.std.specs.Prelude.{ℕ, List, []}
+use Rattle.journal.specs.declared.item.Item.{Item}
+use Rattle.update_machine.specs.Causes.{HaveCauses}
+use Rattle.update_machine.specs.Setting.{Setting}
+use Rattle.control_laws.specs.BootLaws.{BootsAreKnown, OpensAtOneVersion, ServingIsKnown}
+use Rattle.control_laws.specs.ItemCauses.{HasItemCause}
+use Rattle.control_laws.specs.Acknowledged.{IsAckedFirst, MembersAcknowledged}
+use Rattle.control_laws.specs.Bounds.{MarksAreBounded}
+use Rattle.control_laws.specs.Heard.{AcksHold, InstallsArePlanned}
+use Rattle.control_laws.specs.Serving.{ServingHold}
+use Rattle.control_laws.specs.Planned.{TablesArePlanned}
+use Rattle.packet_laws.specs.Travelling.{PacketsTravel, RulesAreRight}
+
+pub record KeepVersionsWhole (setting : Setting) (journal : List Item) : Type 0 where
+  -- each item of switches and of the controller was written for its cause: what is sent to a boot
+  -- was sent while that boot was known and the switch wasn't over
+  pub causes : HaveCauses (HasItemCause setting) [] journal
+  -- the known boot of a switch is at most its own, and no message carries a greater one
+  pub boots : BootsAreKnown journal
+  -- a switch that serves is a member in its own boot
+  pub serving : ServingIsKnown journal
+  -- what a switch acknowledged it heard in that boot, and stamps with
+  pub heard : (s : ℕ) → AcksHold journal s
+  -- it is told to open or to stamp only with what it acknowledged, at one version in each boot
+  pub acknowledged : HaveCauses (IsAckedFirst setting) [] journal
+  pub opened : OpensAtOneVersion journal
+  -- the tables that are sent are those that the plan of their version gives to the switch
+  pub sent : InstallsArePlanned setting journal
+  -- and stay so as the journal goes on; so are those that it heard
+  pub tables : TablesArePlanned setting journal
+  -- members acknowledged each version from the one at which they were opened to the current one
+  pub members : MembersAcknowledged setting journal
+  -- the marks bound each other, and what is dropped is below what members stamp with
+  pub marks : MarksAreBounded setting journal
+  -- a switch that serves holds what it stamps with, and each later version up to the current one
+  pub holding : ServingHold setting journal
+  -- each cache rule says what its own version says of each header of its word
+  pub rules : RulesAreRight setting journal
+  -- each packet that travels is on its way to a target of its own version, or to its port
+  pub packets : PacketsTravel setting journal

@@ -1,0 +1,171 @@
+//! The laws.
+ghost use Rattle.std.specs.Prelude.{[], All, ◌≡◌, ◌++◌, ◌*◌, ◌-◌, ◌<◌, ◌≤◌, Some, List, length, ℕ, Option};
+ghost use Rattle.steps.specs.Steps.{IsEvent};
+ghost use Rattle.steps.specs.declared.step.Step.TheVariants.{Deliver, Hop};
+ghost use Rattle.update_machine.specs.Journals.{AreAll, AreSome, Event, HasCause, HasPlay, HaveCauses, IsPlay, IsReached, IsRun, IsSetting, Item, Setting, StepOfRow, current_mark, most_versions, next_delivery, next_hop, next_packet, next_travelling, next_waiting, piece};
+ghost use Rattle.control_laws.specs.Always.{HoldsReached};
+ghost use Rattle.packet_laws.specs.Laws.{AllKept, AreEntered, AreResting, GoesOrStops, HoldsBetween, KeepVersionsWhole, PacketsArrive, PacketsTravel, RulesAreRight, StrongCause, WayCause, detours, drain_left, exits, finding_count, hops_on_route, hops_taken, most_hops, most_routes, most_switches, routes_taken, rows_played, searches};
+
+use control_laws::{
+    acknowledgements_hold, boots_are_known, installs_are_planned, items_have_causes,
+    marks_are_bounded, members_acknowledged, serving_is_known, serving_switches_hold,
+    stamps_are_acked_first, switches_open_once, tables_are_planned,
+};
+
+/// Each item of packets, and each cache rule that is sent, has its cause in the journal before it,
+/// for steps of all kinds.
+pub fn packet_items_have_causes()
+    ensures { HoldsReached (λ setting journal.
+        IsSetting setting → HaveCauses (WayCause setting) [] journal) }
+{}
+
+/// Between steps each travelling packet is on its way, at a switch that serves: those that stood at
+/// a switch that crashed are lost with it.
+pub fn packets_rest()
+    ensures { HoldsBetween (λ setting journal. IsSetting setting → AreResting journal) }
+{}
+
+/// Each item keeps each packet on its way, in whatever stage the packet is, and each cache rule
+/// right.
+pub fn items_keep_packets()
+    ensures { HoldsReached (λ setting journal. IsSetting setting → AllKept setting journal) }
+{}
+
+/// Between steps a travelling packet is at a serving switch; its version wasn't retired as it came
+/// in, is at most the current one, and held or below the stamp where a switch serves; and its route
+/// leads to a target of its leg, over no link that it found down.
+pub fn packets_travel()
+    ensures { HoldsBetween (λ setting journal. IsSetting setting → PacketsTravel setting journal) }
+{}
+
+/// A packet at the end of its route, also of one that it took in the midst of a step, is where its
+/// leg leads: at a target of its partition, or at the switch of its port.
+pub fn packets_arrive()
+    ensures { HoldsReached (λ setting journal. IsSetting setting → PacketsArrive setting journal) }
+{}
+
+/// Each cache rule that was sent, and each that a switch caches, is of a version that is at most
+/// the current one, and this version's policy decides each header of its word so.
+pub fn cache_rules_are_right()
+    ensures { HoldsReached (λ setting journal. IsSetting setting → RulesAreRight setting journal) }
+{}
+
+/// The ends of packets, the links that they found down, the changes of switches and links, and the
+/// versions that are submitted have their causes.
+pub fn ends_have_causes()
+    ensures { HoldsReached (λ setting journal.
+        IsSetting setting → HaveCauses (HasCause setting) [] journal) }
+{}
+
+/// The journal is a run of the machine: each packet is decided once, by the first match of one
+/// whole version that wasn't retired as it came in, and ends as it was decided.
+pub fn answers_are_runs()
+    ensures { HoldsReached (λ setting journal. IsSetting setting → IsRun setting journal) }
+{}
+
+/// And they have causes so strong that a run with them whose rows are the schedule's keeps the
+/// promise: who is stuck on its way to an authority is undecided, by a version that wasn't retired
+/// as it came in and is at most the current one; and so is each decision; links found down are ones
+/// of the network; packets come in, and are lost, by the row of the step that is taken.
+pub fn causes_are_strong()
+    ensures { HoldsReached (λ setting journal.
+        IsSetting setting → HaveCauses (StrongCause setting) [] journal) }
+{}
+
+/// A packet takes few routes: at most as many to authority switches as there are versions, which
+/// are at most 64; one to its port; and as many around links that it found down as the network has
+/// links. So it takes at most 321 routes.
+pub fn packets_take_few_routes()
+    ensures raised { HoldsReached (λ setting journal. IsSetting setting
+        → (i : ℕ) → searches journal i ≤ current_mark journal) }
+    ensures searched { HoldsReached (λ setting journal. IsSetting setting
+        → (i : ℕ) → searches journal i ≤ most_versions) }
+    ensures exited { HoldsReached (λ setting journal. IsSetting setting
+        → (i : ℕ) → exits journal i ≤ 1) }
+    ensures detoured { HoldsReached (λ setting journal. IsSetting setting
+        → (i : ℕ) → detours journal i ≤ length setting.net.links) }
+    ensures found { HoldsReached (λ setting journal. IsSetting setting
+        → (i : ℕ) → finding_count journal i ≤ length setting.net.links) }
+    ensures few { HoldsReached (λ setting journal. IsSetting setting
+        → (i : ℕ) → routes_taken journal i ≤ most_routes) }
+{}
+
+/// While it travels a packet takes at most 64 hops on each route, and so at most 20,544 hops.
+pub fn packets_take_few_hops()
+    ensures on_each { HoldsReached (λ setting journal. IsSetting setting
+        → (i : ℕ) → hops_on_route journal i ≤ most_switches) }
+    ensures by_routes { HoldsReached (λ setting journal. IsSetting setting
+        → (i : ℕ) → hops_taken journal i ≤ most_switches * routes_taken journal i) }
+    ensures few { HoldsReached (λ setting journal. IsSetting setting
+        → (i : ℕ) → hops_taken journal i ≤ most_hops) }
+{}
+
+/// A drain ends, behind any steps of the network: each hop of the least packet that travels leaves
+/// fewer to be taken. So there are all of its hops, and they are at most 20,544 for each packet
+/// that came in.
+pub fn drains_end()
+    ensures fewer { (setting : Setting) (journal : List Item) (row i : ℕ)
+        → IsSetting setting → IsReached setting journal → next_travelling journal ≡ Some i
+        → drain_left (journal ++ piece setting journal row (Hop i)) < drain_left journal }
+    ensures ends { (setting : Setting) (journal : List Item) (row : ℕ)
+        → IsSetting setting → IsReached setting journal
+        → (steps : List StepOfRow) × AreAll setting next_hop row journal steps }
+    ensures short { (setting : Setting) (journal : List Item) (row : ℕ) (steps : List StepOfRow)
+        → IsSetting setting → IsReached setting journal
+        → AreSome setting next_hop row journal steps
+        → length steps ≤ most_hops * (next_packet journal - 1) }
+{}
+
+/// In a flush each message that is delivered has a greater number than the one before it, whatever
+/// these deliveries send.
+pub fn deliveries_rise()
+    ensures { (setting : Setting) (journal : List Item) (row n m : ℕ)
+        → next_waiting journal ≡ Some n
+        → next_waiting (journal ++ piece setting journal row (Deliver n)) ≡ Some m → n < m }
+{}
+
+/// In a play a flush has all its deliveries, or stops in front of one that would begin full.
+pub fn flushes_end()
+    ensures { (setting : Setting) (journal : List Item) (row : ℕ)
+        → GoesOrStops setting next_delivery row journal }
+{}
+
+/// Each list of events of a network has a play: its answer, or the steps before the first one that
+/// would begin behind a full journal.
+pub fn plays_exist()
+    ensures { (setting : Setting) (events : List Event) → IsSetting setting
+        → All (IsEvent setting.net (length setting.policies)) events → HasPlay setting events }
+{}
+
+/// The rows of a play's journal are those of its events that were played, in order, but for hops
+/// and deliveries, which drains and flushes ask for as well. Right behind each packet row stands
+/// what became of it: the packet with the next number came in with that header at that switch,
+/// which serves, or the switch was closed to it, which doesn't. No other packet comes in or is
+/// refused.
+pub fn packet_rows_are_entered()
+    ensures { (setting : Setting) (events : List Event) (journal : List Item)
+        (full : Option ℕ) → IsPlay setting events journal full
+        → AreEntered (rows_played full events) journal }
+{}
+
+/// Behind each step of a network, of any kind, what is known of boots, versions and marks is right,
+/// each switch holds what it stamps with, each cache rule says what its version says, and each
+/// packet is on its way to an authority of its own version, or to its port.
+pub fn steps_keep_versions_whole()
+    ensures { HoldsBetween (λ setting journal.
+        IsSetting setting → KeepVersionsWhole setting journal) }
+{
+    items_have_causes();
+    boots_are_known();
+    switches_open_once();
+    serving_is_known();
+    acknowledgements_hold();
+    stamps_are_acked_first();
+    installs_are_planned();
+    tables_are_planned();
+    members_acknowledged();
+    marks_are_bounded();
+    serving_switches_hold();
+    cache_rules_are_right();
+    packets_travel();
+}

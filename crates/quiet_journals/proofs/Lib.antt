@@ -1,7 +1,0 @@
-pub mod Counting
-mod Replacing
-mod Lives
-mod Concerned
-mod Lanes
-mod Judging
-mod Plain

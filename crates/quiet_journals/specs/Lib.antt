@@ -1,4 +1,0 @@
-pub mod Plain
-pub mod Judging
-pub mod Lanes
-pub mod Pending

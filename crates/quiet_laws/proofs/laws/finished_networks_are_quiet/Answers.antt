@@ -1,5 +1,0 @@
-use Rattle.quiet_laws.proofs.Finished.{finished_behind}
-use Rattle.quiet_laws.proofs.laws.finished_networks_are_quiet.Goals as goal
-
-pub returns : goal.returns
-returns c = finished_behind

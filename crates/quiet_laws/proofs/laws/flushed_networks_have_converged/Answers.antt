@@ -1,9 +1,0 @@
-use Rattle.quiet_laws.proofs.Flushed.{flushed_converged, flushed_quiet, flushed_updated}
-use Rattle.quiet_laws.proofs.laws.flushed_networks_have_converged.Goals as goal
-
-pub returns : goal.returns
-returns c = record {
-  quiet = flushed_quiet;
-  converged = flushed_converged;
-  updated = flushed_updated;
-}

@@ -1,5 +1,0 @@
-use Rattle.quiet_laws.proofs.Told.{news_at_ends}
-use Rattle.quiet_laws.proofs.laws.news_spreads.Goals as goal
-
-pub returns : goal.returns
-returns c = news_at_ends

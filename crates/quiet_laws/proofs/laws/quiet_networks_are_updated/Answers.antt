@@ -1,5 +1,0 @@
-use Rattle.quiet_laws.proofs.Updates.{updated_at_ends}
-use Rattle.quiet_laws.proofs.laws.quiet_networks_are_updated.Goals as goal
-
-pub returns : goal.returns
-returns c = updated_at_ends

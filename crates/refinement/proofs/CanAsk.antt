@@ -1,0 +1,113 @@
+-- A packet on its way, and its switch, as that is asked what becomes of it.
+use Rattle.std.proofs.Common.{ℕ, ◌≡◌, ◌<◌, Some, List, ap, sym, subst, ◌∙◌, length, arith}
+use Rattle.std.specs.Prelude.{slice_get, IsTrue}
+use Rattle.five_tuple.specs.declared.header.Header.{Header}
+use Rattle.policy_rules.specs.declared.packet.Leg.{Leg}
+use Rattle.policy_rules.specs.declared.packet.Leg.TheVariants.{Seek, Exit}
+use Rattle.journal.specs.declared.item.Item.{Item}
+use Rattle.net_file.specs.Owners.{AreOwners}
+use Rattle.net_file.specs.declared.ports.Ports.{Ports}
+use Rattle.switch_core.specs.Answering.{CanLookUp, IsAtAuthority}
+use Rattle.switch_core.specs.State.{SwitchValue, serves}
+use Rattle.switch_core.specs.Moving.{hopped}
+use Rattle.switch_core.specs.declared.answers.HopEnd.TheVariants as hop
+use Rattle.refinement.specs.SwitchOf.{switch_of}
+use Rattle.refinement.proofs.Asked.{asked_ties}
+use Rattle.tunnel.specs.Moves.{here}
+use Rattle.update_machine.specs.LinkMasks.{near}
+use Rattle.update_machine.specs.Setting.{Setting}
+use Rattle.update_machine.specs.Versions.{plan_at}
+use Rattle.control_laws.specs.Authorities.{EndsAt}
+use Rattle.packet_laws.specs.Facts.{what_is_known}
+use Rattle.travelling.specs.declared.travelling.Traveller.{Traveller}
+use Rattle.refinement.proofs.Arrivals.{IsAtEnd}
+use Rattle.refinement.proofs.Known.{Known}
+use Rattle.refinement.proofs.Moving.{Hops, arrives_at_end}
+use Rattle.refinement.proofs.OnWay.{IsStanding, got}
+use Rattle.refinement.proofs.Seeing.{Sees, sees}
+
+-- the switch and its usable links are as the journal says
+pub sees_as : (setting : Setting) (journal : List Item) (s mask : ℕ) (w : SwitchValue)
+    → Known setting journal → s < length setting.net.switches
+    → w ≡ switch_of setting journal s → mask ≡ near setting journal s
+    → Sees setting journal s w mask
+sees_as setting journal s mask w knows there own usable =
+    subst (Sees setting journal s w) (sym usable)
+    (subst (λ w. Sees setting journal s w (near setting journal s)) (sym own)
+    (sees setting journal s knows there))
+
+pub looks_up_as : (setting : Setting) (journal : List Item) (s : ℕ) (w : SwitchValue)
+    → Known setting journal → s < length setting.net.switches
+    → w ≡ switch_of setting journal s → CanLookUp w
+looks_up_as setting journal s w knows there own =
+    subst CanLookUp (sym own) (asked_ties.enter setting journal s knows.holds there)
+
+-- ---- a packet on its way
+
+pub stands_at : (setting : Setting) (journal : List Item) (i : ℕ) (t : Traveller)
+    (standing : IsStanding setting journal i t) → here t.tunnel ≡ standing.switch
+stands_at setting journal i t standing =
+    ap (λ (u : Traveller). here u.tunnel) standing.is
+    ∙ got (what_is_known journal i).route (what_is_known journal i).hops standing.switch standing.stands.here
+
+-- at the end of its route, the switch is where its leg leads
+ends_at : (setting : Setting) (journal : List Item) (s : ℕ) (header : Header) (leg : Leg)
+    → IsAtEnd setting journal s header leg → EndsAt setting journal s header leg
+ends_at setting journal s header (Seek version partition) end = record {
+  hosted = end.hosted;
+  found = subst (λ k. slice_get (plan_at setting journal version) k ≡ Some end.hosted) end.number
+      end.finds.at;
+  number = end.number;
+  holds = end.finds.holds;
+  target = end.target;
+}
+ends_at setting journal s header (Exit port) end = end
+
+-- all that its switch must be to be asked
+pub record CanAsk (setting : Setting) (journal : List Item) (i : ℕ) (t : Traveller) (s near : ℕ)
+    (w : SwitchValue) (ports : Ports) : Type 0 where
+  pub standing : IsStanding setting journal i t
+  pub at : s ≡ standing.switch
+  pub hops : Hops setting journal i standing.switch standing.header standing.ingress standing.leg w
+      near ports
+  pub serving : IsTrue (serves w)
+  pub stamped : CanLookUp w
+  pub authority : (hopped w near t.tunnel).end ≡ hop.Arrive
+      → IsAtAuthority w t.tunnel.header t.tunnel.leg
+
+pub can_be_asked : (setting : Setting) (journal : List Item) (i : ℕ) (t : Traveller) (s mask : ℕ)
+    (w : SwitchValue) (ports : Ports) → Known setting journal
+    → AreOwners setting.net.switches ports → IsStanding setting journal i t
+    → s ≡ here t.tunnel → w ≡ switch_of setting journal s → mask ≡ near setting journal s
+    → CanAsk setting journal i t s mask w ports
+can_be_asked setting journal i t s mask w ports knows owners standing at own usable =
+    let here_it : s ≡ standing.switch = at ∙ stands_at setting journal i t standing in
+    let there : s < length setting.net.switches = omega (arith, here_it, standing.stands.there) in
+    let sees_it : Sees setting journal s w mask =
+    sees_as setting journal s mask w knows there own usable in
+    let hops : Hops setting journal i standing.switch standing.header standing.ingress standing.leg w
+    mask ports = record {
+      stands = standing.stands;
+      sees = subst (λ k. Sees setting journal k w mask) here_it sees_it;
+      owners = owners;
+    } in
+    let is_switch : w ≡ switch_of setting journal standing.switch =
+    own ∙ ap (switch_of setting journal) here_it in
+    record {
+      standing = standing;
+      at = here_it;
+      hops = hops;
+      serving = hops.sees.serving ∙ standing.stands.serving;
+      stamped = looks_up_as setting journal s w knows there own;
+      authority = λ arrive.
+          subst (λ (u : Traveller). IsAtAuthority w u.tunnel.header u.tunnel.leg)
+          (sym standing.is)
+          (subst (λ w. IsAtAuthority w standing.header standing.leg) (sym is_switch)
+          (asked_ties.arrive setting journal standing.switch standing.header standing.leg
+          knows.tables knows.serving knows.holds standing.stands.there standing.stands.serving
+          (ends_at setting journal standing.switch standing.header standing.leg
+          (arrives_at_end setting journal 0 i standing.switch standing.header standing.ingress
+          standing.leg w mask ports hops
+          (ap (λ (u : Traveller). (hopped w mask u.tunnel).end)
+          (sym standing.is) ∙ arrive)))).authority);
+    }

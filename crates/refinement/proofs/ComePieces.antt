@@ -1,0 +1,104 @@
+-- A packet that comes in: the calls that its step counts, and where each packet is then.
+use Rattle.std.proofs.Common.{ℕ, ◌≡◌, ◌==◌, Bool, true, false, if◌then◌else◌, cond, Option, List, [], ◌∷◌, ◌++◌, refl, ap, sym, ◌∙◌, eqb-true, arith}
+use Rattle.std.proofs.lemmas.Bool.Decides.{nat_tests}
+use Rattle.std.proofs.lemmas.List.Sums.{sum_by-cons}
+use Rattle.policy_rules.specs.declared.packet.Leg.{Leg}
+use Rattle.journal.specs.declared.item.Item.{Item}
+use Rattle.journal.specs.declared.item.Item.TheVariants as item
+use Rattle.steps.specs.declared.step.Step.{Step}
+use Rattle.steps.specs.declared.step.Step.TheVariants.{Packet as PacketStep}
+use Rattle.switch_core.specs.State.{call_counted}
+use Rattle.switch_core.specs.declared.answers.Entered.{Entered}
+use Rattle.switch_core.specs.declared.answers.Entered.TheVariants as entered
+use Rattle.refinement.specs.Calls.{AreInStep}
+use Rattle.refinement.specs.SwitchOf.{switch_of}
+use Rattle.refinement.proofs.SwitchSteps.{call_ties}
+use Rattle.update_machine.specs.Concerns.{NoneConcern, concerns_policies}
+use Rattle.update_machine.specs.Folds.{count_of}
+use Rattle.update_machine.specs.Packets.{is_packet}
+use Rattle.update_machine.specs.Setting.{Setting}
+use Rattle.update_machine.specs.Ways.{targets_of}
+use Rattle.packet_laws.specs.OnWay.{IsUnknown}
+use Rattle.packet_laws.specs.Facts.{what_is_known}
+use Rattle.travelling.specs.declared.travelling.Traveller.{Traveller}
+use Rattle.world_log.specs.Writing.{answer_items, entered_items, entered_traveller}
+use Rattle.travelling.specs.Travelling.{Standing}
+use Rattle.refinement.specs.Travellers.{traveller_in}
+use Rattle.refinement.proofs.Goings.{GoesIn, entered_goes}
+use Rattle.refinement.proofs.Known.{Known, traveller_stays}
+use Rattle.refinement.proofs.Later.{answer_later, later_packets}
+use Rattle.refinement.proofs.Others.{entered_other}
+use Rattle.refinement.proofs.Posting.{SendFrom, are_apart}
+use Rattle.refinement.proofs.FactsAlong.{Targets, by_targets, traveller_along, facts_along}
+
+-- ---- one packet comes in, and then none
+
+once : (first : Item) (items : List Item) → is_packet first ≡ true → AreInStep items
+    → count_of is_packet (first ∷ items) ≡ 1
+once first items packet later =
+    let sum = sum_by-cons (λ x. cond (is_packet x) 1 0) first items in
+    let one : ◌≡◌ {A = ℕ} (cond (is_packet first) 1 0) 1 = ap (λ b. cond b 1 0) packet in
+    omega (arith, sum, one, later_packets items later)
+
+pub entered_once : (number : ℕ) (at : Standing) (what : Entered)
+    → count_of is_packet (entered_items number at what) ≡ 1
+entered_once number at entered.Closed =
+    once (item.Closed at.packet at.switch) [] refl tt
+entered_once number at (entered.Answered what) =
+    once (item.Entered at.packet at.switch at.header) (answer_items number at what) refl
+    (answer_later number at what)
+
+-- ---- the switches
+
+-- the switch where it comes in is called, and no other
+pub come_called : (setting : Setting) (journal : List Item) (row number q : ℕ) (at : Standing)
+    (what : Entered) (b : Bool) → SendFrom number (entered_items number at what)
+    → (at.switch == q) ≡ b
+    → switch_of setting (journal ++ item.Row row (PacketStep at.switch at.header)
+    ∷ entered_items number at what) q
+    ≡ (if b then call_counted (switch_of setting journal q) else switch_of setting journal q)
+come_called setting journal row number q at what b sends is =
+    by_answer what sends
+    ∙ ap (λ b. if b then call_counted (switch_of setting journal q) else switch_of setting journal q) is
+  where
+    by_answer : (what : Entered) → SendFrom number (entered_items number at what)
+        → switch_of setting (journal ++ item.Row row (PacketStep at.switch at.header)
+        ∷ entered_items number at what) q
+        ≡ (if at.switch == q then call_counted (switch_of setting journal q)
+        else switch_of setting journal q)
+    by_answer entered.Closed sends =
+        call_ties.closed setting journal row at.packet at.switch q at.header
+    by_answer (entered.Answered what) sends =
+        call_ties.entered setting journal row at.packet at.switch q at.header
+        (answer_items number at what) (answer_later number at what)
+        ((are_apart number journal (item.Row row (PacketStep at.switch at.header)
+        ∷ item.Entered at.packet at.switch at.header ∷ answer_items number at what) sends).known q)
+
+-- ---- the packets
+
+pub come_along : (setting : Setting) (journal : List Item) (row number : ℕ) (taken : Step) (targets : Targets)
+    (at : Standing) (answer : Entered) (kept : Option Traveller) (q : ℕ) (b : Bool)
+    → Known setting journal → (q == at.packet) ≡ b → IsUnknown (what_is_known journal at.packet)
+    → (what_is_known journal at.packet).found ≡ at.down → GoesIn targets at answer
+    → ((leg : Leg) → targets leg ≡ targets_of setting journal leg)
+    → NoneConcern concerns_policies journal
+    (item.Row row taken ∷ entered_items number at answer)
+    → kept ≡ traveller_in setting journal q
+    → (if b then entered_traveller answer else kept)
+    ≡ traveller_in setting (journal ++ item.Row row taken ∷ entered_items number at answer) q
+come_along setting journal row number taken targets at answer kept q true knows is unknown unmarked
+    comes same none was =
+    let first : Item = item.Row row taken in
+    let i : ℕ = at.packet in
+    entered_goes targets (journal ++ first ∷ []) number at answer (what_is_known journal i) unknown
+    unmarked comes
+    ∙ by_targets targets (targets_of setting journal) i
+    (facts_along i journal (first ∷ entered_items number at answer) (what_is_known journal i)) (same _)
+    ∙ sym (traveller_along setting journal (first ∷ entered_items number at answer) i none)
+    ∙ ap (traveller_in setting (journal ++ first ∷ entered_items number at answer))
+    (sym (eqb-true q i is))
+come_along setting journal row number taken targets at answer kept q false knows is unknown unmarked
+    comes same none was =
+    let other : (at.packet == q) ≡ false = grind (arith, nat_tests) in
+    was ∙ sym (traveller_stays setting journal (item.Row row taken ∷ entered_items number at answer)
+    q knows (refl, entered_other q number at answer other))

@@ -1,0 +1,192 @@
+-- The definitions, computed on two switches: what acts write, what a controller is, and what it is
+-- not.
+use Rattle.std.proofs.Common.{ℕ, ◌≡◌, Bool, true, false, Some, None, List, [], ◌∷◌, ◌++◌, map, refl, ap, sym, ◌∙◌}
+use Rattle.std.specs.Option.{option_map_or}
+use Rattle.ctrl_msg.specs.declared.message.Body.TheVariants.{Hello, Install, Stamp}
+use Rattle.ctrl_msg.specs.Kinds.{to_controller}
+use Rattle.partition.specs.Plan.{Hosted}
+use Rattle.switch_table.specs.Tables.{tables_of}
+use Rattle.journal.specs.declared.item.Item.{Item}
+use Rattle.journal.specs.declared.item.Item.TheVariants as item
+use Rattle.policy_rules.specs.declared.policy.Row.{Row}
+use Rattle.policy_rules.specs.declared.policy.Action.TheVariants.{Drop, Out}
+use Rattle.update_machine.specs.Deliveries.{after_hello}
+use Rattle.update_machine.specs.Marks as machine
+use Rattle.update_machine.specs.Marks.{controller_heard, current_mark, known_boot, retired_mark}
+use Rattle.update_machine.specs.Messages.{next_message, sent_from}
+use Rattle.update_machine.specs.Pieces.{update_code}
+use Rattle.update_machine.specs.Settling.{installs_to_all, versions_from_current}
+use Rattle.update_machine.specs.Versions.{next_plan, next_policy, policy_at, version_count}
+use Rattle.update_machine.specs.Links.{message_of}
+use Rattle.update_machine.proofs.ExampleVersions.{first_plan, first_policy, second_plan, second_policy}
+use Rattle.update_machine.proofs.Examples.{all_to, open_net, plan_p, plan_q, to, versions}
+use Rattle.version_update.specs.Record.{first_record}
+use Rattle.controller.specs.Controller.{KeptPlan, first_controller}
+use Rattle.controller.specs.Plan.{PlanValue}
+use Rattle.controller.specs.Sends.{install_act}
+use Rattle.controller.specs.declared.sends.Act.TheVariants.{Current, Post, Retired}
+use Rattle.refinement.specs.Controller.{IsControllerOf, IsPlanOfNext, planned}
+use Rattle.refinement.specs.Marks.{IsKnown}
+use Rattle.refinement.specs.Written.{written}
+use Rattle.refinement.proofs.Calls.{begins}
+
+-- ---- acts
+
+-- each message has the next number
+numbered : written (item.Sent 1 (to 0 (Stamp 1 1)) ∷ [])
+    (Current 2 ∷ Post (to 0 (Stamp 1 2)) ∷ Retired 1 ∷ Post (to 1 (Stamp 1 2)) ∷ [])
+    ≡ item.Current 2 ∷ item.Sent 2 (to 0 (Stamp 1 2)) ∷ item.Retired 1
+    ∷ item.Sent 3 (to 1 (Stamp 1 2)) ∷ []
+unfolding next_message
+numbered = refl
+
+-- ---- plans
+
+-- the first policy lets out, that of the second file drops
+abbrev outs : PlanValue
+outs = record { policy = all_to (Out 2) ∷ []; hosted = plan_p }
+
+abbrev drops : PlanValue
+drops = record { policy = all_to Drop ∷ []; hosted = plan_q }
+
+abbrev plan_by : List Row → List Hosted → PlanValue
+plan_by policy hosted = record { policy = policy; hosted = hosted }
+
+of_first : (journal : List Item) → outs ≡ (planned open_net journal 1).plan
+of_first journal =
+    ap (λ policy. plan_by policy plan_p) (sym (first_policy journal))
+    ∙ ap (plan_by (policy_at open_net journal 1)) (sym (first_plan journal))
+
+of_second : (items : List Item)
+    → drops ≡ (planned open_net (item.Submitted 2 2 ∷ items) 2).plan
+of_second items =
+    ap (λ policy. plan_by policy plan_q) (sym (second_policy [] items tt))
+    ∙ ap (plan_by (policy_at open_net (item.Submitted 2 2 ∷ items) 2))
+    (sym (second_plan [] items tt))
+
+next_drops : IsPlanOfNext open_net [] 2 drops
+unfolding next_policy
+next_drops = record { policy = refl; hosted = refl }
+
+lets_out : List Row → Bool
+lets_out [] = false
+lets_out (row ∷ rows) = elim row.action [ Drop ↦ false | Out port ↦ true ]
+
+-- neither the other plan nor that of a file that isn't there
+not_next_of_first : IsPlanOfNext open_net [] 1 drops → ⊥
+unfolding lets_out next_policy
+not_next_of_first of =
+    let no : true ≡ false = ap (λ o. option_map_or lets_out o false) of.policy in absurd cc
+
+not_next_of_third : IsPlanOfNext open_net [] 3 outs → ⊥
+unfolding next_policy
+not_next_of_third of = cc of.policy
+
+begun : IsControllerOf open_net [] (first_controller 2 outs)
+begun = begins open_net outs (of_first [])
+
+first_lets_out : List KeptPlan → Bool
+first_lets_out [] = false
+first_lets_out (kept ∷ plans) = lets_out kept.plan.policy
+
+-- a controller that begins with another policy's plan isn't the journal's
+not_begun : IsControllerOf open_net [] (first_controller 2 drops) → ⊥
+unfolding current_mark version_count lets_out first_lets_out
+not_begun is =
+    let no : false ≡ true =
+    ap first_lets_out is.plans ∙ ap lets_out (first_policy []) in absurd cc
+
+-- of two versions both are kept while the first one is current, and then the second one alone
+abbrev submitted : List Item
+submitted = item.Submitted 2 2 ∷ []
+
+both_kept : map (planned open_net submitted) (versions_from_current submitted)
+    ≡ (record { version = 1; plan = outs }) ∷ (record { version = 2; plan = drops }) ∷ []
+unfolding current_mark version_count
+both_kept =
+    sym (ap (λ plan. both plan drops) (of_first submitted)
+    ∙ ap (both (planned open_net submitted 1).plan) (of_second []))
+  where
+    both : PlanValue → PlanValue → List KeptPlan
+    both one two =
+        (record { version = 1; plan = one }) ∷ (record { version = 2; plan = two }) ∷ []
+
+abbrev risen : List Item
+risen = submitted ++ item.Current 2 ∷ []
+
+one_kept : map (planned open_net risen) (versions_from_current risen)
+    ≡ (record { version = 2; plan = drops }) ∷ []
+unfolding current_mark version_count
+one_kept = sym (ap alone (of_second (item.Current 2 ∷ [])))
+  where
+    alone : PlanValue → List KeptPlan
+    alone two = (record { version = 2; plan = two }) ∷ []
+
+-- ---- switches
+
+-- a switch that is over isn't known as at first
+abbrev over : List Item
+over = item.OverNow 0 ∷ []
+
+is_over : machine.is_over over 0 ≡ true
+unfolding machine.is_over known_boot controller_heard message_of
+is_over = refl
+
+not_as_first : IsKnown over 0 first_record → ⊥
+not_as_first is = let no : false ≡ true = is.over ∙ is_over in absurd cc
+
+-- ---- acts that the definition doesn't write
+
+-- a hello of a boot that is known brings no tables
+abbrev late : List Item
+late = item.Sent 1 (to_controller (Hello 0 1)) ∷ []
+
+nothing_late : after_hello open_net late (Hello 0 1) late ≡ []
+unfolding known_boot controller_heard message_of
+nothing_late = refl
+
+not_installed : written late (map (install_act 0 1) (first_controller 2 outs).plans)
+    ≡ after_hello open_net late (Hello 0 1) late → ⊥
+unfolding next_message known_boot controller_heard message_of
+not_installed same = cc same
+
+-- a new version isn't sent to a switch that is over
+abbrev later : List Item
+later = over ++ item.Submitted 2 2 ∷ []
+
+abbrev second : ℕ → Item
+second s = item.Sent 1 (to s (Install 1 (tables_of plan_q 2 s)))
+
+to_other_alone : installs_to_all open_net later ≡ second 1 ∷ []
+unfolding installs_to_all machine.is_over known_boot controller_heard message_of next_message
+    sent_from version_count
+to_other_alone = ap (λ plan. item.Sent 1 (to 1 (Install 1 (tables_of plan 2 1))) ∷ [])
+    (second_plan over [] (refl, tt))
+
+not_to_both : written later
+    (map (λ s. install_act s 1 (record { version = 2; plan = drops })) (0 ∷ 1 ∷ []))
+    ≡ installs_to_all open_net later → ⊥
+unfolding next_message
+not_to_both same = let alone = same ∙ to_other_alone in cc alone
+
+-- ---- refusals: of a file without a plan first, then of too many live versions, then of too many
+
+no_plan_first : update_code open_net (versions 8 0) 7 ≡ Some 14
+unfolding next_plan
+no_plan_first = refl
+
+too_many_live : update_code open_net (versions 8 0) 2 ≡ Some 16
+unfolding version_count retired_mark next_plan
+too_many_live = refl
+
+live_first : update_code open_net (versions 64 56) 2 ≡ Some 16
+unfolding version_count retired_mark next_plan
+live_first = refl
+
+too_many_versions : update_code open_net (versions 64 57) 2 ≡ Some 17
+unfolding version_count retired_mark next_plan
+too_many_versions = refl
+
+seven_live : update_code open_net (versions 7 0) 2 ≡ None
+unfolding version_count retired_mark next_plan
+seven_live = refl

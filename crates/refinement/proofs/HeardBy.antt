@@ -1,0 +1,326 @@
+-- A message that is delivered is heard: what is written then, and what the parts are behind it.
+use Rattle.std.proofs.Common.{ℕ, ◌≡◌, ◌+◌, ◌<◌, ◌==◌, Bool, true, false, Some, None, List, [], ◌∷◌, ◌++◌, refl, ap, sym, subst, ◌∙◌, length, get_or, map, set, append_assoc, rules}
+use Rattle.std.specs.Prelude.{is_some, ◌||◌}
+use Rattle.std.specs.Option.{option_map_or}
+use Rattle.std.proofs.lemmas.List.{length-set}
+use Rattle.message_bag.specs.Posts.{IsMessageOf, Post, is_post_deliverable, posted, with_delivered, with_status}
+use Rattle.message_bag.specs.Deliveries.{delivered}
+use Rattle.message_bag.proofs.Numbered.{length_changed}
+use Rattle.refinement.specs.Written.{AreWritten}
+use Rattle.refinement.proofs.Calls.{hears}
+use Rattle.refinement.proofs.Resends.{names_there}
+use Rattle.refinement.proofs.Steps.{steps_leave}
+use Rattle.controller.specs.Controller.{ControllerValue, SettlesWith}
+use Rattle.controller.specs.Sends.{NamesThere, marks_after, hearing}
+use Rattle.controller.specs.declared.sends.Act.{Act}
+use Rattle.controller.specs.declared.sends.Act.TheVariants.{Post as PostAct}
+use Rattle.ctrl_msg.specs.declared.message.Message.{Message}
+use Rattle.ctrl_msg.specs.Kinds.{to_controller}
+use Rattle.ctrl_msg.specs.declared.message.Receiver.TheVariants as receiver
+use Rattle.journal.specs.declared.item.Item.{Item}
+use Rattle.journal.specs.declared.item.Item.TheVariants as item
+use Rattle.steps.specs.declared.step.Step.TheVariants.{Deliver}
+use Rattle.switch_core.specs.Hearing.{with_message, opened, replies}
+use Rattle.switch_core.specs.State.{SwitchValue}
+use Rattle.refinement.specs.Hearing.{HearsShut}
+use Rattle.refinement.specs.SwitchOf.{switch_of}
+use Rattle.refinement.proofs.Delivered.{hear_ties}
+use Rattle.refinement.proofs.Links.{kept_is}
+use Rattle.update_machine.specs.Concerns.{is_message_to, is_message_to_controller}
+use Rattle.update_machine.specs.Deliveries.{delivery_items}
+use Rattle.update_machine.specs.LinkMasks.{near}
+use Rattle.update_machine.specs.Messages.{is_deliverable, is_to_controller, next_message, sent_from}
+use Rattle.update_machine.specs.Pieces.{deliver_items, nothing, piece}
+use Rattle.steps.specs.Steps.{IsStep}
+use Rattle.update_machine.specs.Setting.{Setting}
+use Rattle.update_machine.specs.Settling.{to_switch}
+use Rattle.update_machine.specs.Boots.{is_to_switch}
+use Rattle.update_machine.specs.Links.{message_of}
+use Rattle.update_machine.proofs.CallerLemmas.{message_keeps}
+use Rattle.world_log.specs.Sending.{MayNote, MaySend, act_items, act_posts}
+use Rattle.refinement.specs.Tied.{AreTied, Control}
+use Rattle.refinement.specs.Bags.{IsBagOf}
+use Rattle.travelling.specs.Travelling.{Travellers}
+use Rattle.world_log.proofs.Sends.{posts_as_acts, sent_as_acts}
+use Rattle.refinement.proofs.ActItems.{written_is}
+use Rattle.refinement.proofs.Delivering.{deliverable_as, nothing_happens, sent_as}
+use Rattle.refinement.proofs.Known.{reached_known}
+use Rattle.refinement.proofs.OneItem.{grown}
+use Rattle.refinement.proofs.Posting.{bag_delivered, bag_on, within_posts}
+use Rattle.refinement.proofs.Told.{IsTold, tied_told}
+use Rattle.refinement.proofs.Tying.{links_stay, one_changes, up_stay}
+use Rattle.refinement.proofs.Sendable.{may_note, may_send}
+
+-- ---- what a delivery writes
+
+-- by whether the message may be delivered
+abbrev delivered_if : Setting → List Item → ℕ → ℕ → Bool → List Item
+delivered_if setting journal row n may = item.Row row (Deliver n) ∷ elim may [
+  | false ↦ nothing
+  | true ↦ item.Delivered n ∷ delivery_items setting journal n
+      (journal ++ item.Row row (Deliver n) ∷ [] ++ item.Delivered n ∷ [])
+]
+
+pub deliver_piece : (setting : Setting) (journal : List Item) (row n : ℕ)
+    → is_deliverable journal n ≡ true → piece setting journal row (Deliver n)
+    ≡ item.Row row (Deliver n) ∷ item.Delivered n
+    ∷ delivery_items setting journal n (grown journal row (Deliver n) (item.Delivered n))
+unfolding piece deliver_items
+deliver_piece setting journal row n may =
+    ap (delivered_if setting journal row n) may
+    ∙ ap (λ js. item.Row row (Deliver n) ∷ item.Delivered n ∷ delivery_items setting journal n js)
+    (append_assoc journal (item.Row row (Deliver n) ∷ []) (item.Delivered n ∷ []))
+
+none_piece : (setting : Setting) (journal : List Item) (row n : ℕ)
+    → is_deliverable journal n ≡ false
+    → piece setting journal row (Deliver n) ≡ item.Row row (Deliver n) ∷ nothing
+unfolding piece deliver_items
+none_piece setting journal row n may = ap (delivered_if setting journal row n) may
+
+-- no such message may be delivered
+pub undelivered : (control : Control) (setting : Setting) (journal : List Item)
+    (switches : List SwitchValue) (before : Travellers) (count row n : ℕ)
+    → AreTied setting journal switches before count control → IsStep setting.net (length setting.policies) (Deliver n)
+    → is_post_deliverable control.posts n ≡ false
+    → (piece setting journal row (Deliver n) ≡ item.Row row (Deliver n) ∷ nothing)
+    × AreTied setting (grown journal row (Deliver n) item.Nothing) switches before count control
+unfolding AreTied
+undelivered control setting journal switches before count row n tied may none =
+    nothing_happens control setting journal switches before count row (Deliver n) tied may
+    (λ q. refl)
+    (none_piece setting journal row n (deliverable_as journal control.posts n tied.bag ∙ none))
+
+-- ---- the message
+
+-- the message of a number in the bag
+pub record IsThere (setting : Setting) (journal : List Item) (posts : List Post) (row n : ℕ)
+    (message : Message) : Type 0 where
+  pub sent : message_of journal n ≡ Some message
+  pub deliverable : is_deliverable journal n ≡ true
+  pub bag : IsBagOf (grown journal row (Deliver n) (item.Delivered n)) (with_delivered posts n)
+  pub as_many : length (with_delivered posts n) ≡ length posts
+
+pub is_there : (control : Control) (setting : Setting) (journal : List Item)
+    (switches : List SwitchValue) (before : Travellers) (count row n : ℕ) (message : Message)
+    → AreTied setting journal switches before count control
+    → IsMessageOf control.posts n message
+    → IsThere setting journal control.posts row n message
+unfolding AreTied
+is_there control setting journal switches before count row n message tied there = record {
+  sent = sent_as journal control.posts n message tied.bag there;
+  deliverable = deliverable_as journal control.posts n tied.bag ∙ ap is_some there.frames_are;
+  bag = subst (λ js. IsBagOf js (with_delivered control.posts n))
+      (append_assoc journal (item.Row row (Deliver n) ∷ []) (item.Delivered n ∷ []))
+      (bag_delivered (journal ++ item.Row row (Deliver n) ∷ []) control.posts n
+      (within_posts control.posts n _ there.frames_are)
+      (bag_on journal (item.Row row (Deliver n) ∷ []) control.posts (refl, tt) tied.bag));
+  as_many = length_changed (with_status delivered) control.posts n;
+}
+
+-- it is delivered, and then more is written
+pub first_piece : (control : Control) (setting : Setting) (journal : List Item)
+    (switches : List SwitchValue) (before : Travellers) (count row n : ℕ) (message : Message)
+    → AreTied setting journal switches before count control
+    → IsMessageOf control.posts n message
+    → piece setting journal row (Deliver n) ≡ item.Row row (Deliver n) ∷ item.Delivered n
+    ∷ delivery_items setting journal n (grown journal row (Deliver n) (item.Delivered n))
+first_piece control setting journal switches before count row n message tied there =
+    deliver_piece setting journal row n
+    (is_there control setting journal switches before count row n message tied there).deliverable
+
+-- a row leaves a message
+pub row_keeps : (journal : List Item) (row n : ℕ)
+    → message_of (journal ++ item.Row row (Deliver n) ∷ []) n ≡ message_of journal n
+row_keeps journal row n = (message_keeps n journal (item.Row row (Deliver n) ∷ []) (refl, tt)).message
+
+-- a switch to which the message isn't stays
+not_to : (setting : Setting) (journal : List Item) (row n q : ℕ) (message : Message)
+    → message_of journal n ≡ Some message → is_to_switch q message.to ≡ false
+    → switch_of setting (grown journal row (Deliver n) (item.Delivered n)) q
+    ≡ switch_of setting journal q
+not_to setting journal row n q message sent other =
+    let to_other : is_message_to (journal ++ item.Row row (Deliver n) ∷ []) q n ≡ false =
+    ap (λ o. option_map_or (λ (m : Message). is_to_switch q m.to) o false)
+    (row_keeps journal row n ∙ sent) ∙ other in
+    kept_is setting q journal (item.Row row (Deliver n) ∷ item.Delivered n ∷ [])
+    (refl, (ap (λ b. b || false) to_other, tt)) (refl, (refl, tt))
+
+-- ---- at the controller
+
+as_told : (message : Message) → message.to ≡ receiver.Controller
+    → message ≡ to_controller message.body
+as_told message to = ap (λ p. record { to = p; body = message.body }) to
+
+-- what it names is there
+pub names_known : (control : Control) (setting : Setting) (journal : List Item)
+    (switches : List SwitchValue) (before : Travellers) (count n : ℕ) (message : Message)
+    → AreTied setting journal switches before count control
+    → IsMessageOf control.posts n message → message.to ≡ receiver.Controller
+    → NamesThere message.body control.controller.marks
+unfolding AreTied
+names_known control setting journal switches before count n message tied there to =
+    names_there setting journal n message.body control.controller.marks
+    (reached_known setting journal tied.sound tied.reached).tables.names tied.controller.marks
+    (sent_as journal control.posts n message tied.bag there ∙ ap Some (as_told message to))
+
+module _ (control : Control) (setting : Setting) (journal : List Item)
+    (switches : List SwitchValue) (before : Travellers) (count row n : ℕ) (message : Message)
+    (new : ControllerValue) (tied : AreTied setting journal switches before count control)
+    (may : IsStep setting.net (length setting.policies) (Deliver n)) (there : IsMessageOf control.posts n message)
+    (to : message.to ≡ receiver.Controller)
+    (settles : SettlesWith (marks_after message.body control.controller.marks)
+    control.controller.plans new) where
+  its : IsThere setting journal control.posts row n message
+  its = is_there control setting journal switches before count row n message tied there
+
+  abbrev acts : List Act
+  acts = hearing message.body control.controller.marks new
+
+  abbrev first : List Item
+  first = item.Row row (Deliver n) ∷ item.Delivered n ∷ []
+
+  heard_so : AreWritten setting journal first acts new (piece setting journal row (Deliver n))
+  unfolding AreTied
+  heard_so = hears setting journal row n message.body control.controller new
+      (reached_known setting journal tied.sound tied.reached).caused tied.controller its.deliverable
+      (its.sent ∙ ap Some (as_told message to))
+      (names_known control setting journal switches before count n message tied there to) settles
+
+  pub control_piece : piece setting journal row (Deliver n)
+      ≡ item.Row row (Deliver n) ∷ item.Delivered n ∷ act_items (length control.posts + 1) acts
+  control_piece = heard_so.same
+      ∙ ap (λ items. first ++ items) (written_is (journal ++ first) acts
+      ∙ ap (λ k. act_items k acts) (its.bag.many ∙ ap (λ k. k + 1) its.as_many))
+
+  control_told : IsTold setting journal row (Deliver n) (item.Delivered n ∷ []) acts switches
+      switches control (record control {
+        controller = new;
+        posts = with_delivered control.posts n;
+      })
+  unfolding AreTied
+  control_told =
+      let each : (s : ℕ) (d : SwitchValue) → s < length switches → get_or switches s d
+      ≡ switch_of setting (grown journal row (Deliver n) (item.Delivered n)) s =
+      λ s d below. tied.each s d below
+      ∙ sym (not_to setting journal row n s message its.sent (ap (is_to_switch s) to)) in
+      search (rules, control_piece, its.bag, its.as_many, heard_so.after, links_stay, up_stay)
+
+  pub control_tied : AreTied setting (journal ++ item.Row row (Deliver n) ∷ item.Delivered n
+      ∷ act_items (length control.posts + 1) acts) switches before count
+      (record control {
+        controller = new;
+        posts = with_delivered control.posts n ++ act_posts acts;
+      })
+  control_tied = tied_told control
+      (record control { controller = new; posts = with_delivered control.posts n }) setting
+      journal switches switches before count row (Deliver n) (item.Delivered n ∷ []) acts tied
+      control_told
+
+  -- and it may be written
+  pub control_may : length control.posts < 990_000
+      → MayNote (with_delivered control.posts n) acts
+  control_may = may_note control setting journal switches before count row (Deliver n)
+      (item.Delivered n ∷ []) (with_delivered control.posts n) acts tied may control_piece
+      its.as_many
+
+-- ---- at a switch that doesn't open
+
+pub as_sent : (message : Message) (s : ℕ) → message.to ≡ receiver.Switch s
+    → message ≡ to_switch s message.body
+as_sent message s to = ap (λ p. record { to = p; body = message.body }) to
+
+module _ (control : Control) (setting : Setting) (journal : List Item)
+    (switches : List SwitchValue) (before : Travellers) (count row n s : ℕ) (message : Message)
+    (own changed : SwitchValue) (mask : ℕ)
+    (tied : AreTied setting journal switches before count control)
+    (may : IsStep setting.net (length setting.policies) (Deliver n)) (there : IsMessageOf control.posts n message)
+    (to : message.to ≡ receiver.Switch s) (within : s < length switches)
+    (own_at : own ≡ get_or switches s own) (near_is : mask ≡ near setting journal s)
+    (changed_is : changed ≡ with_message own n message.body)
+    (shut : opened own message.body ≡ None) where
+  mine : IsThere setting journal control.posts row n message
+  mine = is_there control setting journal switches before count row n message tied there
+
+  own_is : own ≡ switch_of setting journal s
+  unfolding AreTied
+  own_is = own_at ∙ tied.each s own within
+
+  abbrev messages : List Message
+  messages = replies own mask message.body
+
+  abbrev reply_acts : List Act
+  reply_acts = map PostAct messages
+
+  hears_shut : HearsShut setting journal n s message.body
+  unfolding AreTied
+  hears_shut = hear_ties.shut setting journal n s message.body tied.sound.net (record {
+    sent = mine.sent ∙ ap Some (as_sent message s to);
+    names = (reached_known setting journal tied.sound tied.reached).tables.names;
+  }) (ap (λ w. opened w message.body) (sym own_is) ∙ shut)
+
+  number_is : next_message (grown journal row (Deliver n) (item.Delivered n))
+      ≡ length control.posts + 1
+  number_is = mine.bag.many ∙ ap (λ k. k + 1) mine.as_many
+
+  items_are : delivery_items setting journal n (grown journal row (Deliver n) (item.Delivered n))
+      ≡ act_items (length control.posts + 1) reply_acts
+  items_are = hears_shut.items row
+      ∙ ap (λ k. sent_from k (replies (switch_of setting journal s) (near setting journal s)
+      message.body)) number_is
+      ∙ ap (λ w. sent_from (length control.posts + 1) (replies w (near setting journal s)
+      message.body)) (sym own_is)
+      ∙ ap (λ m. sent_from (length control.posts + 1) (replies own m message.body)) (sym near_is)
+      ∙ sym (sent_as_acts (length control.posts + 1) messages)
+
+  shut_piece_acts : piece setting journal row (Deliver n)
+      ≡ item.Row row (Deliver n) ∷ item.Delivered n ∷ act_items (length control.posts + 1) reply_acts
+  shut_piece_acts = deliver_piece setting journal row n mine.deliverable
+      ∙ ap (λ items. item.Row row (Deliver n) ∷ item.Delivered n ∷ items) items_are
+
+  not_controller : is_message_to_controller journal n ≡ false
+  not_controller = ap (λ o. option_map_or (λ (m : Message). is_to_controller m.to) o false) mine.sent
+      ∙ ap is_to_controller to
+
+  shut_told : IsTold setting journal row (Deliver n) (item.Delivered n ∷ []) reply_acts switches
+      (set switches s changed) control
+      (record control { posts = with_delivered control.posts n })
+  unfolding AreTied
+  shut_told =
+      let each : (q : ℕ) (d : SwitchValue) → q < length switches → get_or (set switches s changed) q d
+      ≡ switch_of setting (grown journal row (Deliver n) (item.Delivered n)) q = λ q d below.
+      one_changes setting journal (grown journal row (Deliver n) (item.Delivered n)) switches s q
+      changed d (s == q) refl within
+      (changed_is ∙ ap (λ w. with_message w n message.body) own_is ∙ sym (hears_shut.record_of row))
+      (λ other. not_to setting journal row n q message mine.sent
+      (ap (is_to_switch q) to ∙ other)) (tied.each q d below) in
+      let controller = steps_leave setting journal row (Deliver n) control.controller
+      (reached_known setting journal tied.sound tied.reached).caused not_controller tied.controller in
+      search (rules, shut_piece_acts, mine.bag, mine.as_many, length-set, links_stay, up_stay)
+
+  pub shut_piece : piece setting journal row (Deliver n)
+      ≡ item.Row row (Deliver n) ∷ item.Delivered n ∷ sent_from (length control.posts + 1) messages
+  shut_piece = shut_piece_acts
+      ∙ ap (λ items. item.Row row (Deliver n) ∷ item.Delivered n ∷ items)
+      (sent_as_acts (length control.posts + 1) messages)
+
+  pub shut_tied : AreTied setting (journal ++ item.Row row (Deliver n) ∷ item.Delivered n
+      ∷ sent_from (length control.posts + 1) messages) (set switches s changed) before count
+      (record control { posts = with_delivered control.posts n ++ map posted messages })
+  shut_tied = subst (λ items. AreTied setting (journal ++ item.Row row (Deliver n)
+      ∷ item.Delivered n ∷ items) (set switches s changed) before count (record control {
+        posts = with_delivered control.posts n ++ map posted messages;
+      })) (sent_as_acts (length control.posts + 1) messages)
+      (subst (λ posts. AreTied setting (journal ++ item.Row row (Deliver n)
+      ∷ item.Delivered n ∷ act_items (length control.posts + 1) reply_acts) (set switches s changed)
+      before count (record control { posts = with_delivered control.posts n ++ posts }))
+      (posts_as_acts messages)
+      (tied_told control (record control { posts = with_delivered control.posts n }) setting
+      journal switches (set switches s changed) before count row (Deliver n)
+      (item.Delivered n ∷ []) reply_acts tied shut_told))
+
+  pub shut_may : length control.posts < 990_000
+      → MaySend (with_delivered control.posts n) messages
+  shut_may room = may_send (with_delivered control.posts n) messages
+      (may_note control setting journal switches before count row (Deliver n)
+      (item.Delivered n ∷ []) (with_delivered control.posts n) reply_acts tied may shut_piece_acts
+      mine.as_many room)

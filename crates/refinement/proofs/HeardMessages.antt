@@ -1,0 +1,213 @@
+-- What a delivered message makes of the record of its switch.
+use Rattle.std.proofs.Common.{ℕ, ◌≡◌, ◌==◌, Bool, true, false, ◌&&◌, ◌||◌, not, max, if◌then◌else◌, Some, None, List, [], ◌∷◌, ◌++◌, refl, ap, sym, ◌∙◌, arith}
+use Rattle.std.specs.Prelude.{nat_le, nat_lt}
+use Rattle.std.specs.Option.{option_map_or}
+use Rattle.std.proofs.lemmas.Bool.{eq-eqb}
+use Rattle.std.proofs.lemmas.Bool.Decides.{nat_tests}
+use Rattle.ctrl_msg.specs.Bodies.{body_boot}
+use Rattle.ctrl_msg.specs.declared.message.Body.{Body}
+use Rattle.ctrl_msg.specs.declared.message.Body.TheVariants.{Install, OpenAt, Stamp, Advertise, Hello, Installed, Stamped}
+use Rattle.ctrl_msg.specs.Kinds.{is_for_controller}
+use Rattle.failover.specs.Adverts.{after_hearing}
+use Rattle.journal.specs.declared.item.Item.{Item}
+use Rattle.journal.specs.declared.item.Item.TheVariants as item
+use Rattle.switch_core.specs.Hearing.{after_body, collected_to, with_message, informed, installed, is_news_here, obeys, opened, opened_by, raised_to, replies_to}
+use Rattle.switch_core.specs.State.{SwitchValue, holds_version}
+use Rattle.switch_table.specs.Cache.{raised}
+use Rattle.switch_table.specs.declared.tables.Tables.{Tables}
+use Rattle.update_machine.specs.Boots.{boot_of, heard, is_for_boot, is_up, said_to}
+use Rattle.update_machine.specs.Setting.{Setting}
+use Rattle.update_machine.specs.Settling.{to_switch}
+use Rattle.update_machine.specs.Links.{message_of}
+use Rattle.refinement.specs.SwitchOf.{switch_of}
+use Rattle.refinement.proofs.Hearing.{hears_facts}
+use Rattle.refinement.proofs.Items.{facts_delivered}
+use Rattle.refinement.proofs.Tables.{AreVersioned, IsVersioned}
+use Rattle.refinement.proofs.SwitchFacts.{SwitchFacts, by_facts, switch_by, switch_is, facts_of}
+
+-- ---- what is obeyed
+
+-- the switch is up, and the body is of its boot if it carries one
+abbrev pub is_meant : List Item → ℕ → Body → Bool
+is_meant before s body = is_up before s && is_for_boot (boot_of before s) body
+
+-- upon a body for the controller nothing is done that isn't done anyway
+pub by_obeying : {X : Type 0} (switch : SwitchValue) (body : Body) (up own : Bool)
+    (obeyed left_so : X)
+    → switch.is_up ≡ up → option_map_or (λ boot. boot == switch.boot) (body_boot body) true ≡ own
+    → (is_for_controller body ≡ true → obeyed ≡ left_so)
+    → (if obeys switch body then obeyed else left_so) ≡ (if up && own then obeyed else left_so)
+unfolding obeys
+by_obeying {X = X} switch body up own obeyed left_so is mine same =
+    rw (is, mine) (by_kind up own (is_for_controller body) same)
+  where
+    by_kind : (up own kind : Bool) → (kind ≡ true → obeyed ≡ left_so)
+        → (if (up && not kind) && own then obeyed else left_so)
+        ≡ (if up && own then obeyed else left_so)
+    by_kind true true true same = sym (same refl)
+    by_kind true true false same = refl
+    by_kind true false true same = refl
+    by_kind true false false same = refl
+    by_kind false own kind same = refl
+
+pub controller_kept : (switch : SwitchValue) (n : ℕ) (body : Body) → is_for_controller body ≡ true
+    → after_body switch n body ≡ switch
+controller_kept switch n (Hello s boot) is = refl
+controller_kept switch n (Installed s boot version) is = refl
+controller_kept switch n (Stamped s boot version) is = refl
+controller_kept switch n _ is = absurd cc
+
+pub controller_silent : (switch : SwitchValue) (near : ℕ) (body : Body)
+    → is_for_controller body ≡ true → replies_to switch near body ≡ []
+controller_silent switch near (Hello s boot) is = refl
+controller_silent switch near (Installed s boot version) is = refl
+controller_silent switch near (Stamped s boot version) is = refl
+controller_silent switch near _ is = absurd cc
+
+pub controller_shut : (switch : SwitchValue) (body : Body) → is_for_controller body ≡ true
+    → opened_by switch body ≡ None
+controller_shut switch (OpenAt boot version) is = absurd cc
+controller_shut switch _ is = refl
+
+pub obeyed_by : (switch : SwitchValue) (n : ℕ) (body : Body) (up own : Bool)
+    → switch.is_up ≡ up → option_map_or (λ boot. boot == switch.boot) (body_boot body) true ≡ own
+    → with_message switch n body ≡ (if up && own then after_body switch n body else switch)
+unfolding with_message
+obeyed_by switch n body up own is mine =
+    by_obeying switch body up own (after_body switch n body) switch is mine
+    (controller_kept switch n body)
+
+-- a message that was sent to the switch says its body where it is meant
+pub said_is : (before : List Item) (s n : ℕ) (body : Body)
+    → message_of before n ≡ Some (to_switch s body)
+    → said_to before s n ≡ (if is_meant before s body then Some body else None)
+said_is before s n body sent = rw (sent, eq-eqb s s refl, said_to) refl
+
+-- ---- the record
+
+-- the switch once it heard the body, open or closed as it was
+abbrev hears_shut : ℕ → Body → SwitchValue → SwitchValue
+hears_shut n body switch = record (with_message switch n body) { is_open = switch.is_open }
+
+pub heard_is : (setting : Setting) (before : List Item) (n s : ℕ) (body : Body)
+    → message_of before n ≡ Some (to_switch s body)
+    → AreVersioned (heard before s) → IsVersioned body
+    → switch_of setting (before ++ item.Delivered n ∷ []) s
+    ≡ record (with_message (switch_of setting before s) n body) {
+      is_open = (switch_of setting before s).is_open;
+    }
+heard_is setting before n s body sent olds new =
+    by_meant (is_meant before s body) refl
+    ∙ ap (hears_shut n body) (sym (switch_is setting before s))
+  where
+    now : List Item
+    now = before ++ item.Delivered n ∷ []
+
+    w : SwitchFacts
+    w = facts_of setting before s
+
+    switch : SwitchValue
+    switch = switch_by setting s w
+
+    obeyed : (meant : Bool) → is_meant before s body ≡ meant
+        → record (if meant then after_body switch n body else switch) { is_open = w.serving }
+        ≡ hears_shut n body switch
+    obeyed meant is = ap (λ (after : SwitchValue). record after { is_open = w.serving })
+        (ap (λ b. if b then after_body switch n body else switch) (sym is)
+        ∙ sym (obeyed_by switch n body (is_up before s) (is_for_boot (boot_of before s) body) refl
+        refl))
+
+    by_meant : (meant : Bool) → is_meant before s body ≡ meant
+        → switch_of setting now s ≡ hears_shut n body switch
+    by_meant true is =
+        by_facts setting now s _ (facts_delivered setting before s n (Some body)
+        (said_is before s n body sent ∙ ap (λ b. if b then Some body else None) is))
+        ∙ hears_facts setting s n w (w.up && w.boot == 1) body olds new
+        ∙ obeyed true is
+    by_meant false is =
+        by_facts setting now s _ (facts_delivered setting before s n None
+        (said_is before s n body sent ∙ ap (λ b. if b then Some body else None) is))
+        ∙ obeyed false is
+
+-- ---- whether it opens
+
+or_kept : (b : Bool) (switch : SwitchValue) (tables : Tables)
+    → (if b then switch else record switch { tables = switch.tables ++ tables ∷ [] }).is_open
+    ≡ switch.is_open
+or_kept true switch tables = refl
+or_kept false switch tables = refl
+
+kept_by : (switch : SwitchValue) (n : ℕ) (body : Body) → opened_by switch body ≡ None
+    → (after_body switch n body).is_open ≡ switch.is_open
+unfolding installed raised_to collected_to informed
+kept_by switch n (Install boot tables) shut =
+    or_kept (holds_version switch tables.version || nat_le tables.version switch.collected) switch
+    tables
+kept_by switch n (OpenAt boot version) shut = by_open switch.is_open shut
+  where
+    by_open : (b : Bool) → (if b then None else Some (max switch.stamp version)) ≡ None → true ≡ b
+    by_open true shut = refl
+    by_open false shut = absurd cc
+kept_by switch n (Stamp boot version) shut = by_test (nat_lt switch.stamp version)
+  where
+    by_test : (b : Bool) → (if b then record switch {
+      stamp = version;
+      cache = raised version switch.cache;
+    } else switch).is_open ≡ switch.is_open
+    by_test true = refl
+    by_test false = refl
+kept_by switch n (Advertise advert) shut = by_test (is_news_here switch advert)
+  where
+    by_test : (b : Bool) → (if b then record switch {
+      database = after_hearing switch.database advert;
+    } else switch).is_open ≡ switch.is_open
+    by_test true = refl
+    by_test false = refl
+kept_by switch n _ shut = refl
+
+-- a switch that doesn't open is open or closed as before
+pub open_kept : (switch : SwitchValue) (n : ℕ) (body : Body) → opened switch body ≡ None
+    → (with_message switch n body).is_open ≡ switch.is_open
+unfolding with_message opened
+open_kept switch n body shut = by_test (obeys switch body) shut
+  where
+    by_test : (b : Bool) → (if b then opened_by switch body else None) ≡ None
+        → (if b then after_body switch n body else switch).is_open ≡ switch.is_open
+    by_test true shut = kept_by switch n body shut
+    by_test false shut = refl
+
+opens_by : (switch : SwitchValue) (n stamp : ℕ) (body : Body) → opened_by switch body ≡ Some stamp
+    → ((after_body switch n body).is_open ≡ true) × (stamp ≡ (after_body switch n body).stamp)
+unfolding raised_to
+opens_by switch n stamp (OpenAt boot version) opens = (refl, by_open switch.is_open opens)
+  where
+    by_test : (b : Bool) → nat_lt switch.stamp version ≡ b → max switch.stamp version
+        ≡ (if b then record switch {
+          stamp = version;
+          cache = raised version switch.cache;
+        } else switch).stamp
+    by_test true is = grind (arith, nat_tests)
+    by_test false is = grind (arith, nat_tests)
+
+    by_open : (b : Bool) → (if b then None else Some (max switch.stamp version)) ≡ Some stamp
+        → stamp ≡ (if nat_lt switch.stamp version then record switch {
+          stamp = version;
+          cache = raised version switch.cache;
+        } else switch).stamp
+    by_open true opens = absurd cc
+    by_open false opens =
+        let same : max switch.stamp version ≡ stamp = cc in
+        sym same ∙ by_test (nat_lt switch.stamp version) refl
+opens_by switch n stamp _ opens = absurd cc
+
+-- one that opens is open, with this stamp
+pub opens_as : (switch : SwitchValue) (n stamp : ℕ) (body : Body) → opened switch body ≡ Some stamp
+    → ((with_message switch n body).is_open ≡ true) × (stamp ≡ (with_message switch n body).stamp)
+unfolding with_message opened
+opens_as switch n stamp body opens = by_test (obeys switch body) opens
+  where
+    by_test : (b : Bool) → (if b then opened_by switch body else None) ≡ Some stamp
+        → ((if b then after_body switch n body else switch).is_open ≡ true)
+        × (stamp ≡ (if b then after_body switch n body else switch).stamp)
+    by_test true opens = opens_by switch n stamp body opens
+    by_test false opens = absurd cc

@@ -1,0 +1,301 @@
+-- What a body that a switch hears makes of its record.
+use Rattle.std.proofs.Common.{ℕ, ◌≡◌, ◌≢◌, ◌==◌, Bool, true, false, ◌&&◌, ◌||◌, not, max, if◌then◌else◌, Option, Some, None, List, [], ◌∷◌, ◌++◌, set, refl, ap, sym, ◌∙◌, arith, append-nil, get_or-set_other}
+use Rattle.std.specs.Prelude.{filter_map, find, fold, is_some, nat_le, nat_lt}
+use Rattle.std.specs.List.{list_any}
+use Rattle.std.specs.Option.{option_map_or}
+use Rattle.std.proofs.lemmas.Bool.{eq-eqb}
+use Rattle.std.proofs.lemmas.Bool.Decides.{nat_tests}
+use Rattle.std.proofs.lemmas.List.{set_comm}
+use Rattle.std.proofs.lemmas.List.Elements.{filter_map-append}
+use Rattle.std.proofs.lemmas.List.Sums.{fold-append}
+use Rattle.ctrl_msg.specs.declared.message.Body.{Body}
+use Rattle.ctrl_msg.specs.declared.message.Body.TheVariants.{Install, OpenAt, Stamp, Collect, CacheRule, Advertise, Hello, Installed, Stamped}
+use Rattle.failover.specs.Adverts.{after_hearing, held, is_news, is_newer}
+use Rattle.failover.specs.declared.advert.Advert.{Advert}
+use Rattle.switch_core.specs.Hearing.{after_body, collected_to, informed, installed, is_news_here, raised_to}
+use Rattle.switch_core.specs.State.{SwitchValue}
+use Rattle.switch_table.specs.Cache.{raised}
+use Rattle.switch_table.specs.declared.tables.Tables.{Tables}
+use Rattle.update_machine.specs.LinkMasks.{other_advert}
+use Rattle.update_machine.specs.Caches.{cache_after}
+use Rattle.update_machine.specs.Setting.{Setting}
+use Rattle.update_machine.specs.Versions.{stamp_in}
+use Rattle.control_laws.proofs.Sends.{each_append}
+use Rattle.refinement.specs.SwitchOf.{collect_in, tables_in, with_tables}
+use Rattle.refinement.proofs.Tables.{AreVersioned, IsVersioned, above, above_more, above_twice, found_above, tables_are}
+use Rattle.refinement.proofs.SwitchFacts.{SwitchFacts, all_by, collected_by, filled, first_tables, others_by, stamp_by, switch_in}
+
+-- ---- one body more
+
+-- what is folded over what bodies give
+fold_one : {X Y : Type 0} (gives : Body → Option X) (f : Y → X → Y) (start : Y)
+    (bodies : List Body) (body : Body)
+    → let first = fold f start (filter_map gives bodies) in
+    fold f start (filter_map gives (bodies ++ body ∷ []))
+    ≡ option_map_or (f first) (gives body) first
+fold_one {X = X} {Y = Y} gives f start bodies body =
+    ap (fold f start) (filter_map-append gives bodies (body ∷ []))
+    ∙ fold-append f start (filter_map gives bodies) (filter_map gives (body ∷ []))
+    ∙ by_given (gives body) refl
+  where
+    by_given : (o : Option X) → gives body ≡ o
+        → fold f (fold f start (filter_map gives bodies)) (filter_map gives (body ∷ []))
+        ≡ option_map_or (f (fold f start (filter_map gives bodies))) o
+        (fold f start (filter_map gives bodies))
+    by_given None is = rw is refl
+    by_given (Some x) is = rw is refl
+
+stamp_one : (first : Bool) (bodies : List Body) (body : Body)
+    → stamp_by first (bodies ++ body ∷ [])
+    ≡ option_map_or (max (stamp_by first bodies)) (stamp_in body) (stamp_by first bodies)
+stamp_one first bodies body =
+    let begun : List ℕ = if first then 1 ∷ [] else [] in
+    fold-append max 0 begun (filter_map stamp_in (bodies ++ body ∷ []))
+    ∙ fold_one stamp_in max (fold max 0 begun) bodies body
+    ∙ ap (λ stamp. option_map_or (max stamp) (stamp_in body) stamp)
+    (sym (fold-append max 0 begun (filter_map stamp_in bodies)))
+
+-- ---- the record
+
+-- what the body makes of these: the stamp, the collect mark, all tables and the adverts of others
+abbrev heard_as : ℕ → ℕ → SwitchFacts → Body → ℕ → ℕ → List Tables → List (Option Advert)
+    → SwitchValue
+heard_as s number w body stamp collected all others =
+    let after = option_map_or (max stamp) (stamp_in body) stamp in
+    let mark = option_map_or (max collected) (collect_in body) collected in
+    filled s (record w { cache = cache_after stamp after number w.cache body }) after mark
+    (above mark (option_map_or (with_tables all) (tables_in body) all))
+    (option_map_or (after_hearing others) (other_advert s body) others)
+
+-- the switch before
+abbrev was : ℕ → SwitchFacts → ℕ → ℕ → List Tables → List (Option Advert) → SwitchValue
+was s w stamp collected all others = filled s w stamp collected (above collected all) others
+
+hears_tables : (s : ℕ) (w : SwitchFacts) (stamp collected boot : ℕ) (all : List Tables)
+    (others : List (Option Advert)) (tables : Tables)
+    → filled s w stamp collected (above collected (with_tables all tables)) others
+    ≡ installed (was s w stamp collected all others) tables
+unfolding installed
+hears_tables s w stamp collected boot all others tables =
+    by_mark (nat_le tables.version collected) refl
+  where
+    old : List Tables
+    old = above collected all
+
+    kept : Bool → List Tables → SwitchValue
+    kept there news = filled s w stamp collected
+        (if there then old else old ++ news) others
+
+    came : Bool
+    came = list_any (λ other. other.version == tables.version) all
+
+    by_came : (past : Bool) → nat_lt collected tables.version ≡ not past → (b : Bool)
+        → filled s w stamp collected
+        (above collected (if b then all else all ++ tables ∷ [])) others
+        ≡ kept (b || past) (tables ∷ [])
+    by_came past over true = refl
+    by_came true over false =
+        ap (λ list. filled s w stamp collected list others)
+        (above_more collected all tables ∙ rw over (append-nil old))
+    by_came false over false =
+        ap (λ list. filled s w stamp collected list others)
+        (above_more collected all tables ∙ rw over refl)
+
+    held : Bool
+    held = is_some (find (λ other. other.version == tables.version) old)
+
+    by_held : (past b : Bool) → kept (b || past) (tables ∷ [])
+        ≡ (if b || past then filled s w stamp collected old others
+        else filled s w stamp collected (old ++ tables ∷ []) others)
+    by_held true true = refl
+    by_held false true = refl
+    by_held true false = refl
+    by_held false false = refl
+
+    over_mark : (past : Bool) → nat_le tables.version collected ≡ past
+        → nat_lt collected tables.version ≡ not past
+    over_mark past is = grind (arith, nat_tests)
+
+    past_any : (a b : Bool) → kept (a || true) (tables ∷ []) ≡ kept (b || true) (tables ∷ [])
+    past_any true true = refl
+    past_any true false = refl
+    past_any false true = refl
+    past_any false false = refl
+
+    same : (past : Bool) → nat_le tables.version collected ≡ past
+        → kept (came || past) (tables ∷ []) ≡ kept (held || past) (tables ∷ [])
+    same true is = past_any came held
+    same false is = ap (λ b. kept (b || false) (tables ∷ []))
+        (sym (found_above collected tables.version (over_mark false is) all))
+
+    by_mark : (past : Bool) → nat_le tables.version collected ≡ past
+        → filled s w stamp collected (above collected (with_tables all tables)) others
+        ≡ (if held || nat_le tables.version collected
+        then filled s w stamp collected old others
+        else filled s w stamp collected (old ++ tables ∷ []) others)
+    by_mark past is = rw is (by_came past (over_mark past is) came ∙ same past is
+        ∙ by_held past held)
+
+-- a greater stamp raises the cache
+hears_stamp : (s : ℕ) (w : SwitchFacts) (stamp collected version : ℕ) (tables : List Tables)
+    (others : List (Option Advert))
+    → filled s (record w {
+      cache = cache_after stamp (max stamp version) 0 w.cache (Stamp 0 version);
+    }) (max stamp version) collected tables others
+    ≡ raised_to (filled s w stamp collected tables others) version
+unfolding raised_to
+hears_stamp s w stamp collected version tables others = by_test (nat_lt stamp version) refl
+  where
+    by_test : (b : Bool) → nat_lt stamp version ≡ b
+        → filled s (record w {
+          cache = cache_after stamp (max stamp version) 0 w.cache (Stamp 0 version);
+        }) (max stamp version) collected tables others
+        ≡ (if nat_lt stamp version
+        then filled s (record w { cache = raised version w.cache }) version collected tables others
+        else filled s w stamp collected tables others)
+    by_test true is =
+        let greater : max stamp version ≡ version = grind (arith, nat_tests) in
+        rw (greater, is) refl
+    by_test false is =
+        let least : max stamp version ≡ stamp = grind (arith, nat_tests) in
+        let same : nat_lt stamp stamp ≡ false = grind (arith, nat_tests) in
+        rw (least, is, same) refl
+
+-- an advert of another switch is heard beside the own one
+hears_beside : (others : List (Option Advert)) (own : Option Advert) (s : ℕ) (advert : Advert)
+    → advert.origin ≢ s
+    → set (after_hearing others advert) s own ≡ after_hearing (set others s own) advert
+unfolding after_hearing is_news
+hears_beside others own s advert other =
+    let as_held : held (set others s own) advert.origin ≡ held others advert.origin =
+    get_or-set_other others s advert.origin own None other in
+    rw as_held (by_test (nat_lt advert.origin 64
+    && option_map_or (is_newer advert) (held others advert.origin) true))
+  where
+    by_test : (b : Bool) → set (if b then set others advert.origin (Some advert) else others) s own
+        ≡ (if b then set (set others s own) advert.origin (Some advert) else set others s own)
+    by_test true = set_comm others advert.origin s (Some advert) own other
+    by_test false = refl
+
+not_heard : (adverts : List (Option Advert)) (advert : Advert) → is_news adverts advert ≡ false
+    → after_hearing adverts advert ≡ adverts
+unfolding after_hearing
+not_heard adverts advert none = rw none refl
+
+hears_advert : (s : ℕ) (w : SwitchFacts) (stamp collected : ℕ) (tables : List Tables)
+    (others : List (Option Advert)) (advert : Advert)
+    → filled s w stamp collected tables
+    (option_map_or (after_hearing others) (other_advert s (Advertise advert)) others)
+    ≡ informed (filled s w stamp collected tables others) advert
+unfolding informed is_news_here
+hears_advert s w stamp collected tables others advert = by_origin (advert.origin == s) refl
+  where
+    switch : SwitchValue
+    switch = filled s w stamp collected tables others
+
+    kept : List (Option Advert) → SwitchValue
+    kept database = record switch { database = database }
+
+    by_news : (b : Bool) → is_news switch.database advert ≡ b
+        → kept (after_hearing switch.database advert)
+        ≡ (if b then kept (after_hearing switch.database advert) else switch)
+    by_news true is = refl
+    by_news false is = ap kept (not_heard switch.database advert is)
+
+    by_origin : (same : Bool) → (advert.origin == s) ≡ same
+        → filled s w stamp collected tables
+        (option_map_or (after_hearing others) (if same then None else Some advert) others)
+        ≡ (if not same && is_news switch.database advert
+        then kept (after_hearing switch.database advert) else switch)
+    by_origin true is = refl
+    by_origin false is =
+        ap kept (hears_beside others _ s advert (λ e.
+        let yes : (advert.origin == s) ≡ true = eq-eqb advert.origin s e in absurd cc))
+        ∙ by_news (is_news switch.database advert) refl
+
+-- but for whether it is open, which the journal tells by an item of its own
+hears : (s number : ℕ) (w : SwitchFacts) (body : Body) (stamp collected : ℕ) (all : List Tables)
+    (others : List (Option Advert))
+    → heard_as s number w body stamp collected all others
+    ≡ record (after_body (was s w stamp collected all others) number body) { is_open = w.serving }
+unfolding collected_to
+hears s number w (Install boot tables) stamp collected all others =
+    ap (λ (switch : SwitchValue). record switch { is_open = w.serving })
+    (hears_tables s w stamp collected boot all others tables)
+hears s number w (OpenAt boot version) stamp collected all others =
+    ap (λ (switch : SwitchValue). record switch { is_open = w.serving })
+    (hears_stamp s w stamp collected version (above collected all) others)
+hears s number w (Stamp boot version) stamp collected all others =
+    ap (λ (switch : SwitchValue). record switch { is_open = w.serving })
+    (hears_stamp s w stamp collected version (above collected all) others)
+hears s number w (Collect boot version) stamp collected all others =
+    ap (λ tables. filled s w stamp (max collected version) tables others)
+    (sym (above_twice collected version all))
+hears s number w (Advertise advert) stamp collected all others =
+    ap (λ (switch : SwitchValue). record switch { is_open = w.serving })
+    (hears_advert s w stamp collected (above collected all) others advert)
+hears s number w (CacheRule version word rule action) stamp collected all others = refl
+hears s number w (Hello switch boot) stamp collected all others = refl
+hears s number w (Installed switch boot version) stamp collected all others = refl
+hears s number w (Stamped switch boot version) stamp collected all others = refl
+
+-- ---- the facts
+
+-- once the body was heard as the message of this number
+abbrev pub heard_facts : ℕ → Body → Bool → SwitchFacts → SwitchFacts
+heard_facts number body first w = record w {
+  bodies = w.bodies ++ body ∷ [];
+  cache = cache_after (stamp_by first w.bodies) (stamp_by first (w.bodies ++ body ∷ [])) number
+      w.cache body;
+}
+
+pub hears_facts : (setting : Setting) (s number : ℕ) (w : SwitchFacts) (first : Bool) (body : Body)
+    → AreVersioned w.bodies → IsVersioned body
+    → switch_in setting s (heard_facts number body first w) first
+    ≡ record (after_body (switch_in setting s w first) number body) { is_open = w.serving }
+hears_facts setting s number w first body olds new =
+    ap (λ these. filled s (heard_facts number body first w) (stamp_by first more)
+    (collected_by more) these (others_by setting s first more))
+    (tables_are tables first more refl
+    (each_append IsVersioned w.bodies (body ∷ []) olds (new, tt)))
+    ∙ ap (λ stamp. now stamp (collected_by more) (all_by tables first more)
+    (others_by setting s first more)) (stamp_one first w.bodies body)
+    ∙ ap (λ mark. now after mark (all_by tables first more) (others_by setting s first more))
+    (fold_one collect_in max 0 w.bodies body)
+    ∙ ap (λ all. now after mark_after all (others_by setting s first more))
+    (fold_one tables_in with_tables (if first then tables ∷ [] else []) w.bodies body)
+    ∙ ap (now after mark_after (option_map_or (with_tables all) (tables_in body) all))
+    (fold_one (other_advert s) after_hearing (others_by setting s first []) w.bodies body)
+    ∙ hears s number w body stamp collected all others
+    ∙ ap (λ these. record (after_body (filled s w stamp collected these others) number body) {
+      is_open = w.serving;
+    }) (sym (tables_are tables first w.bodies refl olds))
+  where
+    tables : Tables
+    tables = first_tables setting s
+
+    more : List Body
+    more = w.bodies ++ body ∷ []
+
+    stamp : ℕ
+    stamp = stamp_by first w.bodies
+
+    collected : ℕ
+    collected = collected_by w.bodies
+
+    all : List Tables
+    all = all_by tables first w.bodies
+
+    others : List (Option Advert)
+    others = others_by setting s first w.bodies
+
+    after : ℕ
+    after = option_map_or (max stamp) (stamp_in body) stamp
+
+    mark_after : ℕ
+    mark_after = option_map_or (max collected) (collect_in body) collected
+
+    now : ℕ → ℕ → List Tables → List (Option Advert) → SwitchValue
+    now after mark all others =
+        filled s (record w { cache = cache_after stamp after number w.cache body }) after mark
+        (above mark all) others

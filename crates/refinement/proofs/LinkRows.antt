@@ -1,0 +1,352 @@
+-- The link of two switches comes back or fails: what its ends are then, what is told of that, and
+-- what the parts are behind it.
+use Rattle.std.proofs.Common.{ℕ, ◌≡◌, ◌+◌, ◌^◌, ◌<◌, ◌==◌, Bool, true, false, cond, Option, Some, None, List, [], ◌∷◌, ◌++◌, refl, ap, sym, ◌∙◌, length, get_or, map, filter, min, max, append_assoc, arith, eqb-true}
+use Rattle.std.specs.Bool.{beq}
+use Rattle.std.specs.Prelude.{◌||◌, ◌&&◌, if◌then◌else◌, unwrap_or}
+use Rattle.std.specs.Option.{option_or}
+use Rattle.std.specs.List.{list_any}
+use Rattle.std.proofs.lemmas.Bool.{and_parts}
+use Rattle.std.proofs.lemmas.Bool.Decides.{nat_tests}
+use Rattle.ctrl_msg.specs.declared.message.Message.{Message}
+use Rattle.message_bag.specs.Posts.{posted}
+use Rattle.journal.specs.declared.item.Item.{Item}
+use Rattle.journal.specs.declared.item.Item.TheVariants as item
+use Rattle.base.specs.Masks.{has}
+use Rattle.base.proofs.CallerLemmas.{has_mask, mask_of_is}
+use Rattle.net_file.specs.Joins.{are_linked, joins}
+use Rattle.net_file.specs.declared.net.LinkRow.{LinkRow}
+use Rattle.net_file.specs.declared.net.Net.{Net}
+use Rattle.net_file.proofs.Places.{links as link_laws}
+use Rattle.control_laws.specs.Steps.{asks_controller}
+use Rattle.steps.specs.Steps.{HasLink, IsStep}
+use Rattle.steps.specs.declared.step.Step.{Step}
+use Rattle.switch_core.specs.Life.{next_advert}
+use Rattle.switch_core.specs.State.{SwitchValue}
+use Rattle.refinement.specs.Links.{LeavesSwitch, relinked}
+use Rattle.refinement.proofs.Links.{link_ties}
+use Rattle.update_machine.specs.Concerns.{concerns_calls}
+use Rattle.update_machine.specs.Deliveries.{link_changes}
+use Rattle.update_machine.specs.Links.{is_link_up, tells_link}
+use Rattle.update_machine.specs.Folds.{last_told}
+use Rattle.update_machine.specs.Messages.{sent_from}
+use Rattle.update_machine.specs.Moves.{put}
+use Rattle.update_machine.specs.Pieces.{link_items, nothing, piece}
+use Rattle.update_machine.specs.Setting.{Setting}
+use Rattle.update_machine.specs.LinkMasks.{near}
+use Rattle.update_machine.proofs.CallerLemmas.{last_told_append}
+use Rattle.refinement.specs.Linking.{AreRelinked, SetsLink, all_told, link_step, near_all}
+use Rattle.refinement.specs.Tied.{AreTied, Control, is_up_link, up_links}
+use Rattle.travelling.specs.Travelling.{Travellers}
+use Rattle.refinement.proofs.Delivering.{nothing_happens}
+use Rattle.refinement.proofs.OneItem.{grown}
+use Rattle.refinement.proofs.Posting.{bag_on}
+use Rattle.refinement.proofs.LinksChange.{LinksChange, change_piece, change_may, unmoved, change_tied}
+use Rattle.world_log.specs.Sending.{MaySend}
+
+-- ---- links that are up
+
+-- where those that pass the test and another one are those for which b holds
+passing : {X : Type 0} (test passes : X → Bool) (b : Bool)
+    → ((x : X) → test x ≡ true → passes x ≡ b) → (xs : List X)
+    → list_any test (filter passes xs) ≡ (list_any test xs && b)
+passing test passes b so [] = refl
+passing {X = X} test passes b so (x ∷ xs) =
+    picked (passes x) (filter passes xs)
+    ∙ by_test (test x) (passes x) b (list_any test (filter passes xs)) (list_any test xs) (so x)
+    (passing test passes b so xs)
+  where
+    picked : (p : Bool) (rest : List X) → list_any test (cond p (x ∷ rest) rest)
+        ≡ cond p (test x || list_any test rest) (list_any test rest)
+    picked true rest = refl
+    picked false rest = refl
+
+    by_test : (t p b rest all : Bool) → (t ≡ true → p ≡ b) → rest ≡ (all && b)
+        → cond p (t || rest) rest ≡ ((t || all) && b)
+    by_test true true true rest all same more = refl
+    by_test true true false rest all same more = absurd (let e = same refl in cc)
+    by_test true false true rest all same more = absurd (let e = same refl in cc)
+    by_test true false false rest true same more = more
+    by_test true false false rest false same more = more
+    by_test false true b rest all same more = more
+    by_test false false b rest all same more = more
+
+-- a link that joins two switches is theirs
+joined_up : (journal : List Item) (s k : ℕ) (link : LinkRow) → joins s k link ≡ true
+    → is_up_link journal link ≡ is_link_up journal s k
+unfolding is_link_up
+joined_up journal s k link joined = by_order (link.one == s && link.two == k) refl joined
+  where
+    turned : is_link_up journal k s ≡ is_link_up journal s k
+    turned =
+        let low : min k s ≡ min s k = omega arith in
+        let high : max k s ≡ max s k = omega arith in
+        rw (low, high) refl
+
+    by_order : (b : Bool) → (link.one == s && link.two == k) ≡ b
+        → (b || (link.one == k && link.two == s)) ≡ true
+        → is_link_up journal link.one link.two ≡ is_link_up journal s k
+    by_order true e is =
+        let parts = and_parts (link.one == s) (link.two == k) e in
+        ap (λ x. is_link_up journal x link.two) (eqb-true link.one s parts.0)
+        ∙ ap (λ x. is_link_up journal s x) (eqb-true link.two k parts.1)
+    by_order false e is =
+        let parts = and_parts (link.one == k) (link.two == s) is in
+        ap (λ x. is_link_up journal x link.two) (eqb-true link.one k parts.0)
+        ∙ ap (λ x. is_link_up journal k x) (eqb-true link.two s parts.1) ∙ turned
+
+-- two switches have a link that is up where they have one, and it is up
+up_linked : (setting : Setting) (journal : List Item) (s k : ℕ)
+    → are_linked (up_links setting journal) s k
+    ≡ (are_linked setting.net.links s k && is_link_up journal s k)
+up_linked setting journal s k =
+    passing (joins s k) (is_up_link journal) (is_link_up journal s k) (joined_up journal s k)
+    setting.net.links
+
+-- the lower and the higher switch are those of the link
+same_ends : (one two s k : ℕ) → (min one two == min s k && max one two == max s k)
+    ≡ joins s k (record { one = one; two = two })
+same_ends one two s k = grind (arith, nat_tests)
+
+-- behind the item that tells of it, the link is as that says, and others are as before
+up_behind : (journal : List Item) (row : ℕ) (step : Step) (one two s k : ℕ) (up : Bool)
+    → is_link_up (journal ++ item.Row row step ∷ item.LinkIs (min one two) (max one two) up ∷ [])
+    s k ≡ (if joins s k (record { one = one; two = two }) then up else is_link_up journal s k)
+unfolding is_link_up
+up_behind journal row step one two s k up =
+    let tells : Item → Option Bool = tells_link (min s k) (max s k) in
+    ap (λ o. unwrap_or o true) (last_told_append tells journal
+    (item.Row row step ∷ item.LinkIs (min one two) (max one two) up ∷ []))
+    ∙ ap (λ b. unwrap_or (option_or (option_or (if b then Some up else None) None)
+    (last_told tells journal)) true)
+    (same_ends one two s k)
+    ∙ by_test (joins s k (record { one = one; two = two })) (last_told tells journal)
+  where
+    by_test : (b : Bool) (was : Option Bool)
+        → unwrap_or (option_or (option_or (if b then Some up else None) None) was) true
+        ≡ (if b then up else unwrap_or was true)
+    by_test true was = refl
+    by_test false was = refl
+
+-- ---- the step
+
+-- it names a link of the network
+row_link : (net : Net) (files one two : ℕ) (up : Bool) → IsStep net files (link_step up one two)
+    → HasLink net one two
+row_link net files one two true own = own
+row_link net files one two false own = own
+
+-- no call of a switch is made, and the controller isn't told
+uncalled : (journal : List Item) (q row one two : ℕ) (up : Bool)
+    → concerns_calls q journal (item.Row row (link_step up one two)) ≡ false
+uncalled journal q row one two true = refl
+uncalled journal q row one two false = refl
+
+untold : (journal : List Item) (one two : ℕ) (up : Bool)
+    → asks_controller journal (link_step up one two) ≡ false
+untold journal one two true = refl
+untold journal one two false = refl
+
+link_piece : (setting : Setting) (journal : List Item) (row one two : ℕ) (up : Bool)
+    → piece setting journal row (link_step up one two)
+    ≡ item.Row row (link_step up one two) ∷ link_items setting journal one two up
+    (journal ++ item.Row row (link_step up one two) ∷ [])
+unfolding piece
+link_piece setting journal row one two true = refl
+link_piece setting journal row one two false = refl
+
+-- by whether the link is so already
+abbrev items_if : Setting → List Item → List Item → ℕ → ℕ → Bool → Bool → List Item
+items_if setting before journal one two up same = elim same [
+  | true ↦ nothing
+  | false ↦ put (item.LinkIs (min one two) (max one two) up ∷ []) (link_changes setting before)
+      journal
+]
+
+-- it is so already
+same_items : (setting : Setting) (before journal : List Item) (one two : ℕ) (up : Bool)
+    → beq (is_link_up before one two) up ≡ true
+    → link_items setting before one two up journal ≡ nothing
+unfolding link_items
+same_items setting before journal one two up same =
+    ap (items_if setting before journal one two up) same
+
+-- or it changes
+other_items : (setting : Setting) (before journal : List Item) (one two : ℕ) (up : Bool)
+    → beq (is_link_up before one two) up ≡ false
+    → link_items setting before one two up journal
+    ≡ item.LinkIs (min one two) (max one two) up
+    ∷ link_changes setting before (journal ++ item.LinkIs (min one two) (max one two) up ∷ [])
+unfolding link_items
+other_items setting before journal one two up other =
+    ap (items_if setting before journal one two up) other
+
+-- ---- the tie
+
+module _ (control : Control) (setting : Setting) (journal : List Item)
+    (switches : List SwitchValue) (before : Travellers) (count row one two : ℕ) (up : Bool)
+    (tied : AreTied setting journal switches before count control)
+    (may : IsStep setting.net (length setting.policies) (link_step up one two)) where
+  abbrev step : Step
+  step = link_step up one two
+
+  linked : HasLink setting.net one two
+  linked = row_link setting.net (length setting.policies) one two up may
+
+  -- its ends are switches
+  pub ends_below : (one < 64) × (two < 64)
+  unfolding AreTied
+  ends_below =
+      let back : HasLink setting.net two one =
+      link_laws.both_ways setting.net.links two one ∙ linked in (
+        omega (
+          arith,
+          link_laws.below setting.net two one tied.sound.net back,
+          tied.sound.net.few_switches,
+        ),
+        omega (
+          arith,
+          link_laws.below setting.net one two tied.sound.net linked,
+          tied.sound.net.few_switches,
+        ),
+      )
+
+  -- the mask of one end has the other one where the link is up
+  end_is : has (get_or control.links one 0) two ≡ is_link_up journal one two
+  unfolding AreTied
+  end_is =
+      ap (λ mask. has mask two) (tied.up one ends_below.0)
+      ∙ has_mask (are_linked (up_links setting journal) one) two ends_below.1
+      ∙ up_linked setting journal one two
+      ∙ ap (λ b. b && is_link_up journal one two) linked
+
+  -- nothing happens where it is so already
+  pub same_tied : beq (has (get_or control.links one 0) two) up ≡ true
+      → (piece setting journal row step ≡ item.Row row step ∷ nothing)
+      × AreTied setting (grown journal row step item.Nothing) switches before count control
+  same_tied same =
+      nothing_happens control setting journal switches before count row step tied may
+      (λ q. uncalled journal q row one two up) (link_piece setting journal row one two up
+      ∙ ap (λ items. item.Row row step ∷ items)
+      (same_items setting journal (journal ++ item.Row row step ∷ []) one two up
+      (ap (λ b. beq b up) (sym end_is) ∙ same)))
+
+  module _ (links : List ℕ) (other : beq (has (get_or control.links one 0) two) up ≡ false)
+      (sets : SetsLink control.links one two up links)
+      (fit : (s : ℕ) → get_or links s 0 < 2 ^ 64) where
+    abbrev link : LinkRow
+    link = record { one = one; two = two }
+
+    abbrev first : Item
+    first = item.LinkIs (min one two) (max one two) up
+
+    abbrev told : List Item
+    told = first ∷ []
+
+    abbrev now : List Item
+    now = journal ++ item.Row row step ∷ told
+
+    split : (journal ++ item.Row row step ∷ []) ++ told ≡ now
+    split = append_assoc journal (item.Row row step ∷ []) told
+
+    piece_so : piece setting journal row step
+        ≡ item.Row row step ∷ first ∷ link_changes setting journal now
+    piece_so =
+        link_piece setting journal row one two up
+        ∙ ap (λ items. item.Row row step ∷ items)
+        (other_items setting journal (journal ++ item.Row row step ∷ []) one two up
+        (ap (λ b. beq b up) (sym end_is) ∙ other))
+        ∙ ap (λ js. item.Row row step ∷ first ∷ link_changes setting journal js) split
+
+    -- no switch hears of it but by its links
+    leaves : (q : ℕ) → LeavesSwitch q journal row step told
+    leaves q = record {
+      in_step = (tt, tt);
+      apart = (refl, (refl, tt));
+      calls = (uncalled journal q row one two up, (refl, tt));
+    }
+
+    -- the switches that the link joins have one
+    joined : (s k : ℕ) → joins s k link ≡ true → are_linked setting.net.links s k ≡ true
+    joined s k is = by_order (one == s && two == k) refl is
+      where
+        by_order : (b : Bool) → (one == s && two == k) ≡ b
+            → (b || (one == k && two == s)) ≡ true → are_linked setting.net.links s k ≡ true
+        by_order true e is =
+            let parts = and_parts (one == s) (two == k) e in
+            ap (λ x. are_linked setting.net.links x k) (sym (eqb-true one s parts.0))
+            ∙ ap (λ x. are_linked setting.net.links one x) (sym (eqb-true two k parts.1))
+            ∙ linked
+        by_order false e is =
+            let parts = and_parts (one == k) (two == s) is in
+            link_laws.both_ways setting.net.links s k
+            ∙ ap (λ x. are_linked setting.net.links x s) (sym (eqb-true one k parts.0))
+            ∙ ap (λ x. are_linked setting.net.links one x) (sym (eqb-true two s parts.1))
+            ∙ linked
+
+    by_end : (j a was : Bool) → (j ≡ true → a ≡ true)
+        → (if j then up else (a && was)) ≡ (a && (if j then up else was))
+    by_end true true was so = refl
+    by_end true false was so = absurd (let e = so refl in cc)
+    by_end false a was so = refl
+
+    up_now : (s k : ℕ) → s < 64 → k < 64
+        → has (get_or links s 0) k ≡ are_linked (up_links setting now) s k
+    unfolding AreTied
+    up_now s k small below =
+        sets s k small below
+        ∙ ap (λ b. if joins s k link then up else b)
+        (ap (λ mask. has mask k) (tied.up s small)
+        ∙ has_mask (are_linked (up_links setting journal) s) k below
+        ∙ up_linked setting journal s k)
+        ∙ by_end (joins s k link) (are_linked setting.net.links s k) (is_link_up journal s k)
+        (joined s k)
+        ∙ ap (λ b. are_linked setting.net.links s k && b)
+        (sym (up_behind journal row step one two s k up))
+        ∙ sym (up_linked setting now s k)
+
+    changes : LinksChange setting journal row step told switches switches control links
+        control.posts
+    unfolding AreTied
+    changes = record {
+      may = may;
+      piece_is = piece_so;
+      not_told = untold journal one two up;
+      none_come = refl;
+      as_many = refl;
+      number = refl;
+      bag = bag_on journal (item.Row row step ∷ told) control.posts (refl, (refl, tt)) tied.bag;
+      up = λ q below. mask_of_is (get_or links q 0) (are_linked (up_links setting now) q) (fit q)
+          (λ k small. up_now q k below small);
+      relinks = λ q d below. link_ties.relinked setting q journal row step told (leaves q)
+          ∙ ap (relinked setting journal now q) (sym (tied.each q d below));
+      own = λ q d below changes.
+          link_ties.advert setting q journal row step told (leaves q) changes
+          ∙ ap (λ w. next_advert w (near setting now q)) (sym (tied.each q d below));
+    }
+
+    abbrev messages : List Message
+    messages = all_told control.near (near_all links switches) switches
+
+    pub set_piece : piece setting journal row step
+        ≡ item.Row row step ∷ first ∷ sent_from (length control.posts + 1) messages
+    set_piece = change_piece control setting journal switches switches before count row step told
+        links control.posts tied changes
+
+    pub set_may : length control.posts < 990_000
+        → MaySend control.posts messages
+    set_may = change_may control setting journal switches switches before count row step told
+        links control.posts tied changes
+
+    -- the parts behind the step, where these are the switches
+    pub set_tied : (others : List SwitchValue)
+        → AreRelinked control.near (near_all links switches) switches others
+        → AreTied setting (journal ++ item.Row row step ∷ first
+        ∷ sent_from (length control.posts + 1) messages) others before count (record control {
+          links = links;
+          near = near_all links switches;
+          posts = control.posts ++ map posted messages;
+        })
+    set_tied others are = change_tied control setting journal switches switches before count row
+        step told links control.posts tied changes others before are
+        (unmoved control setting journal switches switches before count row step told links
+        control.posts tied changes (λ i. (refl, (refl, tt))))

@@ -1,0 +1,329 @@
+-- Links change behind the first items of a step: what is told of that, and what the parts are
+-- behind it.
+use Rattle.std.proofs.Common.{ℕ, ◌≡◌, ◌+◌, ◌-◌, ◌^◌, ◌<◌, ◌==◌, Bool, true, false, List, [], ◌∷◌, ◌++◌, refl, ap, sym, subst, ◌∙◌, length, get_or, map, filter, set, append_assoc, arith, eq-eqb, eqb-true}
+use Rattle.std.specs.Prelude.{IsFalse, All}
+use Rattle.std.specs.List.{flat_map}
+use Rattle.std.proofs.lemmas.List.{get_or-set_other, get_or-set_same, length-set}
+use Rattle.message_bag.specs.Posts.{Post, posted}
+use Rattle.control_laws.proofs.Openings.{caused_known, serving_known}
+use Rattle.control_laws.specs.ItemCauses.{HasItemCause}
+use Rattle.control_laws.proofs.Facts.{have_front}
+use Rattle.controller.specs.declared.sends.Act.{Act}
+use Rattle.controller.specs.declared.sends.Act.TheVariants.{Post as PostAct}
+use Rattle.ctrl_msg.specs.declared.message.Message.{Message}
+use Rattle.journal.specs.declared.item.Item.{Item}
+use Rattle.journal.specs.declared.item.Item.TheVariants as item
+use Rattle.refinement.specs.Bags.{IsBagOf}
+use Rattle.refinement.specs.Travellers.{traveller_in}
+use Rattle.refinement.proofs.Known.{reached_known, reached_more, traveller_stays}
+use Rattle.refinement.proofs.Others.{NoneName, none_more}
+use Rattle.refinement.proofs.Posting.{bag_sends}
+use Rattle.base.specs.Masks.{has}
+use Rattle.base.proofs.CallerLemmas.{has_mask}
+use Rattle.net_file.specs.Joins.{are_linked}
+use Rattle.control_laws.specs.Sends.{NumbersFit}
+use Rattle.control_laws.proofs.Fitting.{fit_in_room}
+use Rattle.control_laws.specs.Steps.{asks_controller}
+use Rattle.steps.specs.Steps.{IsStep}
+use Rattle.steps.specs.declared.step.Step.{Step}
+use Rattle.switch_core.specs.Life.{next_advert}
+use Rattle.switch_core.specs.State.{SwitchValue}
+use Rattle.refinement.specs.Asked.{HasNextSeq}
+use Rattle.refinement.specs.Links.{LeavesSwitch, relinked}
+use Rattle.refinement.specs.SwitchOf.{switch_of}
+use Rattle.refinement.proofs.Asked.{asked_ties}
+use Rattle.refinement.proofs.Links.{link_ties}
+use Rattle.travelling.specs.Travelling.{Travellers, traveller}
+use Rattle.update_machine.specs.Adverts.{own_advert}
+use Rattle.update_machine.specs.Causes.{HaveCauses}
+use Rattle.update_machine.specs.Deliveries.{has_changed, link_changes, messages_of}
+use Rattle.update_machine.specs.Folds.{count_of}
+use Rattle.update_machine.specs.Full.{HasRoom}
+use Rattle.update_machine.specs.LinkMasks.{near}
+use Rattle.update_machine.specs.Messages.{sent_from}
+use Rattle.update_machine.specs.Packets.{is_packet}
+use Rattle.update_machine.specs.Pieces.{piece}
+use Rattle.update_machine.specs.Setting.{Setting}
+use Rattle.update_machine.specs.SwitchNumbers.{switches_of}
+use Rattle.update_machine.proofs.CallerLemmas.{count_of_append}
+use Rattle.refinement.specs.Linking.{AreRelinked, all_told, near_all}
+use Rattle.world_log.specs.Sending.{MaySend, act_items, act_posts}
+use Rattle.world_log.proofs.Sends.{posts_as_acts, sent_as_acts}
+use Rattle.refinement.specs.Tied.{AreTied, AreUp, AreUsable, Control, up_links}
+use Rattle.refinement.proofs.ActItems.{acts_bring_none, acts_posted, acts_send, acts_unnamed}
+use Rattle.refinement.proofs.Relinked.{CanRelink, near_now, switches_now, told_now, up_ends}
+use Rattle.refinement.proofs.Told.{acts_leave, links_left}
+use Rattle.refinement.proofs.Tying.{controller_stays, tied_taken}
+use Rattle.refinement.proofs.Sendable.{may_note, may_send}
+
+-- so have those behind the row
+pub caused_first : (control : Control) (setting : Setting) (journal : List Item)
+    (switches : List SwitchValue) (before : Travellers) (count row : ℕ) (step : Step)
+    (first rest : List Item) → AreTied setting journal switches before count control
+    → IsStep setting.net (length setting.policies) step
+    → piece setting journal row step ≡ item.Row row step ∷ first ++ rest
+    → HaveCauses (HasItemCause setting) [] (journal ++ item.Row row step ∷ first)
+unfolding AreTied
+caused_first control setting journal switches before count row step first rest tied may is =
+    have_front (HasItemCause setting) [] (journal ++ item.Row row step ∷ first) rest
+    (subst (HaveCauses (HasItemCause setting) [])
+    (ap (λ items. journal ++ items) is
+    ∙ sym (append_assoc journal (item.Row row step ∷ first) rest))
+    (reached_known setting (journal ++ piece setting journal row step) tied.sound
+    (reached_more setting journal row step tied.reached may)).caused)
+
+-- each switch has a next number for its own advert
+pub next_left : (control : Control) (setting : Setting) (journal : List Item)
+    (switches : List SwitchValue) (before : Travellers) (count : ℕ)
+    → AreTied setting journal switches before count control → length control.posts < 990_000
+    → (q : ℕ) → q < length switches → HasNextSeq (switch_of setting journal q)
+unfolding AreTied
+next_left control setting journal switches before count tied room q below =
+    let fit : NumbersFit setting journal = subst (NumbersFit setting) (sym tied.reached.written)
+    (fit_in_room setting tied.reached.steps tied.sound.net
+    (subst HasRoom tied.reached.written (omega (arith, tied.bag.many, room)))) in
+    asked_ties.near_changed setting journal q fit (omega (arith, below, tied.many))
+
+pub numbers_left : (control : Control) (setting : Setting) (journal : List Item)
+    (switches : List SwitchValue) (before : Travellers) (count : ℕ)
+    → AreTied setting journal switches before count control → length control.posts < 990_000
+    → All (λ (switch : SwitchValue). switch.seq < 2 ^ 32 - 1) switches
+unfolding AreTied
+numbers_left control setting journal switches before count tied room = λ q d below.
+    subst (λ (w : SwitchValue). w.seq < 2 ^ 32 - 1) (sym (tied.each q d below))
+    (next_left control setting journal switches before count tied room q below).now
+
+-- ---- one switch is another one behind the first items, and the others hear nothing
+
+module _ (control : Control) (setting : Setting) (journal : List Item)
+    (switches : List SwitchValue) (before : Travellers) (count row : ℕ) (step : Step)
+    (first : List Item) (s : ℕ) (changed : SwitchValue)
+    (tied : AreTied setting journal switches before count control) (within : s < length switches)
+    (leaves : (q : ℕ) → (s == q) ≡ false → LeavesSwitch q journal row step first) where
+  abbrev behind : List Item
+  behind = journal ++ item.Row row step ∷ first
+
+  abbrev with_one : List SwitchValue
+  with_one = set switches s changed
+
+  here : (d : SwitchValue) → get_or with_one s d ≡ changed
+  here d = get_or-set_same switches s changed d within
+
+  stays : (q : ℕ) (d : SwitchValue) → (s == q) ≡ false → q < length switches
+      → switch_of setting journal q ≡ get_or with_one q d
+  unfolding AreTied
+  stays q d is below = sym (tied.each q d below)
+      ∙ sym (get_or-set_other switches s q changed d (λ e. let own : (s == q) ≡ true =
+      ap (λ k. s == k) e ∙ eq-eqb s s refl in absurd cc))
+
+  pub one_relinks : switch_of setting behind s ≡ relinked setting journal behind s changed
+      → (q : ℕ) (d : SwitchValue) → q < length switches
+      → switch_of setting behind q ≡ relinked setting journal behind q (get_or with_one q d)
+  one_relinks own q d below = by_switch (s == q) refl
+    where
+      by_switch : (b : Bool) → (s == q) ≡ b
+          → switch_of setting behind q ≡ relinked setting journal behind q (get_or with_one q d)
+      by_switch true is =
+          subst (λ k. switch_of setting behind k
+          ≡ relinked setting journal behind k (get_or with_one k d)) (eqb-true s q is)
+          (own ∙ ap (relinked setting journal behind s) (sym (here d)))
+      by_switch false is =
+          link_ties.relinked setting q journal row step first (leaves q is)
+          ∙ ap (relinked setting journal behind q) (stays q d is below)
+
+  pub one_advert : (has_changed setting journal behind s ≡ true
+      → own_advert setting behind s ≡ next_advert changed (near setting behind s))
+      → (q : ℕ) (d : SwitchValue) → q < length switches
+      → has_changed setting journal behind q ≡ true
+      → own_advert setting behind q ≡ next_advert (get_or with_one q d) (near setting behind q)
+  one_advert own q d below = by_switch (s == q) refl
+    where
+      by_switch : (b : Bool) → (s == q) ≡ b → has_changed setting journal behind q ≡ true
+          → own_advert setting behind q
+          ≡ next_advert (get_or with_one q d) (near setting behind q)
+      by_switch true is =
+          subst (λ k. has_changed setting journal behind k ≡ true → own_advert setting behind k
+          ≡ next_advert (get_or with_one k d) (near setting behind k)) (eqb-true s q is)
+          (λ changes. own changes ∙ ap (λ w. next_advert w (near setting behind s)) (sym (here d)))
+      by_switch false is = λ changes.
+          link_ties.advert setting q journal row step first (leaves q is) changes
+          ∙ ap (λ w. next_advert w (near setting behind q)) (stays q d is below)
+
+  pub one_next : length control.posts < 990_000
+      → (HasNextSeq (switch_of setting journal s) → changed.seq < 2 ^ 32 - 1)
+      → All (λ (switch : SwitchValue). switch.seq < 2 ^ 32 - 1) with_one
+  one_next room own = λ q d below.
+      let there : q < length switches =
+      omega (arith, below, length-set switches s changed) in
+      by_switch q d (s == q) refl there
+    where
+      next : (q : ℕ) → q < length switches → HasNextSeq (switch_of setting journal q)
+      next = next_left control setting journal switches before count tied room
+
+      by_switch : (q : ℕ) (d : SwitchValue) (b : Bool) → (s == q) ≡ b → q < length switches
+          → (get_or with_one q d).seq < 2 ^ 32 - 1
+      by_switch q d true is there =
+          subst (λ k. (get_or with_one k d).seq < 2 ^ 32 - 1) (eqb-true s q is)
+          (subst (λ (w : SwitchValue). w.seq < 2 ^ 32 - 1) (sym (here d)) (own (next s within)))
+      by_switch q d false is there =
+          subst (λ (w : SwitchValue). w.seq < 2 ^ 32 - 1) (stays q d is there) (next q there).now
+
+-- ---- the links change
+
+-- the step writes these items first, and what is told as links change; behind the first ones these
+-- are the switches before their links change, the links that are up and the messages
+pub record LinksChange (setting : Setting) (journal : List Item) (row : ℕ) (step : Step)
+    (first : List Item) (switches others : List SwitchValue) (control : Control)
+    (links : List ℕ) (posts : List Post) : Type 0 where
+  pub may : IsStep setting.net (length setting.policies) step
+  pub piece_is : piece setting journal row step ≡ item.Row row step
+      ∷ first ++ link_changes setting journal (journal ++ item.Row row step ∷ first)
+  pub not_told : IsFalse (asks_controller journal step)
+  pub none_come : count_of is_packet (item.Row row step ∷ first) ≡ 0
+  pub as_many : length others ≡ length switches
+  pub number : length posts ≡ length control.posts
+  pub bag : IsBagOf (journal ++ item.Row row step ∷ first) posts
+  pub up : AreUp setting (journal ++ item.Row row step ∷ first) links
+  pub relinks : (q : ℕ) (d : SwitchValue) → q < length switches
+      → switch_of setting (journal ++ item.Row row step ∷ first) q
+      ≡ relinked setting journal (journal ++ item.Row row step ∷ first) q (get_or others q d)
+  pub own : (q : ℕ) (d : SwitchValue) → q < length switches
+      → has_changed setting journal (journal ++ item.Row row step ∷ first) q ≡ true
+      → own_advert setting (journal ++ item.Row row step ∷ first) q
+      ≡ next_advert (get_or others q d) (near setting (journal ++ item.Row row step ∷ first) q)
+
+module _ (control : Control) (setting : Setting) (journal : List Item)
+    (switches others : List SwitchValue) (before : Travellers) (count row : ℕ) (step : Step)
+    (first : List Item) (links : List ℕ) (posts : List Post)
+    (tied : AreTied setting journal switches before count control)
+    (changes : LinksChange setting journal row step first switches others control links
+    posts) where
+  abbrev now : List Item
+  now = journal ++ item.Row row step ∷ first
+
+  abbrev any : SwitchValue
+  any = switch_of setting journal 0
+
+  abbrev messages : List Message
+  messages = all_told control.near (near_all links others) others
+
+  abbrev acts : List Act
+  acts = map PostAct messages
+
+  abbrev number : ℕ
+  number = length control.posts + 1
+
+  can : CanRelink setting journal now links control.near others
+  unfolding AreTied
+  can =
+      let caused = caused_first control setting journal switches before count row step first
+      (link_changes setting journal now) tied changes.may changes.piece_is in record {
+        many = changes.as_many ∙ tied.many;
+        few = tied.sound.net.few_switches;
+        up = λ q k small below. ap (λ mask. has mask k) (changes.up q small)
+            ∙ has_mask (are_linked (up_links setting now) q) k below;
+        within = λ q k linked. up_ends setting now q k tied.sound.net linked;
+        had_is = λ q below. tied.usable q
+            (omega (arith, below, changes.as_many, tied.many, tied.sound.net.few_switches));
+        serving = λ q serving. (serving_known now (caused_known setting now caused)).up q serving;
+        relinks = λ q d below. changes.relinks q d (omega (arith, below, changes.as_many));
+        own = λ q d below. changes.own q d (omega (arith, below, changes.as_many));
+      }
+
+  changes_are : link_changes setting journal now ≡ sent_from number messages
+  unfolding link_changes
+  changes_are =
+      ap (λ k. sent_from k (flat_map (messages_of setting journal now)
+      (filter (has_changed setting journal now) (switches_of setting))))
+      (changes.bag.many ∙ ap (λ k. k + 1) changes.number)
+      ∙ ap (sent_from number)
+      (sym (told_now setting journal now links control.near others any can))
+
+  pub change_piece : piece setting journal row step ≡ item.Row row step ∷ first
+      ++ sent_from (length control.posts + 1)
+      (all_told control.near (near_all links others) others)
+  change_piece = changes.piece_is ∙ ap (λ items. item.Row row step ∷ first ++ items) changes_are
+
+  acts_piece : piece setting journal row step
+      ≡ item.Row row step ∷ first ++ act_items number acts
+  acts_piece = change_piece ∙ ap (λ items. item.Row row step ∷ first ++ items)
+      (sym (sent_as_acts number messages))
+
+  pub change_may : length control.posts < 990_000
+      → MaySend posts (all_told control.near (near_all links others) others)
+  change_may room = may_send posts messages (may_note control setting journal switches before count
+      row step first posts acts tied changes.may acts_piece changes.number room)
+
+  -- ---- the parts behind it
+
+  abbrev items : List Item
+  items = first ++ act_items number acts
+
+  abbrev all : List Item
+  all = item.Row row step ∷ items
+
+  split : now ++ act_items number acts ≡ journal ++ all
+  split = append_assoc journal (item.Row row step ∷ first) (act_items number acts)
+
+  -- the packets on their way, where none is named
+  pub unmoved : ((i : ℕ) → NoneName i (item.Row row step ∷ first)) → (i : ℕ)
+      → traveller before i ≡ traveller_in setting (journal ++ (item.Row row step ∷ first
+      ++ act_items (length control.posts + 1)
+      (map PostAct (all_told control.near (near_all links others) others)))) i
+  unfolding AreTied
+  unmoved none i = tied.packet i
+      ∙ sym (traveller_stays setting journal all i
+      (reached_known setting journal tied.sound tied.reached)
+      (none_more i (item.Row row step ∷ first) (act_items number acts) (none i)
+      (acts_unnamed i number acts)))
+
+  pub change_tied : (later : List SwitchValue) (after : Travellers)
+      → AreRelinked control.near (near_all links others) others later
+      → ((i : ℕ) → traveller after i ≡ traveller_in setting (journal ++ (item.Row row step ∷ first
+      ++ act_items (length control.posts + 1)
+      (map PostAct (all_told control.near (near_all links others) others)))) i)
+      → AreTied setting (journal ++ (item.Row row step ∷ first
+      ++ sent_from (length control.posts + 1)
+      (all_told control.near (near_all links others) others))) later after count
+      (record control {
+        links = links;
+        near = near_all links others;
+        posts = posts ++ map posted (all_told control.near (near_all links others) others);
+      })
+  change_tied later after are travels =
+      let left = links_left setting now number acts links (near_all links others) changes.up
+      (near_now setting journal now links control.near others any can) in
+      let with : List Post → Control = λ bag. record control {
+        links = links;
+        near = near_all links others;
+        posts = bag;
+      } in
+      subst (λ rest. AreTied setting (journal ++ (item.Row row step ∷ first ++ rest)) later after
+      count (with (posts ++ map posted messages))) (sent_as_acts number messages)
+      (subst (λ more. AreTied setting (journal ++ all) later after count (with (posts ++ more)))
+      (posts_as_acts messages)
+      (tied_taken control (with (posts ++ act_posts acts)) setting journal switches later before
+      after count count row step items tied (record {
+        may = changes.may;
+        piece_is = acts_piece;
+        as_many = are.as_many ∙ changes.as_many;
+        each = λ q d below. switches_now setting journal now links control.near others d can later
+            are q (omega (arith, below, changes.as_many))
+            ∙ sym (acts_leave setting now number acts q)
+            ∙ ap (λ js. switch_of setting js q) split;
+        travels = travels;
+        controller = controller_stays control setting journal switches before count row step items
+            tied acts_piece changes.not_told;
+        bag = subst (λ js. IsBagOf js (posts ++ act_posts acts)) split
+            (subst (λ more. IsBagOf (now ++ act_items number acts) (posts ++ more))
+            (acts_posted number acts)
+            (bag_sends number now (act_items number acts) posts (acts_send number acts)
+            (ap (λ k. k + 1) (sym changes.number) ∙ sym changes.bag.many) changes.bag));
+        up = subst (λ js. AreUp setting js links) split left.0;
+        usable = subst (λ js. AreUsable setting js (near_all links others)) split left.1;
+      }) (omega (
+        arith,
+        count_of_append is_packet (item.Row row step ∷ first) (act_items number acts),
+        changes.none_come,
+        acts_bring_none number acts,
+      ))))

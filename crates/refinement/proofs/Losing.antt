@@ -1,0 +1,144 @@
+-- A packet is lost.
+use Rattle.std.proofs.Common.{ℕ, ◌≡◌, ◌==◌, Bool, true, false, if◌then◌else◌, Option, Some, None, List, [], ◌∷◌, ◌++◌, refl, ap, sym, ◌∙◌, eqb-true, arith, length}
+use Rattle.std.specs.Prelude.{is_some}
+use Rattle.std.proofs.lemmas.Bool.Decides.{nat_tests}
+use Rattle.journal.specs.declared.item.Item.{Item}
+use Rattle.journal.specs.declared.item.Item.TheVariants as item
+use Rattle.steps.specs.declared.step.Step.{Step}
+use Rattle.steps.specs.declared.step.Step.TheVariants.{Lose}
+use Rattle.switch_core.specs.State.{SwitchValue}
+use Rattle.update_machine.specs.Travels.{travels}
+use Rattle.update_machine.specs.Pieces.{lose_items, nothing, piece}
+use Rattle.steps.specs.Steps.{IsStep}
+use Rattle.update_machine.specs.Setting.{Setting}
+use Rattle.packet_laws.specs.Facts.{what_is_known}
+use Rattle.packet_laws.proofs.PacketFacts.{facts_grow}
+use Rattle.refinement.specs.Tied.{AreTied, Control, Tied}
+use Rattle.refinement.specs.Travellers.{traveller_in}
+use Rattle.travelling.specs.Travelling.{Travellers, WithOne, traveller}
+use Rattle.refinement.proofs.Known.{Known, reached_known, traveller_stays}
+use Rattle.refinement.proofs.Delivering.{nothing_happens}
+use Rattle.refinement.proofs.OneItem.{grown}
+use Rattle.refinement.proofs.Tying.{switches_stay, tied_silent}
+use Rattle.refinement.proofs.FactsAlong.{traveller_along}
+
+-- a row tells nothing of a packet
+pub travels_on : (journal : List Item) (row i : ℕ) (step : Step)
+    → travels (journal ++ item.Row row step ∷ []) i ≡ travels journal i
+unfolding what_is_known
+travels_on journal row i step = ap (λ facts. facts.travels)
+    (facts_grow i journal (item.Row row step))
+
+pub travels_as : (setting : Setting) (journal : List Item) (i : ℕ)
+    → is_some (traveller_in setting journal i) ≡ travels journal i
+unfolding traveller_in
+travels_as setting journal i = by_case (travels journal i) _
+  where
+    by_case : {X : Type 0} (b : Bool) (x : X) → is_some (if b then Some x else None) ≡ b
+    by_case true x = refl
+    by_case false x = refl
+
+-- what losing a packet writes
+pub lose_piece : (setting : Setting) (journal : List Item) (row i : ℕ)
+    → piece setting journal row (Lose i)
+    ≡ item.Row row (Lose i) ∷ (if travels journal i then item.Lost i ∷ [] else nothing)
+unfolding piece lose_items
+lose_piece setting journal row i =
+    ap (λ b. item.Row row (Lose i) ∷ elim b [ false ↦ nothing | true ↦ item.Lost i ∷ [] ])
+    (travels_on journal row i (Lose i))
+    ∙ by_case (travels journal i)
+  where
+    by_case : (b : Bool) → item.Row row (Lose i) ∷ elim b
+        [ false ↦ nothing | true ↦ item.Lost i ∷ [] ]
+        ≡ item.Row row (Lose i) ∷ (if b then item.Lost i ∷ [] else nothing)
+    by_case true = refl
+    by_case false = refl
+
+-- of the packets, it is gone
+gone : (setting : Setting) (journal : List Item) (row i : ℕ) (before : Travellers) (q : ℕ)
+    (b : Bool) → Known setting journal → (q == i) ≡ b
+    → traveller before q ≡ traveller_in setting journal q
+    → (if b then None else traveller before q)
+    ≡ traveller_in setting (journal ++ item.Row row (Lose i) ∷ item.Lost i ∷ []) q
+gone setting journal row i before q true knows is was =
+    let same : (i == q) ≡ true = grind (arith, nat_tests) in
+    sym (traveller_along setting journal (item.Row row (Lose i) ∷ item.Lost i ∷ []) q
+    (refl, (refl, tt)) ∙ rw same refl)
+gone setting journal row i before q false knows is was =
+    let other : (i == q) ≡ false = grind (arith, nat_tests) in
+    was ∙ sym (traveller_stays setting journal (item.Row row (Lose i) ∷ item.Lost i ∷ []) q knows
+    (refl, (other, tt)))
+
+pub lost : (control : Control) (setting : Setting) (journal : List Item)
+    (switches : List SwitchValue) (before after : Travellers) (count row i : ℕ)
+    → AreTied setting journal switches before count control → IsStep setting.net (length setting.policies) (Lose i)
+    → is_some (traveller before i) ≡ true → WithOne before i None after
+    → (piece setting journal row (Lose i) ≡ item.Row row (Lose i) ∷ item.Lost i ∷ [])
+    × AreTied setting (journal ++ item.Row row (Lose i) ∷ item.Lost i ∷ []) switches after count
+    control
+unfolding AreTied
+lost control setting journal switches before after count row i tied may travelling without =
+    let on : travels journal i ≡ true =
+    sym (ap is_some (tied.packet i) ∙ travels_as setting journal i) ∙ travelling in
+    let is : piece setting journal row (Lose i) ≡ item.Row row (Lose i) ∷ item.Lost i ∷ [] =
+    lose_piece setting journal row i
+    ∙ ap (λ b. item.Row row (Lose i) ∷ (if b then item.Lost i ∷ [] else nothing)) on in (
+      is,
+      tied_silent control setting journal switches switches before after count count row (Lose i)
+          (item.Lost i ∷ []) tied (record {
+            may = may;
+            piece_is = is;
+            not_told = refl;
+            sends = tt;
+            as_many = refl;
+            each = switches_stay control setting journal switches before count
+                (item.Row row (Lose i) ∷ item.Lost i ∷ []) tied (λ s. (refl, (refl, tt)))
+                (λ s. (refl, (refl, tt)));
+            travels = λ q. without q
+                ∙ gone setting journal row i before q (q == i)
+                (reached_known setting journal tied.sound tied.reached) refl (tied.packet q);
+          }) (omega arith) refl,
+    )
+
+-- of a packet that didn't travel, nothing changes
+stayed : (before : Travellers) (i q : ℕ) (b : Bool) → (q == i) ≡ b
+    → is_some (traveller before i) ≡ false
+    → (if b then None else traveller before q) ≡ traveller before q
+stayed before i q true is resting =
+    sym (none_there (traveller before q) (ap (λ k. is_some (traveller before k)) (eqb-true _ _ is)
+    ∙ resting))
+  where
+    none_there : {X : Type 0} (o : Option X) → is_some o ≡ false → o ≡ None
+    none_there None none = refl
+    none_there (Some x) none = absurd cc
+stayed before i q false is resting = refl
+
+pub not_lost : (control : Control) (setting : Setting) (journal : List Item)
+    (switches : List SwitchValue) (before after : Travellers) (count row i : ℕ)
+    → AreTied setting journal switches before count control → IsStep setting.net (length setting.policies) (Lose i)
+    → is_some (traveller before i) ≡ false → WithOne before i None after
+    → (piece setting journal row (Lose i) ≡ item.Row row (Lose i) ∷ item.Nothing ∷ [])
+    × AreTied setting (grown journal row (Lose i) item.Nothing) switches after count control
+unfolding AreTied
+not_lost control setting journal switches before after count row i tied may resting without =
+    let off : travels journal i ≡ false =
+    sym (ap is_some (tied.packet i) ∙ travels_as setting journal i) ∙ resting in
+    let still : (piece setting journal row (Lose i) ≡ item.Row row (Lose i) ∷ nothing)
+    × Tied setting (grown journal row (Lose i) item.Nothing) switches before count control =
+    nothing_happens control setting journal switches before count row (Lose i) tied may
+    (λ q. refl) (lose_piece setting journal row i
+    ∙ ap (λ b. item.Row row (Lose i) ∷ (if b then item.Lost i ∷ [] else nothing)) off) in (
+      still.0,
+      record {
+        sound = still.1.sound;
+        reached = still.1.reached;
+        many = still.1.many;
+        each = still.1.each;
+        packet = λ q. without q ∙ stayed before i q (q == i) refl resting ∙ still.1.packet q;
+        counted = still.1.counted;
+        controller = still.1.controller;
+        bag = still.1.bag;
+        up = still.1.up;
+        usable = still.1.usable;
+      },
+    )

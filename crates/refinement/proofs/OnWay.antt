@@ -1,0 +1,134 @@
+-- A packet on its way: what is known of it.
+use Rattle.std.proofs.Common.{ℕ, ◌≡◌, ◌<◌, Bool, true, false, if◌then◌else◌, Some, None, List, refl, sym, length, get_or}
+use Rattle.std.specs.Prelude.{IsTrue, unwrap_or, option_map, slice_get}
+use Rattle.std.proofs.lemmas.Option.{slice_get_within, slice_get-get_or}
+use Rattle.five_tuple.specs.Header.{IsHeader}
+use Rattle.five_tuple.specs.declared.header.Header.{Header}
+use Rattle.policy_rules.specs.declared.packet.Leg.{Leg}
+use Rattle.journal.specs.declared.item.Item.{Item}
+use Rattle.tunnel.specs.Tunnel.{TunnelValue}
+use Rattle.update_machine.specs.Links.{serves}
+use Rattle.update_machine.specs.Ways.{targets_of}
+use Rattle.update_machine.specs.Setting.{Setting}
+use Rattle.packet_laws.specs.OnWay.{IsOnLeg, IsOnWay}
+use Rattle.packet_laws.specs.Facts.{PacketFacts, what_is_known}
+use Rattle.packet_laws.specs.Rest.{IsServed}
+use Rattle.travelling.specs.declared.travelling.Traveller.{Traveller}
+use Rattle.refinement.proofs.Arrivals.{some_same}
+use Rattle.refinement.proofs.Known.{Known, Travels, travels_known}
+use Rattle.refinement.proofs.FactsAlong.{Targets, traveller_by}
+
+-- its tunnel, at this place of this route, with these links found down
+abbrev pub tunnel_on : Targets → ℕ → Header → ℕ → Leg → List ℕ → ℕ → List ℕ → TunnelValue
+tunnel_on targets i header ingress leg route place down = record {
+  packet = i;
+  header = header;
+  ingress = ingress;
+  leg = leg;
+  targets = targets leg;
+  route = route;
+  place = place;
+  down = down;
+}
+
+-- what is known of it with these facts, wherever it stands
+abbrev pub on_route_of : Targets → ℕ → PacketFacts → Header → ℕ → Leg → List ℕ → ℕ → List ℕ
+    → Traveller
+on_route_of targets i facts header ingress leg route place down = record {
+  tunnel = tunnel_on targets i header ingress leg route place down;
+  version = unwrap_or (option_map (λ decision. decision.version) facts.decision) 0;
+  rule = unwrap_or (option_map (λ decision. decision.rule) facts.decision) None;
+}
+
+abbrev pub on_leg : Targets → ℕ → PacketFacts → Header → ℕ → Leg → Traveller
+on_leg targets i facts header ingress leg =
+    on_route_of targets i facts header ingress leg facts.route facts.hops facts.found
+
+pub known_by : (targets : Targets) (i : ℕ) (facts : PacketFacts) (header : Header) (ingress : ℕ)
+    (leg : Leg) → facts.travels ≡ true → facts.header ≡ Some header
+    → facts.ingress ≡ Some ingress → facts.leg ≡ Some leg
+    → traveller_by targets i facts ≡ Some (on_leg targets i facts header ingress leg)
+known_by targets i facts header ingress leg on its came takes = rw (on, its, came, takes) refl
+
+travels_by : (targets : Targets) (i : ℕ) (facts : PacketFacts) (t : Traveller)
+    → traveller_by targets i facts ≡ Some t → facts.travels ≡ true
+travels_by targets i facts t is = by_case facts.travels _ t is
+  where
+    by_case : (b : Bool) (x t : Traveller) → (if b then Some x else None) ≡ Some t → b ≡ true
+    by_case true x t is = refl
+    by_case false x t is = absurd cc
+
+pub got : (xs : List ℕ) (k x : ℕ) → slice_get xs k ≡ Some x → get_or xs k 0 ≡ x
+got xs k x is =
+    let within : k < length xs = slice_get_within xs k x is in
+    some_same (slice_get xs k) (get_or xs k 0) x (slice_get-get_or xs k 0 within) is
+
+-- a packet that stands at a place of its route, at a switch that serves
+pub record Stands (setting : Setting) (journal : List Item) (i s : ℕ) (header : Header)
+    (ingress : ℕ) (leg : Leg) : Type 0 where
+  pub knows : Known setting journal
+  pub on : (what_is_known journal i).travels ≡ true
+  pub entered : (what_is_known journal i).header ≡ Some header
+  pub came : (what_is_known journal i).ingress ≡ Some ingress
+  pub stands : (what_is_known journal i).stands ≡ Some s
+  pub takes : (what_is_known journal i).leg ≡ Some leg
+  pub at_first : ingress < length setting.net.switches
+  pub there : s < length setting.net.switches
+  pub serving : IsTrue (serves journal s)
+  pub sound : IsHeader header
+  pub on_leg : IsOnLeg setting journal (what_is_known journal i) header leg
+  pub here : slice_get (what_is_known journal i).route (what_is_known journal i).hops ≡ Some s
+
+-- a packet of the table, as the journal tells of it
+pub record IsStanding (setting : Setting) (journal : List Item) (i : ℕ) (t : Traveller) : Type 0
+  where
+    pub switch : ℕ
+    pub header : Header
+    pub ingress : ℕ
+    pub leg : Leg
+    pub stands : Stands setting journal i switch header ingress leg
+    pub is : t ≡ on_leg (targets_of setting journal) i (what_is_known journal i) header ingress leg
+
+serves_here : (setting : Setting) (journal : List Item) (i s : ℕ) → IsServed journal i
+    → (what_is_known journal i).stands ≡ Some s → IsTrue (serves journal s)
+unfolding what_is_known
+serves_here setting journal i s served stands =
+    let same : served.switch ≡ s =
+    some_same (what_is_known journal i).stands served.switch s served.stands stands in
+    rw (sym same) served.serving
+
+pub standing_by : (setting : Setting) (journal : List Item) (i : ℕ) (t : Traveller)
+    → Known setting journal
+    → traveller_by (targets_of setting journal) i (what_is_known journal i) ≡ Some t
+    → IsStanding setting journal i t
+standing_by setting journal i t knows by =
+    let facts : PacketFacts = what_is_known journal i in
+    let targets : Targets = targets_of setting journal in
+    let on : facts.travels ≡ true = travels_by targets i facts t by in
+    let travelling : Travels setting journal i = travels_known setting journal i knows on in
+    let way : IsOnWay setting journal facts = travelling.way in
+    record {
+      switch = way.under_way.switch;
+      header = way.under_way.header;
+      ingress = way.under_way.ingress;
+      leg = way.leg;
+      stands = record {
+        knows = knows;
+        on = on;
+        entered = way.under_way.entered;
+        came = way.under_way.came;
+        stands = way.under_way.stands;
+        takes = way.takes;
+        at_first = way.under_way.at_first;
+        there = way.under_way.now;
+        serving = serves_here setting journal i way.under_way.switch travelling.served
+            way.under_way.stands;
+        sound = way.under_way.sound;
+        on_leg = way.on_leg;
+        here = way.stands;
+      };
+      is = some_same (traveller_by targets i facts) t
+          (on_leg targets i facts way.under_way.header way.under_way.ingress way.leg) by
+          (known_by targets i facts way.under_way.header way.under_way.ingress way.leg on
+          way.under_way.entered way.under_way.came way.takes);
+    }

@@ -1,0 +1,6 @@
+use Rattle.refinement.proofs.Resends.{resends}
+use Rattle.refinement.proofs.Steps.{resends_nothing, resends_some}
+use Rattle.refinement.proofs.world_laws.controllers_resend.Goals as goal
+
+pub returns : goal.returns
+returns c = record { messages = resends; nothing = resends_nothing; some = resends_some }

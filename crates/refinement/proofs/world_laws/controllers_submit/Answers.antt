@@ -1,0 +1,5 @@
+use Rattle.refinement.proofs.Submits.{submits, too_many_live, too_many_versions}
+use Rattle.refinement.proofs.world_laws.controllers_submit.Goals as goal
+
+pub returns : goal.returns
+returns c = record { taken = submits; live = too_many_live; versions = too_many_versions }

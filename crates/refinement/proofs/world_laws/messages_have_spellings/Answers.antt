@@ -1,0 +1,5 @@
+use Rattle.refinement.proofs.Spelled.{reached_spelled}
+use Rattle.refinement.proofs.world_laws.messages_have_spellings.Goals as goal
+
+pub returns : goal.returns
+returns c = reached_spelled

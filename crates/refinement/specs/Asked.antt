@@ -1,0 +1,55 @@
+-- What the calls of a switch ask, as laws of journals give it: of versions, tables, boots and
+-- adverts, whatever steps were taken.
+use Rattle.std.specs.Prelude.{ℕ, ◌≡◌, ◌-◌, ◌^◌, ◌<◌, Some, List, length, IsFalse, IsTrue}
+use Rattle.ctrl_msg.specs.declared.message.Body.{Body}
+use Rattle.five_tuple.specs.declared.header.Header.{Header}
+use Rattle.policy_rules.specs.declared.packet.Leg.{Leg}
+use Rattle.journal.specs.declared.item.Item.{Item}
+use Rattle.switch_core.specs.Answering.{CanLookUp, IsAtAuthority}
+use Rattle.switch_core.specs.Hearing.{IsSoundBody, with_message}
+use Rattle.switch_core.specs.State.{SwitchValue, serves}
+use Rattle.update_machine.specs.Boots.{is_up}
+use Rattle.update_machine.specs.Setting.{Setting}
+use Rattle.update_machine.specs.Settling.{to_switch}
+use Rattle.update_machine.specs.Links.{serves as serves_in, message_of}
+use Rattle.control_laws.specs.BootLaws.{ServingIsKnown}
+use Rattle.control_laws.specs.Sends.{NumbersFit}
+use Rattle.control_laws.specs.Authorities.{EndsAt}
+use Rattle.control_laws.specs.Serving.{ServingHold}
+use Rattle.refinement.specs.Knowing.{TablesAreKnown}
+use Rattle.refinement.specs.SwitchOf.{switch_of}
+
+-- what `arrive` asks of the switch
+pub record CanReceive (switch : SwitchValue) (header : Header) (leg : Leg) : Type 0 where
+  pub serving : IsTrue (serves switch)
+  pub stamped : CanLookUp switch
+  pub authority : IsAtAuthority switch header leg
+
+-- there is a next number for its own advert, now and once it heard any message
+pub record HasNextSeq (switch : SwitchValue) : Type 0 where
+  pub now : switch.seq < 2 ^ 32 - 1
+  pub then : (n : ℕ) (body : Body) → (with_message switch n body).seq < 2 ^ 32 - 1
+
+-- what `restart` asks of it
+pub record CanRestart (switch : SwitchValue) : Type 0 where
+  pub down : IsFalse switch.is_up
+  pub boot : switch.boot < 2 ^ 32 - 1
+
+pub record AskedTies : Type 0 where
+  pub hear : (setting : Setting) (journal : List Item) (n s : ℕ) (body : Body) →
+      TablesAreKnown setting journal → message_of journal n ≡ Some (to_switch s body) →
+      IsSoundBody body
+  pub near_changed : (setting : Setting) (journal : List Item) (s : ℕ) →
+      NumbersFit setting journal → s < length setting.net.switches →
+      HasNextSeq (switch_of setting journal s)
+  pub restart : (setting : Setting) (journal : List Item) (s : ℕ) →
+      NumbersFit setting journal → IsFalse (is_up journal s) →
+      CanRestart (switch_of setting journal s)
+  pub enter : (setting : Setting) (journal : List Item) (s : ℕ) →
+      ServingHold setting journal → s < length setting.net.switches →
+      CanLookUp (switch_of setting journal s)
+  pub arrive : (setting : Setting) (journal : List Item) (s : ℕ) (header : Header) (leg : Leg) →
+      TablesAreKnown setting journal → ServingIsKnown journal → ServingHold setting journal →
+      s < length setting.net.switches → IsTrue (serves_in journal s) →
+      EndsAt setting journal s header leg →
+      CanReceive (switch_of setting journal s) header leg

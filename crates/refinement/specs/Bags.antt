@@ -1,0 +1,26 @@
+-- What a journal says of the messages that were sent.
+use Rattle.std.specs.Prelude.{ℕ, ◌≡◌, ◌+◌, ◌<◌, false, Option, option_map, List, length}
+use Rattle.message_bag.specs.Numbered.{numbered}
+use Rattle.message_bag.specs.Posts.{Post, framed}
+use Rattle.journal.specs.declared.item.Item.{Item}
+use Rattle.update_machine.specs.Messages.{is_forgotten, next_message, was_delivered}
+use Rattle.update_machine.specs.Links.{message_of}
+
+-- what the journal says of the message of a number, if it was sent: its frames, and what became of
+-- it
+unfoldable pub post_in : List Item → ℕ → Option Post
+post_in journal n = option_map (λ message. (
+  framed message,
+  record {
+    delivered = was_delivered journal n;
+    forgotten = is_forgotten journal n;
+  },
+)) (message_of journal n)
+
+-- the posts have the frames of the messages that the journal says, and of no number behind them
+-- does it tell a delivery or that it is forgotten
+pub record IsBagOf (journal : List Item) (posts : List Post) : Type 0 where
+  pub many : next_message journal ≡ length posts + 1
+  pub each : (n : ℕ) → numbered posts n ≡ post_in journal n
+  pub undelivered : (n : ℕ) → length posts < n → was_delivered journal n ≡ false
+  pub remembered : (n : ℕ) → length posts < n → is_forgotten journal n ≡ false

@@ -1,0 +1,34 @@
+-- The controller, as a journal says it: its marks, and the plans of the versions that it may still
+-- install, in the two-phase update of Reitblatt, Foster, Rexford, Schlesinger and Walker,
+-- "Abstractions for Network Update", SIGCOMM 2012.
+use Rattle.std.specs.Prelude.{ℕ, ◌≡◌, Some, Ok, List, map}
+use Rattle.controller.specs.Controller.{ControllerValue, KeptPlan}
+use Rattle.controller.specs.Plan.{PlanValue}
+use Rattle.journal.specs.declared.item.Item.{Item}
+use Rattle.update_machine.specs.Setting.{Setting}
+use Rattle.update_machine.specs.Settling.{versions_from_current}
+use Rattle.update_machine.specs.Versions.{next_policy, policy_at, plan_at}
+use Rattle.refinement.specs.Marks.{AreMarksOf}
+
+-- a version with its policy and its plan
+abbrev pub planned : Setting → List Item → ℕ → KeptPlan
+planned setting journal version = record {
+  version = version;
+  plan = record {
+    policy = policy_at setting journal version;
+    hosted = plan_at setting journal version;
+  };
+}
+
+-- the marks are those that the journal says, and the plans those of the versions from the current
+-- one to the last
+pub record IsControllerOf (setting : Setting) (journal : List Item)
+    (controller : ControllerValue) : Type 0 where
+  pub marks : AreMarksOf setting journal controller.marks
+  pub plans : controller.plans ≡ map (planned setting journal) (versions_from_current journal)
+
+-- the plan is that of the next version, if it is submitted with this file
+pub record IsPlanOfNext (setting : Setting) (journal : List Item) (file : ℕ) (plan : PlanValue)
+    : Type 0 where
+  pub policy : next_policy setting journal file ≡ Some plan.policy
+  pub hosted : setting.plan plan.policy ≡ Ok plan.hosted

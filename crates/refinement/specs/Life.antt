@@ -1,0 +1,38 @@
+-- What a crash, a boot and a timeout make of a switch.
+use Rattle.std.specs.Prelude.{ℕ, ◌≡◌, ◌+◌, Option, Some, None, option_map, List, [], ◌∷◌, ◌++◌, slice_get}
+use Rattle.journal.specs.declared.item.Item.{Item}
+use Rattle.journal.specs.declared.item.Item.TheVariants as item
+use Rattle.switch_core.specs.Life.{crashed, entry_expired, restarted}
+use Rattle.update_machine.specs.Boots.{boot_of}
+use Rattle.update_machine.specs.Causes.{HaveCauses}
+use Rattle.update_machine.specs.Pieces.{expire_items, nothing}
+use Rattle.update_machine.specs.Setting.{Setting}
+use Rattle.control_laws.specs.ItemCauses.{HasItemCause}
+use Rattle.refinement.specs.SwitchOf.{switch_of}
+
+-- the number of the message that brought the cache entry at a place, if one is there
+abbrev pub message_at : Setting → List Item → ℕ → ℕ → Option ℕ
+message_at setting journal s place =
+    option_map (λ entry. entry.message)
+    (slice_get (switch_of setting journal s).cache.entries place)
+
+-- what a timeout writes
+abbrev pub expired_by : ℕ → ℕ → Option ℕ → List Item
+expired_by s place None = nothing
+expired_by s place (Some message) = item.Expired s place message ∷ []
+
+pub record LifeTies : Type 0 where
+  pub crash : (setting : Setting) (journal : List Item) (s : ℕ) →
+      switch_of setting (journal ++ item.Down s ∷ []) s ≡ crashed (switch_of setting journal s)
+  -- the boot is one that the switch was never in
+  pub restart : (setting : Setting) (journal : List Item) (s : ℕ) →
+      HaveCauses (HasItemCause setting) [] journal →
+      switch_of setting (journal ++ item.Booted s (boot_of journal s + 1) ∷ []) s
+      ≡ restarted (switch_of setting journal s)
+  pub expiry : (setting : Setting) (journal : List Item) (s place message : ℕ) →
+      switch_of setting (journal ++ item.Expired s place message ∷ []) s
+      ≡ entry_expired (switch_of setting journal s) place
+  -- and which timeout is written
+  pub expires : (setting : Setting) (journal : List Item) (s place : ℕ) →
+      expire_items setting s place journal
+      ≡ expired_by s place (message_at setting journal s place)

@@ -1,0 +1,124 @@
+-- Which links can be used, and what switches tell when that changes.
+use Rattle.std.specs.Prelude.{ℕ, ◌≡◌, ◌<◌, ◌==◌, not, ◌&&◌, Bool, true, false, if◌then◌else◌, Option, Some, None, List, [], ◌∷◌, filter, length, map, slice_get, slice_index, slice_index_or}
+use Rattle.std.specs.List.{flat_map, range_with_len}
+use Rattle.std.specs.Option.{option_map_or}
+use Rattle.ctrl_msg.specs.declared.message.Body.TheVariants.{Hello}
+use Rattle.ctrl_msg.specs.declared.message.Message.{Message}
+use Rattle.ctrl_msg.specs.Kinds.{to_controller}
+use Rattle.failover.specs.declared.advert.Advert.{Advert}
+use Rattle.base.specs.Masks.{has}
+use Rattle.base.specs.ComputedMasks.{mask_of}
+use Rattle.net_file.specs.Joins.{joins}
+use Rattle.net_file.specs.declared.net.Net.{Net}
+use Rattle.net_file.specs.Owners.{links_of}
+use Rattle.steps.specs.declared.step.Step.{Step}
+use Rattle.steps.specs.declared.step.Step.TheVariants.{LinkDown, LinkUp}
+use Rattle.switch_core.specs.Life.{near_changed, next_advert}
+use Rattle.switch_core.specs.State.{SwitchValue, serves}
+use Rattle.refinement.specs.Links.{all_held}
+use Rattle.update_machine.specs.Deliveries.{advert_to}
+
+-- ---- links that are up
+
+-- the neighbours of each switch as masks, by its number
+abbrev pub AreNear : Net → List ℕ → Type 0
+AreNear net near = (s : ℕ) → s < 64 → slice_index near s ≡ links_of net.links s
+
+-- ---- a link that fails or comes back
+
+-- the step by which the link of two switches comes back, or fails
+abbrev pub link_step : Bool → ℕ → ℕ → Step
+link_step true one two = LinkUp one two
+link_step false one two = LinkDown one two
+
+-- both ends of the link of these two switches are up, or down; all other links are as before
+abbrev pub SetsLink : List ℕ → ℕ → ℕ → Bool → List ℕ → Type 0
+SetsLink before one two up after = (s k : ℕ) → s < 64 → k < 64
+    → has (slice_index after s) k ≡ (if joins s k (record { one = one; two = two }) then up
+    else has (slice_index before s) k)
+
+-- ---- usable links
+
+-- the switch of this number is there, and serves
+abbrev pub serves_at : List SwitchValue → ℕ → Bool
+serves_at switches s = option_map_or serves (slice_get switches s) false
+
+-- those of these links that can be used, where a switch itself serves, and these others
+abbrev pub near_where : ℕ → Bool → (ℕ → Bool) → ℕ
+near_where links own others = mask_of (λ k. has links k && own && others k)
+
+-- the switches to which a switch has a usable link, where it has links that are up to these: both
+-- ends serve
+unfoldable pub near_by : List ℕ → List SwitchValue → ℕ → ℕ
+near_by links switches s =
+    near_where (slice_index links s) (serves_at switches s) (serves_at switches)
+
+-- of all 64 numbers
+unfoldable pub near_all : List ℕ → List SwitchValue → List ℕ
+near_all links switches = map (near_by links switches) (range_with_len 0 64)
+
+-- ---- what switches tell
+
+-- what the switch tells a neighbour, where it had a usable link to it before, or hadn't
+abbrev pub told_to : SwitchValue → Advert → Bool → ℕ → List Message
+told_to switch own had neighbour = elim had [
+  | true ↦ advert_to neighbour own ∷ []
+  | false ↦ map (advert_to neighbour) (all_held switch)
+]
+
+-- if it has a usable link to that
+abbrev pub told_near : SwitchValue → Advert → ℕ → ℕ → ℕ → List Message
+told_near switch own had near other =
+    if has near other then told_to switch own (has had other) other else []
+
+-- one advert, if there is one
+abbrev pub told_if : ℕ → Option Advert → List Message
+told_if other None = []
+told_if other (Some advert) = advert_to other advert ∷ []
+
+-- all that it holds, if it has a usable link to that
+abbrev pub told_all_near : SwitchValue → ℕ → ℕ → List Message
+told_all_near switch near other =
+    if has near other then map (advert_to other) (all_held switch) else []
+
+-- what a switch that is up tells again: the controller its boot, and its neighbours among so many
+-- switches all that it holds
+abbrev pub told_again : ℕ → ℕ → ℕ → SwitchValue → List Message
+told_again s count near switch = if switch.is_up
+    then to_controller (Hello s switch.boot)
+    ∷ flat_map (λ other. map (advert_to other) (all_held switch))
+    (filter (has near) (range_with_len 0 count))
+    else []
+
+-- it is up, and its usable links changed
+abbrev pub changes : ℕ → ℕ → SwitchValue → Bool
+changes had near switch = switch.is_up && not (had == near)
+
+-- it makes its next advert then
+abbrev pub relinked_as : ℕ → ℕ → SwitchValue → SwitchValue
+relinked_as had near switch = if changes had near switch then near_changed switch near else switch
+
+-- and tells its neighbours among so many switches
+abbrev pub told_as : ℕ → ℕ → ℕ → SwitchValue → List Message
+told_as count had near switch = if changes had near switch
+    then flat_map (λ other. told_to (near_changed switch near) (next_advert switch near)
+    (has had other) other) (filter (has near) (range_with_len 0 count))
+    else []
+
+abbrev pub told_at : ℕ → List ℕ → List ℕ → List SwitchValue → ℕ → List Message
+told_at count had near switches s = elim (slice_get switches s) [
+  | None ↦ []
+  | Some switch ↦ told_as count (slice_index had s) (slice_index near s) switch
+]
+
+-- all that is told, by ascending number of the switch that tells it
+unfoldable pub all_told : List ℕ → List ℕ → List SwitchValue → List Message
+all_told had near switches =
+    flat_map (told_at (length switches) had near switches)
+    (range_with_len 0 (length switches))
+
+-- each of these switches made its next advert if its links changed
+pub record AreRelinked (had near : List ℕ) (old new : List SwitchValue) : Type 0 where
+  pub as_many : length new ≡ length old
+  pub each : (s : ℕ) (d : SwitchValue) → s < length old → slice_index_or new s d
+      ≡ relinked_as (slice_index had s) (slice_index near s) (slice_index_or old s d)

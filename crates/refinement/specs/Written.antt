@@ -1,0 +1,36 @@
+-- What a controller does at a call, as items of the journal: marks that rise, and messages, each
+-- under the next number. The notion is our own.
+use Rattle.std.specs.Prelude.{ℕ, ◌≡◌, List, [], ◌∷◌, ◌++◌, map}
+use Rattle.controller.specs.Controller.{ControllerValue}
+use Rattle.controller.specs.Sends.{resending}
+use Rattle.controller.specs.declared.sends.Act.{Act}
+use Rattle.controller.specs.declared.sends.Act.TheVariants.{Current, Retired, Post}
+use Rattle.journal.specs.declared.item.Item.{Item}
+use Rattle.journal.specs.declared.item.Item.TheVariants as item
+use Rattle.update_machine.specs.Messages.{next_message}
+use Rattle.update_machine.specs.Pieces.{resent_by_switch}
+use Rattle.update_machine.specs.Setting.{Setting}
+use Rattle.refinement.specs.Controller.{IsControllerOf}
+
+abbrev pub item_of : List Item → Act → Item
+item_of journal (Current version) = item.Current version
+item_of journal (Retired version) = item.Retired version
+item_of journal (Post message) = item.Sent (next_message journal) message
+
+-- what the acts write behind the journal, one after another
+abbrev pub written : List Item → List Act → List Item
+written journal [] = []
+written journal (act ∷ acts) =
+    item_of journal act ∷ written (journal ++ item_of journal act ∷ []) acts
+
+-- at a resend the switch sends its messages, and then the controller
+abbrev pub resent : Setting → List Item → ℕ → ControllerValue → List Act
+resent setting journal s controller =
+    map Post (resent_by_switch setting journal s) ++ resending controller s
+
+-- the items that stand behind the journal are these first ones and then what the acts write, and
+-- the controller is afterwards as the longer journal says
+pub record AreWritten (setting : Setting) (journal first : List Item) (acts : List Act)
+    (new : ControllerValue) (items : List Item) : Type 0 where
+  pub same : items ≡ first ++ written (journal ++ first) acts
+  pub after : IsControllerOf setting (journal ++ items) new

@@ -1,0 +1,147 @@
+//! The laws.
+ghost use Rattle.std.specs.Prelude.{List, ℕ, ◌≡◌, ◌≢◌, ◌+◌, ◌-◌, ◌<◌, ◌++◌, Some, [], ◌∷◌, length, map, IsFalse, IsTrue};
+ghost use Rattle.version_update.specs.Marks.{MarksValue, at_switch};
+ghost use Rattle.version_update.specs.Record.{after_over};
+ghost use Rattle.ctrl_msg.specs.Kinds.{to_controller};
+ghost use Rattle.ctrl_msg.specs.declared.message.Body.{Body};
+ghost use Rattle.ctrl_msg.specs.declared.message.Message.{Message};
+ghost use Rattle.controller.specs.Controllers.{ControllerValue, NamesThere, PlanValue, SettlesWith, SubmitsPlan, first_controller, hearing, marks_after, resending, settling_acts, submitting};
+ghost use Rattle.controller.specs.declared.sends.Act.{Act};
+ghost use Rattle.controller.specs.declared.sends.Act.TheVariants.{Post};
+ghost use Rattle.steps.specs.declared.step.Step.TheVariants.{Confirm, Deliver, Resend, Update};
+ghost use Rattle.journal.specs.declared.item.Item.TheVariants.{Row, Delivered, Nothing, OverNow, Refused, Submitted};
+ghost use Rattle.update_machine.specs.Journals.{HaveCauses, IsReached, IsSetting, Item, NoneConcern, Setting, Step, concerns_controller, is_deliverable, is_up, message_of, piece, resent_by_controller, sends};
+ghost use Rattle.control_laws.specs.Laws.{BodiesNameThere, HasItemCause, asks_controller};
+ghost use Rattle.refinement.specs.Laws.{AreMarksOf, AreSpelled, AreWritten, BagTies, ComeTies, HopTies, IsControllerOf, IsPlanOfNext, planned, resent, written};
+
+/// A controller begins as a journal without items says, where its plan is the first version's.
+pub fn controllers_begin()
+    ensures { (setting : Setting) (plan : PlanValue) → plan ≡ (planned setting [] 1).plan
+        → IsControllerOf setting [] (first_controller (length setting.net.switches) plan) }
+{}
+
+/// The submission of the next version's plan writes what an update writes; where the marks refuse
+/// it, the code that the journal has of that refusal.
+pub fn controllers_submit()
+    ensures taken { (setting : Setting) (before : List Item) (row file : ℕ)
+        (old new : ControllerValue) (plan : PlanValue)
+        → HaveCauses (HasItemCause setting) [] before → IsControllerOf setting before old
+        → IsPlanOfNext setting before file plan → old.marks.count - old.marks.retired ≢ 8
+        → old.marks.count ≢ 64 → SubmitsPlan old plan new
+        → AreWritten setting before
+        (Row row (Update file) ∷ Submitted file (old.marks.count + 1) ∷ [])
+        (submitting old.marks plan new.marks) new (piece setting before row (Update file)) }
+    ensures live { (setting : Setting) (before : List Item) (row file : ℕ)
+        (old : ControllerValue) (plan : PlanValue)
+        → HaveCauses (HasItemCause setting) [] before → IsControllerOf setting before old
+        → IsPlanOfNext setting before file plan → old.marks.count - old.marks.retired ≡ 8
+        → AreWritten setting before (Row row (Update file) ∷ Refused file 16 ∷ []) [] old
+        (piece setting before row (Update file)) }
+    ensures versions { (setting : Setting) (before : List Item) (row file : ℕ)
+        (old : ControllerValue) (plan : PlanValue)
+        → HaveCauses (HasItemCause setting) [] before → IsControllerOf setting before old
+        → IsPlanOfNext setting before file plan → old.marks.count - old.marks.retired ≢ 8
+        → old.marks.count ≡ 64
+        → AreWritten setting before (Row row (Update file) ∷ Refused file 17 ∷ []) [] old
+        (piece setting before row (Update file)) }
+{}
+
+/// A message that is delivered to the controller writes what its delivery writes, whatever it says.
+/// What it names is known, on a network that is asked for steps of its own alone.
+pub fn controllers_hear()
+    ensures items { (setting : Setting) (before : List Item) (row number : ℕ) (body : Body)
+        (old new : ControllerValue)
+        → HaveCauses (HasItemCause setting) [] before → IsControllerOf setting before old
+        → IsTrue (is_deliverable before number)
+        → message_of before number ≡ Some (to_controller body) → NamesThere body old.marks
+        → SettlesWith (marks_after body old.marks) old.plans new
+        → AreWritten setting before (Row row (Deliver number) ∷ Delivered number ∷ [])
+        (hearing body old.marks new) new (piece setting before row (Deliver number)) }
+    ensures there { (setting : Setting) (journal : List Item) (number : ℕ) (body : Body)
+        (marks : MarksValue) → BodiesNameThere setting journal
+        → AreMarksOf setting journal marks
+        → message_of journal number ≡ Some (to_controller body) → NamesThere body marks }
+{}
+
+/// The confirmation that a switch that is down is over writes what the step writes.
+pub fn controllers_confirm()
+    ensures { (setting : Setting) (before : List Item) (row s : ℕ) (old new : ControllerValue)
+        → HaveCauses (HasItemCause setting) [] before → IsControllerOf setting before old
+        → IsFalse (is_up before s) → s < length old.marks.switches
+        → SettlesWith (at_switch s after_over old.marks) old.plans new
+        → AreWritten setting before (Row row (Confirm s) ∷ OverNow s ∷ [])
+        (settling_acts (at_switch s after_over old.marks) new.marks) new
+        (piece setting before row (Confirm s)) }
+{}
+
+/// What a controller sends again is what the journal says that it sends again. A resend writes that
+/// behind what the switch itself sends again, or that nothing happens where both send nothing.
+pub fn controllers_resend()
+    ensures messages { (setting : Setting) (journal : List Item) (s : ℕ)
+        (controller : ControllerValue) → HaveCauses (HasItemCause setting) [] journal
+        → IsControllerOf setting journal controller → s < length controller.marks.switches
+        → resending controller s ≡ map Post (resent_by_controller setting journal s) }
+    ensures nothing { (setting : Setting) (before : List Item) (row s : ℕ)
+        (controller : ControllerValue) → HaveCauses (HasItemCause setting) [] before
+        → IsControllerOf setting before controller → s < length controller.marks.switches
+        → resent setting (before ++ Row row (Resend s) ∷ []) s controller ≡ []
+        → AreWritten setting before (Row row (Resend s) ∷ Nothing ∷ []) [] controller
+        (piece setting before row (Resend s)) }
+    ensures some { (setting : Setting) (before : List Item) (row s : ℕ)
+        (controller : ControllerValue) → HaveCauses (HasItemCause setting) [] before
+        → IsControllerOf setting before controller → s < length controller.marks.switches
+        → resent setting (before ++ Row row (Resend s) ∷ []) s controller ≢ []
+        → AreWritten setting before (Row row (Resend s) ∷ [])
+        (resent setting (before ++ Row row (Resend s) ∷ []) s controller) controller
+        (piece setting before row (Resend s)) }
+{}
+
+/// Items that don't concern the controller leave its marks and its plans, and so do the steps by
+/// which it hears nothing and is told to do nothing.
+pub fn others_leave_controllers()
+    ensures items { (setting : Setting) (before items : List Item) (controller : ControllerValue)
+        → HaveCauses (HasItemCause setting) [] before
+        → NoneConcern concerns_controller before items
+        → IsControllerOf setting before controller
+        → IsControllerOf setting (before ++ items) controller }
+    ensures steps { (setting : Setting) (before : List Item) (row : ℕ) (step : Step)
+        (controller : ControllerValue) → HaveCauses (HasItemCause setting) [] before
+        → IsFalse (asks_controller before step) → IsControllerOf setting before controller
+        → IsControllerOf setting (before ++ piece setting before row step) controller }
+{}
+
+/// Acts of several parts write one part behind another, and messages write that they are sent.
+pub fn acts_write_in_turn()
+    ensures parts { (journal : List Item) (first later : List Act)
+        → written journal (first ++ later)
+        ≡ written journal first ++ written (journal ++ written journal first) later }
+    ensures messages { (messages : List Message) (journal : List Item)
+        → written journal (map Post messages) ≡ sends journal messages }
+{}
+
+/// A packet comes in at a switch that is as the journal says: the switch may be asked, and its
+/// answer is what the step writes. The packet is then where the answer leaves it, and no other
+/// packet moves.
+pub fn packets_come_in()
+    ensures { ComeTies }
+{}
+
+/// A packet on its way goes on from where it stands, or is at the end of its route: the switch may
+/// be asked there, and its answers are what the step writes. The packet is then where they leave
+/// it, and no other packet moves.
+pub fn packets_move_on()
+    ensures { HopTies }
+{}
+
+/// The posts of a bag are the messages of the journal, as messages are sent, delivered and
+/// forgotten, and whatever else happens.
+pub fn messages_are_kept()
+    ensures { BagTies }
+{}
+
+/// Each message that was sent in a network names switches below 64 and carries short lists, and its
+/// receiver suits its body: so it has a spelling, which is short enough for frames.
+pub fn messages_have_spellings()
+    ensures { (setting : Setting) (journal : List Item) → IsSetting setting
+        → IsReached setting journal → AreSpelled journal }
+{}

@@ -1,0 +1,10 @@
+mod campus;
+mod days;
+mod full;
+mod grammar;
+mod loads;
+mod meter_runs;
+mod networks;
+mod one_switch;
+mod plans;
+mod policies;

@@ -1,0 +1,63 @@
+//! The hub of a star of 64 switches, which tells all again until no more fits.
+use crate::files::DROP;
+use crate::runs::{Ran, calls, ended, ran, shelf_of};
+use shelf::MemSink;
+use std::alloc::Global;
+use std::fmt::Write;
+use std::test::Fail;
+
+const ARGS: [&str; 5] = ["replay", "s.csv", "p.csv", "--net", "n.toml"];
+
+/// A hub that decides, with a link to each of 63 other switches.
+fn star(alloc: Global) -> Result<String, Fail> {
+    let mut switches = String::new(alloc);
+    let mut links = String::new(alloc);
+    for k in 1..64u32 {
+        write!(switches, ", {{ name = \"s{k}\" }}")?;
+        write!(links, "{{ ends = [\"hub\", \"s{k}\"] }}, ")?;
+    }
+    Ok(format!(in alloc;
+        "switch = [{{ name = \"hub\", authority = 8192 }}{switches}]\nlink = [{links}]\n"
+    )?)
+}
+
+/// So many rows in which the hub tells all again; the write of this number fails, counted from 1,
+/// and none fails at 0.
+fn told_again(alloc: Global, rows: u32, failing_write: u64) -> Result<Ran, Fail> {
+    let mut schedule = String::from_str(alloc, "event,arguments\n")?;
+    for _ in 0..rows {
+        schedule.push_str("resend,hub\n")?;
+    }
+    let net = star(alloc)?;
+    let files = [
+        ("s.csv", schedule.as_str()),
+        ("p.csv", DROP),
+        ("n.toml", net.as_str()),
+    ];
+    let out = MemSink::new(alloc, u64::MAX, calls(alloc, failing_write)?);
+    let errs = MemSink::new(alloc, u64::MAX, Vec::new(alloc));
+    Ok(ran(alloc, &ARGS, shelf_of(alloc, &files)?, out, errs)?)
+}
+
+/// The hub's Hello, 64 adverts to each of 63 switches, and its Open.
+#[test]
+fn tells_all_again(rt: HostRuntime) -> Result<(), Fail> {
+    let (status, out, _) = told_again(rt.alloc(), 1, 0)?;
+    assert!(rt; status == 0);
+    assert!(rt;
+        out.bytes().starts_with(b"row 1: resend hub\n  sent 1 controller hello hub boot 1\n")
+    );
+    assert!(rt;
+        out.bytes()
+            .ends_with(b"  sent 4034 hub open boot 1 version 1\n")
+    );
+    Ok(())
+}
+
+// The play stops full at its last row, and its first write fails.
+#[test]
+fn prints_nothing_of_a_full_play(rt: HostRuntime) -> Result<(), Fail> {
+    let ran = told_again(rt.alloc(), 247, 1)?;
+    assert!(rt; ended(&ran, 5, "", "difane: write fault\n"));
+    Ok(())
+}

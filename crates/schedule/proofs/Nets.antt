@@ -1,0 +1,153 @@
+-- The network of each load case is sound.
+use Rattle.std.specs.Prelude.{IsTrue, IsFalse, AllPairs, bytes_eq, slice_index}
+use Rattle.std.specs.Int.{bit_at}
+use Rattle.std.specs.List.{list_all, range_with_len}
+use Rattle.std.proofs.Common.{◌≡◌, ◌≢◌, ℕ, zero, suc, ◌+◌, ◌<◌, ◌≤◌, ◌^◌, ◌==◌, Bool, true, false, not, ◌&&◌, List, [], ◌∷◌, ◌++◌, length, map, All, refl, sym, ap, ◌∙◌, true≢false, eq-eqb, ne_eqb, eqb-true, ltb-true, leb-true, nat_lt, nat_le, is_some, arith}
+use Rattle.std.proofs.lemmas.Nat.Bits.{bit_at-pow_other}
+use Rattle.std.proofs.lemmas.Slice.Eq.{bytes_eq-Decides}
+use Rattle.std.proofs.lemmas.List.FromFn.{map-range_with_len_more}
+use Rattle.std.proofs.lemmas.List.Elements.{All-cons, All-nil}
+use Rattle.std.proofs.lemmas.List.Kept.{AllPairs-cons}
+use Rattle.net_file.specs.Net.{AreApart, AreOther, IsLink, IsNet, IsSwitchRow, is_name}
+use Rattle.net_file.specs.Joins.{has_port, joins, owner_of}
+use Rattle.schedule.specs.Case.{load_links, load_net, room_of, switch_row}
+
+-- ---- lists by a test that computes
+
+first : (a b : Bool) → (a && b) ≡ true → a ≡ true
+first true b e = refl
+first false b e = e
+
+second : (a b : Bool) → (a && b) ≡ true → b ≡ true
+second true b e = e
+second false b e = absurd (true≢false (sym e))
+
+is_not : (b : Bool) → not b ≡ true → b ≡ false
+is_not true e = absurd (true≢false (sym e))
+is_not false e = refl
+
+module _ {A X : Type 0} (f : A → X) where
+  all_by : (P : X → Type 0) (test : A → Bool) → ((x : A) → test x ≡ true → P (f x))
+      → (xs : List A) → list_all test xs ≡ true → All P (map f xs)
+  all_by P test sound [] e = All-nil P
+  all_by P test sound (x ∷ xs) e = All-cons P (f x) (map f xs) (sound x (first (test x) _ e))
+      (all_by P test sound xs (second (test x) _ e))
+
+-- each passes with each later one
+abbrev pairs_pass : {A : Type 0} → (A → A → Bool) → List A → Bool
+pairs_pass test [] = true
+pairs_pass test (x ∷ xs) = list_all (test x) xs && pairs_pass test xs
+
+module _ {A X : Type 0} (f : A → X) where
+  pairs_by : (R : X → X → Type 0) (test : A → A → Bool)
+      → ((x y : A) → test x y ≡ true → R (f x) (f y)) → (xs : List A)
+      → pairs_pass test xs ≡ true → AllPairs R (map f xs)
+  pairs_by R test sound [] e = λ i j d below inside. absurd (omega arith)
+  pairs_by R test sound (x ∷ xs) e = AllPairs-cons R (f x) (map f xs)
+      (all_by f (R (f x)) (test x) (sound x) xs (first (list_all (test x) xs) _ e))
+      (pairs_by R test sound xs (second (list_all (test x) xs) _ e))
+
+-- ---- switches
+
+all_sound : All IsSwitchRow load_net.switches
+all_sound = all_by switch_row IsSwitchRow
+    (λ i. is_name (switch_row i).name && (nat_lt (2 ^ i) (2 ^ 64) && nat_le (room_of i) 8192))
+    (λ i e.
+    let sizes = second (is_name (switch_row i).name) _ e in
+    record {
+      name = first (is_name (switch_row i).name) _ e;
+      ports = ltb-true _ _ (first (nat_lt (2 ^ i) (2 ^ 64)) _ sizes);
+      room = leb-true _ _ (second (nat_lt (2 ^ i) (2 ^ 64)) _ sizes);
+    })
+    (range_with_len 0 8) refl
+
+other_ports : (i j port : ℕ) → i ≢ j → IsTrue (has_port port (switch_row i))
+    → IsFalse (has_port port (switch_row j))
+other_ports i j port apart has = ne_eqb _ _ (λ e. one_of (port == i) refl e)
+  where
+    one_of : (b : Bool) → (port == i) ≡ b → bit_at (2 ^ j) port ≡ 1 → ⊥
+    one_of true is e =
+        let same : port ≡ i = eqb-true port i is in
+        let none : bit_at (2 ^ j) port ≡ 0 = bit_at-pow_other j port (λ k. apart (sym same ∙ k)) in
+        absurd (omega (arith, e, none))
+    one_of false is e =
+        let none : bit_at (2 ^ i) port ≡ 0 =
+        bit_at-pow_other i port (λ k. true≢false (sym (eq-eqb port i k) ∙ is)) in
+        let some : bit_at (2 ^ i) port ≡ 1 = eqb-true _ _ has in
+        absurd (omega (arith, some, none))
+
+other_names : (i j : ℕ) → i ≢ j → IsFalse (bytes_eq (switch_row i).name (switch_row j).name)
+other_names i j apart = go (bytes_eq (switch_row i).name (switch_row j).name) refl
+  where
+    go : (b : Bool) → bytes_eq (switch_row i).name (switch_row j).name ≡ b → IsFalse b
+    go false e = refl
+    go true e =
+        let same = (bytes_eq-Decides (switch_row i).name (switch_row j).name).0 e in
+        let digit : 48 + i ≡ 48 + j = ap (λ name. slice_index name 1) same in
+        absurd (apart (omega (arith, digit)))
+
+all_apart : AllPairs AreApart load_net.switches
+all_apart = pairs_by switch_row AreApart (λ i j. not (i == j))
+    (λ i j e. let apart : i ≢ j = λ same. true≢false (sym (eq-eqb i j same) ∙ is_not _ e) in
+    record { names = other_names i j apart; ports = λ port. other_ports i j port apart })
+    (range_with_len 0 8) refl
+
+-- ---- links
+
+all_links : All (IsLink 8) load_links
+all_links = all_by (λ link. link) (IsLink 8)
+    (λ link. nat_lt link.one 8 && (nat_lt link.two 8 && not (link.one == link.two)))
+    (λ link e. record {
+      one = ltb-true _ _ (first (nat_lt link.one 8) _ e);
+      two = ltb-true _ _ (first (nat_lt link.two 8) _ (second (nat_lt link.one 8) _ e));
+      apart = λ same. true≢false (sym (eq-eqb link.one link.two same)
+          ∙ is_not _ (second (nat_lt link.two 8) _ (second (nat_lt link.one 8) _ e)));
+    })
+    load_links refl
+
+other_links : AllPairs AreOther load_links
+other_links = pairs_by (λ link. link) AreOther (λ a b. not (joins b.one b.two a))
+    (λ a b e. is_not _ e) load_links refl
+
+pub load_net_sound : IsNet load_net
+load_net_sound =
+    let size : length load_net.switches ≡ 8 = refl in
+    let links : length load_links ≡ 10 = refl in
+    record {
+      some_switch = omega (arith, size);
+      few_switches = omega (arith, size);
+      switches = all_sound;
+      apart = all_apart;
+      few_links = omega (arith, links);
+      links = all_links;
+      others = other_links;
+      some_rules = omega arith;
+      leaf_rules = omega arith;
+      backups = omega arith;
+      cache = omega arith;
+    }
+
+-- ---- ports
+
+in_range : (test : ℕ → Bool) (from count k : ℕ) → list_all test (range_with_len from count) ≡ true
+    → from ≤ k → k < from + count → test k ≡ true
+in_range test from zero k e low high = absurd (omega (arith, low, high))
+in_range test from (suc count) k e low high =
+    go (from == k) refl (in_range test (from + 1) count k (second (test from) _ e))
+  where
+    go : (b : Bool) → (from == k) ≡ b → (from + 1 ≤ k → k < from + 1 + count → test k ≡ true)
+        → test k ≡ true
+    go true same later = ap test (sym (eqb-true from k same)) ∙ first (test from) _ e
+    go false other later =
+        let apart : from ≢ k = λ same. true≢false (sym (eq-eqb from k same) ∙ other) in
+        later (omega (arith, low, apart)) (omega (arith, high))
+
+pub port_owned : (port : ℕ) → port < 8 → IsTrue (is_some (owner_of load_net.switches port))
+port_owned port below =
+    in_range (λ k. is_some (owner_of load_net.switches k)) 0 8 port refl (omega arith)
+    (omega (arith, below))
+
+-- one more switch
+pub switches_more : (i : ℕ) → map switch_row (range_with_len 0 (i + 1))
+    ≡ map switch_row (range_with_len 0 i) ++ switch_row i ∷ []
+switches_more i = map-range_with_len_more switch_row 0 i i (omega arith)

@@ -1,0 +1,174 @@
+-- The load case of a number: a ring of eight switches with two more links, two policies, and a
+-- schedule of packets with an update and a failed link in its middle. The policies and the packets
+-- are drawn from a linear congruential generator, whose state starts at the number.
+use Rattle.std.specs.Prelude.{⊤, ℕ, IsTrue, is_some, zero, suc, ◌≤◌, ◌+◌, ◌*◌, ◌/◌, ◌%◌, ◌^◌, ◌||◌, ◌==◌, if◌then◌else◌, List, [], ◌∷◌, ◌++◌, length, map, All}
+use Rattle.std.specs.List.{range_with_len}
+use Rattle.five_tuple.specs.HeaderNumbers.{header_of}
+use Rattle.five_tuple.specs.Texts.{block_round}
+use Rattle.five_tuple.specs.declared.header.Header.{Header}
+use Rattle.five_tuple.specs.declared.matching.Proto.TheVariants.{Is}
+use Rattle.schedule.specs.declared.case.Case.{Case}
+use Rattle.net_file.specs.Net.{IsNet}
+use Rattle.net_file.specs.declared.net.LinkRow.{LinkRow}
+use Rattle.net_file.specs.declared.net.Net.{Net}
+use Rattle.net_file.specs.declared.net.SwitchRow.{SwitchRow}
+use Rattle.net_file.specs.Joins.{owner_of}
+use Rattle.policy_rules.specs.declared.policy.Action.{Action}
+use Rattle.policy_rules.specs.declared.policy.Action.TheVariants.{Drop, Out}
+use Rattle.policy_rules.specs.declared.policy.Row.{Row}
+use Rattle.steps.specs.Steps.{IsEvent}
+use Rattle.steps.specs.Limits.{max_events}
+use Rattle.steps.specs.declared.step.Event.{Event}
+use Rattle.steps.specs.declared.step.Event.TheVariants.{Drain, Flush, One}
+use Rattle.steps.specs.declared.step.Step.{Step}
+use Rattle.steps.specs.declared.step.Step.TheVariants as step
+
+-- ---- draws
+
+-- the state of the generator behind one draw
+unfoldable pub next_drawn : ℕ → ℕ
+next_drawn x = (x * 1103515245 + 12345) % 2147483648
+
+-- the state behind so many draws
+abbrev pub behind : ℕ → ℕ → ℕ
+behind zero x = x
+behind (suc n) x = behind n (next_drawn x)
+
+-- the number below m that the draw gave which left this state
+abbrev pub below : ℕ → ℕ → ℕ
+below m x = x / 65536 % m
+
+-- ---- the network
+
+-- n1 and n5 are the authorities
+abbrev pub room_of : ℕ → ℕ
+room_of i = if i == 1 || i == 5 then 8192 else 0
+
+-- the switch `ni` has the port i
+abbrev pub switch_row : ℕ → SwitchRow
+switch_row i = record { name = 110 ∷ (48 + i) ∷ []; ports = 2 ^ i; room = room_of i }
+
+abbrev pub link : ℕ → ℕ → LinkRow
+link one two = record { one = one; two = two }
+
+-- a ring, and n0-n4 and n2-n6 across it
+abbrev pub load_links : List LinkRow
+load_links = link 0 1 ∷ link 1 2 ∷ link 2 3 ∷ link 3 4 ∷ link 4 5 ∷ link 5 6 ∷ link 6 7 ∷ link 0 7
+    ∷ link 0 4 ∷ link 2 6 ∷ []
+
+abbrev pub load_net : Net
+load_net = record {
+  switches = map switch_row (range_with_len 0 8);
+  links = load_links;
+  leaf_rules = 32;
+  backups = 1;
+  cache = 16;
+}
+
+-- ---- the policies
+
+abbrev pub address : ℕ → ℕ → ℕ → ℕ → ℕ
+address a b c d = a * 2 ^ 24 + b * 2 ^ 16 + c * 2 ^ 8 + d
+
+-- one draw says whether a row drops, and if it doesn't a second one its port
+abbrev pub drops : ℕ → ℕ
+drops x = below 4 (next_drawn x)
+
+abbrev pub action_at : ℕ → Action
+action_at x = if drops x == 0 then Drop else Out (below 8 (behind 2 x))
+
+abbrev pub action_ends : ℕ → ℕ
+action_ends x = if drops x == 0 then next_drawn x else behind 2 x
+
+-- the row of this priority, that is drawn from the state x
+abbrev pub row_at : ℕ → ℕ → Row
+row_at priority x = record {
+  priority = priority;
+  src = block_round (address 10 (below 4 (behind 1 x)) (below 256 (behind 2 x)) 0) 24;
+  dst = block_round (address 10 (below 4 (behind 3 x)) 0 0) 16;
+  sport = record { low = 0; high = 65535 };
+  dport = record { low = below 1024 (behind 4 x); high = below 1024 (behind 4 x) };
+  proto = Is 6;
+  action = action_at (behind 4 x);
+}
+
+abbrev pub row_ends : ℕ → ℕ
+row_ends x = action_ends (behind 4 x)
+
+-- so many rows, whose priorities are their places from 1, and the state behind them
+abbrev pub rows_drawn : ℕ → ℕ → List Row × ℕ
+rows_drawn zero x = ([], x)
+rows_drawn (suc k) x =
+    let before = rows_drawn k x in
+    (before.0 ++ row_at (k + 1) before.1 ∷ [], row_ends before.1)
+
+-- ---- the schedule
+
+abbrev pub address_at : ℕ → ℕ
+address_at x = address 10 (below 4 (behind 1 x)) (below 256 (behind 2 x)) (below 256 (behind 3 x))
+
+-- the header that is drawn from the state x
+abbrev pub header_drawn : ℕ → Header
+header_drawn x = header_of (record {
+  src = address_at x;
+  dst = address_at (behind 3 x);
+  sport = 1024 + below 30000 (behind 7 x);
+  dport = below 1024 (behind 8 x);
+  proto = 6;
+})
+
+-- the switch is drawn before the header
+abbrev pub packet_drawn : ℕ → Step
+packet_drawn x = step.Packet (below 8 (next_drawn x)) (header_drawn (next_drawn x))
+
+-- a packet at a switch, which then goes its way, and what was sent is delivered
+abbrev pub group_at : ℕ → List Event
+group_at x = One (packet_drawn x) ∷ Drain ∷ Flush ∷ []
+
+-- so many groups, and the state behind them
+abbrev pub groups_from : ℕ → ℕ → List Event × ℕ
+groups_from zero x = ([], x)
+groups_from (suc k) x =
+    let before = groups_from k x in
+    (before.0 ++ group_at before.1, behind 9 before.1)
+
+-- the second policy becomes the newest, and then the link n0-n1 fails
+abbrev pub change_events : List Event
+change_events = One (step.Update 2) ∷ Flush ∷ One (step.LinkDown 0 1) ∷ Flush ∷ []
+
+-- ---- the case
+
+pub record LoadCase : Type 0 where
+  pub net : Net
+  pub policies : List (List Row)
+  pub events : List Event
+
+-- two policies of n rows, and 4 n packets, with the changes behind the first half of them
+abbrev pub load_case : ℕ → LoadCase
+load_case n =
+    let first = rows_drawn n n in
+    let second = rows_drawn n first.1 in
+    let early = groups_from (2 * n) second.1 in
+    let late = groups_from (2 * n) early.1 in
+    record {
+      net = load_net;
+      policies = first.0 ∷ second.0 ∷ [];
+      events = early.0 ++ change_events ++ late.0;
+    }
+
+-- the case that was made
+abbrev pub case_seen : Case → LoadCase
+case_seen made =
+    record { net = made.net; policies = made.policies.items; events = made.events.items }
+
+-- the action names a port that a switch has, if it names one
+abbrev pub NamesPort : Net → Action → Type 0
+NamesPort net Drop = ⊤
+NamesPort net (Out port) = IsTrue (is_some (owner_of net.switches port))
+
+-- the network is one, the policies name ports of it alone, and the events may happen on it
+pub record IsPlayable (load : LoadCase) : Type 0 where
+  pub net : IsNet load.net
+  pub ports : All (All (λ row. NamesPort load.net row.action)) load.policies
+  pub may : All (IsEvent load.net (length load.policies)) load.events
+  pub few : length load.events ≤ max_events

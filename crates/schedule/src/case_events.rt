@@ -1,0 +1,79 @@
+ghost use Rattle.std.specs.Prelude.{◌≡◌, ◌++◌, ◌<◌, ◌^◌, IfOk, OnOk};
+ghost use Rattle.schedule.specs.Case.{address_at, behind, change_events, groups_from, header_drawn, packet_drawn};
+
+use crate::draws::{Draws, address};
+use five_tuple::{Fields, Header};
+use std::alloc::{AllocError, Global};
+use steps::{Event, Step};
+
+/// The events of a case: so many packets, the changes, and so many packets again.
+///
+/// # Errors
+/// Want of memory alone.
+pub fn events(alloc: Global, draws: &mut Draws, half: u32) -> Result<Vec<Event>, AllocError>
+    ensures { IfOk result (λ events.
+        let early = groups_from half draws.old.state in
+        events.items ≡ early.0 ++ change_events ++ (groups_from half early.1).0) }
+{
+    let mut events = Vec::new(alloc);
+    push_groups(&mut events, draws, half)?;
+    events.push(Event::One(Step::Update { file: 2 }))?;
+    events.push(Event::Flush)?;
+    events.push(Event::One(Step::LinkDown { one: 0, two: 1 }))?;
+    events.push(Event::Flush)?;
+    push_groups(&mut events, draws, half)?;
+    Ok(events)
+}
+
+// Adds so many packets, each of which goes its way before the next one comes in.
+#[tactic(auto, using(crate::proofs::Cases::groups_more))]
+fn push_groups(events: &mut Vec<Event>, draws: &mut Draws, count: u32) -> Result<(), AllocError>
+    ensures { OnOk result (
+        (events.new.items ≡ events.old.items ++ (groups_from count draws.old.state).0)
+        × (draws.new.state ≡ (groups_from count draws.old.state).1)) }
+{
+    for _k in 0..count {
+        let packet = draw_packet(draws);
+        events.push(Event::One(packet))?;
+        events.push(Event::Drain)?;
+        events.push(Event::Flush)?;
+    }
+    Ok(())
+}
+
+fn draw_packet(draws: &mut Draws) -> Step
+    ensures packet { result ≡ packet_drawn draws.old.state }
+    ensures state { draws.new.state ≡ behind 9 draws.old.state }
+{
+    let switch = draws.below(8);
+    let header = draw_header(draws);
+    Step::Packet { switch, header }
+}
+
+fn draw_header(draws: &mut Draws) -> Header
+    ensures header { result ≡ header_drawn draws.old.state }
+    ensures state { draws.new.state ≡ behind 8 draws.old.state }
+{
+    let src = draw_address(draws);
+    let dst = draw_address(draws);
+    let sport = (1024 + draws.below(30_000)) as u16;
+    let dport = draws.below(1024) as u16;
+    Header::pack(&Fields {
+        src,
+        dst,
+        sport,
+        dport,
+        proto: 6,
+    })
+}
+
+fn draw_address(draws: &mut Draws) -> u32
+    ensures address { result ≡ address_at draws.old.state }
+    ensures state { draws.new.state ≡ behind 3 draws.old.state }
+    ensures fits { result < 2 ^ 32 }
+{
+    let b = draws.below(4);
+    let c = draws.below(256);
+    let d = draws.below(256);
+    address(10, b, c, d)
+}

@@ -1,3 +1,0 @@
-mod cache_words;
-mod caches;
-mod switches;

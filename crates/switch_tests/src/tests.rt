@@ -1,0 +1,7 @@
+mod assembled;
+mod bags;
+mod cache_words;
+mod caches;
+mod messages;
+mod spellings;
+mod switches;

@@ -1,0 +1,139 @@
+//! Messages that come out of a bag of frames.
+ghost use Rattle.wire.specs.Messages.{HasSpelling};
+
+use crate::tests::messages::{collect, hello, install, install_of};
+use ctrl_msg::{Body, Message, Receiver};
+use message_bag::FrameBag;
+use policy_rules::Rule;
+use std::alloc::Global;
+use std::test::*;
+use switch_table::Tables;
+use wire::encode;
+
+// Posts a message that isn't too long, where the bag isn't full.
+fn post(bag: &mut FrameBag, alloc: Global, message: &Message) -> Result<u32, Fail>
+    requires { HasSpelling message.now }
+{
+    let bytes = encode(alloc, message)?;
+    if bytes.len() > 1 << 20 || bag.len() >= 1000 {
+        return Err(Fail::from("too long, or full"));
+    }
+    Ok(bag.post(alloc, message)?)
+}
+
+fn take(bag: &FrameBag, alloc: Global, number: u32) -> Result<Message, Fail> {
+    Ok(bag.take(alloc, number)?.ok_or("no such message")?)
+}
+
+// The receiver and the boot of the installation of this number, and how many rules it brings.
+fn installed(
+    bag: &FrameBag,
+    alloc: Global,
+    number: u32,
+) -> Result<Option<(Receiver, u32, usize)>, Fail> {
+    let Message { to, body } = take(bag, alloc, number)?;
+    match body {
+        Body::Install { boot, tables } => match tables.tables().auth.items().first() {
+            Some(part) => Ok(Some((to, boot, part.rules.items().len()))),
+            None => Ok(None),
+        },
+        _ => Ok(None),
+    }
+}
+
+#[test]
+fn messages_come_out_of_a_bag(rt: HostRuntime) -> Result<(), Fail> {
+    let alloc = rt.alloc();
+    let mut bag = FrameBag::new(alloc);
+    assert_eq!(rt; post(&mut bag, alloc, &collect())?, 1);
+    // Tables of 40,000 bytes, of 52 bytes, and the first ones again.
+    assert_eq!(rt; post(&mut bag, alloc, &install(alloc, 1038, 12)?)?, 2);
+    assert_eq!(rt; post(&mut bag, alloc, &install(alloc, 0, 0)?)?, 3);
+    assert_eq!(rt; post(&mut bag, alloc, &install(alloc, 1038, 12)?)?, 4);
+    assert_eq!(rt; post(&mut bag, alloc, &hello())?, 5);
+    let first = take(&bag, alloc, 1)?;
+    assert!(rt;
+        matches!(
+            first.body,
+            Body::Collect {
+                boot: 1,
+                version: 1
+            }
+        )
+    );
+    for (number, rules) in [(2, 1050), (3, 0), (4, 1050)] {
+        let told = installed(&bag, alloc, number)?;
+        assert!(rt; told == Some((Receiver::Switch(1), 1, rules)));
+    }
+    let last = take(&bag, alloc, 5)?;
+    assert!(rt; matches!(last.body, Body::Hello { switch: 0, boot: 2 }));
+    assert!(rt; bag.take(alloc, 0)?.is_none() && bag.take(alloc, 6)?.is_none());
+    Ok(())
+}
+
+// The rules of the first partition.
+fn first_rules(tables: &Tables) -> Option<&[Rule]> {
+    match tables.auth.items().first() {
+        Some(part) => Some(part.rules.items()),
+        None => None,
+    }
+}
+
+// Whether the installation of this number is this one, whose tables have one partition.
+fn gives(bag: &FrameBag, alloc: Global, number: u32, message: &Message) -> Result<bool, Fail> {
+    let taken = take(bag, alloc, number)?;
+    match (&taken.body, &message.body) {
+        (
+            Body::Install { boot, tables },
+            Body::Install {
+                boot: own,
+                tables: others,
+            },
+        ) => {
+            let (tables, others) = (tables.tables(), others.tables());
+            Ok(
+                taken.to == message.to
+                    && boot == own
+                    && tables.version == others.version
+                    && first_rules(tables) == first_rules(others),
+            )
+        }
+        _ => Ok(false),
+    }
+}
+
+// Installations: the number, the version, the switch, the boot, the default rows, and those beside
+// them. The same tables go to two switches in two boots, and tables of two frames under two
+// versions.
+const INSTALLATIONS: [(u32, u32, u32, u32, u32, u32); 9] = [
+    (1, 1, 1, 1, 3, 2),
+    (2, 1, 5, 1, 3, 2),
+    (3, 1, 1, 2, 3, 2),
+    (4, 1, 5, 2, 3, 1),
+    (5, 1, 5, 2, 3, 2),
+    (6, 1, 1, 1, 440, 2),
+    (7, 300, 5, 1, 440, 2),
+    (8, 300, 1, 1, 440, 3),
+    (9, 300, 1, 2, 440, 2),
+];
+
+#[test]
+fn installations_of_the_same_tables_each_come_out_as_their_own(
+    rt: HostRuntime,
+) -> Result<(), Fail> {
+    let alloc = rt.alloc();
+    let mut bag = FrameBag::new(alloc);
+    for (number, version, switch, boot, defaults, rows) in &INSTALLATIONS {
+        let message = install_of(alloc, *version, *switch, *boot, *defaults, *rows)?;
+        assert_eq!(rt; post(&mut bag, alloc, &message)?, *number);
+    }
+    // Each is delivered twice.
+    for (number, version, switch, boot, defaults, rows) in INSTALLATIONS
+        .iter()
+        .chain(&INSTALLATIONS)
+    {
+        let message = install_of(alloc, *version, *switch, *boot, *defaults, *rows)?;
+        assert!(rt; gives(&bag, alloc, *number, &message)?, "{number}");
+    }
+    Ok(())
+}

@@ -1,3 +1,0 @@
-mod finders;
-mod rule_trees;
-mod words;

@@ -1,6 +1,0 @@
-use Rattle.version_laws.proofs.Pieces.{always}
-use Rattle.version_laws.proofs.Openings.{caused_known}
-use Rattle.version_laws.proofs.laws.boots_are_known.Goals as goal
-
-pub returns : goal.returns
-returns c = always _ (λ setting journal have. (caused_known setting journal have).boots)

@@ -1,7 +1,0 @@
-use Rattle.version_laws.proofs.Pieces.{always}
-use Rattle.version_laws.proofs.Openings.{caused_known, serving_known}
-use Rattle.version_laws.proofs.laws.serving_is_known.Goals as goal
-
-pub returns : goal.returns
-returns c = always _
-    (λ setting journal have. serving_known journal (caused_known setting journal have))

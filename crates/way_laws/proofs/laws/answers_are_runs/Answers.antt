@@ -1,6 +1,0 @@
-use Rattle.way_laws.proofs.Reached.{reached}
-use Rattle.way_laws.proofs.Runs.{caused_is_run}
-use Rattle.way_laws.proofs.laws.answers_are_runs.Goals as goal
-
-pub returns : goal.returns
-returns c = reached _ (λ setting journal is have. caused_is_run setting journal is have)

@@ -1,8 +1,0 @@
-use Rattle.way_laws.proofs.AllKept.{all_kept}
-use Rattle.way_laws.proofs.Reached.{reached}
-use Rattle.way_laws.proofs.Travelling.{rules_right}
-use Rattle.way_laws.proofs.laws.cache_rules_are_right.Goals as goal
-
-pub returns : goal.returns
-returns c = reached _
-    (λ setting journal is have. rules_right setting journal (all_kept setting journal is have))

@@ -1,6 +1,0 @@
-use Rattle.way_laws.proofs.Reached.{reached}
-use Rattle.way_laws.proofs.Strong.{strongly_caused}
-use Rattle.way_laws.proofs.laws.causes_are_strong.Goals as goal
-
-pub returns : goal.returns
-returns c = reached _ (λ setting journal is have. strongly_caused setting journal is have)

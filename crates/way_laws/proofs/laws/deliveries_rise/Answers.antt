@@ -1,5 +1,0 @@
-use Rattle.way_laws.proofs.Waiting.{numbers_rise}
-use Rattle.way_laws.proofs.laws.deliveries_rise.Goals as goal
-
-pub returns : goal.returns
-returns c = numbers_rise

@@ -1,5 +1,0 @@
-use Rattle.way_laws.proofs.Flushing.{flush_goes}
-use Rattle.way_laws.proofs.laws.flushes_end.Goals as goal
-
-pub returns : goal.returns
-returns c = flush_goes

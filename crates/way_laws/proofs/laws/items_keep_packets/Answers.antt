@@ -1,6 +1,0 @@
-use Rattle.way_laws.proofs.AllKept.{all_kept}
-use Rattle.way_laws.proofs.Reached.{reached}
-use Rattle.way_laws.proofs.laws.items_keep_packets.Goals as goal
-
-pub returns : goal.returns
-returns c = reached _ (λ setting journal is have. all_kept setting journal is have)

@@ -1,7 +1,0 @@
-use Rattle.std.proofs.Common.{[]}
-use Rattle.way_laws.proofs.Reached.{reached}
-use Rattle.way_laws.proofs.Rests.{ways_of_all}
-use Rattle.way_laws.proofs.laws.packet_items_have_causes.Goals as goal
-
-pub returns : goal.returns
-returns c = reached _ (λ setting journal is have. ways_of_all setting [] journal have)

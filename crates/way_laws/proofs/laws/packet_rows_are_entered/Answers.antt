@@ -1,5 +1,0 @@
-use Rattle.way_laws.proofs.Plays.{play_entered}
-use Rattle.way_laws.proofs.laws.packet_rows_are_entered.Goals as goal
-
-pub returns : goal.returns
-returns c = play_entered

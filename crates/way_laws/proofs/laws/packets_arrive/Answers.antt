@@ -1,8 +1,0 @@
-use Rattle.way_laws.proofs.AllKept.{all_kept}
-use Rattle.way_laws.proofs.Arriving.{packets_arrive}
-use Rattle.way_laws.proofs.Reached.{reached}
-use Rattle.way_laws.proofs.laws.packets_arrive.Goals as goal
-
-pub returns : goal.returns
-returns c = reached _
-    (λ setting journal is have. packets_arrive setting journal (all_kept setting journal is have))

@@ -1,5 +1,0 @@
-use Rattle.way_laws.proofs.Reached.{between}
-use Rattle.way_laws.proofs.laws.packets_rest.Goals as goal
-
-pub returns : goal.returns
-returns c = between _ (λ setting journal is settled. settled.rests)

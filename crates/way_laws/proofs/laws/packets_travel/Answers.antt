@@ -1,6 +1,0 @@
-use Rattle.way_laws.proofs.Reached.{between}
-use Rattle.way_laws.proofs.Travelling.{packets_travel}
-use Rattle.way_laws.proofs.laws.packets_travel.Goals as goal
-
-pub returns : goal.returns
-returns c = between _ (λ setting journal is settled. packets_travel setting journal is settled)

@@ -1,5 +1,0 @@
-use Rattle.way_laws.proofs.Playing.{has_play}
-use Rattle.way_laws.proofs.laws.plays_exist.Goals as goal
-
-pub returns : goal.returns
-returns c = has_play

@@ -1,4 +1,0 @@
-mod assembled;
-mod bags;
-mod messages;
-mod spellings;
