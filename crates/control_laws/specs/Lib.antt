@@ -10,6 +10,6 @@ pub mod Authorities
 pub mod Named
 pub mod Rises
 pub mod Steps
-pub mod Laws
+pub mod Exports
 pub mod Adverts
 pub mod Sends

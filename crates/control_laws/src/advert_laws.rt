@@ -1,7 +1,7 @@
 //! The laws.
 ghost use Rattle.std.specs.Prelude.{List, []};
 ghost use Rattle.net_file.specs.Net.{IsNet};
-ghost use Rattle.update_machine.specs.Journals.{HasRoom, HaveRoom, Setting, StepOfRow, after_steps};
+ghost use Rattle.update_machine.specs.Exports.{HasRoom, HaveRoom, Setting, StepOfRow, after_steps};
 ghost use Rattle.control_laws.specs.Always.{HoldsBehindItems, HoldsAlways, HoldsAtEnds};
 ghost use Rattle.control_laws.specs.Adverts.{AdvertsAreOfSwitches, LinksAreThere, OwnAreNewest};
 ghost use Rattle.control_laws.specs.Sends.{NumbersAreFew, NumbersFit, StepsSendFew};

@@ -1,8 +1,8 @@
 //! The laws.
 ghost use Rattle.std.specs.Prelude.{[], ℕ, ◌++◌, ◌≤◌, List, IsFalse};
 ghost use Rattle.net_file.specs.Net.{IsNet};
-ghost use Rattle.update_machine.specs.Journals.{AreSettled, ControllerKeeps, HaveCauses, Item, Setting, Step, VersionsAreNumbered, next_retired, piece, retired_mark};
-ghost use Rattle.control_laws.specs.Laws.{AcksHold, BodiesNameThere, BootsAreKnown, HasItemCause, HoldsAlways, HoldsAtEnds, HoldsReached, InstallsArePlanned, IsAckedFirst, MarksAreBounded, MembersAcknowledged, OpensAtOneVersion, RisesRightly, ServingHold, ServingIsKnown, TablesArePlanned, VersionsArePlanned, asks_controller};
+ghost use Rattle.update_machine.specs.Exports.{AreSettled, ControllerKeeps, HaveCauses, Item, Setting, Step, VersionsAreNumbered, next_retired, piece, retired_mark};
+ghost use Rattle.control_laws.specs.Exports.{AcksHold, BodiesNameThere, BootsAreKnown, HasItemCause, HoldsAlways, HoldsAtEnds, HoldsReached, InstallsArePlanned, IsAckedFirst, MarksAreBounded, MembersAcknowledged, OpensAtOneVersion, RisesRightly, ServingHold, ServingIsKnown, TablesArePlanned, VersionsArePlanned, asks_controller};
 
 /// Each item of switches and their controller has its cause in the journal before it.
 pub fn items_have_causes()

@@ -5,4 +5,4 @@ pub mod Sends
 pub mod Submit
 pub mod News
 pub mod Replies
-pub mod Controllers
+pub mod Exports

@@ -1,7 +1,7 @@
 //! What a switch replies of a version.
 ghost use Rattle.version_update.specs.Marks.{StaySettled, at_switch};
 ghost use Rattle.version_update.specs.Settling.{Settles};
-ghost use Rattle.controller.specs.Controllers.{NamesBoth, after_reply};
+ghost use Rattle.controller.specs.Exports.{NamesBoth, after_reply};
 
 use version_update::{Marks, Settled};
 

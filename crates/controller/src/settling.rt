@@ -2,7 +2,7 @@
 ghost use Rattle.std.specs.Prelude.{◌≡◌, ◌++◌, ◌<◌, length, IfOk, OnOk};
 ghost use Rattle.version_update.specs.Marks.{MarksValue};
 ghost use Rattle.version_update.specs.Settling.{Settles};
-ghost use Rattle.controller.specs.Controllers.{body_of, plans_from, settling_acts, switches_named, tell};
+ghost use Rattle.controller.specs.Exports.{body_of, plans_from, settling_acts, switches_named, tell};
 
 use crate::sends::{Act, Sends};
 use crate::version::Version;

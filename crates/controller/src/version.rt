@@ -1,6 +1,6 @@
 ghost use Rattle.std.specs.Prelude.{◌≡◌, IfOk};
 ghost use Rattle.switch_table.specs.Tables.{tables_of};
-ghost use Rattle.controller.specs.Controllers.{install_act, tables_by_switch};
+ghost use Rattle.controller.specs.Exports.{install_act, tables_by_switch};
 
 use crate::plan::Plan;
 use crate::sends::Act;

@@ -3,4 +3,4 @@ pub mod Finished
 pub mod News
 pub mod Converged
 pub mod Stuck
-pub mod Laws
+pub mod Exports

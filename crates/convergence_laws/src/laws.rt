@@ -1,9 +1,9 @@
 //! The laws.
 ghost use Rattle.std.specs.Prelude.{List};
 ghost use Rattle.net_file.specs.Net.{IsNet};
-ghost use Rattle.update_machine.specs.Journals.{Event, IsQuiet, Item, Setting};
+ghost use Rattle.update_machine.specs.Exports.{Event, IsQuiet, Item, Setting};
 ghost use Rattle.control_laws.specs.Always.{HoldsAtEnds, HoldsBehindItems};
-ghost use Rattle.convergence_laws.specs.Laws.{EndsFinished, GetStuckApart, HasConverged, IsFinished, IsUpdated, NewsSpreads};
+ghost use Rattle.convergence_laws.specs.Exports.{EndsFinished, GetStuckApart, HasConverged, IsFinished, IsUpdated, NewsSpreads};
 
 /// Over each link that can be used, each end holds adverts at least as new as those of the other
 /// end, or one was sent to it in its present boot: at the end of each step, quiet or not.

@@ -12,7 +12,7 @@ use ternary::Word;
 use thiserror::Error;
 
 /// The most leaves that a tree may have.
-const MOST_LEAVES: u32 = 512;
+const MAX_LEAVES: u32 = 512;
 
 /// A decision tree over the header space. It cuts at one bit after another; each leaf has the rules
 /// that decide the headers of its region.
@@ -32,7 +32,7 @@ pub enum Tree {
 
 /// Why rules have no tree.
 #[derive(Clone, Copy, Debug, PartialEq, Eq, Error)]
-#[error("the tree has more than {MOST_LEAVES} leaves")]
+#[error("the tree has more than {MAX_LEAVES} leaves")]
 pub struct TooManyLeaves;
 
 /// The tree of these rules: its root has them all, each side of a cut those of its half, and no
@@ -53,7 +53,7 @@ pub fn build(alloc: Global, rules: &[Rule], cap: u32) -> Result<Tree, Failure<To
         rules: Vec::from_slice(alloc, rules)?,
         region: Word::any(),
     };
-    let mut room = MOST_LEAVES;
+    let mut room = MAX_LEAVES;
     grow(alloc, root, cap, &mut room)
 }
 

@@ -9,4 +9,4 @@ pub mod Writes
 pub mod Ending
 pub mod Verdict
 pub mod Commands
-pub mod Work
+pub mod Exports

@@ -7,7 +7,7 @@ ghost use Rattle.policy_rules.specs.Policy.{IsPolicy};
 ghost use Rattle.schedule.specs.Reading.{AreSoundEvents};
 ghost use Rattle.shelf.specs.Sink.{Rose};
 ghost use Rattle.shelf.specs.Shelf.{IsAfterReads};
-ghost use Rattle.difane_cli.specs.Work.{AreReadyToPlay, IsReplayOf, NeedsReadFault, RefusesInput, Stops, StopsContent, content_of, inputs_of, inputs_stated, most_reads, policy_reads, read_policies, read_policy, read_schedule, schedule_in, status_of};
+ghost use Rattle.difane_cli.specs.Exports.{AreReadyToPlay, IsReplayOf, NeedsReadFault, RefusesInput, Stops, StopsContent, content_of, inputs_of, inputs_stated, most_reads, policy_reads, read_policies, read_policy, read_schedule, schedule_in, status_of};
 ghost use Rattle.command_line.specs.Named.{HasPolicies, names_seen, replay_named};
 ghost use Rattle.command_line.specs.Commands.{Replay};
 

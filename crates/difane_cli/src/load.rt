@@ -1,6 +1,6 @@
 //! Load cases as a command takes them.
 ghost use Rattle.std.specs.Prelude.{◌≡◌, ◌≤◌, IfOk, IfErr, Ok};
-ghost use Rattle.difane_cli.specs.Work.{AreReadyToPlay, StopsContent, case_inputs, inputs_stated, load_inputs};
+ghost use Rattle.difane_cli.specs.Exports.{AreReadyToPlay, StopsContent, case_inputs, inputs_stated, load_inputs};
 ghost use Rattle.schedule.specs.Case.{load_case};
 
 use crate::inputs::PlayInputs;

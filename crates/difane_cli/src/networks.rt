@@ -5,7 +5,7 @@ ghost use Rattle.net_file.specs.Net.{IsNet};
 ghost use Rattle.shelf.specs.Sink.{Rose};
 ghost use Rattle.shelf.specs.Shelf.{IsAfterReads};
 ghost use Rattle.command_line.specs.Named.{net_named};
-ghost use Rattle.difane_cli.specs.Work.{IsNetOf, IsSwitchOf, NeedsReadFault, Stops, StopsContent, StopsSwitch, net_reads, net_stated, read_net, status_of, switch_on};
+ghost use Rattle.difane_cli.specs.Exports.{IsNetOf, IsSwitchOf, NeedsReadFault, Stops, StopsContent, StopsSwitch, net_reads, net_stated, read_net, status_of, switch_on};
 
 use crate::inputs::{read_bytes, refused};
 use crate::policies::NO_SWITCH;

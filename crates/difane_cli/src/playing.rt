@@ -4,7 +4,7 @@ ghost use Rattle.std.specs.Option.{ForSome};
 ghost use Rattle.net_file.specs.Net.{IsNet};
 ghost use Rattle.shelf.specs.Shelf.{Files};
 ghost use Rattle.shelf.specs.SinkWrites.{IsAfterWrite};
-ghost use Rattle.difane_cli.specs.Work.{AnswerLaws, AreReadyToPlay, EndsWork, IsAfterText, IsPlayOf, Play, PlayOutcome, RanOut, inputs_stated, is_made, known_task, last_lines, play_text, replay_text};
+ghost use Rattle.difane_cli.specs.Exports.{AnswerLaws, AreReadyToPlay, EndsWork, IsAfterText, IsPlayOf, Play, PlayOutcome, RanOut, inputs_stated, is_made, known_task, last_lines, play_text, replay_text};
 ghost use Rattle.command_line.specs.Commands.{Command};
 ghost use Rattle.difane_cli.specs.declared.report.Report.TheVariants.{Summary};
 ghost use Rattle.journal_reports.specs.Summary.{counts_text};

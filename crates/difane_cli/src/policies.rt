@@ -6,7 +6,7 @@ ghost use Rattle.policy_rules.specs.Policy.{IsPolicy};
 ghost use Rattle.policy_rules.specs.declared.policy.Row.{Row};
 ghost use Rattle.controller.specs.Plan.{RefusesPlan};
 ghost use Rattle.difane_cli.specs.Inputs.{StopsContent, first_plan, plan_on, policy_stated, read_from};
-ghost use Rattle.net_file.specs.Nets.{IsNet, port_mask};
+ghost use Rattle.net_file.specs.Exports.{IsNet, port_mask};
 ghost use Rattle.net_file.specs.declared.net.Net.{Net};
 ghost use Rattle.partition.specs.Plan.{plan_of};
 ghost use Rattle.update_machine.specs.Setting.{setting_of, IsSetting};

@@ -4,7 +4,7 @@ ghost use Rattle.std.specs.Option.{ForSome};
 ghost use Rattle.net_file.specs.Net.{IsNet};
 ghost use Rattle.shelf.specs.Sink.{Rose};
 ghost use Rattle.shelf.specs.Shelf.{Files, IsAfterReads};
-ghost use Rattle.difane_cli.specs.Work.{IsPrintingOf, NeedsReadFault, Print, PrintOutcome, Stops, known_task, most_reads, printing_of, printing_stated, printing_text, status_after, status_of};
+ghost use Rattle.difane_cli.specs.Exports.{IsPrintingOf, NeedsReadFault, Print, PrintOutcome, Stops, known_task, most_reads, printing_of, printing_stated, printing_text, status_after, status_of};
 ghost use Rattle.command_line.specs.Named.{print_named};
 ghost use Rattle.command_line.specs.Commands as grammar;
 ghost use Rattle.command_line.specs.Commands.{PrintCommand};

@@ -4,7 +4,7 @@ ghost use Rattle.std.specs.List.{flat_map};
 ghost use Rattle.shelf.specs.SinkWrites.{IsAfterWrite};
 ghost use Rattle.difane_cli.specs.declared.status.Status.TheVariants.{Ok as DoneStatus};
 ghost use Rattle.difane_cli.specs.declared.status.Stop.TheVariants.{NoMemory};
-ghost use Rattle.difane_cli.specs.Work.{TellsLine, full_line, input_line, status_after, status_line, status_number, status_of};
+ghost use Rattle.difane_cli.specs.Exports.{TellsLine, full_line, input_line, status_after, status_line, status_number, status_of};
 
 use itoa::Buffer;
 use journal::Journal;

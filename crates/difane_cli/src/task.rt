@@ -3,7 +3,7 @@ ghost use Rattle.std.specs.Prelude.{◌≡◌, Ok, Option, Some, IfOk, IfErr, Re
 ghost use Rattle.std.specs.Option.{ForSome};
 ghost use Rattle.shelf.specs.Sink.{Rose};
 ghost use Rattle.shelf.specs.Shelf.{Files, IsAfterReads};
-ghost use Rattle.difane_cli.specs.Work.{Accounts, EndsWork, IsReadyTask, IsTaskOf, NeedsReadFault, Outcome, PlaysNothing, RanOut, Task as Stated, known_task, most_reads, status_of, task_stated};
+ghost use Rattle.difane_cli.specs.Exports.{Accounts, EndsWork, IsReadyTask, IsTaskOf, NeedsReadFault, Outcome, PlaysNothing, RanOut, Task as Stated, known_task, most_reads, status_of, task_stated};
 ghost use Rattle.difane_cli.specs.declared.status.Refusal.{Refusal};
 ghost use Rattle.command_line.specs.Named.{NamesPolicies, command_named};
 ghost use Rattle.command_line.specs.Commands as grammar;

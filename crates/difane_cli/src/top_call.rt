@@ -3,7 +3,7 @@ ghost use Rattle.std.specs.Prelude.{◌≡◌, ◌≢◌, ◌≤◌, ◌⊎◌, 
 ghost use Rattle.std.specs.Option.{ForSome};
 ghost use Rattle.shelf.specs.Sink.{Rose};
 ghost use Rattle.shelf.specs.Shelf.{IsAfterReads};
-ghost use Rattle.difane_cli.specs.Work.{Accounts, IsAccepted, NeedsReadFault, Outcome, PlaysNothing, RanOut, TellsLine, known_task, most_reads, status_line};
+ghost use Rattle.difane_cli.specs.Exports.{Accounts, IsAccepted, NeedsReadFault, Outcome, PlaysNothing, RanOut, TellsLine, known_task, most_reads, status_line};
 ghost use Rattle.command_line.specs.Grammar.{command_of};
 ghost use Rattle.command_line.specs.Commands.{texts};
 ghost use Rattle.difane_cli.specs.declared.status.Status.TheVariants as status;

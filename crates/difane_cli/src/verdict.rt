@@ -4,7 +4,7 @@ ghost use Rattle.net_file.specs.Net.{IsNet};
 ghost use Rattle.journal_reports.specs.Plain.{IsPlain};
 ghost use Rattle.shelf.specs.SinkWrites.{IsAfterWrite};
 ghost use Rattle.update_machine.specs.Setting.{Setting};
-ghost use Rattle.difane_cli.specs.Work.{IsWhetherQuiet, is_asked, quiet_line};
+ghost use Rattle.difane_cli.specs.Exports.{IsWhetherQuiet, is_asked, quiet_line};
 
 use meters::Meter;
 use net_file::Net;

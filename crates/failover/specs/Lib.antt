@@ -8,4 +8,4 @@ pub mod Routes
 pub mod RouteList
 pub mod Search
 pub mod Laws
-pub mod Databases
+pub mod Exports

@@ -1,6 +1,6 @@
 ghost use Rattle.std.specs.Prelude.{◌≡◌, ◌<◌, map, ◌↔◌, slice_set, IfSome, IsTrue};
 ghost use Rattle.std.specs.Bool.{OnTrue};
-ghost use Rattle.failover.specs.Databases.{IsIsolated, IsRoute, IsRouteList, after_hearing, first_adverts, first_of, held, is_isolated, is_news, known_links, neighbours_named, no_adverts, route_of};
+ghost use Rattle.failover.specs.Exports.{IsIsolated, IsRoute, IsRouteList, after_hearing, first_adverts, first_of, held, is_isolated, is_news, known_links, neighbours_named, no_adverts, route_of};
 
 use crate::SWITCHES;
 use crate::advert::Advert;

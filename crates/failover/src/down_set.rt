@@ -1,5 +1,5 @@
 ghost use Rattle.std.specs.Prelude.{◌≡◌, ◌≢◌, ◌<◌, ◌||◌, ℕ, false};
-ghost use Rattle.failover.specs.Databases.{has_link, is_link_of, no_links, with_link};
+ghost use Rattle.failover.specs.Exports.{has_link, is_link_of, no_links, with_link};
 
 use crate::SWITCHES;
 use base::{has, only_if};

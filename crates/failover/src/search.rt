@@ -1,5 +1,5 @@
 ghost use Rattle.std.specs.Prelude.{◌≡◌, ◌<◌, ◌∷◌, IfSome, IfNone};
-ghost use Rattle.failover.specs.Databases.{AreBalls, IsAway, IsEdge, IsOutOfReach, IsRouteList, along, first_route, links_of_each, route_to, wider};
+ghost use Rattle.failover.specs.Exports.{AreBalls, IsAway, IsEdge, IsOutOfReach, IsRouteList, along, first_route, links_of_each, route_to, wider};
 
 use crate::SWITCHES;
 use crate::down_set::DownSet;

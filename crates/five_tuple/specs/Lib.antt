@@ -6,4 +6,4 @@ pub mod RowPrinting
 pub mod Cover
 pub mod Laws
 pub mod Blocks
-pub mod Headers
+pub mod Exports

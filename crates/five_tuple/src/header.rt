@@ -1,5 +1,5 @@
 ghost use Rattle.std.specs.Prelude.{◌≡◌, ◌^◌, ◌<◌};
-ghost use Rattle.five_tuple.specs.Headers.{HeaderLaws, IsHeader, fields_of, header_numbered, header_of, number_of};
+ghost use Rattle.five_tuple.specs.Exports.{HeaderLaws, IsHeader, fields_of, header_numbered, header_of, number_of};
 
 /// The five fields of a packet: IPv4 addresses (RFC 791), ports (RFC 768, RFC 793) and the protocol
 /// number.

@@ -1,5 +1,5 @@
 ghost use Rattle.std.specs.Prelude.{◌≡◌, ◌≤◌};
-ghost use Rattle.five_tuple.specs.Headers.{IsAddressBlock, block_round, prefix_matches, proto_matches, range_matches};
+ghost use Rattle.five_tuple.specs.Exports.{IsAddressBlock, block_round, prefix_matches, proto_matches, range_matches};
 
 use std::marker::Model;
 

@@ -1,5 +1,5 @@
 ghost use Rattle.std.specs.Prelude.{◌≡◌, ◌+◌, ◌≤◌, ◌<◌, ◌^◌, IfOk, length};
-ghost use Rattle.five_tuple.specs.Headers.{CoverLaws, IsCoverOf, IsLargestBlock, IsPortRange, cover_of};
+ghost use Rattle.five_tuple.specs.Exports.{CoverLaws, IsCoverOf, IsLargestBlock, IsPortRange, cover_of};
 
 use crate::matching::PortRange;
 use std::alloc::{AllocError, Global};

@@ -1,5 +1,5 @@
 ghost use Rattle.std.specs.Prelude.{◌≡◌, ◌≤◌, ◌<◌, ◌^◌, ◌∷◌, [], ◌==◌, ◌&&◌, nat_lt, not, length, IfSome, MatchOption, position};
-ghost use Rattle.five_tuple.specs.Headers.{IsAddressBlock, IsByteBefore, IsPortRange, IsProtocol, LacksByte, address_of, fields_from, has_leading_zero, number_up_to, packet_fields_of, parts_round, prefix_of, proto_number_of, proto_of, range_from, range_of};
+ghost use Rattle.five_tuple.specs.Exports.{IsAddressBlock, IsByteBefore, IsPortRange, IsProtocol, LacksByte, address_of, fields_from, has_leading_zero, number_up_to, packet_fields_of, parts_round, prefix_of, proto_number_of, proto_of, range_from, range_of};
 
 use crate::header::Fields;
 use crate::matching::{PortRange, Prefix, Proto};

@@ -2,7 +2,7 @@
 
 ghost use Rattle.std.specs.Prelude.{ℕ, ◌≡◌, ◌≤◌, ◌<◌, ◌^◌, Some, decimal, IfOk};
 ghost use Rattle.five_tuple.specs.declared.matching.Proto.{Proto};
-ghost use Rattle.five_tuple.specs.Headers.{AddressBlock, IsAddressBlock, IsPortRange, IsProtocol, PlainTextLaws, PortRangeValue, address_of, address_text, fields_text, number_up_to, prefix_of, prefix_text, proto_number_of, proto_number_text, proto_of, proto_text, range_of, range_text};
+ghost use Rattle.five_tuple.specs.Exports.{AddressBlock, IsAddressBlock, IsPortRange, IsProtocol, PlainTextLaws, PortRangeValue, address_of, address_text, fields_text, number_up_to, prefix_of, prefix_text, proto_number_of, proto_number_text, proto_of, proto_text, range_of, range_text};
 
 use crate::header::Fields;
 use crate::matching::{PortRange, Prefix, Proto};

@@ -1,7 +1,7 @@
 //! Whether a network is quiet.
 ghost use Rattle.std.specs.Prelude.{◌≡◌, ◌↔◌, ◌<◌, IfOk, IsTrue};
 ghost use Rattle.net_file.specs.Net.{IsNet};
-ghost use Rattle.update_machine.specs.Journals.{IsQuiet, Setting};
+ghost use Rattle.update_machine.specs.Exports.{IsQuiet, Setting};
 ghost use Rattle.journal_reports.specs.Plain.{IsPlain};
 
 use crate::deliveries::deliveries;

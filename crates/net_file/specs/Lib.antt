@@ -7,4 +7,4 @@ pub mod Owners
 pub mod Laws
 pub mod Stated
 pub mod Outcomes
-pub mod Nets
+pub mod Exports

@@ -1,7 +1,7 @@
 ghost use Rattle.std.specs.Prelude.{◌≡◌, option_map};
 ghost use Rattle.toml.specs.Data.{as_str, as_table, get_member};
 ghost use Rattle.toml.specs.View.{table_view, view};
-ghost use Rattle.net_file.specs.Nets.{array_in, number_stated, of_type, setting_read, within};
+ghost use Rattle.net_file.specs.Exports.{array_in, number_stated, of_type, setting_read, within};
 ghost use Rattle.net_file.specs.Outcomes.{IsRead, seen_values};
 
 use crate::error::NetRefusal;

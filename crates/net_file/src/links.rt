@@ -1,6 +1,6 @@
 ghost use Rattle.std.specs.Prelude.{◌≡◌, ◌≤◌, ◌<◌, Ok, [], IfOk, IfErr, length, map, Err};
 ghost use Rattle.toml.specs.View.{table_view, view};
-ghost use Rattle.net_file.specs.Nets.{are_linked, end_read, ends_in, link_array, link_of, links_in};
+ghost use Rattle.net_file.specs.Exports.{are_linked, end_read, ends_in, link_array, link_of, links_in};
 ghost use Rattle.net_file.specs.Outcomes.{IsRead, seen_values};
 ghost use Rattle.base.specs.Refusals.{IsRefusal};
 
@@ -15,7 +15,7 @@ use toml::{Table, Value};
 const LINK_ROWS: u32 = 100;
 
 /// The most links of a network.
-const MOST_LINKS: usize = 256;
+const MAX_LINKS: usize = 256;
 
 /// The values of the array `link`.
 pub fn link_array(table: &Table) -> Result<&[Value], NetRefusal>
@@ -26,7 +26,7 @@ pub fn link_array(table: &Table) -> Result<&[Value], NetRefusal>
         return Ok(&[]);
     };
     let values = array_in(value)?;
-    if values.len() > MOST_LINKS {
+    if values.len() > MAX_LINKS {
         return Err(NetRefusal::TooMany);
     }
     Ok(values)

@@ -1,5 +1,5 @@
 ghost use Rattle.std.specs.Prelude.{◌≡◌, ◌≤◌, ◌<◌, ◌==◌, ℕ, false, IfOk, IfNone, IfSome, length};
-ghost use Rattle.net_file.specs.Nets.{AreOwners, IsLink, IsNet, joins, links_of, owner_of, port_mask, solo_net, switch_number};
+ghost use Rattle.net_file.specs.Exports.{AreOwners, IsLink, IsNet, joins, links_of, owner_of, port_mask, solo_net, switch_number};
 
 use crate::ports::{Ports, owners};
 use base::{Listing, has, with};

@@ -1,5 +1,5 @@
 ghost use Rattle.std.specs.Prelude.{◌≡◌, ◌<◌, ◌≤◌, ℕ, None, length};
-ghost use Rattle.net_file.specs.Nets.{owner_of, port_owner};
+ghost use Rattle.net_file.specs.Exports.{owner_of, port_owner};
 
 use crate::net::{SwitchRow, owner_in};
 

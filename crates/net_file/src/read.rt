@@ -1,6 +1,6 @@
 ghost use Rattle.std.specs.Prelude.{◌≡◌, Ok, Some, IfOk, IfErr, ok_or};
 ghost use Rattle.toml.specs.View.{table_view};
-ghost use Rattle.net_file.specs.Nets.{IsNet, document_of, net_of, net_read};
+ghost use Rattle.net_file.specs.Exports.{IsNet, document_of, net_of, net_read};
 ghost use Rattle.base.specs.Refusals.{IsRefusal, in_row};
 ghost use Rattle.net_file.specs.declared.error.NetRefusal.TheVariants.{Toml};
 

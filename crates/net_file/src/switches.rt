@@ -2,7 +2,7 @@ ghost use Rattle.std.specs.Prelude.{◌≡◌, ◌≤◌, ◌<◌, Ok, [], IfOk,
 ghost use Rattle.std.specs.List.{list_all};
 ghost use Rattle.toml.specs.Data.{as_integer};
 ghost use Rattle.toml.specs.View.{table_view, view};
-ghost use Rattle.net_file.specs.Nets.{IsMask, are_name_bytes, are_new, have_name, have_port, is_label, is_name, is_name_byte, name_at, port_bits, port_read, ports_at, ports_of, row_stated, switch_array, switch_read, switch_with, switches_read};
+ghost use Rattle.net_file.specs.Exports.{IsMask, are_name_bytes, are_new, have_name, have_port, is_label, is_name, is_name_byte, name_at, port_bits, port_read, ports_at, ports_of, row_stated, switch_array, switch_read, switch_with, switches_read};
 ghost use Rattle.net_file.specs.Outcomes.{IsRead, seen_values};
 ghost use Rattle.base.specs.Refusals.{IsRefusal, in_row};
 
@@ -14,13 +14,13 @@ use std::alloc::Global;
 use toml::{Table, Value};
 
 /// The most switches of a network.
-const MOST_SWITCHES: usize = 64;
+const MAX_SWITCHES: usize = 64;
 
 /// The most rules that a switch has room for.
-const MOST_ROOM: u32 = 8192;
+const MAX_ROOM: u32 = 8192;
 
 /// The most bytes of a name behind its first.
-const MOST_MORE: usize = 15;
+const MAX_MORE: usize = 15;
 
 /// The values of the array `switch`.
 pub fn switch_array(table: &Table) -> Result<&[Value], NetRefusal>
@@ -31,7 +31,7 @@ pub fn switch_array(table: &Table) -> Result<&[Value], NetRefusal>
         return Err(NetRefusal::MissingKey);
     };
     let values = array_in(value)?;
-    if values.len() > MOST_SWITCHES {
+    if values.len() > MAX_SWITCHES {
         return Err(NetRefusal::TooMany);
     }
     if values.is_empty() {
@@ -60,7 +60,7 @@ fn is_label(name: &[u8]) -> bool
 {
     match name {
         [first, more @ ..] => {
-            first.is_ascii_alphabetic() && are_name_bytes(more) && more.len() <= MOST_MORE
+            first.is_ascii_alphabetic() && are_name_bytes(more) && more.len() <= MAX_MORE
         }
         [] => false,
     }
@@ -173,7 +173,7 @@ fn read_keys<'a>(
 {
     let name = read_name(keys)?;
     let values = read_ports(keys)?;
-    let room = setting_of(keys, "authority", 0, MOST_ROOM, 0)?;
+    let room = setting_of(keys, "authority", 0, MAX_ROOM, 0)?;
     if have_name(earlier, name.as_bytes()) {
         return Err(NetRefusal::DuplicateName);
     }

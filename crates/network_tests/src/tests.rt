@@ -1,4 +1,4 @@
-mod lines;
+mod journal_lines;
 mod marks;
 mod messages;
 mod quiet_journals;

@@ -15,4 +15,4 @@ pub mod Routes
 pub mod Stops
 pub mod Entries
 pub mod Whole
-pub mod Laws
+pub mod Exports

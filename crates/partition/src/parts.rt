@@ -1,5 +1,5 @@
 ghost use Rattle.std.specs.Prelude.{ℕ, ◌≡◌, ◌+◌, ◌<◌, ◌^◌, ◌++◌, All, IfOk, OnOk, IsTrue, List, Some, count_by, find, length, option_map};
-ghost use Rattle.policy_rules.specs.Policies.{AreSoundPartitions, IsPolicy, LastCovers, is_in, rules_of};
+ghost use Rattle.policy_rules.specs.Exports.{AreSoundPartitions, IsPolicy, LastCovers, is_in, rules_of};
 ghost use Rattle.policy_rules.specs.declared.policy.Row.{Row};
 ghost use Rattle.policy_rules.specs.declared.rules.Rule.{Rule};
 ghost use Rattle.cut_tree.specs.DefinedTree.{IsDefinedTree};

@@ -1,5 +1,5 @@
 ghost use Rattle.std.specs.Prelude.{◌≡◌, ◌≤◌, Ok, IfOk, IfErr, All, length};
-ghost use Rattle.policy_rules.specs.Policies.{HasSmallPort, IsPolicy};
+ghost use Rattle.policy_rules.specs.Exports.{HasSmallPort, IsPolicy};
 ghost use Rattle.policy_file.specs.Reading.{IsReadUpTo, policy_of};
 ghost use Rattle.base.specs.Refusals.{IsRefusal};
 
@@ -11,7 +11,7 @@ use policy_rules::{Policy, Row};
 use std::alloc::{AllocError, Global};
 
 /// The most rows of a policy's text.
-const MOST_ROWS: usize = 2000;
+const MAX_ROWS: usize = 2000;
 
 /// The policy that the text states.
 ///
@@ -79,7 +79,7 @@ fn read_rows(
         All (λ row. HasSmallPort row.action) reading.rows.items) }
 {
     let mut rows = Vec::new(alloc);
-    while rows.len() < MOST_ROWS {
+    while rows.len() < MAX_ROWS {
         if !records.read_next(fields)? {
             return Ok(Reading {
                 rows,

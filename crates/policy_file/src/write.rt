@@ -1,6 +1,6 @@
 ghost use Rattle.std.specs.Prelude.{◌≡◌, ◌≤◌, Ok, Some, All, IfOk, List, length};
 ghost use Rattle.std.specs.List.{join_with_byte};
-ghost use Rattle.policy_rules.specs.Policies.{HasSmallPort, IsPolicy};
+ghost use Rattle.policy_rules.specs.Exports.{HasSmallPort, IsPolicy};
 ghost use Rattle.policy_rules.specs.declared.policy.Row.{Row};
 ghost use Rattle.policy_file.specs.Printing.{policy_text, row_fields};
 ghost use Rattle.policy_file.specs.Reading.{policy_of};

@@ -9,4 +9,4 @@ pub mod RuleList
 pub mod Laws
 pub mod Partitions
 pub mod Hosted
-pub mod Policies
+pub mod Exports

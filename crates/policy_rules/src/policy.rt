@@ -1,7 +1,7 @@
 ghost use Rattle.std.specs.Prelude.{◌≡◌, ◌<◌, ◌^◌, nat_lt, true, IfOk, IfErr, OnOk, vec_len, length, Some};
 ghost use Rattle.std.specs.Option.{option_map_or};
 ghost use Rattle.five_tuple.specs.Header.{IsPortRange, IsProtocol};
-ghost use Rattle.policy_rules.specs.Policies.{IsFirstMatch, IsHighestMatch, IsPolicy, IsSoundRow, RefusesRows, hit_of, row_matches, scan};
+ghost use Rattle.policy_rules.specs.Exports.{IsFirstMatch, IsHighestMatch, IsPolicy, IsSoundRow, RefusesRows, hit_of, row_matches, scan};
 ghost use Rattle.base.specs.Refusals.{IfRefused};
 
 use base::Failure;

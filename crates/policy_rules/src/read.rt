@@ -1,6 +1,6 @@
 ghost use Rattle.std.specs.Prelude.{◌≡◌, Some, IfSome};
 ghost use Rattle.policy_rules.specs.declared.policy.Action.{Action};
-ghost use Rattle.policy_rules.specs.Policies.{HasSmallPort, action_of, action_text};
+ghost use Rattle.policy_rules.specs.Exports.{HasSmallPort, action_of, action_text};
 
 use crate::policy::Action;
 use five_tuple::{printed_forms_are_read_back, read_number};

@@ -1,9 +1,9 @@
 ghost use Rattle.std.specs.Prelude.{◌≡◌, ◌+◌, ◌<◌, ◌≤◌, ◌^◌, ◌∷◌, [], All, Err, IfOk, IfErr, OnOk, Some, map, option_map, length};
 ghost use Rattle.base.specs.Refusals.{IfRefused};
 ghost use Rattle.base.specs.declared.error.Failure.TheVariants.{Refused};
-ghost use Rattle.five_tuple.specs.Headers.{IsHeader, IsPortBlock, cover_of};
+ghost use Rattle.five_tuple.specs.Exports.{IsHeader, IsPortBlock, cover_of};
 ghost use Rattle.five_tuple.specs.declared.header.Header.{Header};
-ghost use Rattle.policy_rules.specs.Policies.{AppendsRanked, IsPolicy, IsRuleList, IsSoundRow, RefusesRules, by_falling_priority, entries_of, first_rule, hit_of_rule, ranked_from, rules_of, scan, with_default, with_hit, word_of_row, word_total};
+ghost use Rattle.policy_rules.specs.Exports.{AppendsRanked, IsPolicy, IsRuleList, IsSoundRow, RefusesRules, by_falling_priority, entries_of, first_rule, hit_of_rule, ranked_from, rules_of, scan, with_default, with_hit, word_of_row, word_total};
 
 use crate::laws::rule_list_laws;
 use crate::policy::{Hit, Policy, Row};
@@ -17,7 +17,7 @@ use ternary::Word;
 use thiserror::Error;
 
 /// The most words that the rows of a policy may have.
-const MOST_WORDS: u64 = 4096;
+const MAX_WORDS: u64 = 4096;
 
 /// Why a policy has no list of rules: its rows have this many words, which are more than 4,096.
 #[derive(Clone, Copy, Debug, PartialEq, Eq, Error)]
@@ -47,7 +47,7 @@ pub fn to_rules(alloc: Global, policy: &Policy) -> Result<Vec<Rule>, Failure<Too
 {
     rule_list_laws();
     let words = count_words(policy);
-    if words > MOST_WORDS {
+    if words > MAX_WORDS {
         return Err(Failure::Refused(TooManyWords { words }));
     }
     let sorted = by_falling_priority(alloc, policy.rows())?;

@@ -1,7 +1,7 @@
 ghost use Rattle.std.specs.Prelude.{◌≡◌};
 ghost use Rattle.five_tuple.specs.Cover.{IsPortBlock};
 ghost use Rattle.five_tuple.specs.HeaderNumbers.{packed};
-ghost use Rattle.policy_rules.specs.Policies.{IsSoundRow, prefix_mask, proto_mask, proto_value, word_of_row};
+ghost use Rattle.policy_rules.specs.Exports.{IsSoundRow, prefix_mask, proto_mask, proto_value, word_of_row};
 
 use crate::policy::Row;
 use five_tuple::{Fields, Header, PortBlock, Prefix, Proto};

@@ -5,7 +5,7 @@ pub mod Life
 pub mod Hearing
 pub mod Knowing
 pub mod Asked
-pub mod Laws
+pub mod Exports
 pub mod Linking
 pub mod Spelled
 pub mod Marks

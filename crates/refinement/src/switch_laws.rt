@@ -1,5 +1,5 @@
 //! The laws.
-ghost use Rattle.refinement.specs.Laws.{AskedTies, CallTies, HearTies, KnowTies, LifeTies, LinkTies};
+ghost use Rattle.refinement.specs.Exports.{AskedTies, CallTies, HearTies, KnowTies, LifeTies, LinkTies};
 
 /// Items that don't concern a switch leave its record. In a step that does nothing to the switch
 /// itself, whatever happens to links and to other switches, its record changes by its next advert

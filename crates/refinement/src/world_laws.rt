@@ -5,14 +5,14 @@ ghost use Rattle.version_update.specs.Record.{after_over};
 ghost use Rattle.ctrl_msg.specs.Kinds.{to_controller};
 ghost use Rattle.ctrl_msg.specs.declared.message.Body.{Body};
 ghost use Rattle.ctrl_msg.specs.declared.message.Message.{Message};
-ghost use Rattle.controller.specs.Controllers.{ControllerValue, NamesThere, PlanValue, SettlesWith, SubmitsPlan, first_controller, hearing, marks_after, resending, settling_acts, submitting};
+ghost use Rattle.controller.specs.Exports.{ControllerValue, NamesThere, PlanValue, SettlesWith, SubmitsPlan, first_controller, hearing, marks_after, resending, settling_acts, submitting};
 ghost use Rattle.controller.specs.declared.sends.Act.{Act};
 ghost use Rattle.controller.specs.declared.sends.Act.TheVariants.{Post};
 ghost use Rattle.steps.specs.declared.step.Step.TheVariants.{Confirm, Deliver, Resend, Update};
 ghost use Rattle.journal.specs.declared.item.Item.TheVariants.{Row, Delivered, Nothing, OverNow, Refused, Submitted};
-ghost use Rattle.update_machine.specs.Journals.{HaveCauses, IsReached, IsSetting, Item, NoneConcern, Setting, Step, concerns_controller, is_deliverable, is_up, message_of, piece, resent_by_controller, sends};
-ghost use Rattle.control_laws.specs.Laws.{BodiesNameThere, HasItemCause, asks_controller};
-ghost use Rattle.refinement.specs.Laws.{AreMarksOf, AreSpelled, AreWritten, BagTies, ComeTies, HopTies, IsControllerOf, IsPlanOfNext, planned, resent, written};
+ghost use Rattle.update_machine.specs.Exports.{HaveCauses, IsReached, IsSetting, Item, NoneConcern, Setting, Step, concerns_controller, is_deliverable, is_up, message_of, piece, resent_by_controller, sends};
+ghost use Rattle.control_laws.specs.Exports.{BodiesNameThere, HasItemCause, asks_controller};
+ghost use Rattle.refinement.specs.Exports.{AreMarksOf, AreSpelled, AreWritten, BagTies, ComeTies, HopTies, IsControllerOf, IsPlanOfNext, planned, resent, written};
 
 /// A controller begins as a journal without items says, where its plan is the first version's.
 pub fn controllers_begin()

@@ -1,11 +1,11 @@
 ghost use Rattle.std.specs.Prelude.{◌≡◌, ◌≤◌, ◌+◌, All, IfErr, IfOk, IsOk, OnOk, length, map, slice_index_or, []};
 ghost use Rattle.meters.specs.Meters.{kept_meters};
-ghost use Rattle.net_file.specs.Nets.{IsNet, port_mask};
+ghost use Rattle.net_file.specs.Exports.{IsNet, port_mask};
 ghost use Rattle.partition.specs.Plan.{plan_of};
 ghost use Rattle.policy_rules.specs.Policy.{IsPolicy};
 ghost use Rattle.steps.specs.Steps.{IsEvent};
 ghost use Rattle.steps.specs.Limits.{max_events};
-ghost use Rattle.update_machine.specs.Journals.{IsPlay, NamesOwnPort, setting_of};
+ghost use Rattle.update_machine.specs.Exports.{IsPlay, NamesOwnPort, setting_of};
 ghost use Rattle.world.specs.State.{IsBegun, setting_at};
 ghost use Rattle.replay.specs.Leavings.{left_in};
 ghost use Rattle.replay.specs.Playing.{IsPlanRefusal};

@@ -4,7 +4,7 @@
 //! ended by a line feed.
 #![tactic(auto)]
 
-mod lines;
+mod plan_lines;
 mod text;
 
 pub use text::{compile_text, table_text};

@@ -4,7 +4,7 @@ ghost use Rattle.net_file.specs.Net.{IsNet, name_of};
 ghost use Rattle.switch_table.specs.Tables.{tables_of};
 ghost use Rattle.show_text.specs.Text.{compile_text, with_line_feed, own_lines, part_text, hosted_lines, row_line, table_text, targets_text};
 
-use crate::lines::{add_rules, push_part, push_region, push_targets};
+use crate::plan_lines::{add_rules, push_part, push_region, push_targets};
 use controller::{Plan, tables_of};
 use lines::{Line, push_name};
 use net_file::{Net, name_laws};

@@ -8,4 +8,4 @@ pub mod Hearing
 pub mod Life
 pub mod Laws
 pub mod AnswerLaws
-pub mod Switches
+pub mod Exports

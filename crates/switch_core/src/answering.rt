@@ -2,7 +2,7 @@ ghost use Rattle.std.specs.Prelude.{◌≡◌, ℕ, List, IsSomeAnd, IsTrue};
 ghost use Rattle.policy_rules.specs.Hosted.{is_in};
 ghost use Rattle.policy_rules.specs.declared.packet.Leg.TheVariants.{Seek as SeekLeg};
 ghost use Rattle.switch_core.specs.declared.answers.Arrived.TheVariants.{Answered};
-ghost use Rattle.switch_core.specs.Switches.{CanLookUp, IsAtAuthority, IsFirstHit, IsFound, IsUncached, answer_by, answer_of, around, arrived, arrived_as, arrived_on, call_counted, decided_at, decided_in, entered, entered_as, holds_version, incoming, looked_up, own_part, packet_of, packet_with, serves};
+ghost use Rattle.switch_core.specs.Exports.{CanLookUp, IsAtAuthority, IsFirstHit, IsFound, IsUncached, answer_by, answer_of, around, arrived, arrived_as, arrived_on, call_counted, decided_at, decided_in, entered, entered_as, holds_version, incoming, looked_up, own_part, packet_of, packet_with, serves};
 
 use crate::answers::{Arrived, Decision, Entered};
 use crate::deciding::{cache_rule, found_in, own_part, rule_in};

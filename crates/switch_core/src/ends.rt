@@ -2,7 +2,7 @@ ghost use Rattle.std.specs.Prelude.{◌≡◌, ℕ, unwrap_or};
 ghost use Rattle.std.specs.Option.{option_copied};
 ghost use Rattle.failover.specs.Links.{no_links};
 ghost use Rattle.five_tuple.specs.declared.header.Header.{Header as HeaderValue};
-ghost use Rattle.switch_core.specs.Switches.{are_isolated, begun_by, cause_of, packet_with, set_out};
+ghost use Rattle.switch_core.specs.Exports.{are_isolated, begun_by, cause_of, packet_with, set_out};
 
 use crate::packet::Packet;
 use crate::switch::Switch;

@@ -1,6 +1,6 @@
 ghost use Rattle.std.specs.Prelude.{◌≡◌, ◌<◌, IfSome, if◌then◌else◌};
 ghost use Rattle.tunnel.specs.Moves.{next};
-ghost use Rattle.switch_core.specs.Switches.{call_counted, hopped, is_free, link_found_down, rerouted_here};
+ghost use Rattle.switch_core.specs.Exports.{call_counted, hopped, is_free, link_found_down, rerouted_here};
 
 use crate::answers::{Hop, HopEnd};
 use crate::switch::Switch;

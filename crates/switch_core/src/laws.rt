@@ -1,4 +1,4 @@
-ghost use Rattle.switch_core.specs.Switches.{ArriveLaws, DecisionLaws, EnterLaws, ExitLaws, HopLaws, LookupLaws, SwitchLaws};
+ghost use Rattle.switch_core.specs.Exports.{ArriveLaws, DecisionLaws, EnterLaws, ExitLaws, HopLaws, LookupLaws, SwitchLaws};
 
 /// What the steps of a switch have in common, and when a packet is stuck: a law on the definitions
 /// alone.

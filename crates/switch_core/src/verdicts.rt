@@ -1,6 +1,6 @@
 ghost use Rattle.std.specs.Prelude.{◌≡◌, ℕ, [], ◌∷◌};
 ghost use Rattle.policy_rules.specs.declared.packet.Leg.TheVariants.{Exit as ExitLeg};
-ghost use Rattle.switch_core.specs.Switches.{answer_of, around, exit_by, next_at, next_of, seek_by, set_out};
+ghost use Rattle.switch_core.specs.Exports.{answer_of, around, exit_by, next_at, next_of, seek_by, set_out};
 ghost use Rattle.switch_core.specs.declared.answers.Answer.TheVariants.{Decided as DecidedBy};
 ghost use Rattle.switch_core.specs.declared.packet.Packet.{Packet as PacketValue};
 

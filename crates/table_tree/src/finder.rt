@@ -1,7 +1,7 @@
 ghost use Rattle.std.specs.Prelude.{◌≡◌, ◌<◌, ◌^◌, ◌==◌, IfOk, IfSome, IsSomeAnd, IsTrue, find, position, slice_get};
 ghost use Rattle.std.specs.Option.{option_and_then};
 ghost use Rattle.five_tuple.specs.Header.{IsHeader, number_of};
-ghost use Rattle.policy_rules.specs.Policies.{is_held, is_in};
+ghost use Rattle.policy_rules.specs.Exports.{is_held, is_in};
 ghost use Rattle.switch_table.specs.Cache.{first_entry};
 ghost use Rattle.switch_table.specs.Lookup.{lookup_of, table_lookup};
 ghost use Rattle.switch_table.specs.Tables.{AreSoundTables};

@@ -14,7 +14,7 @@ use std::alloc::{AllocError, Global};
 use ternary::Word;
 
 /// The most cuts one below another.
-const MOST_CUTS: u32 = 12;
+const MAX_CUTS: u32 = 12;
 
 /// A tree over the rules of a region: it leads each header to the places of the few rules that may
 /// be the first to hold it.
@@ -41,7 +41,7 @@ impl RuleTree {
     {
         let ranked = ranked(alloc, rules)?;
         let node = Node::new(alloc, &ranked, region)?;
-        let root = grow(alloc, node, MOST_CUTS)?;
+        let root = grow(alloc, node, MAX_CUTS)?;
         Ok(RuleTree {
             region: *region,
             root,

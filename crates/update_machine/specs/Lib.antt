@@ -27,4 +27,4 @@ pub mod Quiet
 pub mod Numbers
 pub mod Concerns
 pub mod Laws
-pub mod Journals
+pub mod Exports

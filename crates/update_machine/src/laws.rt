@@ -5,7 +5,7 @@ ghost use Rattle.policy_rules.specs.Policy.{IsPolicy};
 ghost use Rattle.policy_rules.specs.declared.policy.Row.{Row};
 ghost use Rattle.journal.specs.declared.item.Item.TheVariants.{Submitted};
 ghost use Rattle.steps.specs.declared.step.Event.TheVariants.{One};
-ghost use Rattle.update_machine.specs.Journals.{Answers, AnswersSoFar, AreAnswered, AreNumbered, AreStepsOf, BeginsAnswer, ConcernLaws, Event, HasPlay, HaveSteps, IsFull, IsPlay, IsSetting, Item, KnownLinkLaws, NamesOwnPort, Setting, StartLaws, Step, StepOfRow, StopsFull, VersionsAreNumbered, after_steps, file_of, full_at, is_sending, is_version, hosted_in, next_policy, plan_at, policy_at, policy_of_file, version_count};
+ghost use Rattle.update_machine.specs.Exports.{Answers, AnswersSoFar, AreAnswered, AreNumbered, AreStepsOf, BeginsAnswer, ConcernLaws, Event, HasPlay, HaveSteps, IsFull, IsPlay, IsSetting, Item, KnownLinkLaws, NamesOwnPort, Setting, StartLaws, Step, StepOfRow, StopsFull, VersionsAreNumbered, after_steps, file_of, full_at, is_sending, is_version, hosted_in, next_policy, plan_at, policy_at, policy_of_file, version_count};
 ghost use Rattle.update_machine.specs.Folds.{all_given, count_of, folded, folded_from, last_told};
 ghost use Rattle.update_machine.specs.Versions.{first_told};
 ghost use Rattle.update_machine.specs.declared.full.TheConstants.{FULL_AT};

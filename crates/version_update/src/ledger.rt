@@ -9,7 +9,7 @@ use crate::switches;
 use std::marker::Model;
 
 /// The most switches.
-const MOST_SWITCHES: usize = 64;
+const MAX_SWITCHES: usize = 64;
 
 /// The marks, settled or not.
 #[derive(Drop)]
@@ -22,7 +22,7 @@ pub struct Ledger {
     pub retired: u32,
     /// How many switches there are; past them the records say nothing.
     number: usize,
-    switches: [SwitchRecord; MOST_SWITCHES],
+    switches: [SwitchRecord; MAX_SWITCHES],
 }
 
 impl Model for Ledger {
@@ -150,10 +150,10 @@ impl Ledger {
     }
 }
 
-fn first_records() -> [SwitchRecord; MOST_SWITCHES]
+fn first_records() -> [SwitchRecord; MAX_SWITCHES]
     ensures { result ≡ replicate 64 first_record }
 {
-    [SwitchRecord::first(); MOST_SWITCHES]
+    [SwitchRecord::first(); MAX_SWITCHES]
 }
 
 // The new number, where it rose.

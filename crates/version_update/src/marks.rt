@@ -9,10 +9,10 @@ use crate::record::Phase;
 use std::marker::Model;
 
 /// The most versions.
-const MOST_VERSIONS: u32 = 64;
+const MAX_VERSIONS: u32 = 64;
 
 /// The most versions that are not retired.
-const MOST_LIVE: u32 = 8;
+const MAX_LIVE: u32 = 8;
 
 /// What followed from a change: the numbers that rose, and the switches that are to be told.
 ///
@@ -165,10 +165,10 @@ impl Marks {
         ensures versions { (result ≡ Some TooManyVersions)
             ↔ ((self.now.count - self.now.retired ≢ 8) × (self.now.count ≡ 64)) }
     {
-        if self.count() - self.retired() == MOST_LIVE {
+        if self.count() - self.retired() == MAX_LIVE {
             return Some(SubmitError::TooManyLive);
         }
-        if self.count() == MOST_VERSIONS {
+        if self.count() == MAX_VERSIONS {
             return Some(SubmitError::TooManyVersions);
         }
         None

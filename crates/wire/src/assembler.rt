@@ -8,7 +8,7 @@ ghost use Rattle.wire.specs.Assembly.{Agree, AreAllHeld, AreRising, AreTogether,
 use crate::assembly::{are_same, message_of};
 use crate::error::{Malformed, WireError};
 use crate::frame::{Frame, HEADER_LEN, count_of, place_of};
-use crate::frames::MOST_OF_FRAME;
+use crate::frames::MAX_FRAME;
 use ctrl_msg::Message;
 use std::alloc::Global;
 use std::marker::Model;
@@ -115,7 +115,7 @@ fn spot_of(frames: &[Frame], frame: &[u8]) -> Spot
     if frame.len() <= HEADER_LEN {
         return Spot::Refused;
     }
-    if frame.len() > MOST_OF_FRAME {
+    if frame.len() > MAX_FRAME {
         return Spot::Refused;
     }
     if count_of(frame) <= place_of(frame) {

@@ -11,10 +11,10 @@ use std::alloc::{AllocError, Global};
 use std::marker::Model;
 
 /// The most bytes of a frame.
-pub(crate) const MOST_OF_FRAME: usize = 16_384;
+pub(crate) const MAX_FRAME: usize = 16_384;
 
 /// The most bytes of a piece.
-const MOST_OF_PIECE: usize = MOST_OF_FRAME - HEADER_LEN;
+const MAX_PIECE: usize = MAX_FRAME - HEADER_LEN;
 
 /// Where the version of tables ends in the frame that begins with it.
 const VERSION_END: usize = HEADER_LEN + 4;
@@ -129,10 +129,10 @@ pub(crate) fn cut(alloc: Global, head: usize, bytes: &[u8]) -> Result<Vec<&[u8]>
     let (first, rest) = split_front(bytes, head);
     let mut parts = Vec::new(alloc);
     parts.push(first)?;
-    let count = rest.len().div_ceil(MOST_OF_PIECE);
+    let count = rest.len().div_ceil(MAX_PIECE);
     let mut left = rest;
     for _ in 0..count {
-        let (piece, after) = split_front(left, MOST_OF_PIECE);
+        let (piece, after) = split_front(left, MAX_PIECE);
         parts.push(piece)?;
         left = after;
     }

@@ -1,7 +1,7 @@
 //! Messages that are delivered: who hears them, and what is sent upon them.
 ghost use Rattle.std.specs.Prelude.{◌≡◌, ◌+◌, ◌-◌, ◌^◌, ◌<◌, ◌≤◌, ◌++◌, All, OnOk, OnErr, length, map};
 ghost use Rattle.message_bag.specs.Posts.{posted};
-ghost use Rattle.controller.specs.Controllers.{ControllerValue, NamesThere, SettlesWith, hearing, marks_after};
+ghost use Rattle.controller.specs.Exports.{ControllerValue, NamesThere, SettlesWith, hearing, marks_after};
 ghost use Rattle.steps.specs.declared.step.Step.TheVariants.{Deliver as DeliverStep};
 ghost use Rattle.update_machine.specs.Messages.{sent_from};
 ghost use Rattle.refinement.specs.Linking.{AreRelinked, all_told, near_all};

@@ -3,7 +3,7 @@ ghost use Rattle.message_bag.specs.Posts.{next_waiting_post};
 ghost use Rattle.controller.specs.Plan.{RefusesPlan};
 ghost use Rattle.net_file.specs.Net.{IsNet};
 ghost use Rattle.policy_rules.specs.Policy.{IsPolicy};
-ghost use Rattle.update_machine.specs.Journals.{HasRoom, IsFull, NamesOwnPort, next_packet, next_travelling, next_waiting, piece, setting_of, travels};
+ghost use Rattle.update_machine.specs.Exports.{HasRoom, IsFull, NamesOwnPort, next_packet, next_travelling, next_waiting, piece, setting_of, travels};
 ghost use Rattle.steps.specs.Steps.{IsStep};
 ghost use Rattle.base.specs.declared.error.Failure.TheVariants.{NoMemory};
 ghost use Rattle.world.specs.NoStep.{no_step};

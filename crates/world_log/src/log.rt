@@ -2,7 +2,7 @@ ghost use Rattle.std.specs.Prelude.{◌≡◌, ◌+◌, ◌-◌, ◌^◌, ◌<�
 ghost use Rattle.message_bag.specs.Posts.{posted};
 ghost use Rattle.message_bag.specs.Feeding.{HasShortSpelling};
 ghost use Rattle.journal.specs.declared.item.Item.TheVariants.{Hopped as HoppedItem, Rerouted, Sent as SentItem, Stuck as StuckItem};
-ghost use Rattle.update_machine.specs.Journals.{sent_from, takes_route};
+ghost use Rattle.update_machine.specs.Exports.{sent_from, takes_route};
 ghost use Rattle.switch_core.specs.Verdicts.{next_at};
 ghost use Rattle.world_log.specs.Outcomes.{next_as};
 ghost use Rattle.world_log.specs.Packets.{IsTurned, turned_items};

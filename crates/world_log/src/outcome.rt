@@ -1,6 +1,6 @@
 ghost use Rattle.std.specs.Prelude.{◌≡◌, ◌∷◌, [], IfOk};
 ghost use Rattle.policy_rules.specs.declared.packet.Leg.TheVariants.{Exit as ExitLeg};
-ghost use Rattle.switch_core.specs.Switches.{answer_of, exit_by, seek_by, set_out};
+ghost use Rattle.switch_core.specs.Exports.{answer_of, exit_by, seek_by, set_out};
 ghost use Rattle.world_log.specs.Outcomes.{answer_as, next_as, packet_standing};
 
 use journal::{Body, SharedRoute};

@@ -1,6 +1,6 @@
 ghost use Rattle.std.specs.Prelude.{◌≡◌, ◌+◌, ◌-◌, ◌^◌, ◌<◌, ◌++◌, Some, None, IfOk, IfSome, IsSomeAnd, IsTrue, OnOk, OnErr, length};
 ghost use Rattle.message_bag.specs.Feeding.{HasShortSpelling};
-ghost use Rattle.switch_core.specs.Switches.{CanLookUp, IsAtAuthority, answer_of, arrived_as, call_counted, entered_as, hopped, serves};
+ghost use Rattle.switch_core.specs.Exports.{CanLookUp, IsAtAuthority, answer_of, arrived_as, call_counted, entered_as, hopped, serves};
 ghost use Rattle.switch_core.specs.declared.answers.HopEnd.TheVariants.{Arrive};
 ghost use Rattle.world_log.specs.Outcomes.{answer_as, packet_standing};
 ghost use Rattle.world_log.specs.Packets.{Hops, IsEnded, arrival, arrival_items, arrival_posts, coming_in, ended_items, ended_posts, ended_switch, entry, hop_written, hop_posts, hop_traveller, hopped_switch};

@@ -6,7 +6,7 @@ ghost use Rattle.ternary.specs.Meets.{any_word};
 ghost use Rattle.policy_rules.specs.Hosted.{is_in};
 ghost use Rattle.policy_rules.specs.declared.packet.Leg.TheVariants.{Seek};
 ghost use Rattle.switch_table.specs.Tables.{AreSoundTables};
-ghost use Rattle.switch_core.specs.Switches.{CanLookUp, HasOwnUpTo, IsAtAuthority, own_part, serves};
+ghost use Rattle.switch_core.specs.Exports.{CanLookUp, HasOwnUpTo, IsAtAuthority, own_part, serves};
 
 use ctrl_msg::{Body, SharedTables};
 use failover::{Advert, Database, DownSet};
