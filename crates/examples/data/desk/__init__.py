@@ -1,0 +1,1 @@
+"""What the scripts around the program share: journals read, followed and asked."""

@@ -1,0 +1,90 @@
+"""The folder of a journal, and the files beside it."""
+import csv
+import tomllib
+from pathlib import Path
+from typing import NamedTuple
+
+from .journal import read_items
+from .network import CACHE, Network
+from .packets import Play
+from .script import Mistake
+
+EXAMPLES = Path(__file__).resolve().parent.parent
+HEADING = "priority,src,dst,sport,dport,proto,action".split(",")
+SOLO = {"switch": [{"name": "s0", "ports": list(range(64)), "authority": 8192}]}
+
+
+class Rule(NamedTuple):
+    """A row of a policy file: its priority, its line in the file, and its fields."""
+
+    priority: str
+    line: int
+    fields: list
+
+
+class Case:
+    """A journal with the network and the policies that stand in its folder, if they do."""
+
+    def __init__(self, journal, name):
+        self.journal, self.folder, self.name = journal, journal.parent, name
+
+    def items(self):
+        """The items of the journal, one at a time."""
+        return read_items(self.journal)
+
+    def net(self):
+        """The network's file as read by the kit's rules; without one the switch s0 alone."""
+        path = self.folder / "net.toml"
+        if not path.is_file():
+            return SOLO
+        try:
+            net = tomllib.loads(path.read_text(encoding="utf-8"))
+            assert all(isinstance(row["name"], str) for row in net["switch"])
+            assert all(len(row["ends"]) == 2 for row in net.get("link", []))
+        except ValueError as error:
+            raise Mistake(f"{path}: {error}") from error
+        except (AssertionError, KeyError, TypeError) as error:
+            raise Mistake(f"{path} is no network: a switch or a link lacks its keys") from error
+        return net
+
+    def policy_file(self, file):
+        """The F-th policy file by the names that examples/run gives it."""
+        return self.folder / ("policy.csv" if file == 1 else f"policy{file}.csv")
+
+    def policy(self, file):
+        """The rows of the F-th policy file, or None where it isn't there."""
+        path = self.policy_file(file)
+        if not path.is_file():
+            return None
+        with open(path, newline="", encoding="utf-8", errors="replace") as text:
+            reader = csv.reader(text)
+            rows = [(reader.line_num, row) for row in reader if row]
+        if not rows or rows[0][1] != HEADING or any(len(row) != len(HEADING) for _, row in rows):
+            raise Mistake(f"{path} is no policy: {','.join(HEADING)} and rows of seven fields")
+        return [Rule(row[0], line, row) for line, row in rows[1:]]
+
+    def start(self):
+        """The network and its packets before the journal's first line."""
+        net = self.net()
+        return Play(Network([row["name"] for row in net["switch"]], net.get("cache", CACHE)))
+
+    def play(self):
+        """The whole journal, followed to its end."""
+        play = self.start()
+        for item in self.items():
+            play.follow(item)
+        return play
+
+
+def case_of(name):
+    """The journal in this file, or in this folder, or in the example of this name."""
+    path = Path(name)
+    if path.is_file():
+        return Case(path, str(path.parent))
+    own = path.is_dir() or "/" in name or not (EXAMPLES / name).is_dir()
+    folder = path if own else EXAMPLES / name
+    if not folder.is_dir():
+        raise Mistake(f"there is no folder, no journal and no example {name!r}")
+    if not (folder / "journal.txt").is_file():
+        raise Mistake(f"there is no file {folder / 'journal.txt'}, which examples/run can print")
+    return Case(folder / "journal.txt", name)

@@ -1,0 +1,104 @@
+"""The answers of examples/ask as text: one function a question."""
+from .packets import TRAVELLING
+from .story import header_text
+
+
+def table(heading, rows):
+    """Lines of columns; a column whose cells are all numbers stands to the right."""
+    cells = [list(map(str, row)) for row in [heading, *rows]]
+    wide = [max(map(len, column)) for column in zip(*cells)]
+    right = [all(isinstance(row[k], int) for row in rows) for k in range(len(heading))]
+    for row in cells:
+        texts = [
+            text.rjust(width) if is_right else text.ljust(width)
+            for text, width, is_right in zip(row, wide, right)
+        ]
+        yield "  ".join(texts).rstrip()
+
+
+def share(part, whole):
+    return f"{100 * part / whole:.1f}%" if whole else "-"
+
+
+def ends(found):
+    yield f"{found['packets']} packets"
+    yield from table(["end", "packets"], found["ends"].items())
+    if found["ports"]:
+        yield ""
+        yield from table(["port", "packets"], [(int(k), n) for k, n in found["ports"].items()])
+
+
+def rules(found):
+    for version in found["versions"]:
+        file = version["policy"] or "its policy isn't in the folder, so unused rows aren't known"
+        yield f"version {version['version']}: {file}"
+        rows = [
+            (rule["authority"] + rule["cache"], rule["authority"], rule["cache"], rule["rule"],
+             rule["line"] or "-", rule["says"])
+            for rule in version["rules"]
+        ]
+        yield from table(["packets", "authority", "cache", "rule", "line", "says"], rows)
+        unused = [row[3] for row in rows if row[0] == 0 and row[3] != "default"]
+        yield f"never used: {' '.join(unused) or 'none'}"
+
+
+def caches(found):
+    yield f"caches decided {found['cached']} of {found['decided']} packets"
+    names = ["switch", "decided", "cached", "rules sent", "delivered", "used"]
+    rows = [[one[name] for name in names] for one in found["switches"]]
+    rows = [[*row[:3], share(row[2], row[1]), *row[3:]] for row in rows]
+    yield from table([*names[:3], "share", *names[3:]], rows)
+
+
+def packet(found):
+    yield f"packet {found['packet']}: {header_text(found['header'])}, {found['end']}"
+    said = found["decision"]
+    if said and said["line"]:
+        yield f"decided by {said['policy']} line {said['line']}: {said['says']}"
+    rows = [(one["row"], one["line"], one["words"]) for one in found["lines"]]
+    yield from table(["row", "line", "what happened"], rows)
+    if found["end"] == TRAVELLING:
+        yield "it still travels: no further row lets it hop"
+
+
+def updates(found):
+    for one in found["updates"]:
+        yield f"version {one['version']}, from policy file {one['file']}"
+        for name in ("submitted", "current", "retired"):
+            what = f"version {one['version'] - 1} retired" if name == "retired" else name
+            yield f"  {what}: {'row ' + str(one[name]) if one[name] else 'not in this journal'}"
+        sent = ", ".join(f"{count} {body}" for body, count in one["messages"].items())
+        yield f"  messages: {sum(one['messages'].values())} ({sent})"
+        meanwhile = ", ".join(f"{n} by {v}" for v, n in one["decided meanwhile"].items())
+        yield f"  packets decided meanwhile: {meanwhile or 'none'}"
+        yield from (f"  missing: {text}" for text in one["missing"])
+        yield from (f"  down and not confirmed: {it}" for it in one["down and not confirmed"])
+    for one in found["refused"]:
+        yield f"row {one['row']}: the update to policy file {one['file']} is refused: {one['why']}"
+    if not found["updates"] and not found["refused"]:
+        yield "no updates"
+
+
+def losses(found):
+    if not found["packets"]:
+        yield "each packet left or was dropped"
+        return
+    rows = [(one["packets"], one["end"], one["cause"]) for one in found["causes"]]
+    yield from table(["packets", "end", "cause"], rows)
+    yield ""
+    for one in found["packets"]:
+        row = f" in row {one['row']}" if one["row"] else ""
+        bound = f", bound for {one['bound for']}" if one["bound for"] else ""
+        yield f"packet {one['packet']}: {one['end']}{row} at {one['at']}{bound}: {one['cause']}"
+        yield from (f"  found down: {text}" for text in one["found down"])
+        yield from (f"  then: {text}" for text in one["unusable"])
+
+
+def compare(found):
+    yield f"{found['same']} of {found['packets']} packets have the same rule, action and end"
+    if found["changes"]:
+        rows = [(one["packets"], one["here"], one["there"]) for one in found["changes"]]
+        yield from table(["packets", "here", "there"], rows)
+        yield ""
+        rows = [(one["packet"], one["here"], one["there"]) for one in found["differ"]]
+        yield from table(["packet", "here", "there"], rows)
