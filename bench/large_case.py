@@ -3,7 +3,7 @@
 
 The network is the fat tree of the examples, and each edge switch has a prefix of its own. Packets
 come in at random edges, in flows that repeat, and hop by rows of their own; messages are delivered
-in their order, all that wait behind each update. On the way the policy is updated, links fail and come back,
+in their order, and all that wait behind two of the updates. On the way links fail and come back,
 and a switch crashes and restarts. The journal is that of `bench/slow_replay.py`.
 """
 import random

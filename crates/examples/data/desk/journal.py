@@ -92,6 +92,7 @@ class Item(NamedTuple):
     row: int
     kind: str
     said: dict
+    text: str
 
 
 def pattern_of(form):
@@ -156,7 +157,7 @@ def items_of(lines, name="the journal"):
             row = said["row"]
         elif kind in FACTS_BEHIND:
             row = 0
-        yield Item(number, row, kind, said)
+        yield Item(number, row, kind, said, bare)
 
 
 def read_items(path):

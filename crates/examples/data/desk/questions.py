@@ -38,7 +38,8 @@ def rules(case):
         said = packet.decision
         if said:
             uses[said["version"], said["rule"], said["by"]] += 1
-    return {"versions": [rules_of(case, version, uses) for version in play.network.versions.values()]}
+    versions = play.network.versions.values()
+    return {"versions": [rules_of(case, version, uses) for version in versions]}
 
 
 def rules_of(case, version, uses):
