@@ -28,6 +28,10 @@ class Case:
     def __init__(self, journal, name):
         self.journal, self.folder, self.name = journal, journal.parent, name
 
+    def title(self):
+        """The name of the folder, wherever it is seen from."""
+        return self.folder.resolve().name
+
     def items(self):
         """The items of the journal, one at a time."""
         return read_items(self.journal)
