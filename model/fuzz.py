@@ -165,4 +165,5 @@ def main():
     sys.exit("different" in ends)
 
 
-main()
+if __name__ == "__main__":
+    main()

@@ -1,0 +1,384 @@
+#!/usr/bin/env python3
+"""Checks what examples/ask answers, and the modules of examples/desk: `bench/desk.py [SEEDS]`.
+
+- Each output that stands in docs/QUESTIONS.md is what the command in front of it prints;
+  `bench/desk.py --write` puts the present outputs there.
+- Each form of a line that docs/FORMATS.md has is read as one.
+- The examples, and SEEDS random cases of `bench/fuzz.py` (40 where no number is given): behind each
+  row, switches, caches, links and messages are those of `bench/slow_replay.py`. Each answer is what
+  `bench/journal_text.py` finds in the text by patterns.
+- Matches, read bit by bit, are the words that they spell.
+- Each wrong input is told in one line, with status 2.
+"""
+import random
+import re
+import subprocess
+import sys
+import tempfile
+from itertools import takewhile
+from pathlib import Path
+
+import fuzz
+import journal_text
+import row_states
+import slow_replay
+
+HOME = Path(__file__).resolve().parent.parent
+EXAMPLES = HOME / "examples"
+PAGE, FORMATS = HOME / "docs/QUESTIONS.md", HOME / "docs/FORMATS.md"
+SEEDS, WORDS = 40, 2000
+
+sys.dont_write_bytecode = True
+sys.path.insert(0, str(EXAMPLES))
+
+from desk import journal, questions, words
+from desk.folder import case_of
+from desk.packets import Play
+from desk.network import Network
+
+
+# ---- the page, the forms
+
+
+def ask(*args):
+    """The output of a command of the examples, and its status."""
+    done = subprocess.run(args, cwd=HOME, capture_output=True, text=True)
+    return done.stdout, done.stderr, done.returncode
+
+
+def page_with_outputs(text):
+    """The page with each output as it is now, behind its command."""
+
+    def block(match):
+        out, errors, _ = ask(*match[1].split())
+        lines = [f"    {line}".rstrip() for line in (out + errors).splitlines()]
+        return f"    $ {match[1]}\n" + "".join(f"{line}\n" for line in lines)
+
+    return re.sub(r"^    \$ (.*)\n((?:    .*\n|\n(?=    (?!\$)))*)", block, text, flags=re.M)
+
+
+def page_faults():
+    text = PAGE.read_text()
+    if page_with_outputs(text) != text:
+        yield "docs/QUESTIONS.md has other outputs than the commands print; see --write"
+
+
+SAMPLES = {
+    "ROUTE": "a b",
+    "WORD": "0" * 26 + "/" + "f" * 26,
+    "RULE": "default",
+    "ACTION": "out:3",
+    "NAMES": "a b",
+    **dict.fromkeys("STU", "s1"),
+    **dict.fromkeys("ICNKFVBQRPM", "7"),
+}
+
+
+def form_faults():
+    """The lines of the table of the journal, and of the meters and of --quiet."""
+    cells = re.findall(r"^\| (`[^|]*`) \|", section("The journal"), re.M)
+    forms = [form for cell in cells for form in re.findall("`([^`]+)`", cell)]
+    forms += ["meter port P notes N", "quiet yes", "quiet no"]
+    texts = [re.sub(r"[A-Z]+", lambda found: SAMPLES[found[0]], form) for form in forms]
+    texts = [text for text in texts if not text.startswith("row ")]
+    yield from (f"no form for {text!r}" for text in texts if journal.said_by(text) is None)
+    kinds = set(re.findall(r"^\| `([a-z]+)", section("Schedules"), re.M))
+    known = set(re.findall(r"event=([a-z]+)", journal.FORMS))
+    missing = kinds - known - {"flush", "drain"}
+    yield from (f"no form for rows {kind}" for kind in sorted(missing))
+
+
+def section(heading):
+    return FORMATS.read_text().split(f"\n## {heading}\n")[1].split("\n## ")[0]
+
+
+# ---- words
+
+
+def bits_of_match(match):
+    """The value and the mask that a match says, read field by field."""
+    value = mask = 0
+    for part in match.split(","):
+        name, _, text = part.partition("=")
+        if name in words.PROTOCOLS.values():
+            name, text = "nw_proto", {"icmp": "1", "tcp": "6", "udp": "17"}[name]
+        if text:
+            low, width = PLACES[name]
+            one, _, other = text.partition("/")
+            value |= number(one) << low
+            mask |= mask_number(other, width) << low
+    return value, mask
+
+
+PLACES = {"nw_src": (72, 32), "nw_dst": (40, 32), "tp_src": (24, 16), "tp_dst": (8, 16),
+          "nw_proto": (0, 8)}
+
+
+def number(text):
+    """A number, or an address as one."""
+    if "." in text:
+        return int.from_bytes(map(int, text.split(".")), "big")
+    return int(text, 0)
+
+
+def mask_number(text, width):
+    """What stands behind the slash: nothing, a length of an address, or the bits themselves."""
+    whole = (1 << width) - 1
+    if text == "":
+        return whole
+    if width == 32 and "." not in text:
+        return whole >> (32 - int(text)) << (32 - int(text))
+    return number(text)
+
+
+def random_word(rng):
+    """A word whose fields are free, whole, prefixes or any bits."""
+    value = mask = 0
+    for low, width in PLACES.values():
+        whole = (1 << width) - 1
+        length = rng.randint(0, width)
+        kinds = [0, whole, whole >> length << length, rng.getrandbits(width)]
+        bits = rng.choice(kinds)
+        mask |= bits << low
+        value |= (rng.getrandbits(width) & bits) << low
+    return f"{value:026x}/{mask:026x}"
+
+
+def word_faults():
+    rng = random.Random(2012)
+    for word in (random_word(rng) for _ in range(WORDS)):
+        match = words.match_of(word)
+        if "%026x/%026x" % bits_of_match(match) != word:
+            yield f"{word} is spelled {match}"
+
+
+# ---- journals
+
+
+def state_told(play):
+    """The state that the modules of examples/desk have, in the plain values of the model's."""
+    network = play.network
+    standing = [one.at for one in play.packets.values() if one.end == "travelling"]
+    return {
+        "switches": {
+            name: {
+                "phase": switch.phase,
+                "boot": switch.boot,
+                "stamp": switch.stamp,
+                "tables": sorted(switch.tables),
+                "cache": [rule.number for rule in switch.cache],
+                "packets": standing.count(name),
+            }
+            for name, switch in network.switches.items()
+        },
+        "down": sorted(map(sorted, network.links_down)),
+        "waiting": [one.number for one in network.messages.values() if one.is_waiting()],
+    }
+
+
+def state_faults(world, rows):
+    """The rows behind which a state is another one than the model's."""
+    play = Play(Network(world.network.names, world.network.cache))
+    wrong = []
+
+    def lines():
+        for row, told in row_states.told(world, rows):
+            yield from told
+            if state_told(play) != row_states.state_of(world):
+                wrong.append(f"behind row {row} the state is another one than the model's")
+
+    for item in journal.items_of(lines()):
+        play.follow(item)
+    return wrong
+
+
+def answer_faults(folder):
+    """The answers that differ from what the text says."""
+    case, text = case_of(str(folder)), (folder / "journal.txt").read_text()
+    found = questions.ends(case)
+    yield "ends", {k: n for k, n in found["ends"].items() if n}, nonzero(journal_text.ends(text))
+    yield "ports", found["ports"], journal_text.ports(text)
+    uses = {
+        (str(version["version"]), rule["rule"], by): rule[by]
+        for version in questions.rules(case)["versions"]
+        for rule in version["rules"]
+        for by in ("authority", "cache")
+    }
+    yield "rules", nonzero(uses), journal_text.rules(text)
+    shares = questions.caches(case)["switches"]
+    shares = {one["switch"]: (one["decided"], one["cached"]) for one in shares if one["decided"]}
+    yield "caches", shares, journal_text.caches(text)
+    told = {
+        one["version"]: [one["submitted"], one["current"], one["retired"]]
+        for one in questions.updates(case)["updates"]
+    }
+    yield "updates", told, journal_text.marks(text)
+    outcomes = journal_text.outcomes(text)
+    lost = [str(one["packet"]) for one in questions.losses(case)["packets"]]
+    wanted = [packet for packet, (_, end) in outcomes.items() if end not in ("out", "dropped")]
+    yield "losses", lost, wanted
+    for packet in outcomes:
+        lines = [line["line"] for line in questions.packet(case, int(packet))["lines"]]
+        yield f"packet {packet}", lines, journal_text.packet_lines(text, packet)
+
+
+def nonzero(counts):
+    return {key: count for key, count in counts.items() if count}
+
+
+def compare_faults(folder, other):
+    """The packets that differ between two journals, against those whose outcomes do."""
+    texts = [(one / "journal.txt").read_text() for one in (folder, other)]
+    here, there = map(journal_text.outcomes, texts)
+    differ = questions.compare(case_of(str(folder)), str(other))["differ"]
+    found = [str(one["packet"]) for one in differ]
+    yield "compare", found, [packet for packet in here if here[packet] != there[packet]]
+
+
+def unequal(name, answers):
+    return [f"{name}: {what} is {found}, not {wanted}"
+            for what, found, wanted in answers if found != wanted]
+
+
+def example_faults():
+    """The folders of the examples that have a journal."""
+    for path in sorted(EXAMPLES.glob("*/journal.txt")):
+        folder = path.parent
+        net = folder / "net.toml"
+        later = (folder / f"policy{number}.csv" for number in range(2, 65))
+        policies = [folder / "policy.csv", *takewhile(Path.is_file, later)]
+        world = row_states.world_of(net if net.is_file() else None, policies)
+        rows = row_states.rows_of(folder / "schedule.csv")
+        yield from (f"{folder.name}: {why}" for why in state_faults(world, rows))
+        yield from unequal(folder.name, answer_faults(folder))
+
+
+FILES = {"n.toml": "net.toml", "p1.csv": "policy.csv", "p2.csv": "policy2.csv",
+         "p3.csv": "policy3.csv", "s.csv": "schedule.csv"}
+
+
+def write_journal(folder, first):
+    """Plays a random case from the policy with this number on, and leaves its journal; the world
+    anew, or None where the policy has no plan."""
+    order = [f"policy{'' if k == 1 else k}.csv" for k in (first, *{1, 2, 3} - {first})]
+    policies = [folder / name for name in order]
+    rows = row_states.rows_of(folder / "schedule.csv")
+    try:
+        worlds = [row_states.world_of(folder / "net.toml", policies) for _ in range(2)]
+    except slow_replay.Refused:
+        return None
+    lines = [line for _, told in row_states.told(worlds[0], rows) for line in told]
+    (folder / "journal.txt").write_text("".join(f"{line}\n" for line in lines))
+    return worlds[1]
+
+
+def write_case(seed, folder):
+    fuzz.write_case(seed, folder)
+    for old, new in FILES.items():
+        Path(folder, old).rename(Path(folder, new))
+
+
+def seed_faults(seed):
+    """The faults of one random case; None where its first policy has no plan."""
+    with tempfile.TemporaryDirectory() as one, tempfile.TemporaryDirectory() as two:
+        folder, other = Path(one), Path(two)
+        for place in (folder, other):
+            write_case(seed, place)
+        world = write_journal(folder, 1)
+        if world is None:
+            return None
+        rows = row_states.rows_of(folder / "schedule.csv")
+        faults = [f"seed {seed}: {why}" for why in state_faults(world, rows)]
+        faults += unequal(f"seed {seed}", answer_faults(folder))
+        if write_journal(other, 2) is not None:
+            faults += unequal(f"seed {seed}", compare_faults(folder, other))
+        return faults
+
+
+# ---- wrong inputs
+
+WRONG_JOURNALS = {
+    "a binary file": b"\x7fELF\x00\xff",
+    "a policy": b"priority,src,dst,sport,dport,proto,action\n",
+    "a blank line": b"row 1: drain\n\n",
+    "a line cut short": b"row 1: packet a 10.0.1.5 10.0",
+    "a tail": b"  hopped 1 b\n",
+    "a hop of no packet": b"row 1: hop 1\n  hopped 1 b\n",
+    "a packet of no row": b"row 1: hop 1\n  entered 1 b\n",
+    "a message of no row": b"row 1: deliver 1\n  delivered 1\n",
+    "three blanks": b"row 1: hop 1\n   nothing\n",
+    "a word of an odd length": b"row 1: hop 1\n  sent 1 a cache version 1 word 0/0 rule 1 drop\n",
+}
+WRONG_NETS = {"no TOML": "switch", "no switch": "cache = 1\n", "no name": "[[switch]]\n"}
+WRONG_ARGS = [
+    ["ask", "nowhere", "ends"],
+    ["ask", "campus"],
+    ["ask", "campus", "what"],
+    ["ask", "campus", "packet"],
+    ["ask", "campus", "packet", "x"],
+    ["ask", "campus", "packet", "99"],
+    ["ask", "campus", "compare", "day"],
+    ["ask", "nets", "ends"],
+    ["ask", "campus/", "ends"],
+    ["view"],
+    ["view", "nowhere"],
+    ["draw", "campus"],
+    ["draw", "campus", "x"],
+    ["draw", "nowhere", "1"],
+]
+
+
+def refusal_faults(what, *args):
+    """Status 2 and one line are wanted, and no output."""
+    out, errors, status = ask(str(EXAMPLES / args[0]), *args[1:])
+    if (out, status, errors.count("\n")) != ("", 2, 1) or "Traceback" in errors:
+        yield f"{what}: status {status}, {errors.strip()[-200:]}"
+
+
+def wrong_input_faults():
+    for args in WRONG_ARGS:
+        yield from refusal_faults(" ".join(args), *args)
+    with tempfile.TemporaryDirectory() as name:
+        folder = Path(name)
+        for what, text in WRONG_JOURNALS.items():
+            (folder / "journal.txt").write_bytes(text)
+            for script in (["ask", name, "ends"], ["ask", name, "packet", "1"], ["view", name]):
+                yield from refusal_faults(what, *script)
+        (folder / "journal.txt").write_text("row 1: hop 1\n  nothing\n")
+        for what, text in WRONG_NETS.items():
+            (folder / "net.toml").write_text(text)
+            yield from refusal_faults(what, "ask", name, "ends")
+        (folder / "net.toml").unlink()
+        (folder / "policy.csv").write_text("priority\n")
+        yield from refusal_faults("a wrong policy", "ask", name, "rules")
+
+
+# ---- all
+
+
+def main():
+    if sys.argv[1:] == ["--write"]:
+        PAGE.write_text(page_with_outputs(PAGE.read_text()))
+        return
+    checks = {
+        "outputs of docs/QUESTIONS.md": page_faults(),
+        "forms of docs/FORMATS.md": form_faults(),
+        "words": word_faults(),
+        "examples": example_faults(),
+        "wrong inputs": wrong_input_faults(),
+    }
+    faults = []
+    for name, found in checks.items():
+        found = list(found)
+        print(f"{name}: {len(found)} faults")
+        faults += found
+    cases = [seed_faults(seed) for seed in range(int(sys.argv[1]) if sys.argv[1:] else SEEDS)]
+    played = [found for found in cases if found is not None]
+    faults += [fault for found in played for fault in found]
+    print(f"random cases: {len(played)} played, {sum(map(len, played))} faults")
+    print("\n".join(faults[:20]))
+    sys.exit(bool(faults))
+
+
+if __name__ == "__main__":
+    main()
