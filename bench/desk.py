@@ -309,7 +309,19 @@ WRONG_JOURNALS = {
     "three blanks": b"row 1: hop 1\n   nothing\n",
     "a word of an odd length": b"row 1: hop 1\n  sent 1 a cache version 1 word 0/0 rule 1 drop\n",
 }
-WRONG_NETS = {"no TOML": "switch", "no switch": "cache = 1\n", "no name": "[[switch]]\n"}
+WRONG_NETS = {
+    "no TOML": "switch",
+    "no switch": "cache = 1\n",
+    "no switches": "switch = []\n",
+    "a number for switches": "switch = 1\n",
+    "no name": "[[switch]]\n",
+    "a number for a name": "[[switch]]\nname = 1\n",
+    "a text for a port": "[[switch]]\nname = 'a'\nports = ['x']\n",
+    "a text for the cache": "cache = 'x'\n[[switch]]\nname = 'a'\n",
+    "a link to nowhere": "[[switch]]\nname = 'a'\n[[link]]\nends = ['a', 'b']\n",
+    "a link with three ends": "[[switch]]\nname = 'a'\n[[link]]\nends = ['a', 'a', 'a']\n",
+    "a link of links": "[[switch]]\nname = 'a'\n[[link]]\nends = [['a'], ['a']]\n",
+}
 WRONG_ARGS = [
     ["ask", "nowhere", "ends"],
     ["ask", "campus"],
@@ -347,7 +359,8 @@ def wrong_input_faults():
         (folder / "journal.txt").write_text("row 1: hop 1\n  nothing\n")
         for what, text in WRONG_NETS.items():
             (folder / "net.toml").write_text(text)
-            yield from refusal_faults(what, "ask", name, "ends")
+            for script in (["ask", name, "ends"], ["view", name]):
+                yield from refusal_faults(what, *script)
         (folder / "net.toml").unlink()
         (folder / "policy.csv").write_text("priority\n")
         yield from refusal_faults("a wrong policy", "ask", name, "rules")

@@ -22,6 +22,22 @@ class Rule(NamedTuple):
     fields: list
 
 
+def is_network(net):
+    """Whether the document has switches with names, and links between them."""
+    try:
+        names = {row["name"] for row in net["switch"]}
+        numbers = [port for row in net["switch"] for port in row.get("ports", [])]
+        links = [link["ends"] for link in net.get("link", [])]
+        return (
+            len(names) > 0
+            and all(isinstance(name, str) for name in names)
+            and all(isinstance(number, int) for number in [net.get("cache", CACHE), *numbers])
+            and all(len(ends) == len(names & {*ends}) == 2 for ends in links)
+        )
+    except (KeyError, TypeError, AttributeError):
+        return False
+
+
 class Case:
     """A journal with the network and the policies that stand in its folder, if they do."""
 
@@ -43,12 +59,10 @@ class Case:
             return SOLO
         try:
             net = tomllib.loads(path.read_text(encoding="utf-8"))
-            assert all(isinstance(row["name"], str) for row in net["switch"])
-            assert all(len(row["ends"]) == 2 for row in net.get("link", []))
         except ValueError as error:
             raise Mistake(f"{path}: {error}") from error
-        except (AssertionError, KeyError, TypeError) as error:
-            raise Mistake(f"{path} is no network: a switch or a link lacks its keys") from error
+        if not is_network(net):
+            raise Mistake(f"{path} is no network; difane compile says what is wrong")
         return net
 
     def policy_file(self, file):

@@ -299,22 +299,25 @@ function showChosen() {
   showLines("packet-lines", packet.lines);
 }
 
+// Each hop is an arrow right of its link; those behind the row of the slider are pale.
 function drawWay(packet) {
   const arrows = [], numbers = [], taken = {};
   const stood = packet ? packet.stood : [];
+  const told = packet ? packet.lines.filter((line) => lines[line - 1].startsWith("  hopped")) : [];
   stood.slice(1).forEach((there, k) => {
     const here = stood[k], from = data.switches[here].at, to = data.switches[there].at;
     const long = Math.hypot(to[0] - from[0], to[1] - from[1]);
     const aside = [(from[1] - to[1]) / long * ASIDE, (to[0] - from[0]) / long * ASIDE];
     const [start, end] = [from, clipped(from, to)].map(([x, y]) => [x + aside[0], y + aside[1]]);
     const leg = k < packet.tunnelHops ? "tunnel" : "exit", again = `${here} ${there}`;
+    const pale = told[k] > lastLine(view.row) ? " later" : "";
     taken[again] = (taken[again] || 0) + 1;
     const share = 0.3 + 0.14 * taken[again];
     const x = from[0] + (to[0] - from[0]) * share + aside[0];
     const y = from[1] + (to[1] - from[1]) * share + aside[1];
-    arrows.push(make("line", { class: `hop ${leg}`, "marker-end": `url(#${leg})`, x1: start[0],
+    arrows.push(make("line", { class: `hop ${leg}${pale}`, "marker-end": `url(#${leg})`, x1: start[0],
       y1: start[1], x2: end[0], y2: end[1] }));
-    numbers.push(make("circle", { class: leg, cx: x, cy: y, r: 10 }),
+    numbers.push(make("circle", { class: leg + pale, cx: x, cy: y, r: 10 }),
       make("text", { class: "order", x, y: y + 4 }, String(k + 1)));
   });
   fill("way", arrows);
