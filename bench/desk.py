@@ -1,5 +1,5 @@
 #!/usr/bin/env python3
-"""Checks what examples/ask answers, and the modules of examples/desk: `bench/desk.py [SEEDS]`.
+"""Checks examples/ask, examples/draw and the modules of examples/desk: `bench/desk.py [SEEDS]`.
 
 - Each output that stands in docs/QUESTIONS.md is what the command in front of it prints;
   `bench/desk.py --write` puts the present outputs there.
@@ -8,6 +8,7 @@
   row, switches, caches, links and messages are those of `bench/slow_replay.py`. Each answer is what
   `bench/journal_text.py` finds in the text by patterns.
 - Matches, read bit by bit, are the words that they spell.
+- In each picture of examples/draw the numbers stand over the lines, and the key says what occurs.
 - Each wrong input is told in one line, with status 2.
 """
 import random
@@ -17,6 +18,7 @@ import sys
 import tempfile
 from itertools import takewhile
 from pathlib import Path
+from xml.etree import ElementTree
 
 import fuzz
 import journal_text
@@ -295,6 +297,52 @@ def seed_faults(seed):
         return faults
 
 
+# ---- pictures
+
+
+def picture_faults():
+    """The pictures that examples/draw makes of each packet of the examples."""
+    for path in sorted(EXAMPLES.glob("*/journal.txt")):
+        name, text = path.parent.name, path.read_text()
+        for packet in journal_text.outcomes(text):
+            out, errors, status = ask(str(EXAMPLES / "draw"), name, packet)
+            if status:
+                yield f"draw {name} {packet}: {errors}"
+                continue
+            numbers = journal_text.packet_lines(text, packet)
+            lines = [text.splitlines()[number - 1].strip() for number in numbers]
+            yield from (f"draw {name} {packet}: {why}" for why in faults_of_picture(out, lines))
+
+
+def faults_of_picture(svg, lines):
+    """Each line has its number twice, over all arrows; curves have heads; the key says what is."""
+    shapes = [(one.tag.rpartition("}")[2], one) for one in ElementTree.fromstring(svg)]
+    kinds = [kind for kind, _ in shapes]
+    texts = [one.text or "" for kind, one in shapes if kind == "text"]
+    wanted = sorted(str(number) for number in range(1, len(lines) + 1)) * 2
+    if sorted(text for text in texts if text.isdecimal()) != sorted(wanted):
+        yield "a number is missing, or stands too often"
+    if "circle" in kinds and {"line", "path", "rect"} & {*kinds[kinds.index("circle") :]}:
+        yield "a number stands below a line"
+    if any(kind == "path" and "marker-end" not in one.attrib for kind, one in shapes):
+        yield "a curve has no head"
+    told = {line.split()[0] for line in lines}
+    for text, kinds in KEY.items():
+        if (text in texts) != bool(kinds & told):
+            yield f"the key and {text!r}"
+    found = {frozenset(line.split()[2:]) for line in lines if line.startswith("found ")}
+    if texts.count("✕ down") < len(found):
+        yield "a link that was found down looks alive"
+
+
+KEY = {
+    "tunnel to an authority": {"tunnelled"},
+    "way to its port": {"exit", "out"},
+    "cache rule": {"sent"},
+    "found down": {"found"},
+}
+
+
 # ---- wrong inputs
 
 WRONG_JOURNALS = {
@@ -378,6 +426,7 @@ def main():
         "forms of docs/FORMATS.md": form_faults(),
         "words": word_faults(),
         "examples": example_faults(),
+        "pictures": picture_faults(),
         "wrong inputs": wrong_input_faults(),
     }
     faults = []
