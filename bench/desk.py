@@ -9,10 +9,11 @@
   `bench/journal_text.py` finds in the text by patterns.
 - Matches, read bit by bit, are the words that they spell.
 - In each picture of examples/draw the numbers stand over the lines, and the key says what occurs.
-- Each wrong input is told in one line, with status 2.
+- Each wrong input is told in one line, with status 2; damaged journals raise nothing else.
 """
 import random
 import re
+import shutil
 import subprocess
 import sys
 import tempfile
@@ -28,15 +29,16 @@ import slow_replay
 HOME = Path(__file__).resolve().parent.parent
 EXAMPLES = HOME / "examples"
 PAGE, FORMATS = HOME / "docs/QUESTIONS.md", HOME / "docs/FORMATS.md"
-SEEDS, WORDS = 40, 2000
+SEEDS, WORDS, DAMAGES = 40, 2000, 30
 
 sys.dont_write_bytecode = True
 sys.path.insert(0, str(EXAMPLES))
 
-from desk import journal, questions, words
+from desk import journal, page, questions, words
 from desk.folder import case_of
-from desk.packets import Play
 from desk.network import Network
+from desk.packets import Play
+from desk.script import Mistake
 
 
 # ---- the page, the forms
@@ -355,6 +357,7 @@ WRONG_JOURNALS = {
     "a packet of no row": b"row 1: hop 1\n  entered 1 b\n",
     "a message of no row": b"row 1: deliver 1\n  delivered 1\n",
     "three blanks": b"row 1: hop 1\n   nothing\n",
+    "messages without the first": b"row 1: hop 1\n  sent 2 a install boot 1 version 2\n",
     "a word of an odd length": b"row 1: hop 1\n  sent 1 a cache version 1 word 0/0 rule 1 drop\n",
 }
 WRONG_NETS = {
@@ -414,6 +417,53 @@ def wrong_input_faults():
         yield from refusal_faults("a wrong policy", "ask", name, "rules")
 
 
+def damaged(rng, lines):
+    """The lines of a journal with some left out, twice, elsewhere, or with other texts."""
+    lines = list(lines)
+    for _ in range(rng.randint(1, 4)):
+        place, other = rng.randrange(len(lines)), rng.randrange(len(lines))
+        kind = rng.choice(["leave out", "twice", "swap", "text"])
+        if kind == "leave out":
+            del lines[place]
+        elif kind == "twice":
+            lines.insert(other, lines[place])
+        elif kind == "swap":
+            lines[place], lines[other] = lines[other], lines[place]
+        else:
+            texts = lines[place].split(" ")
+            texts[rng.randrange(len(texts))] = rng.choice(lines[other].split(" "))
+            lines[place] = " ".join(texts)
+        lines = lines or ["row 1: drain"]
+    return lines
+
+
+def damage_faults():
+    """Damaged journals are answered, or told as a mistake, and nothing else is raised."""
+    rng = random.Random(58)
+    for path in sorted(EXAMPLES.glob("*/journal.txt")):
+        with tempfile.TemporaryDirectory() as name:
+            folder = Path(name, path.parent.name)
+            shutil.copytree(path.parent, folder)
+            for _ in range(DAMAGES):
+                lines = damaged(rng, path.read_text().splitlines())
+                (folder / "journal.txt").write_text("".join(f"{line}\n" for line in lines))
+                yield from damage_fault(folder)
+
+
+def damage_fault(folder):
+    """What a damaged journal raises but a mistake."""
+    tasks = [getattr(questions, name) for name in "ends rules caches updates losses".split()]
+    tasks += [lambda case: questions.packet(case, 1), page.page_of]
+    for task in tasks:
+        try:
+            task(case_of(str(folder)))
+        except Mistake:
+            pass
+        except Exception as error:
+            text = (folder / "journal.txt").read_text()
+            yield f"{folder.name}: {task} raises {error!r} by {text[:400]!r}"
+
+
 # ---- all
 
 
@@ -428,6 +478,7 @@ def main():
         "examples": example_faults(),
         "pictures": picture_faults(),
         "wrong inputs": wrong_input_faults(),
+        "damaged journals": damage_faults(),
     }
     faults = []
     for name, found in checks.items():

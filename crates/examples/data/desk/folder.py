@@ -53,7 +53,7 @@ class Case:
         return read_items(self.journal)
 
     def net(self):
-        """The network's file as read by the kit's rules; without one the switch s0 alone."""
+        """What the network's file says; without one, the switch s0 alone."""
         path = self.folder / "net.toml"
         if not path.is_file():
             return SOLO

@@ -94,6 +94,10 @@ class Item(NamedTuple):
     said: dict
     text: str
 
+    def mistake(self, why):
+        """The mistake of a journal that can't go on so."""
+        return Mistake(f"line {self.line} of the journal: {why}")
+
 
 def pattern_of(form):
     """The form as a regular expression, whose groups are the names of its values."""

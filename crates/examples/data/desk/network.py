@@ -1,8 +1,4 @@
 """What a journal says of switches, links, messages and versions, line by line."""
-from collections import Counter
-
-from .script import Mistake
-
 UP, CLOSED, DOWN = "up", "closed", "down"
 CACHE = 256  # the rules that a cache takes where the network file doesn't say
 
@@ -56,7 +52,7 @@ class Switch:
 
 
 class Message:
-    """A message: what it says, the rows that sent, first delivered and forgot it.
+    """A message: what it says, and the rows that first delivered it and forgot it.
 
     A cache rule has the number of the packet that was decided as it was sent.
     """
@@ -65,7 +61,6 @@ class Message:
         self.said, self.body = item.said, item.said["body"]
         self.number, self.switch = item.said["message"], item.said["switch"]
         self.to = item.said.get("to", self.switch)
-        self.sent, self.line = item.row, item.line
         self.delivered = self.forgotten = self.packet = None
 
     def is_waiting(self):
@@ -103,8 +98,15 @@ class Network:
         """The message that the item names."""
         number = item.said["message"]
         if number not in self.messages:
-            raise Mistake(f"line {item.line} of the journal: no line sent the message {number}")
+            raise item.mistake(f"no line sent the message {number}")
         return self.messages[number]
+
+    def version(self, item):
+        """The version that the item names."""
+        number = item.said["version"]
+        if number not in self.versions:
+            raise item.mistake(f"no line submitted version {number}")
+        return self.versions[number]
 
     def follow(self, item):
         """Does what the item says; the name of the switch that it changed, if any."""
@@ -113,8 +115,10 @@ class Network:
 
     def on_sent(self, item):
         """An acknowledgement says that its switch did what it was told."""
-        message = Message(item)
-        self.messages[message.number] = message
+        message, due = Message(item), len(self.messages) + 1
+        if message.number != due:
+            raise item.mistake(f"message {due} would be next")
+        self.messages[due] = message
         if message.body == "installed":
             self.switch(message.switch).install(item.said["version"])
         elif message.body == "stamped":
@@ -171,6 +175,8 @@ class Network:
         self.over.add(item.said["switch"])
 
     def on_submitted(self, item):
+        if item.said["version"] != len(self.versions) + 1:
+            raise item.mistake(f"version {len(self.versions) + 1} would be next")
         self.add_version(item.said["version"], item.said["file"], item.row)
 
     def on_refused(self, item):
@@ -204,10 +210,6 @@ class Network:
             for name, switch in self.switches.items()
             if switch.phase != UP and (ends is None or name in ends)
         ]
-
-    def waiting(self):
-        """How many messages of each kind were neither delivered nor forgotten."""
-        return Counter(one.body for one in self.messages.values() if one.is_waiting())
 
 
 ACTS = {name.removeprefix("on_"): act for name, act in vars(Network).items() if name[:3] == "on_"}

@@ -1,18 +1,16 @@
 """What a journal says of its packets, line by line."""
-from .script import Mistake
-
 TRAVELLING = "travelling"
 ENDS = ["out", "dropped", "lost", "stuck", "closed", TRAVELLING]
 HEADER = ["src", "dst", "sport", "dport", "proto"]
-OF_PACKET = "entered closed tunnelled hopped found rerouted decided exit".split() + ENDS
-OF_MESSAGE = "sent delivered forgotten expired".split()
+OF_PACKET = {*"entered tunnelled hopped found rerouted decided exit".split(), *ENDS}
+OF_MESSAGE = {*"sent delivered forgotten expired".split()}
 
 
 class Packet:
     """A packet: its header, where it came in, who decided it, where it is, how it ended."""
 
     def __init__(self, asked, item):
-        self.number, self.row, self.line = item.said["packet"], item.row, item.line
+        self.number, self.row = item.said["packet"], item.row
         self.ingress = self.at = item.said["switch"]
         self.header = {name: asked[name] for name in HEADER}
         self.decision = self.target = self.port = None
@@ -50,7 +48,7 @@ class Play:
         """The packet of which the item tells."""
         number = item.said["packet"]
         if number not in self.packets:
-            raise Mistake(f"line {item.line} of the journal: no packet {number} came in before")
+            raise item.mistake(f"no packet {number} came in before")
         return self.packets[number]
 
     def about(self, item):
@@ -66,7 +64,7 @@ class Play:
 
     def on_entered(self, item):
         if self.asked.get("event") != "packet":
-            raise Mistake(f"line {item.line} of the journal: no row brought a packet in")
+            raise item.mistake("no row brought a packet in")
         self.packets[item.said["packet"]] = Packet(self.asked, item)
 
     def on_closed(self, item):
@@ -90,9 +88,11 @@ class Play:
         self.packet(item).found.append((*ends, item.row, self.network.unusable(ends)))
 
     def on_decided(self, item):
-        packet = self.packet(item)
-        packet.decision, packet.target = {"row": item.row, **item.said}, None
-        self.decided = packet.number
+        packet, version = self.packet(item), self.network.version(item)
+        if item.said["by"] == "cache" and self.network.message(item).body != "cache":
+            raise item.mistake(f"message {item.said['message']} is no cache rule")
+        packet.decision = {"row": item.row, "file": version.file, **item.said}
+        packet.target, self.decided = None, packet.number
 
     def on_sent(self, item):
         if item.said["body"] == "cache":

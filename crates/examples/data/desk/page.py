@@ -8,7 +8,6 @@ from pathlib import Path
 
 from .layout import placed
 from .packets import ENDS
-from .script import Mistake
 from .words import spelled
 
 HERE = Path(__file__).resolve().parent
@@ -31,7 +30,7 @@ class Record:
     def number(self, name, item):
         """The number of a switch, which the network's file must have."""
         if name not in self.names:
-            raise Mistake(f"line {item.line} of the journal: the network has no switch {name}")
+            raise item.mistake(f"the network has no switch {name}")
         return self.names.index(name)
 
     def take(self, item):
@@ -77,7 +76,7 @@ class Record:
         ends = item.said["switch"], item.said["other"]
         known = [link for link in self.links if set(link) == set(ends)]
         if not known:
-            raise Mistake(f"line {item.line} of the journal: the network has no such link")
+            raise item.mistake("the network has no such link")
         self.change(item.line, "link", self.links.index(known[0]), item.said["news"])
 
     def on_sent(self, item):
@@ -90,6 +89,9 @@ class Record:
         self.change(item.line, "done", item.said["message"])
 
     on_forgotten = on_delivered
+
+    def on_closed(self, item):
+        self.number(item.said["switch"], item)
 
     def on_entered(self, item):
         switch = self.number(item.said["switch"], item)

@@ -111,7 +111,7 @@ def packet(case, number):
         "packet": number,
         "end": found.end,
         "header": found.header,
-        "decision": found.decision and decision_of(case, play, found.decision),
+        "decision": found.decision and decision_of(case, found.decision),
         "lines": [
             {"line": item.line, "row": item.row, **match_in(item), "words": words}
             for item, words in told
@@ -119,16 +119,15 @@ def packet(case, number):
     }
 
 
-def decision_of(case, play, said):
+def decision_of(case, said):
     """The version and the row that decided a packet, and the line of its file."""
-    file = play.network.versions[said["version"]].file
-    policy = case.policy(file) or []
+    policy = case.policy(said["file"]) or []
     rule = next((rule for rule in policy if rule.priority == said["rule"]), None)
     return {
         "version": said["version"],
         "rule": said["rule"],
         "action": said["action"],
-        "policy": rule and case.policy_file(file).name,
+        "policy": rule and case.policy_file(said["file"]).name,
         "line": rule and rule.line,
         "says": rule and ",".join(rule.fields),
     }

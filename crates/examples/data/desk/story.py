@@ -62,6 +62,7 @@ def tell_decided(item, play):
         return f"{by}; found at the authority {said['switch']}, in part {said['part']}"
     rule, at = play.network.message(item), play.packet(item).ingress
     brought = f"message {rule.number}, sent as packet {rule.packet} was decided"
+    brought += f", came in row {rule.delivered}"
     return f"{by}; found in the cache of {at}, for {spelled(rule.said['word'])} ({brought})"
 
 
