@@ -3,6 +3,7 @@
 
 - Each output that stands in docs/QUESTIONS.md is what the command in front of it prints;
   `bench/desk.py --write` puts the present outputs there.
+- With --json the same values are printed.
 - Each form of a line that docs/FORMATS.md has is read as one.
 - The examples, and SEEDS random cases of `bench/fuzz.py` (40 where no number is given): behind each
   row, switches, caches, links and messages are those of `bench/slow_replay.py`. Each answer is what
@@ -11,6 +12,7 @@
 - In each picture of examples/draw the numbers stand over the lines, and the key says what occurs.
 - Each wrong input is told in one line, with status 2; damaged journals raise nothing else.
 """
+import json
 import random
 import re
 import shutil
@@ -67,6 +69,18 @@ def page_faults():
         yield "docs/QUESTIONS.md has other outputs than the commands print; see --write"
 
 
+def json_faults():
+    """With --json each question prints what its function gives."""
+    for question, *rest in ASKED:
+        out, errors, status = ask(str(EXAMPLES / "ask"), "day", question, *rest, "--json")
+        args = [int(one) if one.isdecimal() else one for one in rest]
+        wanted = getattr(questions, question)(case_of("day"), *args)
+        if status or json.loads(out) != json.loads(json.dumps(wanted)):
+            yield f"--json of {question} is another value: {errors}"
+
+
+ASKED = [["ends"], ["rules"], ["caches"], ["packet", "2"], ["updates"], ["losses"],
+         ["compare", "day"]]
 SAMPLES = {
     "ROUTE": "a b",
     "WORD": "0" * 26 + "/" + "f" * 26,
@@ -474,6 +488,7 @@ def main():
     checks = {
         "outputs of docs/QUESTIONS.md": page_faults(),
         "forms of docs/FORMATS.md": form_faults(),
+        "--json": json_faults(),
         "words": word_faults(),
         "examples": example_faults(),
         "pictures": picture_faults(),

@@ -315,8 +315,8 @@ function drawWay(packet) {
     const share = 0.3 + 0.14 * taken[again];
     const x = from[0] + (to[0] - from[0]) * share + aside[0];
     const y = from[1] + (to[1] - from[1]) * share + aside[1];
-    arrows.push(make("line", { class: `hop ${leg}${pale}`, "marker-end": `url(#${leg})`, x1: start[0],
-      y1: start[1], x2: end[0], y2: end[1] }));
+    arrows.push(make("line", { class: `hop ${leg}${pale}`, "marker-end": `url(#${leg})`,
+      x1: start[0], y1: start[1], x2: end[0], y2: end[1] }));
     numbers.push(make("circle", { class: leg + pale, cx: x, cy: y, r: 10 }),
       make("text", { class: "order", x, y: y + 4 }, String(k + 1)));
   });
