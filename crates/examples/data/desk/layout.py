@@ -6,6 +6,8 @@ ROUNDS = 40  # of moving the switches; further ones change nothing that one sees
 TURNS = 24  # the angles that are tried
 WIDE, HIGH = 170, 130  # the least room of a switch with its texts
 LETTER = 9.5  # the width of a letter of a name
+NEAR = 32  # of a switch's middle runs a line through it
+THROUGH = 10  # so many crossings are as bad as a link that runs through a switch
 ROW = 1.2  # from one row of switches to the next, where two neighbours are 1 apart
 
 
@@ -67,7 +69,20 @@ def spread(names, near):
     for _ in range(ROUNDS):
         for name in names:
             points[name] = pulled(name, points, far[name])
+    for _ in range(ROUNDS):
+        for one, other in combinations(names, 2):
+            push(one, other, points)
     return points
+
+
+def push(one, other, points):
+    """Moves two switches as far apart as two that are linked, if they are closer."""
+    (a, b), (c, d) = points[one], points[other]
+    apart = hypot(c - a, d - b)
+    if apart < 1:
+        x, y = ((c - a) / apart, (d - b) / apart) if apart else (1, 0)
+        step = (1 - apart) / 2
+        points[one], points[other] = (a - x * step, b - y * step), (c + x * step, d + y * step)
 
 
 def pulled(name, points, far):
@@ -131,15 +146,33 @@ def scaled(points, wide):
     return at, (right + round(wide / 2), foot + HIGH // 2)
 
 
+def passes(link, name, at):
+    """Whether the line of a link runs through another switch."""
+    (a, b), (c, d), (x, y) = at[link[0]], at[link[1]], at[name]
+    along = ((x - a) * (c - a) + (y - b) * (d - b)) / ((c - a) ** 2 + (d - b) ** 2)
+    return 0 < along < 1 and hypot(a + along * (c - a) - x, b + along * (d - b) - y) < NEAR
+
+
+def area(drawing):
+    """The size of a drawing; one that is higher than wide counts as a square."""
+    _, (right, foot) = drawing
+    return max(right, foot) * foot
+
+
+def cost(drawing, links):
+    """How large a drawing is, and how hard to read: by links that cross, or run through others."""
+    at = drawing[0]
+    crossed = sum(crosses(one, two, at) for one, two in combinations(links, 2))
+    through = sum(
+        passes(link, name, at) for link in links for name in at if name not in link
+    )
+    return area(drawing) * (1 + (crossed + THROUGH * through) / max(1, len(links)))
+
+
 def placed(names, links, ports):
-    """The middle of each switch, and the drawing's size: small, and with few crossing links."""
+    """The middle of each switch, and the drawing's size: of two ways the one that is clearer."""
     near, wide = neighbours_of(names, links), max(WIDE, 60 + LETTER * max(map(len, names)))
-    found = []
-    free, rows = spread(names, near), in_rows(names, near, ports or names)
-    turns = [turned(free, 2 * pi * k / TURNS) for k in range(TURNS)]
-    for ways in (turns, [rows]):
-        crossings = sum(crosses(one, two, ways[0]) for one, two in combinations(links, 2))
-        for at, (right, foot) in (scaled(way, wide) for way in ways):
-            cost = max(right, foot) * foot * (1 + crossings / max(1, len(links)))
-            found.append((cost, at, (right, foot)))
-    return min(found, key=lambda one: one[0])[1:]
+    free = spread(names, near)
+    turns = (scaled(turned(free, 2 * pi * k / TURNS), wide) for k in range(TURNS))
+    rows = scaled(in_rows(names, near, ports or names), wide)
+    return min(min(turns, key=area), rows, key=lambda drawing: cost(drawing, links))

@@ -245,6 +245,12 @@ function ruleText({ rule, action }) {
   return rule ? `${rule} ${action}` : "-";
 }
 
+function foundText({ by, in: ingress }) {
+  const [how, name] = by.split(" ");
+  return how === "cache" ? `found in the cache of ${ingress}, brought by message ${name}`
+    : `found at the authority ${name}`;
+}
+
 const FITS = {
   end: (packet, value) => packet.end === value,
   switch: (packet, value) => packet.stood.includes(names.indexOf(value)),
@@ -292,7 +298,7 @@ function showChosen() {
   byId("packet-title").textContent = `Packet ${packet.number}: ${packet.end}`;
   const row = data.rules[packet.version]?.[packet.rule];
   const decided = packet.rule ? `Version ${packet.version} decided it by rule ${ruleText(packet)}`
-    + `${row ? ` (${row})` : ""}, found at ${packet.by}.` : "It was not decided.";
+    + `${row ? ` (${row})` : ""}, ${foundText(packet)}.` : "It was not decided.";
   const way = packet.stood.map((k) => names[k]).join(" > ");
   byId("packet-says").textContent = `${headerText(packet).join(" to ")}, in at ${packet.in}. `
     + `${decided} Its way: ${way}; ${wholeEndText(packet)}.`;
