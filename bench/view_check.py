@@ -13,7 +13,7 @@ import re
 import subprocess
 import sys
 import tempfile
-from itertools import takewhile
+from itertools import combinations, takewhile
 from pathlib import Path
 
 import browser
@@ -46,6 +46,8 @@ STATES = """(() => { const slider = document.getElementById("row"), found = [];
     slider.dispatchEvent(new Event("input")); found.push(%s); } return found; })()""" % STATE
 CHOSEN = """[...document.querySelectorAll("#packet-lines li")].map((one) =>
   [Number(one.querySelector("button").textContent), one.querySelector(".line").textContent])"""
+BOXES = """[...document.querySelectorAll("#nodes rect")].map((box) =>
+  ["x", "y", "width", "height"].map((name) => Number(box.getAttribute(name))))"""
 TITLE = 'document.getElementById("packet-title").textContent'
 FOUND = 'document.getElementById("found").textContent'
 CONTROLS = ("button", "slider", "combobox", "checkbox", "textbox", "link")
@@ -210,6 +212,18 @@ def hand_faults(case, view):
         yield from packet_faults(case, view, packet)
 
 
+def box_faults(view):
+    """Switches that stand on each other, or out of the drawing."""
+    boxes = view.evaluate(BOXES)
+    wide, high = view.evaluate("data.size")
+    for one, two in combinations(boxes, 2):
+        if abs(one[0] - two[0]) < one[2] and abs(one[1] - two[1]) < one[3]:
+            yield f"switches stand on each other at {one} and {two}"
+    for x, y, width, height in boxes:
+        if x < 0 or y < 0 or x + width > wide or y + height > high:
+            yield f"a switch stands outside of the drawing, at {x} {y}"
+
+
 def name_faults(view):
     """Each control has a name that a reader of the screen can say."""
     for node in view.call("Accessibility.getFullAXTree")["nodes"]:
@@ -229,6 +243,7 @@ def example_faults(case, view):
     yield from filter_faults(case, view)
     yield from hand_faults(case, view)
     yield from name_faults(view)
+    yield from box_faults(view)
     row = re.findall(r"^row (\d+)", case.text, re.M)[-1]
     view.open(case.address(f"row={row}&packet={(case.packets() or ['0'])[-1]}"))
     for packet in case.packets()[-1:]:
@@ -249,6 +264,7 @@ def large_faults(case, view):
     row = re.search(rf"^row (\d+): .*\n  entered {middle} ", case.text, re.M)[1]
     view.open(case.address(f"row={row}&packet={middle}"))
     yield from packet_faults(case, view, middle)
+    yield from box_faults(view)
     page, (world, rows) = view.evaluate(STATE), case.world()
     for number, _ in row_states.told(world, rows):
         if number == int(row):
