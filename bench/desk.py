@@ -226,11 +226,12 @@ def answer_faults(folder):
     shares = questions.caches(case)["switches"]
     shares = {one["switch"]: (one["decided"], one["cached"]) for one in shares if one["decided"]}
     yield "caches", shares, journal_text.caches(text)
-    told = {
-        one["version"]: [one["submitted"], one["current"], one["retired"]]
-        for one in questions.updates(case)["updates"]
-    }
-    yield "updates", told, journal_text.marks(text)
+    told = questions.updates(case)["updates"]
+    rows = {one["version"]: [one[mark] for mark in MARKS] for one in told}
+    yield "updates", rows, journal_text.marks(text)
+    for one in told:
+        wanted = journal_text.update_messages(text, one["version"], one["retired"])
+        yield f"messages of {one['version']}", sum(one["messages"].values()), wanted
     outcomes = journal_text.outcomes(text)
     lost = [str(one["packet"]) for one in questions.losses(case)["packets"]]
     wanted = [packet for packet, (_, end) in outcomes.items() if end not in ("out", "dropped")]
@@ -271,6 +272,7 @@ def example_faults():
         yield from unequal(folder.name, answer_faults(folder))
 
 
+MARKS = ["submitted", "current", "retired"]
 FILES = {"n.toml": "net.toml", "p1.csv": "policy.csv", "p2.csv": "policy2.csv",
          "p3.csv": "policy3.csv", "s.csv": "schedule.csv"}
 

@@ -66,6 +66,18 @@ def note(found, place, version, row):
             rows[place] = row
 
 
+def update_messages(text, version, done):
+    """How many messages of the update to a version were sent, up to the row where it is done."""
+    row, count = 0, 0
+    names = rf"(?:install|stamp) boot \d+ version {version}|collect boot \d+ version {version - 1}"
+    told = rf"controller (?:installed|stamped) \S+ boot \d+ version {version}"
+    for line in text.splitlines():
+        row = int(line.split()[1].rstrip(":")) if line.startswith("row ") else row
+        if done is None or row <= done:
+            count += bool(re.fullmatch(rf"  sent \d+ (?:\S+ (?:{names})|{told})", line))
+    return count
+
+
 def packet_lines(text, packet):
     """The numbers of the lines that tell of a packet, of its row, or of its cache rule."""
     numbers, messages, before = [], set(), ""

@@ -52,7 +52,7 @@ class Switch:
 
 
 class Message:
-    """A message: what it says, and the rows that first delivered it and forgot it.
+    """A message: what it says, and the rows that sent it, first delivered it and forgot it.
 
     A cache rule has the number of the packet that was decided as it was sent.
     """
@@ -61,6 +61,7 @@ class Message:
         self.said, self.body = item.said, item.said["body"]
         self.number, self.switch = item.said["message"], item.said["switch"]
         self.to = item.said.get("to", self.switch)
+        self.sent = item.row
         self.delivered = self.forgotten = self.packet = None
 
     def is_waiting(self):

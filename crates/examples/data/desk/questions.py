@@ -161,7 +161,7 @@ def updates(case):
 def update_of(network, version, decided):
     """One update: its three rows, its messages, what decided meanwhile, what it lacks."""
     done = network.versions[version.number - 1].retired
-    messages = messages_of(network, version)
+    messages = messages_of(network, version, done)
     meanwhile = Counter()
     for (number, row), count in decided.items():
         if version.submitted < row and (done is None or row <= done):
@@ -182,13 +182,15 @@ def update_of(network, version, decided):
     }
 
 
-def messages_of(network, version):
-    """The messages that name the version; the collects are those of the version before it."""
+def messages_of(network, version, done):
+    """The messages that name the version, and the collects of the one before, up to the row where
+    the update is done, if it is."""
     wanted = {body: version.number - (body == "collect") for body in UPDATE}
     return [
         one
         for one in network.messages.values()
         if one.body in wanted and one.said["version"] == wanted[one.body]
+        if done is None or one.sent <= done
     ]
 
 
