@@ -2,26 +2,29 @@
 """Runs the checks that need no proof, and tells which failed: `checks/all.py [BIN]`.
 
 With BIN, the program as it was built (`rt run` leaves it in crates/difane/out/difane), it also lets
-each allocation fail in turn, and plays random schedules by the program and by the model; these take
-minutes. What a check prints is shown where it failed. It ends with 1 where one did.
+each allocation fail in turn, opens pages in a browser, and plays random schedules by the program
+and by the model; these take minutes. What a check prints is shown where it failed. It ends with 1
+where one did.
 """
 import subprocess
 import sys
 from pathlib import Path
 
 HOME = Path(__file__).resolve().parent.parent
-ARGS = {"map.py": ["--check"]}
-NO_CHECKS = {"all.py", "crates.py", "gate.py", "fail_alloc.py"}
+ARGS = {"map.py": ["--check"], "desk.py": ["5"]}
+NO_CHECKS = {"all.py", "crates.py", "gate.py", "browser.py", "journal_text.py"}
+DEAR = {"fail_alloc.py", "view_check.py"}
 SEEDS = 100
 
 
 def commands(program):
     """Each check as its name and the arguments behind it."""
     for path in sorted((HOME / "checks").glob("*.py")):
-        if path.name not in NO_CHECKS:
+        if path.name not in NO_CHECKS | DEAR:
             yield f"checks/{path.name}", ARGS.get(path.name, [])
     if program:
         yield "checks/fail_alloc.py", [program]
+        yield "checks/view_check.py", []
         yield "model/fuzz.py", [program, str(SEEDS)]
 
 

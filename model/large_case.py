@@ -1,10 +1,10 @@
 #!/usr/bin/env python3
-"""Makes a folder with a large case: `bench/large_case.py FOLDER PACKETS`.
+"""Makes a folder with a large case: `model/large_case.py FOLDER PACKETS`.
 
 The network is the fat tree of the examples, and each edge switch has a prefix of its own. Packets
 come in at random edges, in flows that repeat, and hop by rows of their own; messages are delivered
 in their order, and all that wait behind two of the updates. On the way links fail and come back,
-and a switch crashes and restarts. The journal is that of `bench/slow_replay.py`.
+and a switch crashes and restarts. The journal is that of `model/slow_replay.py`.
 """
 import random
 import shutil

@@ -1,9 +1,9 @@
 #!/usr/bin/env python3
-"""Opens pages of examples/view in a browser: `bench/view_check.py [--shots FOLDER]`.
+"""Opens pages of examples/view in a browser: `checks/view_check.py [--shots FOLDER]`.
 
 Of each example with a journal it compares what the page says: how the packets ended, and the lines
 of each packet, with the text of the journal; the state behind each row with that of
-`bench/slow_replay.py`. It moves the slider by keys, clicks a packet, and chooses filters. Each
+`model/slow_replay.py`. It moves the slider by keys, clicks a packet, and chooses filters. Each
 control must have a name, and the page must ask for nothing else. Last it opens a journal of more
 than 100,000 lines, which must take less than three seconds. With --shots each page is also stored
 as a picture. Without a browser it says so, and ends with 0.
@@ -18,10 +18,13 @@ from pathlib import Path
 
 import browser
 import journal_text
+
+HOME = Path(__file__).resolve().parent.parent
+sys.path.insert(0, str(HOME / "model"))
+
 import large_case
 import row_states
 
-HOME = Path(__file__).resolve().parent.parent
 EXAMPLES = HOME / "examples"
 PACKETS, LINES, SECONDS = 4500, 100_000, 3
 TURNS = 3  # how often the large page is opened; the shortest time counts, as others work here too
@@ -297,11 +300,13 @@ def check(cases, view, shots):
 
 
 def main():
+    if sys.argv[1:] and (len(sys.argv) != 3 or sys.argv[1] != "--shots"):
+        sys.exit(__doc__)
     path = browser.program()
     if path is None:
         print("no browser is here, so no page is opened; Debian's package chromium has one")
         return
-    shots = Path(sys.argv[2]) if sys.argv[1:2] == ["--shots"] else None
+    shots = Path(sys.argv[2]) if sys.argv[1:] else None
     with tempfile.TemporaryDirectory(prefix="pages-") as name:
         pages = Path(name)
         cases = [

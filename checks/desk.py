@@ -1,13 +1,13 @@
 #!/usr/bin/env python3
-"""Checks examples/ask, examples/draw and the modules of examples/desk: `bench/desk.py [SEEDS]`.
+"""Checks examples/ask, examples/draw and the modules of examples/desk: `checks/desk.py [SEEDS]`.
 
-- Each output that stands in docs/QUESTIONS.md is what the command in front of it prints;
-  `bench/desk.py --write` puts the present outputs there.
+- Each output that stands in examples/desk/README.md is what the command in front of it prints;
+  `checks/desk.py --write` puts the present outputs there.
 - With --json the same values are printed.
 - Each form of a line that docs/FORMATS.md has is read as one.
-- The examples, and SEEDS random cases of `bench/fuzz.py` (40 where no number is given): behind each
-  row, switches, caches, links and messages are those of `bench/slow_replay.py`. Each answer is what
-  `bench/journal_text.py` finds in the text by patterns.
+- The examples, and SEEDS random cases of `model/fuzz.py` (40 where no number is given): behind
+  each row, switches, caches, links and messages are those of `model/slow_replay.py`. Each answer is
+  what `checks/journal_text.py` finds in the text by patterns.
 - Matches, read bit by bit, are the words that they spell.
 - In each picture of examples/draw the numbers stand over the lines, and the key says what occurs.
 - Each wrong input is told in one line, with status 2; damaged journals raise nothing else.
@@ -23,19 +23,19 @@ from itertools import takewhile
 from pathlib import Path
 from xml.etree import ElementTree
 
-import fuzz
 import journal_text
-import row_states
-import slow_replay
 
 HOME = Path(__file__).resolve().parent.parent
 EXAMPLES = HOME / "examples"
-PAGE, FORMATS = HOME / "docs/QUESTIONS.md", HOME / "docs/FORMATS.md"
+PAGE, FORMATS = HOME / "examples/desk/README.md", HOME / "docs/FORMATS.md"
 SEEDS, WORDS, DAMAGES = 40, 2000, 30
 
 sys.dont_write_bytecode = True
-sys.path.insert(0, str(EXAMPLES))
+sys.path[:0] = [str(EXAMPLES), str(HOME / "model")]
 
+import fuzz
+import row_states
+import slow_replay
 from desk import journal, page, questions, words
 from desk.folder import case_of
 from desk.network import Network
@@ -66,7 +66,7 @@ def page_with_outputs(text):
 def page_faults():
     text = PAGE.read_text()
     if page_with_outputs(text) != text:
-        yield "docs/QUESTIONS.md has other outputs than the commands print; see --write"
+        yield "examples/desk/README.md has other outputs than the commands print; see --write"
 
 
 def json_faults():
@@ -487,8 +487,10 @@ def main():
     if sys.argv[1:] == ["--write"]:
         PAGE.write_text(page_with_outputs(PAGE.read_text()))
         return
+    if len(sys.argv) > 2 or not all(arg.isdecimal() for arg in sys.argv[1:]):
+        sys.exit(__doc__)
     checks = {
-        "outputs of docs/QUESTIONS.md": page_faults(),
+        "outputs of examples/desk/README.md": page_faults(),
         "forms of docs/FORMATS.md": form_faults(),
         "--json": json_faults(),
         "words": word_faults(),

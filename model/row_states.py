@@ -1,4 +1,4 @@
-"""What `bench/slow_replay.py` has in its network behind each row of a schedule."""
+"""What `model/slow_replay.py` has in its network behind each row of a schedule."""
 import csv
 import tomllib
 from pathlib import Path
