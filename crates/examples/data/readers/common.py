@@ -1,0 +1,162 @@
+"""What `examples/traffic` and `examples/policy` share: refusals, what was left out, how they end."""
+import argparse
+import os
+import re
+import sys
+from functools import lru_cache
+
+SHOWN = 20  # reasons, and ranges of a reason, that a summary names
+ADDRESS = re.compile(r"(\d{1,3})\.(\d{1,3})\.(\d{1,3})\.(\d{1,3})", re.ASCII)
+NUMBERS = {
+    "icmp": 1,
+    "igmp": 2,
+    "ipip": 4,
+    "ipinip": 4,
+    "nos": 4,
+    "tcp": 6,
+    "udp": 17,
+    "dccp": 33,
+    "rsvp": 46,
+    "gre": 47,
+    "esp": 50,
+    "ah": 51,
+    "ahp": 51,
+    "eigrp": 88,
+    "ospf": 89,
+    "pim": 103,
+    "pcp": 108,
+    "vrrp": 112,
+    "sctp": 132,
+    "udplite": 136,
+}
+NAMES = {1: "icmp", 6: "tcp", 17: "udp"}
+
+
+class Refused(Exception):
+    """A file or an option that can't be read; the text says why."""
+
+
+class Unsaid(Exception):
+    """A line or a packet that difane's files can't say; the text says why."""
+
+
+class Parser(argparse.ArgumentParser):
+    """A parser of arguments that refuses them in one line."""
+
+    def __init__(self, text):
+        super().__init__(description=text, formatter_class=argparse.RawDescriptionHelpFormatter)
+
+    def error(self, message):
+        raise Refused(message)
+
+
+class LeftOut:
+    """What is left out: for each reason the numbers of its lines or packets, as ranges."""
+
+    def __init__(self, what):
+        self.what, self.count, self.ranges = what, 0, {}
+
+    def add(self, number, why):
+        self.count += 1
+        ranges = self.ranges.setdefault(str(why), [])
+        if ranges and ranges[-1][1] == number - 1:
+            ranges[-1][1] = number
+        else:
+            ranges.append([number, number])
+
+    def lines(self, shown):
+        """A line for each reason, of which at most so many are shown; likewise of its ranges."""
+        for why, ranges in list(self.ranges.items())[:shown]:
+            texts = [str(a) if a == b else f"{a}-{b}" for a, b in ranges[:shown]]
+            plural = "" if ranges[0] == [ranges[-1][1]] * 2 else "s"
+            yield f"left out, {why}: {self.what}{plural} {', '.join(texts)}{more(ranges, shown)}"
+        if len(self.ranges) > shown:
+            yield f"left out for other reasons{more(self.ranges, shown)}"
+
+
+def more(items, shown):
+    return f" and {len(items) - shown:,} more (--all names them)" if len(items) > shown else ""
+
+
+@lru_cache(maxsize=1 << 16)
+def address_of(text):
+    """The number of an IPv4 address, or nothing."""
+    found = ADDRESS.fullmatch(text)
+    octets = [int(part) for part in found.groups()] if found else [256]
+    return None if max(octets) > 255 else int.from_bytes(octets, "big")
+
+
+@lru_cache(maxsize=1 << 16)
+def address_text(address):
+    return ".".join(map(str, address.to_bytes(4, "big")))
+
+
+def prefix_of(text):
+    """The address and the length of a prefix, or nothing; an address alone has the length 32."""
+    address, slash, length = text.partition("/")
+    if slash and not re.fullmatch(r"[0-9]{1,2}", length) or address_of(address) is None:
+        return None
+    length = int(length) if slash else 32
+    return (address_of(address), length) if length <= 32 else None
+
+
+def protocol_of(text):
+    """The number of a protocol by its name or in digits, or nothing."""
+    if re.fullmatch(r"[0-9]{1,3}", text):
+        return int(text) if int(text) < 256 else None
+    return NUMBERS.get(text.lower())
+
+
+def protocol_text(protocol):
+    return NAMES.get(protocol, str(protocol))
+
+
+def number_from(least, most):
+    """The type of an argument that is a number of this range."""
+
+    def number(text):
+        if not re.fullmatch(r"[0-9]{1,9}", text) or not least <= int(text) <= most:
+            raise argparse.ArgumentTypeError(f"{text!r} is no number from {least} to {most}")
+        return int(text)
+
+    return number
+
+
+def add_common(parser):
+    """The arguments of both scripts."""
+    parser.add_argument("file", nargs="?", metavar="FILE")
+    parser.add_argument("--strict", action="store_true")
+    parser.add_argument("--all", action="store_true")
+
+
+def opened(name):
+    """The bytes of a file, or of standard input where no name or a dash is given."""
+    return sys.stdin.buffer if name in (None, "-") else open(name, "rb")
+
+
+def finish(name, args, rows, left, told):
+    """Says what was left out, and writes the rows unless --strict forbids it; the status."""
+    shown = sys.maxsize if args.all else SHOWN
+    for line in [*told, *left.lines(shown)]:
+        print(f"examples/{name}: {line}", file=sys.stderr)
+    if args.strict and left.count:
+        print(f"examples/{name}: --strict: nothing is written", file=sys.stderr)
+        return 1
+    sys.stdout.write("".join(f"{row}\n" for row in rows))
+    sys.stdout.flush()
+    return 0
+
+
+def run(name, main):
+    """Ends with the status of `main`; what it refuses, an interrupt and a closed pipe end it too."""
+    try:
+        sys.exit(main())
+    except (Refused, OSError) as why:
+        if isinstance(why, BrokenPipeError):
+            os.dup2(os.open(os.devnull, os.O_WRONLY), sys.stdout.fileno())
+            sys.exit(141)
+        print(f"examples/{name}: {why}", file=sys.stderr)
+        sys.exit(2)
+    except KeyboardInterrupt:
+        print(f"examples/{name}: stopped", file=sys.stderr)
+        sys.exit(130)

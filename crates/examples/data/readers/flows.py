@@ -1,0 +1,76 @@
+"""Reads flows as CSV: nfdump's (-o csv) and others whose heading has common names."""
+import csv
+import re
+
+from readers.common import Refused, Unsaid, address_of, protocol_of
+from readers.packets import Packet, WITH_PORTS
+
+COLUMNS = {
+    "source": "sa src srcip srcaddr srcipaddr srcaddress sourceip sourceaddress sourceipaddress "
+    "source saddr ipsrc sourceipv4address idorigh srcip4",
+    "target": "da dst dstip dstaddr dstipaddr dstaddress destip destinationip destinationaddress "
+    "destinationipaddress destination destaddr daddr ipdst destinationipv4address idresph dstip4",
+    "sport": "sp srcport sport sourceport sourcetransportport idorigp srcpt",
+    "dport": "dp dstport dport destport destinationport destinationtransportport idrespp dstpt",
+    "protocol": "pr proto protocol ipproto ipprotocol protocolidentifier prot protocolnumber",
+}
+SEPARATORS = ",;\t"
+
+
+def name_of(title):
+    """The title of a column without case, blanks and signs."""
+    return re.sub(r"[^a-z0-9]", "", title.lower())
+
+
+def columns_of(titles):
+    """The place of each field of a packet that a heading names."""
+    names = [name_of(title) for title in titles]
+    found = {}
+    for field, known in COLUMNS.items():
+        places = [names.index(name) for name in known.split() if name in names]
+        if places:
+            found[field] = places[0]
+    return found
+
+
+def separator_of(heading):
+    """The sign that parts the columns of a heading with addresses, or nothing."""
+    for separator in SEPARATORS:
+        if {"source", "target"} <= set(columns_of(heading.split(separator))):
+            return separator
+    return None
+
+
+def packets_of(lines):
+    """Each flow's line, and its packet or why it can't be said."""
+    reader = csv.reader(lines, delimiter=separator_of(lines[0]), skipinitialspace=True)
+    try:
+        places = columns_of(next(reader))
+        missing = [field for field in COLUMNS if field not in places]
+        if missing:
+            raise Refused(f"line 1: the heading has no column for: {', '.join(missing)}")
+        for fields in reader:
+            if [text.strip() for text in fields] == ["Summary"]:
+                return  # nfdump's two lines behind it have no flow
+            if fields:
+                yield reader.line_num, spoken(fields, places)
+    except csv.Error as why:
+        raise Refused(f"line {reader.line_num}: {why}") from why
+
+
+def spoken(fields, places):
+    """The packet of a row, or why it can't be said."""
+    if len(fields) <= max(places.values()):
+        return Unsaid("the row has too few columns")
+    texts = {field: fields[place].strip() for field, place in places.items()}
+    addresses = address_of(texts["source"]), address_of(texts["target"])
+    if None in addresses:
+        is_other = ":" in texts["source"] and ":" in texts["target"]
+        return Unsaid("IPv6" if is_other else "an address isn't IPv4's")
+    protocol = protocol_of(texts["protocol"])
+    if protocol is None:
+        return Unsaid(f"the protocol {texts['protocol']!r} isn't known")
+    ports = [texts["sport"], texts["dport"]] if protocol in WITH_PORTS else ["0", "0"]
+    if not all(re.fullmatch(r"[0-9]{1,5}", text) and int(text) < 65536 for text in ports):
+        return Unsaid("a port is no number from 0 to 65535")
+    return Packet(*addresses, *map(int, ports), protocol)
