@@ -22,6 +22,7 @@ LINKS = {1: (12, 14), 113: (14, 16), 276: (0, 20)}  # where the type stands, and
 RAW = {12, 14, 101, 228, 229}
 TAGS = {0x8100, 0x88A8, 0x9100, 0x9200}
 IPV4, IPV6 = 0x0800, 0x86DD
+LEAST_TYPE = 0x0600  # what is smaller is the length of a frame of IEEE 802.3
 KINDS = {IPV6: "IPv6", 0x0806: "ARP", 0x8847: "MPLS", 0x8864: "PPPoE", 0x88CC: "LLDP"}
 MORE_FRAGMENTS, OFFSET = 0x2000, 0x1FFF
 CUT = "the packet is cut short"
@@ -132,7 +133,8 @@ def packet_in(link, data):
     else:
         raise Unsaid(f"the link type {link} isn't read")
     if kind != IPV4:
-        raise Unsaid(KINDS.get(kind, f"of the type 0x{kind:04x}, no IPv4"))
+        other = "802.3" if kind < LEAST_TYPE else f"of the type 0x{kind:04x}, no IPv4"
+        raise Unsaid(KINDS.get(kind, other))
     return packet_at(data, start)
 
 

@@ -50,8 +50,8 @@ class Parser(argparse.ArgumentParser):
         raise Refused(message)
 
 
-class LeftOut:
-    """What is left out: for each reason the numbers of its lines or packets, as ranges."""
+class Named:
+    """Lines or packets by what is said of them: for each such text their numbers, as ranges."""
 
     def __init__(self, what):
         self.what, self.count, self.ranges = what, 0, {}
@@ -64,18 +64,19 @@ class LeftOut:
         else:
             ranges.append([number, number])
 
-    def lines(self, shown):
-        """A line for each reason, of which at most so many are shown; likewise of its ranges."""
+    def lines(self, begin, shown):
+        """A line for each text, of which at most so many are shown; likewise of its ranges."""
         for why, ranges in list(self.ranges.items())[:shown]:
             texts = [str(a) if a == b else f"{a}-{b}" for a, b in ranges[:shown]]
             plural = "" if ranges[0] == [ranges[-1][1]] * 2 else "s"
-            yield f"left out, {why}: {self.what}{plural} {', '.join(texts)}{more(ranges, shown)}"
+            numbers = ", ".join(texts)
+            yield f"{begin}, {why}: {self.what}{plural} {numbers}{more(ranges, shown)}"
         if len(self.ranges) > shown:
-            yield f"left out for other reasons{more(self.ranges, shown)}"
+            yield f"{begin}, for other reasons:{more(self.ranges, shown)}"
 
 
 def more(items, shown):
-    return f" and {len(items) - shown:,} more (--all names them)" if len(items) > shown else ""
+    return f" and {len(items) - shown:,} more; --all names them" if len(items) > shown else ""
 
 
 @lru_cache(maxsize=1 << 16)
@@ -134,10 +135,13 @@ def opened(name):
     return sys.stdin.buffer if name in (None, "-") else open(name, "rb")
 
 
-def finish(name, args, rows, left, told):
-    """Says what was left out, and writes the rows unless --strict forbids it; the status."""
+def finish(name, args, rows, left, passed, told):
+    """Says what was left out or passed over, and writes the rows unless --strict forbids it.
+
+    It gives the status.
+    """
     shown = sys.maxsize if args.all else SHOWN
-    for line in [*told, *left.lines(shown)]:
+    for line in [told, *left.lines("left out", shown), *passed.lines("passed over", shown)]:
         print(f"examples/{name}: {line}", file=sys.stderr)
     if args.strict and left.count:
         print(f"examples/{name}: --strict: nothing is written", file=sys.stderr)
@@ -151,11 +155,12 @@ def run(name, main):
     """Ends with the status of `main`; what it refuses, an interrupt and a closed pipe end it too."""
     try:
         sys.exit(main())
+    except BrokenPipeError:
+        os.dup2(os.open(os.devnull, os.O_WRONLY), sys.stdout.fileno())
+        sys.exit(141)
     except (Refused, OSError) as why:
-        if isinstance(why, BrokenPipeError):
-            os.dup2(os.open(os.devnull, os.O_WRONLY), sys.stdout.fileno())
-            sys.exit(141)
-        print(f"examples/{name}: {why}", file=sys.stderr)
+        text = f"{why.filename}: {why.strerror}" if isinstance(why, OSError) else why
+        print(f"examples/{name}: {text}", file=sys.stderr)
         sys.exit(2)
     except KeyboardInterrupt:
         print(f"examples/{name}: stopped", file=sys.stderr)

@@ -12,7 +12,7 @@ CUT_IP = r"(?:truncated-ip - \d+ bytes missing! ?)?"
 PLAIN = re.compile(rf"[^>(]*?\b(?:IP|ip:) {CUT_IP}(.*)")
 LINKED = re.compile(rf".*?\bethertype IPv4(?: \(0x0800\))?, (?:length \d+: )?(?:IP )?{CUT_IP}(.*)")
 OTHER = re.compile(r"[^>(]*?\b(IP6|ARP|LLDP|STP|MPLS|IS-IS|CDPv\d|LACPv\d)\b")
-OTHER_LINKED = re.compile(r".*\bethertype ([^ ,]+)[^,]*, ")
+OTHER_LINKED = re.compile(r".*, (?:ethertype ([^ ,]+)[^,]*|(802\.3)), ")
 DETAILS = re.compile(r"\(tos .*?, offset (\d+), .*?proto \S+ \((\d+)\), ")
 ADDRESS = r"(\d+\.\d+\.\d+\.\d+)(?:\.(\d+))?"
 HEADER = re.compile(rf"\s*{ADDRESS} > {ADDRESS}: *(.*)")
@@ -38,6 +38,7 @@ STARTS = {
     "VRRP": 112,
     "CARP": 112,
 }
+CUT = "the packet is cut short"
 FRAGMENT = "a later fragment, which has no ports"
 ALONE = "no addresses stand in the line behind it"
 UNKNOWN = "not as `tcpdump -nn` prints a packet of IPv4"
@@ -83,8 +84,9 @@ def read(number, line):
     if found:
         yield number, spoken(found)
     elif not is_no_packet(line):
-        other = OTHER.match(line) or OTHER_LINKED.match(line)
-        yield number, Unsaid(other[1].replace("IP6", "IPv6") if other and not rest else UNKNOWN)
+        other = None if rest else OTHER.match(line) or OTHER_LINKED.match(line)
+        name = next(filter(None, other.groups())) if other else UNKNOWN
+        yield number, Unsaid(name.replace("IP6", "IPv6"))
 
 
 def is_no_packet(line):
@@ -132,4 +134,4 @@ def protocol_by(has_ports, rest):
     for start, number in STARTS.items():
         if rest.startswith(start):
             return number
-    raise Unsaid("its protocol isn't known by its words")
+    raise Unsaid(CUT if rest.startswith("[|") else "its protocol isn't known by its words")
