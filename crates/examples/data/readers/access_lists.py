@@ -20,7 +20,9 @@ HEADS = [
 ]
 OTHER_HEAD = re.compile(r"ipv6 access-list |ipv6 access list |mac access-list ", re.I)
 NUMBERED = re.compile(r"access-list (\d+) (.*)", re.I)
-ENTRY = re.compile(r"(?:(\d+) )?((?:permit|deny|remark|evaluate|dynamic|no (?:permit|deny|[0-9]))\b.*)", re.I)
+ENTRY = re.compile(
+    r"(?:(\d+) )?((?:permit|deny|remark|evaluate|dynamic|no (?:permit|deny|\d))\b.*)", re.I
+)
 SHOWN = re.compile(r" \(\d+ match(es)?\)$| \(Compiled.*\)$")
 LOGS = {"log", "log-input"}
 COMPARISONS = {"eq", "neq", "lt", "gt", "range"}

@@ -1,4 +1,4 @@
-"""What `examples/traffic` and `examples/policy` share: refusals, what was left out, how they end."""
+"""What `examples/traffic` and `examples/policy` share: refusals, what is left out, how they end."""
 import argparse
 import os
 import re
@@ -152,7 +152,7 @@ def finish(name, args, rows, left, passed, told):
 
 
 def run(name, main):
-    """Ends with the status of `main`; what it refuses, an interrupt and a closed pipe end it too."""
+    """Ends with the status of `main`; a refusal, an interrupt and a closed pipe end it too."""
     try:
         sys.exit(main())
     except BrokenPipeError:

@@ -26,7 +26,7 @@ class Map:
         key = address >> 32 - length
         if key << 32 - length != address:
             meant = address_text(key << 32 - length)
-            raise Refused(f"{where}: {prefix} has bits behind its length; {meant}/{length} has none")
+            raise Refused(f"{where}: {prefix} has bits behind its length, {meant}/{length} none")
         table = self.tables.setdefault(length, {})
         if key in table:
             raise Refused(f"{where}: {prefix} stands there before")
