@@ -19,9 +19,9 @@ HEADS = [
     re.compile(r"(standard|extended) ip access list (\S+)$", re.I),
 ]
 OTHER_HEAD = re.compile(r"ipv6 access-list |ipv6 access list |mac access-list ", re.I)
-NUMBERED = re.compile(r"access-list (\d+) (.*)", re.I)
+NUMBERED = re.compile(r"access-list (\d{1,5}) (.*)", re.I)
 ENTRY = re.compile(
-    r"(?:(\d+) )?((?:permit|deny|remark|evaluate|dynamic|no (?:permit|deny|\d))\b.*)", re.I
+    r"(?:(\d{1,10}) )?((?:permit|deny|remark|evaluate|dynamic|no (?:permit|deny|\d))\b.*)", re.I
 )
 SHOWN = re.compile(r" \(\d+ match(es)?\)$| \(Compiled.*\)$")
 LOGS = {"log", "log-input"}

@@ -159,7 +159,8 @@ def run(name, main):
         os.dup2(os.open(os.devnull, os.O_WRONLY), sys.stdout.fileno())
         sys.exit(141)
     except (Refused, OSError) as why:
-        text = f"{why.filename}: {why.strerror}" if isinstance(why, OSError) else why
+        is_file = isinstance(why, OSError)
+        text = f"{why.filename or 'output'}: {why.strerror}" if is_file else why
         print(f"examples/{name}: {text}", file=sys.stderr)
         sys.exit(2)
     except KeyboardInterrupt:

@@ -13,10 +13,10 @@ PLAIN = re.compile(rf"[^>(]*?\b(?:IP|ip:) {CUT_IP}(.*)")
 LINKED = re.compile(rf".*?\bethertype IPv4(?: \(0x0800\))?, (?:length \d+: )?(?:IP )?{CUT_IP}(.*)")
 OTHER = re.compile(r"[^>(]*?\b(IP6|ARP|LLDP|STP|MPLS|IS-IS|CDPv\d|LACPv\d)\b")
 OTHER_LINKED = re.compile(r".*, (?:ethertype ([^ ,]+)[^,]*|(802\.3)), ")
-DETAILS = re.compile(r"\(tos .*?, offset (\d+), .*?proto \S+ \((\d+)\), ")
-ADDRESS = r"(\d+\.\d+\.\d+\.\d+)(?:\.(\d+))?"
+DETAILS = re.compile(r"\(tos .*?, offset (\d{1,5}), .*?proto \S+ \((\d{1,3})\), ")
+ADDRESS = r"(\d+\.\d+\.\d+\.\d+)(?:\.(\d{1,5}))?"
 HEADER = re.compile(rf"\s*{ADDRESS} > {ADDRESS}: *(.*)")
-BARE = re.compile(r"ip-proto-(\d+)( \d+)?")
+BARE = re.compile(r"ip-proto-(\d{1,3})( \d+)?")
 NO_PACKET = re.compile(
     r"\s*$|\s+0x[0-9a-f]+:|\t|tcpdump: |listening on |reading from file |\d+ packets? |"
     r"\S+: .*link-type|dropped privs"
@@ -39,6 +39,7 @@ STARTS = {
     "CARP": 112,
 }
 CUT = "the packet is cut short"
+LAST_PROTOCOL = 255
 FRAGMENT = "a later fragment, which has no ports"
 ALONE = "no addresses stand in the line behind it"
 UNKNOWN = "not as `tcpdump -nn` prints a packet of IPv4"
@@ -99,7 +100,7 @@ def spoken(found, protocol=None, offset=0):
     source, sport, target, dport, rest = found.groups()
     addresses = address_of(source), address_of(target)
     try:
-        if None in addresses:
+        if None in addresses or protocol and protocol > LAST_PROTOCOL:
             raise Unsaid(UNKNOWN)
         if offset:
             raise Unsaid(FRAGMENT)
@@ -129,7 +130,7 @@ def protocol_by(has_ports, rest):
     bare = BARE.match(rest)
     if bare and bare[2] is None:
         raise Unsaid(FRAGMENT)
-    if bare and int(bare[1]) < 256:
+    if bare and int(bare[1]) <= LAST_PROTOCOL:
         return int(bare[1])
     for start, number in STARTS.items():
         if rest.startswith(start):

@@ -7,7 +7,7 @@ from readers.common import Unsaid, prefix_of
 from readers.rules import LAST_PORT, Rule, prefixes_of
 
 FILTER = re.compile(
-    r"@(\S+/\d+)\s+(\S+/\d+)\s+(\d+)\s*:\s*(\d+)\s+(\d+)\s*:\s*(\d+)\s+"
+    r"@(\S+/\d+)\s+(\S+/\d+)\s+(\d{1,5})\s*:\s*(\d{1,5})\s+(\d{1,5})\s*:\s*(\d{1,5})\s+"
     r"0x([0-9a-fA-F]{1,2})/0x([0-9a-fA-F]{1,2})(?:\s+0x([0-9a-fA-F]{1,4})/0x([0-9a-fA-F]{1,4}))?\s*"
 )
 FLAGS = "it asks for flags (--ignore-flags reads it as if it did not)"

@@ -78,7 +78,7 @@ def read_toml_map(name):
     """A map whose keys are switches, each with a prefix or a list of them."""
     found = Map()
     for switch, prefixes in read_toml(name).items():
-        for prefix in [prefixes] if isinstance(prefixes, str) else prefixes or []:
+        for prefix in prefixes if isinstance(prefixes, list) else [prefixes]:
             if not isinstance(prefix, str):
                 raise Refused(f"{name}: {switch}: {prefix!r} is no prefix in quotes")
             found.add(f"{name}: {switch}", prefix, switch)
@@ -90,4 +90,4 @@ def names_of(name):
     rows = read_toml(name).get("switch")
     if not isinstance(rows, list):
         raise Refused(f"{name}: it has no switches")
-    return {row.get("name") for row in rows if isinstance(row, dict)}
+    return {str(row.get("name")) for row in rows if isinstance(row, dict)}
