@@ -4,7 +4,8 @@
 - Each line of the samples' index.txt is a name, a status and arguments. What the script writes is
   compared with expected/NAME.csv, and what it says with expected/NAME.txt.
 - Random captures, of both formats, both orders of bytes and four link types, are compared with the
-  rows that were drawn; where tcpdump is installed, its text of them too.
+  rows that were drawn; so are lines as tcpdump prints them, and flows. Where tcpdump is installed,
+  its text of the captures is read too.
 - Random filters and access lists, and those of the samples, are compared with their policies: the
   line that decides a header by the source, evaluated here, is that of the row which decides it.
 - Files that are cut off or aren't readable end with 0 or 2, and with no trace of Python.
@@ -163,7 +164,7 @@ def capture(rng, seed):
     data, rows = b"", []
     parts = 1 + seed % 3 if seed % 2 else 1
     for _ in range(parts):
-        link, frames = rng.choice([1, 101, 113, 276]), []
+        link, frames = rng.choice([1, 1, 1, 101, 113, 276]), []
         for _ in range(60):
             packet, fields = drawn_packet(rng) if rng.random() < 0.9 else (None, None)
             frames.append(framed(rng, link, packet))
@@ -187,6 +188,30 @@ def capture_faults(rng, folder):
                 subprocess.run(dump, stdout=file, stderr=subprocess.DEVNULL, check=True)
             if run("traffic", text)[:2] != (0, wanted):
                 yield f"capture {seed}: other rows by tcpdump -nn {' '.join(flags)}"
+
+
+def dump_line(fields):
+    """A packet's line as tcpdump -nn prints it."""
+    source, target, sport, dport, protocol = fields.split(",")
+    rests = {"icmp": "ICMP echo request, id 1, seq 1, length 8", "2": "igmp v2 report 224.0.0.1"}
+    rests |= {"47": "GREv0, length 24: unknown", "50": "ESP(spi=0x1,seq=0x1), length 24"}
+    rests |= {"tcp": "Flags [S], seq 1, win 1024, length 0", "udp": "UDP, length 0"}
+    rests |= {"132": "sctp (1) [COOKIE ACK]", "89": "OSPFv2, Hello, length 24"}
+    has_ports = protocol in ("tcp", "udp", "132")
+    ends = f"{source}.{sport} > {target}.{dport}" if has_ports else f"{source} > {target}"
+    return f"07:06:40.123456 IP {ends}: {rests[protocol]}"
+
+
+def text_faults(rng, folder):
+    """What differs between lines of tcpdump, or flows, and the rows that they were drawn from."""
+    drawn = [fields for _, fields in (drawn_packet(rng) for _ in range(HEADERS)) if fields]
+    rows = ["event,arguments", *(f"packet,s0,{fields}" for fields in drawn), "drain"]
+    heading = "Src IP,Dst IP,Src Port,Dst Port,Protocol"
+    texts = {"tcpdump's lines": map(dump_line, drawn), "flows": [heading, *drawn]}
+    for name, lines in texts.items():
+        (folder / "text").write_text("".join(f"{line}\n" for line in lines))
+        if run("traffic", folder / "text")[:2] != (0, "\n".join([*rows, ""]).encode()):
+            yield f"{name}: other rows than were drawn"
 
 
 # ---- policies
@@ -269,7 +294,7 @@ def drawn_header(rng, texts):
     ends = [number(rng.choice(addresses)) for _ in range(2)] if rng.random() < 0.3 else None
     ends = ends or [number(addresses[0]), number(addresses[-1])]
     for place in range(2):
-        for _ in range(rng.randrange(3)):
+        for _ in range(rng.choice([0, 0, 0, 1, 2])):
             ends[place] ^= 1 << rng.randrange(12 if rng.random() < 0.7 else 32)
     chosen = [min(65535, max(0, rng.choice(ports) + rng.choice([0, 0, -1, 1]))) for _ in range(2)]
     named = [value for name, value in PROTOCOLS.items() if name in line]
@@ -441,6 +466,7 @@ def main():
         faults += sample_faults(script, folder)
     with tempfile.TemporaryDirectory() as name:
         faults += capture_faults(rng, Path(name))
+        faults += text_faults(rng, Path(name))
         faults += all_policy_faults(rng, Path(name))
         faults += damaged_faults(rng, Path(name))
     if not shutil.which("tcpdump"):

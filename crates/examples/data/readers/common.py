@@ -132,6 +132,8 @@ def add_common(parser):
 
 def opened(name):
     """The bytes of a file, or of standard input where no name or a dash is given."""
+    if name is None and sys.stdin.isatty():
+        raise Refused("no FILE is given; --help says what it is")
     return sys.stdin.buffer if name in (None, "-") else open(name, "rb")
 
 
