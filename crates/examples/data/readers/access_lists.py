@@ -21,7 +21,7 @@ HEADS = [
 OTHER_HEAD = re.compile(r"ipv6 access-list |ipv6 access list |mac access-list ", re.I)
 NUMBERED = re.compile(r"access-list (\d{1,5}) (.*)", re.I)
 ENTRY = re.compile(
-    r"(?:(\d{1,10}) )?((?:permit|deny|remark|evaluate|dynamic|no (?:permit|deny|\d))\b.*)", re.I
+    r"(?:(\d{1,10}) )?((?:permit|deny|remark|evaluate|dynamic|no (?:permit|deny|\d+))\b.*)", re.I
 )
 SHOWN = re.compile(r" \(\d+ match(es)?\)$| \(Compiled.*\)$")
 LOGS = {"log", "log-input"}
@@ -78,9 +78,7 @@ BY_PROTOCOL = {
     6: {"exec": 512, "login": 513, "cmd": 514, "talk": 517},
     17: {"biff": 512, "who": 513, "syslog": 514, "talk": 517, "dnsix": 195},
 }
-
-
-NO_LIST = "of no access list"
+NO_LIST, STRAY = "of no access list", "an entry of no access list"
 
 
 class Entry(NamedTuple):
@@ -92,10 +90,10 @@ class Entry(NamedTuple):
 
 
 class Lists:
-    """The entries of each list by their sequence numbers, and the lines that have none."""
+    """The entries of each list by their sequence numbers; its other lines; those of no list."""
 
     def __init__(self):
-        self.entries, self.unsaid, self.others = {}, {}, []
+        self.entries, self.unsaid, self.strays, self.others = {}, {}, [], []
 
     def add(self, name, sequence, entry):
         entries = self.entries.setdefault(name, {})
@@ -128,19 +126,21 @@ def read_lists(lines):
         elif OTHER_HEAD.match(text):
             head = (" ".join(text.split()[:2]), None)
         elif not entry:
-            head = head if line[:1].isspace() else None
-        take(lists, head, number, text, entry)
+            head = head if line[0].isspace() or line[0].isdigit() else None
+        take(lists, head, number, entry)
     return lists
 
 
-def take(lists, head, number, text, entry):
+def take(lists, head, number, entry):
     """Adds a line of the list that `head` names, or of none."""
-    if head is None:
+    if head is None and entry:
+        lists.strays.append((number, Unsaid(STRAY)))
+    elif head is None:
         lists.others.append((number, NO_LIST))
     elif head[1] is None:
         lists.others.append((number, f"of {head[0]}, which isn't of IPv4"))
-    elif entry is None:
-        lists.refuse(head[0], number, f"{text.split()[0]!r} is no entry of a list")
+    elif entry is None or entry[2].lower().startswith("no "):
+        lists.refuse(head[0], number, "it is no entry of a list")
     elif not entry[2].lower().startswith("remark"):
         words = entry[2].lower().split()
         lists.add(head[0], entry[1], Entry(number, words, head[1] == "standard"))
@@ -172,7 +172,8 @@ def rules_of(lines, most, name):
         if name != chosen
         for entry in entries.values()
     ]
-    return [*lists.unsaid.get(chosen, []), *found], lists.others + others
+    unsaid = lists.unsaid.get(chosen, []) + lists.strays
+    return unsaid + found, lists.others + others
 
 
 def rule_of(entry, most):
