@@ -1,0 +1,205 @@
+"""One switch beside a journal: each packet that is looked up there goes through a bridge."""
+import re
+from collections import Counter
+
+from . import daemon, flows, tables
+
+LINE = re.compile(
+    r"row [1-9]\d*: \S.*|meter port \d+ notes \d+|quiet (yes|no)"
+    rf"|  sent \d+ \S+ cache version \d+ word {tables.WORD} rule \S+ ({tables.ACTION})"
+    r"|  (?!sent \d+ \S+ cache )[a-z]+( \S+)*"
+)
+
+
+def read_text(text):
+    """The tables of a switch, and the lines of the journal that stands behind them, if any."""
+    held, journal = tables.read_tables(text)
+    for number, line in enumerate(journal, text.count("\n") - len(journal) + 1):
+        if not LINE.fullmatch(line):
+            raise tables.Refused(f"line {number}: behind the tables, no line of a journal: {line!r}")
+    return held, journal
+
+
+# ---- from tables to flows
+
+
+def exit_of(action):
+    """The name of the port that an action says, or none."""
+    return None if action == "drop" else f"port{action.removeprefix('out:')}"
+
+
+def tunnel_to(target):
+    """The name of the port that leads to a switch."""
+    if len(target) > 12:
+        raise daemon.Failed(f"the name {target} has more than 12 letters, too long for a port")
+    return f"to-{target}"
+
+
+def sending(port):
+    return f"output:{port}" if port else "drop"
+
+
+def flows_of(held):
+    """The flows of a switch's tables, with a comment above each rule."""
+    yield from flows.copying(0)
+    for rule in held.rules:
+        yield f"# rank {rule.rank} rule {rule.name} {rule.action}"
+        yield flows.rule_flow(rule, 1, flows.match_of(rule.word), sending(exit_of(rule.action)))
+    for region in held.elsewhere():
+        yield f"# part {region.part} is decided at {region.targets[0]}"
+        port = tunnel_to(region.targets[0])
+        yield flows.region_flow(region, 1, flows.match_of(region.word), sending(port))
+
+
+def cache_flow(number, word, action):
+    """The flow of the cache rule that a message brings."""
+    match, actions = flows.match_of(word), sending(exit_of(action))
+    return flows.flow(flows.CACHED + int(number), 1, flows.TOP, match, actions)
+
+
+# ---- from a journal to what a switch does
+
+
+def told_of(switch, journal):
+    """What the journal tells of a switch under version 1, in order.
+
+    `("learn", N, FLOW)` and `("forget", N)`: the cache rule of message N comes, or times out.
+    `("look", I, HEADER, FOUND, PORT)`: packet I is looked up, and what decides it and sends it on.
+    """
+    headers, entries, sent, held, row = {}, {}, {}, set(), []
+    for texts in map(str.split, journal):
+        match texts:
+            case ["row", *_]:
+                row = texts
+            case ["entered", packet, at]:
+                headers[packet], entries[packet] = row[4:9], at
+            case ["sent", number, to, "cache", _, "1", _, word, _, _, action] if to == switch:
+                sent[number] = word, action
+            case ["delivered", number] if number in sent and sent[number][0] not in held:
+                held.add(sent[number][0])
+                yield "learn", number, cache_flow(number, *sent[number])
+            case ["expired", at, _, "message", number] if at == switch and number in sent:
+                held.discard(sent[number][0])
+                yield "forget", number
+            case ["decided", i, "v1", "rule", rule, action, "authority", at, *_]:
+                if at == switch:
+                    yield "look", i, headers[i], f"rule {rule}", exit_of(action)
+            case ["decided", i, "v1", "rule", _, action, "cache", number]:
+                if entries[i] == switch:
+                    yield "look", i, headers[i], f"cache {number}", exit_of(action)
+            case ["tunnelled", i, "v1", "part", part, "via", at, *_, target]:
+                if at == switch == entries[i]:
+                    yield "look", i, headers[i], f"part {part}", tunnel_to(target)
+
+
+def all_flows(held, journal):
+    """The flows of tables, and of the cache rules of the journal that stands behind them."""
+    cached = {}
+    for what, number, *rest in told_of(held.switch, journal):
+        if what == "learn":
+            cached[number] = rest
+        elif what == "forget":
+            cached.pop(number, None)
+    yield from flows_of(held)
+    for number, (text,) in cached.items():
+        yield f"# the cache rule of message {number}"
+        yield text
+
+
+# ---- the check
+
+
+class Bridge(daemon.OpenVSwitch):
+    """An Open vSwitch with one bridge br0 over a dummy datapath."""
+
+    def load(self, own, later):
+        """Adds the ports of all these flows, and loads those of the tables."""
+        named = set(re.findall(r"output:([\w-]+)", str([*own, *later])))
+        ports = dict.fromkeys(["in", *sorted(named)], daemon.DUMMY)
+        self.configure(*daemon.bridge_args("br0", ports))
+        self.learn(own)
+
+    def learn(self, fresh):
+        self.add("br0", fresh)
+        self.before = self.counts()
+
+    def forget(self, cookie):
+        self.run("ovs-ofctl", "del-flows", "br0", f"cookie={cookie}/-1")
+
+    def flows(self):
+        """The cookie of each flow of table 1, and how many packets it counted."""
+        told = self.run("ovs-ofctl", "dump-flows", "br0", "table=1")
+        pairs = re.findall(r"cookie=(\w+),.* n_packets=(\d+)", told)
+        return [(int(cookie, 16), int(count)) for cookie, count in pairs]
+
+    def counts(self):
+        """How many packets the flows of each cookie counted, and how many left by each port."""
+        self.ask("revalidator/purge")
+        counted = Counter()
+        for cookie, count in self.flows():
+            counted[cookie] += count
+        return counted, self.left_by("br0")
+
+    def send(self, header):
+        """The cookie of the flow that counts a packet of this header, and the port it leaves by."""
+        self.ask("netdev-dummy/receive", "in", flows.packet_of(*header))
+        before, self.before = self.before, self.counts()
+        rose = [
+            [key for key in new if new[key] != old.get(key, 0)]
+            for old, new in zip(before, self.before)
+        ]
+        return tuple(found[0] if len(found) == 1 else None for found in rose)
+
+
+def play(bridge, told, names):
+    """Does what is told of the switch; how many lookups were the same, others, or not sent."""
+    same, wrong, unseen = 0, 0, 0
+    for what, number, *rest in told:
+        if what == "learn":
+            bridge.learn(rest)
+        elif what == "forget":
+            bridge.forget(flows.CACHED + int(number))
+        elif not flows.is_seen(rest[0]):
+            unseen += 1
+        else:
+            header, *wanted = rest
+            cookie, port = bridge.send(header)
+            if [name_of(cookie, names), port] == wanted:
+                same += 1
+            else:
+                wrong += 1
+                print(f"packet {number} {header}: {name_of(cookie, names)} {port}, not {wanted}")
+    return same, wrong, unseen
+
+
+def name_of(cookie, names):
+    """What a flow of table 1 stands for; a rank has the name of its row."""
+    if cookie is None:
+        return None
+    kind, number = flows.kind_of(cookie)
+    if kind == flows.RULE:
+        return f"rule {names[number]}"
+    return f"cache {number}" if kind == flows.CACHED else f"part {number}"
+
+
+def compare(path):
+    """Prints what the switch of these tables did with each packet; whether anything differs."""
+    try:
+        held, _ = tables.read_tables(path.read_text())
+    except tables.Refused as refused:
+        raise tables.Refused(f"{path} {refused}") from refused
+    journal = (path.parent / "journal.txt").read_text().splitlines()
+    told = list(told_of(held.switch, journal))
+    rules, regions = len(held.rules), len(held.elsewhere())
+    with Bridge() as bridge:
+        learnt = [rest[0] for what, _, *rest in told if what == "learn"]
+        bridge.load(list(flows_of(held)), learnt)
+        count = len(bridge.flows())
+        names = {rule.rank: rule.name for rule in held.rules}
+        same, wrong, unseen = play(bridge, told, names)
+    print(
+        f"{path.parent.name}/{path.name}: {rules} rules and {regions} regions in {count} "
+        f"flows; {same} lookups as in the journal, {wrong} others, {unseen} not sent",
+        flush=True,
+    )
+    return wrong > 0 or count != rules + regions
