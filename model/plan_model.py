@@ -10,6 +10,7 @@ plan without room.
 import csv
 import sys
 import tomllib
+from functools import cache
 
 BITS = 104
 SOLO = {"leaf_rules": 8192, "switch": [{"name": "s0", "authority": 8192}]}
@@ -108,7 +109,9 @@ def targets_of(sizes, rooms, backups):
     return hosted
 
 
-def text_of(policy, switch, network):
+@cache
+def plan_of(policy, network):
+    """The switches' names, how many words the rows have, the partitions, and where each is."""
     net = SOLO
     if network is not None:
         with open(network, "rb") as file:
@@ -118,6 +121,11 @@ def text_of(policy, switch, network):
     parts = leaves(rules, (0, 0), net.get("leaf_rules", 64))
     rooms = [row.get("authority", 0) for row in net["switch"]]
     hosted = targets_of([len(part[1]) for part in parts], rooms, net.get("backups", 0))
+    return names, words, parts, hosted
+
+
+def text_of(policy, switch, network):
+    names, words, parts, hosted = plan_of(policy, network)
 
     def word(pair):
         return f"{pair[0]:026x}/{pair[1]:026x}"

@@ -87,7 +87,7 @@ def packet_of(source, target, sport, dport, protocol):
 def fields_of(source, target, sport, dport, protocol):
     """The same packet as ofproto/trace takes it."""
     number = number_of(protocol)
-    text = f"ip,nw_src={source},nw_dst={target},nw_proto={number},nw_ttl=64"
-    if number in WITH_PORTS:
-        text += f",tp_src={sport},tp_dst={dport}"
-    return text + (",icmp_type=8,icmp_code=0" if number == 1 else "")
+    name = WITH_PORTS.get(number)
+    text = name or {1: "icmp,icmp_type=8,icmp_code=0"}.get(number, f"ip,nw_proto={number}")
+    text += f",nw_src={source},nw_dst={target},nw_ttl=64"
+    return text + (f",{name}_src={sport},{name}_dst={dport}" if name else "")
