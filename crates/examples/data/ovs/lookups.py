@@ -16,7 +16,7 @@ def read_text(text):
     held, journal = tables.read_tables(text)
     for number, line in enumerate(journal, text.count("\n") - len(journal) + 1):
         if not LINE.fullmatch(line):
-            raise tables.Refused(f"line {number}: behind the tables, no line of a journal: {line!r}")
+            raise tables.Refused(f"line {number}: no line of a journal stands here: {line[:60]!r}")
     return held, journal
 
 
@@ -184,10 +184,7 @@ def name_of(cookie, names):
 
 def compare(path):
     """Prints what the switch of these tables did with each packet; whether anything differs."""
-    try:
-        held, _ = tables.read_tables(path.read_text())
-    except tables.Refused as refused:
-        raise tables.Refused(f"{path} {refused}") from refused
+    held = tables.read_file(path)
     journal = (path.parent / "journal.txt").read_text().splitlines()
     told = list(told_of(held.switch, journal))
     rules, regions = len(held.rules), len(held.elsewhere())

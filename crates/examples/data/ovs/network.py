@@ -7,6 +7,7 @@ import tomllib
 from collections import Counter, defaultdict
 from itertools import takewhile
 from pathlib import Path
+from typing import NamedTuple
 
 from . import daemon, flows, tables
 
@@ -16,7 +17,8 @@ import plan_model  # noqa: E402
 
 SOLO = {"switch": [{"name": "s0", "ports": range(64)}]}
 TO_AUTHORITY, TO_PORT = 0, 1  # the priority bits of a packet's tag
-LOST, IN_FLIGHT, UNSEEN = "lost or on its way", "decided by another version", "ports unseen"
+LOST, IN_FLIGHT = "lost or on their way", "decided by another version"
+UNSEEN, TOO_FAR = "with ports that a switch doesn't see", "over more links than Open vSwitch takes"
 PATIENCE = 5.0  # seconds until the ports have counted what was sent
 
 
@@ -142,23 +144,36 @@ class Packet:
 
     def __init__(self, number, at, header, version):
         self.number, self.at, self.header, self.version = number, at, header, version
-        self.way, self.decided_by, self.rule, self.cached = [at], None, None, False
-        self.end = None
+        self.way, self.end = [at], None
+        self.decided_by, self.rule, self.cached = None, None, False
 
     def left_out(self):
-        """Why what becomes of the packet isn't compared, or none."""
+        """Why the packet isn't sent, or none."""
         if self.end is None:
             return LOST
         if self.decided_by not in (None, self.version):
             return IN_FLIGHT
         return None if flows.is_seen(self.header) else UNSEEN
 
+    def is_as(self, seen):
+        """Whether this became of the packet; a cache takes it another way."""
+        same = (self.rule, self.end) == (seen.rule, seen.end)
+        return same and (self.cached or self.way == seen.way)
+
+
+class Seen(NamedTuple):
+    """What a network does with a packet: the name of the rule, the end, and the way."""
+
+    rule: str | None
+    end: str
+    way: list
+
 
 class Told:
-    """What a journal tells: its packets, and the policy file of each version."""
+    """What a journal tells: its packets, each version's policy file, and the first failure."""
 
     def __init__(self, journal):
-        self.packets, self.files, self.row = {}, {1: "1"}, []
+        self.packets, self.files, self.row, self.failure = {}, {1: "1"}, [], None
         self.stamps, self.orders = defaultdict(lambda: 1), {}
         for line in journal:
             self.hear(line.split())
@@ -168,8 +183,7 @@ class Told:
             case ["row", *_]:
                 self.row = texts
             case ["link", *_, "down"] | ["down", _]:
-                row = " ".join(self.row)
-                raise tables.Refused(f"links and switches that fail aren't played: {row}")
+                self.failure = self.failure or " ".join(self.row)
             case ["submitted", "file", file, "version", version]:
                 self.files[int(version)] = file
             case ["sent", number, to, "stamp" | "open", _, _, _, version]:
@@ -223,7 +237,14 @@ class Network(daemon.OpenVSwitch):
             for version, switches in held.items():
                 own += wiring.held(version, switches[net.names[wiring.here]])
             self.add(f"switch{wiring.here}", own)
-            self.count += len(own)
+            self.count += self.held_by(f"switch{wiring.here}", len(own))
+
+    def held_by(self, bridge, count):
+        """So many flows the bridge has, as it was given."""
+        told = self.run("ovs-ofctl", "dump-aggregate", bridge)
+        if f"flow_count={count}\n" not in told:
+            raise daemon.Failed(f"{bridge} was given {count} flows, and says {told.strip()}")
+        return count
 
     def enters(self, packet):
         """The bridge and the port by which a packet comes in."""
@@ -231,19 +252,17 @@ class Network(daemon.OpenVSwitch):
         return f"switch{here}", f"in{here}-{packet.version}"
 
     def trace(self, packet):
-        """What becomes of a packet: the name of the rule that decides it, its end, its way."""
+        """What becomes of a packet."""
         bridge, port = self.enters(packet)
         fields = f"in_port={port},{flows.fields_of(*packet.header)}"
         told = self.ask("ofproto/trace", "--names", bridge, fields)
-        bridges = re.findall(r'^ *bridge\("switch(\d+)"\)', told, re.M)
-        way = [self.net.names[int(number)] for number in bridges]
-        rule = None
-        for at, text in re.findall(r'bridge\("switch(\d+)"\)|cookie (0x[0-9a-f]+)', told):
-            here = int(at) if at else here
-            kind, rank = flows.kind_of(int(text or "0", 16))
+        rule, way = None, []
+        for at, cookie in re.findall(r'bridge\("switch(\d+)"\)|cookie (0x[0-9a-f]+)', told):
+            way += [self.net.names[int(at)]] if at else []
+            kind, rank = flows.kind_of(int(cookie or "0", 16))
             if kind == flows.RULE:
-                rule = self.rules[packet.version, self.net.names[here], rank]
-        return rule and rule.name, end_of(told, rule, way[-1]), way
+                rule = self.rules[packet.version, way[-1], rank]
+        return Seen(rule and rule.name, end_of(told, rule, way[-1]), way)
 
     def send(self, packets):
         """Sends the packets; how many left by each port, once it's as many as expected."""
@@ -274,9 +293,10 @@ def targets_of(net, switches):
 
 def end_of(told, rule, at):
     """How a packet ends that the datapath treats as a trace tells."""
+    fault = re.search(r">>>> (.*) <<<<", told)
+    if fault:
+        return TOO_FAR if "max translation depth" in fault[1] else fault[1]
     actions = re.search(r"^Datapath actions: (.*)$", told, re.M)[1]
-    if "Translation failed" in told:
-        return re.search(r"Translation failed.*", told)[0]
     if actions == "drop":
         return "dropped" if rule and rule.action == "drop" else f"stuck at {at}"
     port = re.fullmatch(r"out(\d+)", actions)
@@ -310,49 +330,58 @@ def tables_of(folder, name, version, policy, net):
     """The tables that a switch has for a version."""
     own = folder / f"show-{name}.txt"
     if version == 1 and own.is_file():
-        text = own.read_text()
-    else:
-        text = plan_model.text_of(policy, name, net)
-    return tables.read_tables(text)[0]
+        return tables.read_file(own)
+    return tables.read_tables(plan_model.text_of(policy, name, net))[0]
 
 
-def differences(network, packets):
+def all_tables(folder, net, told, versions):
+    """By version the tables of each switch."""
+    policies, path = files_of(folder)
+    return {
+        version: {
+            name: tables_of(folder, name, version, policies[int(told.files[version]) - 1], path)
+            for name in net.names
+        }
+        for version in versions
+    }
+
+
+def differences(network, seen):
     """A line for each packet, and for the counts of ports, that isn't as in the journal."""
-    for packet in packets:
-        rule, end, way = network.trace(packet)
-        if (rule, end) != (packet.rule, packet.end) or not packet.cached and way != packet.way:
+    for packet, found in seen:
+        if not packet.is_as(found):
             wanted = f"rule {packet.rule}, {packet.end}, by {' '.join(packet.way)}"
-            yield f"packet {packet.number}: rule {rule}, {end}, by {' '.join(way)}, not {wanted}"
-    left, expected = network.send(packets)
+            became = f"rule {found.rule}, {found.end}, by {' '.join(found.way)}"
+            yield f"packet {packet.number}: {became}, and not {wanted}"
+    left, expected = network.send([packet for packet, _ in seen])
     if left != expected:
-        yield f"ports: {dict(left)}, not {dict(expected)}"
+        yield f"ports: {dict(left)}, and not {dict(expected)}"
 
 
 def compare(folder):
     """Prints what a network made of a folder did with its packets; whether anything differs."""
     policies, path = files_of(folder)
     told = Told(journal_of(folder, policies, path).splitlines())
-    left_out = Counter(filter(None, (packet.left_out() for packet in told.packets.values())))
-    packets = [packet for packet in told.packets.values() if packet.left_out() is None]
+    if told.failure:
+        raise tables.Refused(f"{folder}: no link or switch may fail, as in {told.failure}")
+    packets = list(told.packets.values())
+    sent = [packet for packet in packets if packet.left_out() is None]
     net = Net(path)
-    held = {
-        version: {
-            name: tables_of(folder, name, version, policies[int(told.files[version]) - 1], path)
-            for name in net.names
-        }
-        for version in sorted({packet.version for packet in packets} | {1})
-    }
+    held = all_tables(folder, net, told, sorted({1, *(packet.version for packet in sent)}))
     with Network() as network:
         network.load(net, held)
-        wrong = list(differences(network, packets))
-        count = network.count
-    for line in wrong:
-        print(line)
-    cached = sum(packet.cached for packet in packets)
-    others = ", ".join(f"{number} {why}" for why, number in left_out.items()) or "none"
+        seen = [(packet, network.trace(packet)) for packet in sent]
+        compared = [(packet, found) for packet, found in seen if found.end != TOO_FAR]
+        wrong = list(differences(network, compared))
+    reasons = Counter(packet.left_out() for packet in packets if packet.left_out())
+    reasons.update(TOO_FAR for _, found in seen if found.end == TOO_FAR)
+    cached = sum(packet.cached for packet, _ in compared)
+    others = ", ".join(f"{count} {why}" for why, count in reasons.items()) or "none"
+    print(*wrong, sep="\n", end="\n" if wrong else "")
     print(
-        f"{folder.name}: {len(net.names)} switches, {count} flows; {len(packets)} packets "
-        f"({cached} of caches), {len(wrong)} differences; not compared: {others}",
+        f"{folder.resolve().name}: {len(net.names)} switches, {network.count} flows; "
+        f"{len(compared)} packets ({cached} of caches), {len(wrong)} differences; "
+        f"not compared: {others}",
         flush=True,
     )
     return bool(wrong)

@@ -116,3 +116,14 @@ def read_tables(text):
     if own != [block for block, _ in blocks]:
         lines.refuse(f"the parts with the target {switch} aren't those whose rules stand above")
     return Tables(switch, [rule for _, rules in blocks for rule in rules], regions), lines.left()
+
+
+def read_file(path):
+    """The tables that stand in a file."""
+    try:
+        held, behind = read_tables(path.read_text("ascii", "backslashreplace"))
+    except Refused as refused:
+        raise Refused(f"{path} {refused}") from refused
+    if behind:
+        raise Refused(f"{path}: more stands behind the tables")
+    return held

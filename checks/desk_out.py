@@ -1,0 +1,199 @@
+#!/usr/bin/env python3
+"""Checks `examples/openvswitch`: `checks/desk_out.py`.
+
+- Whole texts of `show` alone are taken: none that is empty, cut anywhere, or has a line too many or
+  too few. What is refused is told in one line, with status 2; Ctrl-C is one line too.
+- `--check`: each lookup of the examples is as in the journals.
+- `--network`: each packet of the examples without failures, and of the folder that
+  `model/fat_tree.py` makes, ends as in the journal. Examples with failures are refused, and what is
+  wrong in a journal is found.
+
+The last two need Open vSwitch; where it isn't there the check says that they are skipped. It ends
+with 1 where anything is wrong.
+"""
+import re
+import shutil
+import signal
+import subprocess
+import sys
+import tempfile
+import time
+from pathlib import Path
+
+sys.dont_write_bytecode = True
+
+HOME = Path(__file__).resolve().parent.parent
+EXAMPLES = HOME / "crates/examples/data"
+sys.path.insert(0, str(EXAMPLES))
+from ovs import daemon, lookups, tables  # noqa: E402
+
+SCRIPT = [sys.executable, str(EXAMPLES / "openvswitch")]
+LOOKUPS = 29
+TEXT = (EXAMPLES / "campus/show-b.txt").read_text()
+REFUSED = {
+    "": "the text is empty",
+    "\n": "line 1: a line `switch NAME version 1` must stand here, and not ''",
+    "# a page\n": "line 1: a line `switch NAME version 1` must stand here, and not '# a page'",
+    TEXT[:-9]: "line 14: the text is cut, its last line has no end",
+    TEXT[: TEXT.index("partitions")]: "line 13: the text ends where a line `partitions K` must",
+    TEXT.replace("authority 1\n", "authority 1\n\n"): "line 3: a line `part N region WORD rules M`",
+    TEXT.replace("authority 1\n", "authority 2\n"): "line 13: a line `part N region WORD rules M`",
+    TEXT.replace("/0000000", "/0000001", 1).replace(" 00000000", " 00000003", 1): "line 3: the word",
+    TEXT.replace("targets b", "targets c"): "line 14: the parts with the target b aren't those",
+    TEXT.replace("drop", "out:64"): "line 11: a line `  rank R rule RULE word WORD ACTION` must",
+    TEXT + "\n": "line 15: no line of a journal stands here: ''",
+    TEXT + TEXT: "line 15: no line of a journal stands here: 'switch b version 1'",
+    TEXT.replace("\n", "\r\n"): "line 1: a line `switch NAME version 1` must stand here",
+}
+FAULTS = {
+    "out 1 port 2": ("out 1 port 3", 2),
+    "rule 200 out:2": ("rule 100 out:2", 0),
+    "hopped 3 b": ("hopped 3 c", 1),
+    "dropped 3": ("out 3 port 2", 2),
+    "rule 100 drop authority": ("rule 200 drop authority", 1),
+}
+
+
+def run(*args, text=None):
+    return subprocess.run([*SCRIPT, *args], input=text, capture_output=True, text=True)
+
+
+def is_whole(text):
+    try:
+        lookups.read_text(text)
+    except tables.Refused:
+        return False
+    return True
+
+
+def shows():
+    """The texts of the examples that `show` prints."""
+    for line in (EXAMPLES / "index.txt").read_text().splitlines():
+        name, command, *_ = line.split(" ")
+        if command == "show" and name != "-":
+            yield name, (EXAMPLES / name).read_text()
+
+
+def damaged(text):
+    """The text cut at each place, and with each line left out or doubled."""
+    yield from (text[:end] for end in range(len(text)))
+    lines = text.splitlines(keepends=True)
+    for place, line in enumerate(lines):
+        yield "".join([*lines[:place], *lines[place + 1 :]])
+        yield "".join([*lines[:place], line, *lines[place:]])
+
+
+def texts_wrong():
+    """What is wrong with how texts are taken and refused."""
+    for text, why in REFUSED.items():
+        done = run(text=text)
+        told = done.stderr.splitlines()
+        if done.returncode != 2 or done.stdout or len(told) != 1:
+            yield f"{text[:40]!r} is refused by {done.returncode} {told}"
+        elif not told[0].startswith(f"examples/openvswitch: {why}"):
+            yield f"{text[:40]!r} is refused by {told[0]}, and not {why}"
+    for name, text in shows():
+        if not is_whole(text):
+            yield f"{name} is refused"
+        if any(map(is_whole, damaged(text))):
+            yield f"{name} is taken when it is damaged"
+
+
+def interrupt_wrong():
+    """What is wrong where Ctrl-C ends the script as it reads."""
+    pipes = dict.fromkeys(("stdin", "stdout", "stderr"), subprocess.PIPE)
+    process = subprocess.Popen(SCRIPT, text=True, **pipes)
+    process.stdin.write(TEXT * 200)  # more than a pipe holds, so that the script reads by now
+    process.stdin.flush()
+    process.send_signal(signal.SIGINT)
+    told = process.communicate()
+    if told != ("", "examples/openvswitch: stopped by Ctrl-C\n") or process.returncode != 130:
+        yield f"Ctrl-C: {process.returncode} {told}"
+
+
+def lookups_wrong():
+    done = run("--check")
+    counts = list(map(int, re.findall(r"flows; (\d+) lookups as in the journal, 0 others", done.stdout)))
+    if done.returncode or sum(counts) != LOOKUPS:
+        yield f"--check: {done.stdout}{done.stderr}"
+
+
+def folders(home):
+    """A folder for each journal of the examples, with its files as `--network` wants them."""
+    for line in (EXAMPLES / "index.txt").read_text().splitlines():
+        name, command, *args = line.replace("--net=", "--net ").replace(" --quiet", "").split(" ")
+        folder = home / name.removesuffix(".txt").replace("/", "-")
+        if name == "-" or command != "replay" or folder.exists():
+            continue
+        folder.mkdir()
+        if "--net" in args:
+            at = args.index("--net")
+            shutil.copy(EXAMPLES / args[at + 1], folder / "net.toml")
+            del args[at : at + 2]
+        policies = [f"policy{number or ''}.csv" for number in [None, *range(2, len(args))]]
+        for source, target in zip(args, ["schedule.csv", *policies]):
+            shutil.copy(EXAMPLES / source, folder / target)
+        for path in (EXAMPLES / name).parent.glob("show-*.txt"):
+            shutil.copy(path, folder)
+        shutil.copy(EXAMPLES / name, folder / "journal.txt")
+        yield folder
+
+
+def examples_wrong(home):
+    """What is wrong with the examples: all without failures are as told, the others refused."""
+    for folder in folders(home):
+        journal = (folder / "journal.txt").read_text()
+        fails = re.search(r"^  (link .* down|down .*)$", journal, re.M)
+        done = run("--network", str(folder))
+        print(f"    {(done.stdout or done.stderr).splitlines()[-1]}", flush=True)
+        if fails and (done.returncode != 2 or "no link or switch may fail" not in done.stderr):
+            yield f"{folder.name} isn't refused: {done.stdout}{done.stderr}"
+        if not fails and (done.returncode or ", 0 differences;" not in done.stdout):
+            yield f"{folder.name}: {done.stdout}{done.stderr}"
+
+
+def faults_wrong(home):
+    """What is wrong in a journal and isn't found."""
+    shutil.copytree(EXAMPLES / "campus", home / "fault")
+    journal = (EXAMPLES / "campus/journal.txt").read_text()
+    for right, (wrong, count) in FAULTS.items():
+        (home / "fault/journal.txt").write_text(journal.replace(right, wrong))
+        done = run("--network", str(home / "fault"))
+        if f" {count} differences;" not in done.stdout or done.returncode != bool(count):
+            yield f"campus with {wrong}: {done.stdout}{done.stderr}"
+
+
+def fat_tree_wrong(home):
+    """What is wrong with the fat tree of 300 rows and 1,000 packets."""
+    make = [sys.executable, str(HOME / "model/fat_tree.py"), str(home / "fat_tree")]
+    subprocess.run(make, check=True)
+    done = run("--network", str(home / "fat_tree"))
+    print(f"    {done.stdout.strip()}", flush=True)
+    wanted = r"fat_tree: 20 switches, .* 1000 packets .* 0 differences; not compared: none\n"
+    if done.returncode or not re.fullmatch(wanted, done.stdout):
+        yield f"model/fat_tree.py: {done.stdout}{done.stderr}"
+
+
+def told(check, *args):
+    """What a check finds wrong; how long it took is printed."""
+    start = time.monotonic()
+    wrong = list(check(*args))
+    seconds = time.monotonic() - start
+    print(f"{check.__name__.replace('_', ' ')}: {len(wrong)}, in {seconds:.0f} s", flush=True)
+    return wrong
+
+
+def main():
+    wrong = [*told(texts_wrong), *told(interrupt_wrong)]
+    if daemon.missing_tool():
+        print(f"skipped: all that needs Open vSwitch, as {daemon.missing_tool()} isn't installed")
+    else:
+        wrong += told(lookups_wrong)
+        with tempfile.TemporaryDirectory() as home:
+            for check in (examples_wrong, faults_wrong, fat_tree_wrong):
+                wrong += told(check, Path(home))
+    print("\n".join(wrong) or "all as it must be")
+    sys.exit(bool(wrong))
+
+
+main()
