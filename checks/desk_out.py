@@ -25,7 +25,7 @@ sys.dont_write_bytecode = True
 HOME = Path(__file__).resolve().parent.parent
 EXAMPLES = HOME / "crates/examples/data"
 sys.path.insert(0, str(EXAMPLES))
-from ovs import daemon, lookups, tables  # noqa: E402
+from bridges import daemon, lookups, tables  # noqa: E402
 
 SCRIPT = [sys.executable, str(EXAMPLES / "openvswitch")]
 LOOKUPS = 29
@@ -38,7 +38,7 @@ REFUSED = {
     TEXT[: TEXT.index("partitions")]: "line 13: the text ends where a line `partitions K` must",
     TEXT.replace("authority 1\n", "authority 1\n\n"): "line 3: a line `part N region WORD rules M`",
     TEXT.replace("authority 1\n", "authority 2\n"): "line 13: a line `part N region WORD rules M`",
-    TEXT.replace("/0000000", "/0000001", 1).replace(" 00000000", " 00000003", 1): "line 3: the word",
+    TEXT.replace("region 0", "region 3"): "line 3: the word has a bit that its mask leaves free",
     TEXT.replace("targets b", "targets c"): "line 14: the parts with the target b aren't those",
     TEXT.replace("drop", "out:64"): "line 11: a line `  rank R rule RULE word WORD ACTION` must",
     TEXT + "\n": "line 15: no line of a journal stands here: ''",
@@ -47,7 +47,6 @@ REFUSED = {
 }
 FAULTS = {
     "out 1 port 2": ("out 1 port 3", 2),
-    "rule 200 out:2": ("rule 100 out:2", 0),
     "hopped 3 b": ("hopped 3 c", 1),
     "dropped 3": ("out 3 port 2", 2),
     "rule 100 drop authority": ("rule 200 drop authority", 1),
@@ -107,14 +106,14 @@ def interrupt_wrong():
     process.stdin.flush()
     process.send_signal(signal.SIGINT)
     told = process.communicate()
-    if told != ("", "examples/openvswitch: stopped by Ctrl-C\n") or process.returncode != 130:
+    if told != ("", "examples/openvswitch: stopped\n") or process.returncode != -signal.SIGINT:
         yield f"Ctrl-C: {process.returncode} {told}"
 
 
 def lookups_wrong():
     done = run("--check")
-    counts = list(map(int, re.findall(r"flows; (\d+) lookups as in the journal, 0 others", done.stdout)))
-    if done.returncode or sum(counts) != LOOKUPS:
+    counts = re.findall(r"flows; (\d+) lookups as in the journal, 0 others", done.stdout)
+    if done.returncode or sum(map(int, counts)) != LOOKUPS:
         yield f"--check: {done.stdout}{done.stderr}"
 
 

@@ -6,11 +6,13 @@ import shutil
 import socket
 import subprocess
 import tempfile
+import time
 from pathlib import Path
 
 TOOLS = "ovsdb-tool ovsdb-server ovs-vswitchd ovs-vsctl ovs-ofctl".split()
 SCHEMA = "/usr/share/openvswitch/vswitch.ovsschema"
 DUMMY = ("type=dummy",)
+PATIENCE = 60.0  # seconds until a daemon is there
 
 
 class Failed(Exception):
@@ -36,7 +38,7 @@ class OpenVSwitch:
 
     def __enter__(self):
         self.home = tempfile.TemporaryDirectory(prefix="ovs-", ignore_cleanup_errors=True)
-        self.folder, self.started, self.control = self.home.name, [], None
+        self.folder, self.started, self.control, self.heard = self.home.name, [], None, ""
         places = dict.fromkeys(("OVS_RUNDIR", "OVS_LOGDIR", "OVS_DBDIR"), self.folder)
         self.env = {**os.environ, **places}
         try:
@@ -50,21 +52,32 @@ class OpenVSwitch:
         if self.control:
             self.control.close()
         for process in reversed(self.started):
-            os.kill(process, 15)
+            process.terminate()
+            process.wait()
         self.home.cleanup()
 
     def begin(self):
         self.run("ovsdb-tool", "create", "conf.db", SCHEMA)
         self.start("ovsdb-server", "conf.db", "--remote=punix:db.sock")
+        self.await_file("db.sock")
         self.configure("--no-wait", "init")
         self.start("ovs-vswitchd", "unix:db.sock", "--enable-dummy=override", "--disable-system")
-        self.control, self.heard = socket.socket(socket.AF_UNIX), ""
-        self.control.connect(f"{self.folder}/ovs-vswitchd.ctl")
 
     def start(self, name, *args):
-        own = [f"--pidfile={name}.pid", f"--unixctl={self.folder}/{name}.ctl", "--detach"]
-        self.run(name, *args, *own, f"--log-file={name}.log")
-        self.started.append(int(Path(self.folder, f"{name}.pid").read_text()))
+        """Starts a daemon in a session of its own, so that Ctrl-C doesn't end it."""
+        own = [f"--unixctl={self.folder}/{name}.ctl", f"--log-file={self.folder}/{name}.log"]
+        pipes = dict.fromkeys(("stdin", "stdout", "stderr"), subprocess.DEVNULL)
+        process = subprocess.Popen(
+            [name, *args, *own], cwd=self.folder, env=self.env, start_new_session=True, **pipes
+        )
+        self.started.append(process)
+
+    def await_file(self, name):
+        until = time.monotonic() + PATIENCE
+        while not Path(self.folder, name).exists():
+            if time.monotonic() > until or self.started[-1].poll() is not None:
+                raise Failed(f"{self.started[-1].args[0]} doesn't start")
+            time.sleep(0.01)
 
     def run(self, *args):
         """What a tool prints."""
@@ -74,7 +87,7 @@ class OpenVSwitch:
         return done.stdout
 
     def configure(self, *args):
-        self.run("ovs-vsctl", f"--db=unix:{self.folder}/db.sock", "--timeout=120", *args)
+        self.run("ovs-vsctl", f"--db=unix:{self.folder}/db.sock", "--timeout=120", "--retry", *args)
 
     def add(self, bridge, flows):
         Path(self.folder, "flows.txt").write_text("".join(f"{flow}\n" for flow in flows))
@@ -88,6 +101,9 @@ class OpenVSwitch:
 
     def ask(self, method, *args):
         """What ovs-vswitchd answers to a command of ovs-appctl, without starting that."""
+        if self.control is None:
+            self.control = socket.socket(socket.AF_UNIX)
+            self.control.connect(f"{self.folder}/ovs-vswitchd.ctl")
         self.control.sendall(json.dumps({"id": 0, "method": method, "params": args}).encode())
         while True:
             try:

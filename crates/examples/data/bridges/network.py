@@ -1,4 +1,5 @@
 """A network of bridges beside a journal: each packet goes through it from where it came in."""
+import csv
 import re
 import subprocess
 import sys
@@ -358,29 +359,50 @@ def differences(network, seen):
         yield f"ports: {dict(left)}, and not {dict(expected)}"
 
 
+def check_journal(folder, told, net, policies):
+    """Refuses a journal with failures, or one that isn't that of the folder's schedule."""
+    if told.failure:
+        raise tables.Refused(f"{folder}: no link or switch may fail, as in {told.failure}")
+    with open(folder / "schedule.csv", newline="") as file:
+        rows = [row[1:] for row in csv.reader(file) if row[:1] == ["packet"]]
+    if [[packet.at, *packet.header] for packet in told.packets.values()] != rows:
+        raise tables.Refused(f"{folder}: the journal has other packets than schedule.csv")
+    others = {row[0] for row in rows} - set(net.names)
+    if others:
+        raise tables.Refused(f"{folder}: packets come in at {others.pop()}, which isn't there")
+    if max(map(int, told.files.values())) > len(policies):
+        raise tables.Refused(f"{folder}: the journal has more policies than there are files")
+
+
+def play(network, packets):
+    """What a network does with each packet that isn't left out, and why others are."""
+    seen = [(packet, network.trace(packet)) for packet in packets if packet.left_out() is None]
+    reasons = Counter(packet.left_out() for packet in packets if packet.left_out())
+    reasons.update(TOO_FAR for _, found in seen if found.end == TOO_FAR)
+    return [(packet, found) for packet, found in seen if found.end != TOO_FAR], reasons
+
+
 def compare(folder):
     """Prints what a network made of a folder did with its packets; whether anything differs."""
     policies, path = files_of(folder)
     told = Told(journal_of(folder, policies, path).splitlines())
-    if told.failure:
-        raise tables.Refused(f"{folder}: no link or switch may fail, as in {told.failure}")
     packets = list(told.packets.values())
-    sent = [packet for packet in packets if packet.left_out() is None]
-    net = Net(path)
-    held = all_tables(folder, net, told, sorted({1, *(packet.version for packet in sent)}))
+    try:
+        net = Net(path)
+        check_journal(folder, told, net, policies)
+        held = all_tables(folder, net, told, sorted({1, *(packet.version for packet in packets)}))
+    except (LookupError, TypeError, ValueError, SystemExit) as fault:
+        raise tables.Refused(f"{folder} has a file that difane refuses: {fault}") from fault
     with Network() as network:
         network.load(net, held)
-        seen = [(packet, network.trace(packet)) for packet in sent]
-        compared = [(packet, found) for packet, found in seen if found.end != TOO_FAR]
-        wrong = list(differences(network, compared))
-    reasons = Counter(packet.left_out() for packet in packets if packet.left_out())
-    reasons.update(TOO_FAR for _, found in seen if found.end == TOO_FAR)
-    cached = sum(packet.cached for packet, _ in compared)
+        seen, reasons = play(network, packets)
+        wrong = list(differences(network, seen))
+    cached = sum(packet.cached for packet, _ in seen)
     others = ", ".join(f"{count} {why}" for why, count in reasons.items()) or "none"
     print(*wrong, sep="\n", end="\n" if wrong else "")
     print(
         f"{folder.resolve().name}: {len(net.names)} switches, {network.count} flows; "
-        f"{len(compared)} packets ({cached} of caches), {len(wrong)} differences; "
+        f"{len(seen)} packets ({cached} of caches), {len(wrong)} differences; "
         f"not compared: {others}",
         flush=True,
     )

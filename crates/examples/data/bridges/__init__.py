@@ -1,0 +1,1 @@
+"""The modules of examples/openvswitch: docs/OPENVSWITCH.md says what they do."""
