@@ -18,7 +18,7 @@ import plan_model  # noqa: E402
 
 SOLO = {"switch": [{"name": "s0", "ports": range(64)}]}
 TO_AUTHORITY, TO_PORT = 0, 1  # the priority bits of a packet's tag
-LOST, IN_FLIGHT = "lost or on their way", "decided by another version"
+LOST, IN_FLIGHT = "lost or on their way", "looked up by another version"
 UNSEEN, TOO_FAR = "with ports that a switch doesn't see", "over more links than Open vSwitch takes"
 PATIENCE = 5.0  # seconds until the ports have counted what was sent
 
@@ -146,13 +146,13 @@ class Packet:
     def __init__(self, number, at, header, version):
         self.number, self.at, self.header, self.version = number, at, header, version
         self.way, self.end = [at], None
-        self.decided_by, self.rule, self.cached = None, None, False
+        self.asked, self.decided_by, self.rule, self.cached = False, None, None, False
 
     def left_out(self):
         """Why the packet isn't sent, or none."""
         if self.end is None:
             return LOST
-        if self.decided_by not in (None, self.version):
+        if self.decided_by != self.version and (self.asked or self.decided_by):
             return IN_FLIGHT
         return None if flows.is_seen(self.header) else UNSEEN
 
@@ -201,6 +201,8 @@ class Told:
         match texts:
             case ["hopped", _, at]:
                 packet.way.append(at)
+            case ["tunnelled", *_]:
+                packet.asked = True
             case ["decided", _, version, "rule", rule, _, source, *_]:
                 packet.decided_by, packet.rule = int(version.removeprefix("v")), rule
                 packet.cached = source == "cache"
