@@ -98,17 +98,17 @@ def arguments(rng, kind, switch, links, packets):
     return [] if kind in ("flush", "drain") else [switch]
 
 
-def schedule_text(rng, names, links):
+def schedule_text(rng, names, links, kinds):
     lines, packets = ["event,arguments"], 0
     for _ in range(rng.randint(10, 60)):
-        kind = rng.choices(list(KINDS), list(KINDS.values()))[0]
+        kind = rng.choices(list(kinds), list(kinds.values()))[0]
         packets += kind == "packet"
         fields = arguments(rng, kind, rng.choice(names), links, packets)
         lines.append(",".join(map(str, [kind, *fields])))
     return lines
 
 
-def write_case(seed, folder):
+def write_case(seed, folder, kinds):
     rng = random.Random(seed)
     names = "abcde"[: rng.randint(2, 5)]
     pairs = [(one, other) for one in names for other in names if one < other]
@@ -116,7 +116,7 @@ def write_case(seed, folder):
     texts = {"n.toml": network_text(rng, names, links)}
     for file in range(1, POLICIES + 1):
         texts[f"p{file}.csv"] = policy_text(rng, len(names))
-    texts["s.csv"] = schedule_text(rng, names, links)
+    texts["s.csv"] = schedule_text(rng, names, links, kinds)
     for name, lines in texts.items():
         Path(folder, name).write_text("".join(line + "\n" for line in lines))
 
@@ -140,7 +140,7 @@ def tell(seed, model, program):
 def play(binary, seed):
     """What came of a case: "alike", "refused" or "different"."""
     with tempfile.TemporaryDirectory() as folder:
-        write_case(seed, folder)
+        write_case(seed, folder, KINDS)
         model = run([sys.executable, str(MODEL)], folder)
         program = run([binary, "replay"], folder)
     if model[0] == program[0] == NO_PLAN:
