@@ -4,13 +4,14 @@
 - Whole texts of `show` alone are taken: none that is empty, cut anywhere, or has a line too many or
   too few. What is refused is told in one line, with status 2; Ctrl-C is one line too.
 - `--check`: each lookup of the examples is as in the journals.
-- `--network`: each packet of the examples without failures, and of the folder that
-  `model/fat_tree.py` makes, ends as in the journal. Examples with failures are refused, and what is
-  wrong in a journal is found.
+- `--network`: each packet of the examples without failures, of some random schedules, and of the
+  folder that `model/fat_tree.py` makes, ends as in the journal. Folders that it can't play are
+  refused, what is wrong in a journal is found, and Ctrl-C leaves nothing running.
 
 The last two need Open vSwitch; where it isn't there the check says that they are skipped. It ends
 with 1 where anything is wrong.
 """
+import os
 import re
 import shutil
 import signal
@@ -45,11 +46,19 @@ REFUSED = {
     TEXT + TEXT: "line 15: no line of a journal stands here: 'switch b version 1'",
     TEXT.replace("\n", "\r\n"): "line 1: a line `switch NAME version 1` must stand here",
 }
+SEEDS = 10
 FAULTS = {
     "out 1 port 2": ("out 1 port 3", 2),
     "hopped 3 b": ("hopped 3 c", 1),
     "dropped 3": ("out 3 port 2", 2),
     "rule 100 drop authority": ("rule 200 drop authority", 1),
+}
+SPOILT = {
+    "schedule.csv": ("packet,d", "packet,c", "the journal has other packets than schedule.csv"),
+    "net.toml": ('name = "c"', "name = c", "has a file that difane refuses: Invalid value"),
+    "policy.csv": ("any,443", "any,x", "has a file that difane refuses: invalid literal"),
+    "show-b.txt": ("authority", "authorities", "show-b.txt line 2: a line `authority K` must"),
+    "journal.txt": ("  dropped 3", "  down d", "no link or switch may fail, as in row 6: hop 3"),
 }
 
 
@@ -162,6 +171,43 @@ def faults_wrong(home):
             yield f"campus with {wrong}: {done.stdout}{done.stderr}"
 
 
+def refusals_wrong(home):
+    """What is wrong with how folders are refused, whose files are no files of one network."""
+    for name, (right, spoilt, why) in SPOILT.items():
+        folder = home / f"spoilt-{name}"
+        shutil.copytree(EXAMPLES / "campus", folder)
+        (folder / name).write_text((folder / name).read_text().replace(right, spoilt))
+        if name == "policy.csv":
+            (folder / "show-a.txt").unlink()
+        done = run("--network", str(folder))
+        if done.returncode != 2 or why not in done.stderr or len(done.stderr.splitlines()) != 1:
+            yield f"campus with another {name}: {done.stdout}{done.stderr}"
+
+
+def stopping_wrong(home):
+    """What is wrong where Ctrl-C ends the script while Open vSwitch runs."""
+    (home / "own").mkdir()
+    command = [*SCRIPT, "--network", "fat_tree"]
+    env = {**os.environ, "TMPDIR": str(home / "own")}
+    process = subprocess.Popen(command, env=env, stdout=subprocess.PIPE, stderr=subprocess.STDOUT)
+    while process.poll() is None and not list((home / "own").glob("*/ovs-vswitchd.ctl")):
+        time.sleep(0.01)
+    process.send_signal(signal.SIGINT)
+    told = process.communicate()[0].decode()
+    if told != "examples/openvswitch: stopped\n" or list((home / "own").iterdir()):
+        yield f"Ctrl-C in a network: {told}, and it leaves {list((home / 'own').iterdir())}"
+
+
+def random_wrong():
+    done = subprocess.run(
+        [sys.executable, str(HOME / "model/fuzz_switches.py"), str(SEEDS)],
+        capture_output=True, text=True,
+    )
+    print(f"    {done.stdout.strip()}", flush=True)
+    if done.returncode:
+        yield f"model/fuzz_switches.py: {done.stdout}{done.stderr}"
+
+
 def fat_tree_wrong(home):
     """What is wrong with the fat tree of 300 rows and 1,000 packets."""
     make = [sys.executable, str(HOME / "model/fat_tree.py"), str(home / "fat_tree")]
@@ -189,8 +235,9 @@ def main():
     else:
         wrong += told(lookups_wrong)
         with tempfile.TemporaryDirectory() as home:
-            for check in (examples_wrong, faults_wrong, fat_tree_wrong):
+            for check in (examples_wrong, faults_wrong, refusals_wrong, stopping_wrong):
                 wrong += told(check, Path(home))
+            wrong += [*told(random_wrong), *told(fat_tree_wrong, Path(home))]
     print("\n".join(wrong) or "all as it must be")
     sys.exit(bool(wrong))
 
