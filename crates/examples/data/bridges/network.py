@@ -4,162 +4,21 @@ import re
 import subprocess
 import sys
 import time
-import tomllib
-from collections import Counter, defaultdict
+from collections import Counter
 from itertools import takewhile
 from pathlib import Path
 from typing import NamedTuple
 
 from . import daemon, flows, tables
+from .told import Told
+from .wiring import Net, Wiring
 
 MODEL = Path(__file__).resolve().parents[4] / "model"
 sys.path.insert(0, str(MODEL))
 import plan_model  # noqa: E402
 
-SOLO = {"switch": [{"name": "s0", "ports": range(64)}]}
-TO_AUTHORITY, TO_PORT = 0, 1  # the priority bits of a packet's tag
-LOST, IN_FLIGHT = "lost or on their way", "looked up by another version"
-UNSEEN, TOO_FAR = "with ports that a switch doesn't see", "over more links than Open vSwitch takes"
+TOO_FAR = "over more links than Open vSwitch takes"
 PATIENCE = 5.0  # seconds until the ports have counted what was sent
-
-
-# ---- the network and its flows
-
-
-class Net:
-    """The network's file. A switch is its number, which is that of its bridge too."""
-
-    def __init__(self, path):
-        net = tomllib.loads(path.read_text()) if path else SOLO
-        rows = net["switch"]
-        self.names = [row["name"] for row in rows]
-        self.owner = {port: at for at, row in enumerate(rows) for port in row.get("ports", [])}
-        self.near = [set() for _ in rows]
-        for row in net.get("link", []):
-            one, other = map(self.names.index, row["ends"])
-            self.near[one].add(other)
-            self.near[other].add(one)
-        self.toward = [self.ways_to(target) for target in range(len(rows))]
-
-    def ways_to(self, target):
-        """For each switch that can reach the target, the next one on its least shortest way."""
-        ahead, level = {target: target}, [target]
-        while level:
-            fresh = {}
-            for here in sorted(level):
-                for far in self.near[here] - ahead.keys():
-                    fresh.setdefault(far, here)
-            ahead.update(fresh)
-            level = list(fresh)
-        return ahead
-
-
-def tag_to_authority(version, target):
-    """A tag's 12 bits say the version, from 1 to 64, and the switch."""
-    return (version - 1) * 64 + target, TO_AUTHORITY
-
-
-def tag_to_port(port):
-    return port, TO_PORT
-
-
-class Wiring:
-    """The flows of one bridge of a network."""
-
-    def __init__(self, net, here):
-        self.net, self.here = net, here
-
-    def onward(self, target):
-        """The action that sends a packet over the next link to a switch; none without a way."""
-        ahead = self.net.toward[target].get(self.here)
-        return None if ahead is None else f"output:link{self.here}-{ahead}"
-
-    def tagged(self, tag, target):
-        """The actions that tag a packet and send it to a switch; it ends here without a way."""
-        onward = self.onward(target)
-        return f"mod_vlan_vid:{tag[0]},mod_vlan_pcp:{tag[1]},{onward}" if onward else "drop"
-
-    def deciding(self, action):
-        """What becomes of a packet that a rule of this action decides here."""
-        if action == "drop":
-            return "drop"
-        port = int(action.removeprefix("out:"))
-        owner = self.net.owner[port]
-        if owner == self.here:
-            return f"output:out{port}"
-        return self.tagged(tag_to_port(port), owner)
-
-    def asking(self, version, targets):
-        """How a packet is sent to the first of its authority switches that can be reached."""
-        numbers = map(self.net.names.index, targets)
-        target = next((to for to in numbers if self.here in self.net.toward[to]), None)
-        return "drop" if target is None else self.tagged(tag_to_authority(version, target), target)
-
-    def passing(self, tag, target, arriving):
-        """The flow for packets with a tag: what is done where they arrive, or the next link."""
-        actions = arriving if target == self.here else self.onward(target)
-        if actions:
-            match = f"dl_vlan={tag[0]},dl_vlan_pcp={tag[1]}"
-            yield flows.flow(flows.TAGGED, 0, 1, match, actions)
-
-    def looking_up(self, version):
-        """The actions that look a packet up by a version; it may leave by where it came in."""
-        return f"load:{version}->NXM_NX_REG3[],load:0->NXM_OF_IN_PORT[],resubmit(,1)"
-
-    def entering(self, versions):
-        """The flows of table 0: packets come in, or go from bridge to bridge with a tag."""
-        for version, targets in versions.items():
-            look = self.looking_up(version)
-            yield flows.flow(flows.TAGGED, 0, 2, f"in_port=in{self.here}-{version}", look)
-            for target in sorted(targets):
-                tag = tag_to_authority(version, target)
-                yield from self.passing(tag, target, f"strip_vlan,{look}")
-        for port, owner in self.net.owner.items():
-            yield from self.passing(tag_to_port(port), owner, f"strip_vlan,output:out{port}")
-
-    def held(self, version, own):
-        """The flows of table 2: the tables that the switch has for a version."""
-        for rule in own.rules:
-            match = f"reg3={version},{flows.match_of(rule.word)}"
-            yield flows.rule_flow(rule, 2, match, self.deciding(rule.action))
-        for region in own.elsewhere():
-            match = f"reg3={version},{flows.match_of(region.word)}"
-            yield flows.region_flow(region, 2, match, self.asking(version, region.targets))
-
-    def ports(self, versions):
-        """The ports of the bridge, with their settings."""
-        ends = [f"in{self.here}-{version}" for version in versions]
-        ends += [f"out{port}" for port, owner in self.net.owner.items() if owner == self.here]
-        links = {
-            f"link{self.here}-{far}": ("type=patch", f"options:peer=link{far}-{self.here}")
-            for far in sorted(self.net.near[self.here])
-        }
-        return {**dict.fromkeys(ends, daemon.DUMMY), **links}
-
-
-# ---- what a journal tells of packets
-
-
-class Packet:
-    """A packet of a journal: where it came in, and what became of it."""
-
-    def __init__(self, number, at, header, version):
-        self.number, self.at, self.header, self.version = number, at, header, version
-        self.way, self.end = [at], None
-        self.asked, self.decided_by, self.rule, self.cached = False, None, None, False
-
-    def left_out(self):
-        """Why the packet isn't sent, or none."""
-        if self.end is None:
-            return LOST
-        if self.decided_by != self.version and (self.asked or self.decided_by):
-            return IN_FLIGHT
-        return None if flows.is_seen(self.header) else UNSEEN
-
-    def is_as(self, seen):
-        """Whether this became of the packet; a cache takes it another way."""
-        same = (self.rule, self.end) == (seen.rule, seen.end)
-        return same and (self.cached or self.way == seen.way)
 
 
 class Seen(NamedTuple):
@@ -168,53 +27,6 @@ class Seen(NamedTuple):
     rule: str | None
     end: str
     way: list
-
-
-class Told:
-    """What a journal tells: its packets, each version's policy file, and the first failure."""
-
-    def __init__(self, journal):
-        self.packets, self.files, self.row, self.failure = {}, {1: "1"}, [], None
-        self.stamps, self.orders = defaultdict(lambda: 1), {}
-        for line in journal:
-            self.hear(line.split())
-
-    def hear(self, texts):
-        match texts:
-            case ["row", *_]:
-                self.row = texts
-            case ["link", *_, "down"] | ["down", _]:
-                self.failure = self.failure or " ".join(self.row)
-            case ["submitted", "file", file, "version", version]:
-                self.files[int(version)] = file
-            case ["sent", number, to, "stamp" | "open", _, _, _, version]:
-                self.orders[number] = to, int(version)
-            case ["delivered", number] if number in self.orders:
-                to, version = self.orders[number]
-                self.stamps[to] = max(version, self.stamps[to])
-            case ["entered", i, at]:
-                self.packets[i] = Packet(i, at, self.row[4:9], self.stamps[at])
-            case [_, i, *_] if i in self.packets:
-                self.hear_of(self.packets[i], texts)
-
-    def hear_of(self, packet, texts):
-        match texts:
-            case ["hopped", _, at]:
-                packet.way.append(at)
-            case ["tunnelled", *_]:
-                packet.asked = True
-            case ["decided", _, version, "rule", rule, _, source, *_]:
-                packet.decided_by, packet.rule = int(version.removeprefix("v")), rule
-                packet.cached = source == "cache"
-            case ["out", _, "port", port]:
-                packet.end = f"out by port {port}"
-            case ["dropped", _]:
-                packet.end = "dropped"
-            case ["stuck", _, at, _]:
-                packet.end = f"stuck at {at}"
-
-
-# ---- the network as it runs
 
 
 class Network(daemon.OpenVSwitch):
