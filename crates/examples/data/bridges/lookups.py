@@ -195,7 +195,7 @@ def compare(path):
         names = {rule.rank: rule.name for rule in held.rules}
         same, wrong, unseen = play(bridge, told, names)
     print(
-        f"{path.parent.name}/{path.name}: {rules} rules and {regions} regions in {count} "
+        f"{path.parent.resolve().name}/{path.name}: {rules} rules and {regions} regions in {count} "
         f"flows; {same} lookups as in the journal, {wrong} others, {unseen} not sent",
         flush=True,
     )
