@@ -293,7 +293,7 @@ def write_journal(folder, first):
 
 
 def write_case(seed, folder):
-    fuzz.write_case(seed, folder)
+    fuzz.write_case(seed, folder, fuzz.KINDS)
     for old, new in FILES.items():
         Path(folder, old).rename(Path(folder, new))
 

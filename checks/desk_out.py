@@ -229,6 +229,8 @@ def told(check, *args):
 
 
 def main():
+    if sys.argv[1:]:
+        sys.exit(__doc__)
     wrong = [*told(texts_wrong), *told(interrupt_wrong)]
     if daemon.missing_tool():
         print(f"skipped: all that needs Open vSwitch, as {daemon.missing_tool()} isn't installed")

@@ -1,1 +1,1 @@
-"""The modules of examples/openvswitch: docs/OPENVSWITCH.md says what they do."""
+"""The modules of examples/openvswitch: examples/bridges/README.md says what they do."""
