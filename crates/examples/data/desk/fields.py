@@ -1,0 +1,170 @@
+"""What is wrong with a field of a policy or of a schedule, in words.
+
+A function `*_fault` gives an empty text where the program reads the field.
+"""
+import re
+
+from .records import quoted
+
+MOST_PRIORITY, MOST_NUMBER, MOST_PORT = 4294967295, 999999999, 63
+PROTOCOLS = {
+    "igmp": 2, "gre": 47, "esp": 50, "ah": 51, "icmp6": 58, "icmpv6": 58, "ipv6-icmp": 58,
+    "ospf": 89, "vrrp": 112, "sctp": 132,
+}
+DROPS = ("deny", "block", "reject", "discard")
+PERMITS = ("permit", "allow", "accept", "forward", "pass", "out")
+
+
+def number_fault(text, most, least=0):
+    """Of a number in decimal digits."""
+    if text == "":
+        return "it is empty"
+    if text[0] in "+-":
+        return "it has a sign, and numbers have none"
+    if not re.fullmatch("[0-9]+", text):
+        return f"it is no number in digits, from {least} to {most}"
+    if len(text) > 1 and text[0] == "0":
+        return f"it has a leading zero: write {int(text)}"
+    if not least <= int(text) <= most:
+        return f"it isn't from {least} to {most}"
+    return ""
+
+
+def part_fault(part, most, what):
+    """Of a number within a field, which is named."""
+    fault = number_fault(part, most)
+    return fault and f"its {what} {quoted(part)} {fault.removeprefix('it ')}"
+
+
+def address_fault(text):
+    """Of one address."""
+    if text == "":
+        return "it is empty"
+    if text == "any":
+        return "a packet has one address, and not any"
+    if "/" in text:
+        return "a packet has one address, without a length"
+    if ":" in text:
+        return "addresses are those of IPv4 alone"
+    parts = text.split(".")
+    if not any(map(str.isdigit, parts)):
+        return "it is no address of four numbers joined by dots, and names aren't looked up"
+    if len(parts) != 4:
+        return f"an address has four numbers joined by dots, and here they are {len(parts)}"
+    return next(filter(None, (part_fault(part, 255, "number") for part in parts)), "")
+
+
+def prefix_fault(text):
+    """Of a block of addresses."""
+    base, slash, length = text.partition("/")
+    if text == "any":
+        return ""
+    if text == "*":
+        return "all addresses are any"
+    if slash and "." in length:
+        return "behind the slash stands a length from 0 to 32, and no mask"
+    if base == "any":
+        return "any has no length"
+    return address_fault(base) or (slash and part_fault(length, 32, "length"))
+
+
+def port_fault(text):
+    """Of a packet's port."""
+    if text == "any":
+        return "a packet has one port, and not any; one without ports, as of icmp, has 0"
+    if text == "":
+        return "it is empty; a packet without ports, as of icmp, has 0"
+    return number_fault(text, 65535)
+
+
+def range_fault(text):
+    """Of a range of ports."""
+    low, dash, high = text.partition("-")
+    if text == "any":
+        return ""
+    if text == "*":
+        return "all ports are any"
+    if text and re.fullmatch("[0-9]+[:.,][.]?[0-9]+", text):
+        return "the two ports of a range are joined by -"
+    if not dash or not low:
+        return number_fault(text, 65535)
+    fault = part_fault(low, 65535, "first port") or part_fault(high, 65535, "last port")
+    if not fault and int(low) > int(high):
+        return f"the range runs backwards: write {high}-{low}"
+    return fault
+
+
+def proto_fault(text):
+    """Of a packet's protocol."""
+    if text in ("icmp", "tcp", "udp"):
+        return ""
+    if text in PROTOCOLS:
+        return f"the names are icmp, tcp and udp; the number of {text} is {PROTOCOLS[text]}"
+    if text in ("any", "ip", "*"):
+        return "a packet has one protocol, by its name or number"
+    if text.isalpha():
+        return "the names are icmp, tcp and udp; others go by their number, from 0 to 255"
+    return number_fault(text, 255)
+
+
+def protocol_fault(text):
+    """Of a policy's protocol."""
+    if text in ("ip", "*", "all"):
+        return "all protocols are any"
+    return "" if text == "any" else proto_fault(text)
+
+
+def action_fault(text):
+    """Of an action."""
+    if text == "drop":
+        return ""
+    if text in DROPS:
+        return "the word is drop"
+    if text in PERMITS or text.startswith("fwd"):
+        return "a packet goes on by out: and a port, as in out:3"
+    if not text.startswith("out:"):
+        return f"it is neither drop nor out: and a port from 0 to {MOST_PORT}"
+    return part_fault(text.removeprefix("out:"), MOST_PORT, "port")
+
+
+def priority_fault(text):
+    return number_fault(text, MOST_PRIORITY)
+
+
+def count_fault(text):
+    """Of the number of a packet, of a message or of a place."""
+    return number_fault(text, MOST_NUMBER)
+
+
+def name_fault(text):
+    """Of the name of a switch as a network file has it."""
+    if text == "controller":
+        return "controller is what a journal calls the controller"
+    if len(text) > 16:
+        return f"it has {len(text)} letters, and 16 is the most"
+    if not re.fullmatch("[A-Za-z][A-Za-z0-9_-]*", text):
+        return "a name is a letter and then letters, digits, _ or - (ASCII)"
+    return ""
+
+
+def looks(text):
+    """What of a text is seen badly: blanks and capitals."""
+    front, behind = text[: -len(text.lstrip())], text[len(text.rstrip()) :]
+    blanks = [f"{blank_name(front)} in front"] * (front != "")
+    blanks += [f"{blank_name(behind)} behind"] * (behind != "")
+    found = [" and ".join(blanks) + ", and blanks count"] * (blanks != [])
+    found += ["capitals, and lower case alone is read"] * (text != text.lower())
+    return "it has " + ", and ".join(found)
+
+
+def blank_name(blank):
+    return "a line end" if set(blank) & set("\r\n") else "a blank"
+
+
+def fault_of(check, text):
+    """What is wrong with the text: first that it would be read without blanks and capitals."""
+    bare = text.strip().strip("\"'").strip().lower()
+    if bare != text and not check(bare):
+        seen = looks(text) if (text.strip(), text.lower()) != (text, text) else "it has quotes"
+        return f"{seen}: write {bare}"
+    return check(text)
