@@ -33,7 +33,7 @@ def unknown_keys(table, known, lines, what, start=None):
                 at = header_line(lines, key, 1)
             else:
                 at = key_line(lines, key, start)
-            near = get_close_matches(key.lower(), [one for one in known if one not in table], 1)
+            near = get_close_matches(key.lower(), known, 1)
             hint = f": perhaps {near[0]} is meant" if near else ""
             line = f", line {at}" if at else ""
             yield f"{what}{line}: the key {key} is unknown and passed over{hint}"

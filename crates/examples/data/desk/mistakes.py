@@ -7,6 +7,7 @@ import re
 import tomllib
 from collections import Counter
 from difflib import get_close_matches
+from pathlib import Path
 from textwrap import shorten
 
 from . import fields
@@ -84,6 +85,13 @@ NETWORK = {
     8: "both ends of a link are one switch",
     9: "an earlier link has these ends, in either order",
     10: "there are more than 64 switches or more than 256 links",
+}
+# What stands behind a line of Python's reader of TOML.
+TOML_HINTS = {
+    "Illegal character '\\n'": ": a text in quotes ends in its line",
+    "Cannot overwrite a value": ": the key stands twice",
+    "Invalid value": ": texts stand in double quotes, and each key has a value",
+    "Expected ']]' at the end of an array declaration": ", which begins with two brackets",
 }
 SETTINGS = {"leaf_rules": (1, 8192), "backups": (0, 3), "cache": (0, 65536)}
 MOST_ROOM = 8192
@@ -185,7 +193,7 @@ def size_or_absence(asked, name, code):
     if path.is_symlink():
         yield f"{name} is a link that leads nowhere"
     if not path.parent.is_dir():
-        yield f"there is no folder {path.parent}"
+        yield f"there is no folder {Path(name).parent}"
         return
     there = sorted(file.name for file in path.parent.iterdir() if file.is_file())
     near = [file for file in there if file.lower() == path.name.lower()]
@@ -247,8 +255,9 @@ def heading_fault(asked, name, heading, other, other_is):
     elif re.match(r"\s*(\[|#|\w+\s*=)", found):
         yield "this looks like TOML: the network's file stands behind --net"
     elif bare == heading:
-        blanks = any(one != one.strip() for one in record.fields)
-        yield fields.looks(found.replace(" ", "") + " " * blanks) + f": write {heading}"
+        seen = ["blanks, which count"] * any(one != one.strip() for one in record.fields)
+        seen += ["capitals, and lower case alone is read"] * (found != found.lower())
+        yield f"it has {' and '.join(seen) or 'quotes'}: write {heading}"
     elif found.replace(";", ",").replace("\t", ",") == heading:
         yield "the fields are joined by commas"
     elif len(record.fields) == heading.count(",") + 1 and record.fields[0][:1].isdigit():
@@ -265,7 +274,7 @@ def differing_columns(found, wanted):
         if one != name:
             yield f"its column {number} is {quoted(one)}, in the place of {name}"
             return
-    yield f"it has {len(found)} columns, in the place of {len(wanted)}"
+    yield f"{len(found)} of its columns are there, and {len(wanted)} are wanted"
 
 
 # Policies.
@@ -298,17 +307,24 @@ def explain_policy(asked, name, code, row):
 def wrong_width(asked, name, record, form):
     """How many fields there are, and the form that is wanted."""
     count, wanted = len(record.fields), form.count(",") + 1
-    yield f"it has {count} field{'s' * (count != 1)}, and {wanted} are wanted: {form}"
-    if count == 1 and not record.fields[0].strip():
-        yield "a line with blanks is a row; only a line with nothing is passed over"
-    elif record.fields[0].startswith("#"):
-        yield "there are no comments in these files"
+    yield f"it has {count} field{'s' * (count != 1)}, and its form has {wanted}: {form}"
+    if no_row_meant(record):
+        yield no_row_meant(record)
     elif count == 1 and re.search("[;\t]", record.fields[0]):
         yield "the fields are joined by commas"
     elif count == wanted + 1 and record.fields[-1] == "":
         yield "a comma behind the last field makes one more, which is empty"
     if record.last > record.line:
         yield from open_quote(asked, name)
+
+
+def no_row_meant(record):
+    """Of a line that isn't meant as a row, or an empty text."""
+    if record.fields[0].startswith("#"):
+        return "there are no comments in these files"
+    if not "".join(record.fields).strip():
+        return "a line with blanks is a row; only a line with nothing is passed over"
+    return ""
 
 
 def earlier_priority(asked, name, record):
@@ -424,10 +440,9 @@ def unknown_kind(record):
     if kind != bare and bare in FORMS:
         yield said_field("the kind", kind, f"{fields.looks(kind)}: write {bare}")
         return
-    if kind.startswith("#"):
-        yield "there are no comments in these files"
     near = get_close_matches(bare.replace("_", "").replace("-", ""), FORMS, 1)
-    yield f"the kind is {quoted(kind)}: {f'perhaps {near[0]}' if near else 'kinds are ' + ', '.join(FORMS)}"
+    hint = f"perhaps {near[0]}" if near else f"the kinds are {', '.join(FORMS)}"
+    yield f"the kind {quoted(kind)}: {no_row_meant(record) or hint}"
 
 
 def names_hint(asked, absent):
@@ -533,7 +548,10 @@ def no_document(path, name, lines):
     except ValueError as error:
         yield from toml_fault(str(error), name, lines)
         return
-    yield "Python's reader takes it: look for integers of more than 64 bits"
+    yield "Python's reader takes it, but for TOML here integers have at most 64 bits"
+    for at, line in enumerate(lines, 1):
+        if re.search(r"\d[\d_]{18}", line):
+            yield f"{name}, line {at}: {line.strip()}"
 
 
 def toml_fault(error, name, lines):
@@ -544,7 +562,8 @@ def toml_fault(error, name, lines):
         return
     at = int(place[1])
     yield f"{name}, line {at}, column {place[2]}: {quoted(lines[at - 1].rstrip())[1:-1]}"
-    yield f"TOML: {error[: place.start()]}"
+    said = error[: place.start()]
+    yield f"TOML: {said}" + TOML_HINTS.get(said, "")
 
 
 def type_name(value):
@@ -587,7 +606,7 @@ def switch_fault(net, table, code, number, place):
     if not isinstance(table, dict):
         return [f"it is {type_name(table)}, and a table is wanted"]
     if code == 2:
-        return ["the key name is absent", *passed_over(table, place)]
+        return ["the key name is absent", *network_cautions(place.lines, place.name)]
     if code in (3, 4):
         return [next(filter(None, value_faults(table, place)), "")]
     if code == 6:
@@ -595,12 +614,6 @@ def switch_fault(net, table, code, number, place):
         first = names.index(table["name"]) + 1
         return [f"{place.of('name')}: switch {first} has the name {table['name']} too"]
     return [f"{place.of('ports')}: {twice(net, table, number)}"]
-
-
-def passed_over(table, place):
-    """The keys that a switch has in the place of those that are wanted."""
-    if table:
-        yield f"its keys are {', '.join(table)}"
 
 
 def value_faults(table, place):
@@ -640,7 +653,7 @@ def link_fault(net, table, code, number, place):
     if not isinstance(table, dict):
         return [f"it is {type_name(table)}, and a table is wanted"]
     if code == 2:
-        return ["the key ends is absent", *passed_over(table, place)]
+        return ["the key ends is absent", *network_cautions(place.lines, place.name)]
     ends = table["ends"]
     if code == 3:
         if not isinstance(ends, list):
