@@ -2,9 +2,9 @@
 """Runs the checks that need no proof, and tells which failed: `checks/all.py [BIN]`.
 
 With BIN, the program as it was built (`rt run` leaves it in crates/difane/out/difane), it also lets
-each allocation fail in turn, sends packets through Open vSwitch, opens pages in a browser, and plays
-random schedules by the program and by the model; these take minutes. What a check prints is shown
-where it failed. It ends with 1 where one did.
+each allocation fail in turn, sends packets through Open vSwitch, opens pages in a browser, asks the
+program for each mistake, and plays random schedules by the program and by the model; these take
+minutes. What a check prints is shown where it failed. It ends with 1 where one did.
 """
 import subprocess
 import sys
@@ -12,7 +12,8 @@ from pathlib import Path
 
 HOME = Path(__file__).resolve().parent.parent
 ARGS = {"map.py": ["--check"], "desk.py": ["5"]}
-NO_CHECKS = {"all.py", "crates.py", "gate.py", "browser.py", "journal_text.py"}
+HELPERS = {"crates.py", "browser.py", "journal_text.py", "stand_in.py"}
+NO_CHECKS = {"all.py", "gate.py"} | HELPERS
 DEAR = {"desk_out.py", "fail_alloc.py", "view_check.py"}
 SEEDS = 100
 
@@ -26,6 +27,8 @@ def commands(program):
         yield "checks/fail_alloc.py", [program]
         yield "checks/desk_out.py", []
         yield "checks/view_check.py", []
+        yield "checks/mistakes.py", [program]
+        yield "checks/run.py", [program]
         yield "model/fuzz.py", [program, str(SEEDS)]
 
 
