@@ -55,6 +55,12 @@ def spelled(letter):
     return letter if letter.isprintable() else letter.encode("unicode_escape").decode()
 
 
+def quoted_if_odd(text):
+    """A field as it is, or in quotes where blanks, quotes or commas would be missed."""
+    plain = re.fullmatch(r"[!#-+\--~]+( [!#-+\--~]+)*", text)
+    return text if plain else quoted(text)[:200]
+
+
 # Networks.
 
 

@@ -1,0 +1,91 @@
+"""What the program was asked: its arguments as files, and what the network's file says of them."""
+import tomllib
+from difflib import get_close_matches
+
+from . import fields
+from .cautions import network_cautions
+from .records import lines_of, record_at
+from .row_mistakes import SCHEDULE_HEADING
+
+MOST_ROOM = 8192
+
+
+class Asked:
+    """The arguments of the program as files: names, their folder, and the network."""
+
+    def __init__(self, args, folder):
+        rest = [arg for arg in args[1:] if arg != "--quiet"]
+        self.folder, self.net_name = folder, None
+        for at, arg in enumerate(rest):
+            if arg.startswith("--net"):
+                joined = arg.startswith("--net=")
+                self.net_name = arg.removeprefix("--net=") if joined else rest[at + 1]
+                del rest[at : at + 2 - joined]
+                break
+        self.names = rest
+        self.schedule = rest[0] if args[0] == "replay" else None
+        self.policies = rest[1:] if args[0] == "replay" else rest[:1]
+
+    def path(self, name):
+        return self.folder / name
+
+    def role(self, name, code):
+        """Whether the name is that of the network, of the schedule or of a policy."""
+        if name == self.net_name:
+            return "network"
+        if name == self.schedule and not (code == 1 and self.has_heading(name)):
+            return "schedule"
+        return "policy"
+
+    def has_heading(self, name):
+        record = record_at(self.path(name), 0)
+        return record is not None and ",".join(record.fields) == SCHEDULE_HEADING
+
+    def network(self):
+        """What the network's file says, or an empty document where it can't be read."""
+        if self.net_name is None:
+            return {"switch": [{"name": "s0", "ports": list(range(64)), "authority": MOST_ROOM}]}
+        try:
+            return tomllib.loads("".join(lines_of(self.path(self.net_name))))
+        except (OSError, ValueError):
+            return {}
+
+    def switches(self):
+        return [row for row in self.network().get("switch", []) if isinstance(row, dict)]
+
+    def switch_names(self):
+        return [row["name"] for row in self.switches() if isinstance(row.get("name"), str)]
+
+    def said_network(self):
+        return self.net_name or "the network of one switch s0, since no network file is named"
+
+
+def network_hints(asked):
+    """What is passed over in the network's file."""
+    if asked.net_name is not None:
+        yield from network_cautions(lines_of(asked.path(asked.net_name)), asked.net_name)
+
+
+def names_hint(asked, absent):
+    """The names that there are, and what to look at."""
+    names = asked.switch_names()
+    bare = absent.strip()
+    alike = [name for name in names if name.lower() == bare.lower()]
+    if alike and bare != absent:
+        yield f"{fields.looks(absent)}: write {alike[0]}"
+    elif alike:
+        yield f"capitals count in names: write {alike[0]}"
+    elif near := get_close_matches(absent, names, 1):
+        yield f"perhaps {near[0]}"
+    yield f"look at {asked.said_network()}: its switches are {', '.join(names[:20]) or 'none'}"
+    yield from forgotten_network(asked)
+
+
+def forgotten_network(asked):
+    """The files beside the schedule that may be the network."""
+    if asked.net_name is None:
+        found = sorted(file.name for file in asked.folder.glob("*.toml"))
+        if "net.toml" in found:
+            yield "net.toml is there, and isn't named: add --net net.toml"
+        elif found:
+            yield f"a network file is named behind --net, and is net.toml for examples/run: there is {found[0]}"

@@ -1,0 +1,118 @@
+"""Explains the codes of policies."""
+from . import fields
+from .asked import network_hints
+from .records import lines_of, records_of
+from .row_mistakes import POLICY_HEADING, SCHEDULE_HEADING
+from .row_mistakes import at_row, heading_fault, said_field, said_record, wrong_width
+
+MOST_WORDS, MOST_LEAVES = 4096, 512
+POLICY = {
+    1: f"a policy's first record is {POLICY_HEADING}",
+    2: "a row of a policy has seven fields",
+    3: "the priority is no number from 0 to 4294967295",
+    4: "the source is no prefix",
+    5: "the destination is no prefix",
+    6: "the source ports are no range",
+    7: "the destination ports are no range",
+    8: "the protocol has no such name or number",
+    9: "the action is neither drop nor out: and a port from 0 to 63",
+    10: "an earlier row has the priority",
+    11: "a policy has at most 2,000 rows",
+    12: f"the rows have more than {MOST_WORDS:,} words together",
+    13: "the row's action names a port that the network lacks",
+    14: f"the tree of the policy has more than {MOST_LEAVES} leaves",
+    15: "fewer switches than are wanted have room for a partition",
+}
+POLICY_FIELDS = [
+    ("the priority", fields.priority_fault), ("the source", fields.prefix_fault),
+    ("the destination", fields.prefix_fault), ("the source ports", fields.range_fault),
+    ("the destination ports", fields.range_fault), ("the protocol", fields.protocol_fault),
+    ("the action", fields.action_fault),
+]
+
+
+def explain_policy(asked, name, code, row):
+    """What stands in a policy for a code and its row."""
+    if code == 1:
+        return heading_fault(asked, name, POLICY_HEADING, SCHEDULE_HEADING, "a schedule")
+    if code in (12, 14):
+        return too_many_words(asked, name, code)
+    if code == 15:
+        return no_room(asked, row)
+    record, lines = at_row(asked, name, row)
+    if record is None:
+        return lines
+    if code == 2:
+        lines += wrong_width(asked, name, record, POLICY_HEADING)
+    elif code == 10:
+        lines += earlier_priority(asked, name, record)
+    elif code == 13:
+        lines += absent_port(asked, record.fields[6])
+    elif 3 <= code <= 9:
+        what, check = POLICY_FIELDS[code - 3]
+        text = record.fields[code - 3]
+        lines.append(said_field(what, text, fields.fault_of(check, text)))
+    return lines
+
+
+def earlier_priority(asked, name, record):
+    """The earlier row of the same priority."""
+    for other in records_of(lines_of(asked.path(name))):
+        if other.row and other.row < record.row and other.fields[0] == record.fields[0]:
+            yield f"row {other.row} has the priority {record.fields[0]} too: line {other.line}"
+            return
+
+
+def absent_port(asked, action):
+    """The ports that the network has, and keys of its file that are passed over."""
+    port = action.removeprefix("out:")
+    owned = [(row["name"], row["ports"]) for row in asked.switches() if row.get("ports")]
+    said = "; ".join(f"{name} has {', '.join(map(str, ports))}" for name, ports in owned)
+    yield f"look at {asked.said_network()}: no switch has the port {port} ({said or 'none has any'})"
+    yield from network_hints(asked)
+
+
+def blocks_of(text):
+    """How many aligned blocks a range of ports has."""
+    low, _, high = (text if text != "any" else "0-65535").partition("-")
+    low, high, count = int(low), int(high or low), 0
+    while low <= high:
+        size = low & -low or 65536
+        while low + size - 1 > high:
+            size //= 2
+        low, count = low + size, count + 1
+    return count
+
+
+def too_many_words(asked, name, code):
+    """The rows with the most words."""
+    found = [
+        (blocks_of(record.fields[3]) * blocks_of(record.fields[4]), record)
+        for record in records_of(lines_of(asked.path(name)))
+        if record.row
+    ]
+    yield f"the rows of {name} have {sum(words for words, _ in found):,} words"
+    words, record = max(found, key=lambda one: one[0])
+    if words > 1:
+        yield f"the most are of row {record.row}, {words:,}: a range is as many as its aligned blocks"
+        yield said_record(name, record)
+    if code == 14:
+        most = asked.network().get("leaf_rules", 64)
+        yield f"look at {asked.said_network()}: leaf_rules is {most}, and a larger one has fewer leaves"
+
+
+def no_room(asked, part):
+    """What the network says of room, since the row is a partition's number here."""
+    wanted = 1 + asked.network().get("backups", 0)
+    yield f"here the row is the number of a partition, {part}; no row of the policy is wrong"
+    rooms = [(row["name"], row.get("authority", 0)) for row in asked.switches()]
+    with_room = [f"{name} for {room}" for name, room in rooms if room]
+    switches = f"{wanted} switch{'es' * (wanted > 1)}"
+    yield f"look at {asked.said_network()}: {switches} must have room for each partition's rules"
+    if not with_room:
+        yield "no switch has room: an authority has a key such as authority = 1000"
+    elif len(with_room) < wanted:
+        yield f"backups is {wanted - 1}, and the switches with room are: {', '.join(with_room)}"
+    else:
+        yield f"room, in rules: {', '.join(with_room)}; give more authority, or smaller leaf_rules"
+    yield from network_hints(asked)

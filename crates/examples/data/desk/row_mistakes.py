@@ -1,0 +1,107 @@
+"""What is wrong with a heading or a row, of a policy as of a schedule."""
+import re
+
+from .records import is_open, lines_of, quoted, quoted_if_odd, record_at
+
+POLICY_HEADING = "priority,src,dst,sport,dport,proto,action"
+SCHEDULE_HEADING = "event,arguments"
+FORMS = {
+    "packet": "packet,S,SRC,DST,SPORT,DPORT,PROTO",
+    **{kind: f"{kind},I" for kind in ("hop", "lose")},
+    **{kind: f"{kind},N" for kind in ("deliver", "forget")},
+    "expire": "expire,S,K",
+    "update": "update,F",
+    **{kind: f"{kind},S,T" for kind in ("linkdown", "linkup")},
+    **{kind: f"{kind},S" for kind in ("crash", "restart", "confirm", "resend")},
+    **{kind: kind for kind in ("flush", "drain")},
+}
+
+
+def said_record(name, record):
+    """The line and the text of a record."""
+    text = ",".join(map(quoted_if_odd, record.fields))
+    lines = f"line {record.line}"
+    if record.last > record.line:
+        lines = f"lines {record.line} to {record.last}, since a field in quotes has line ends"
+    return f"{name}, {lines}: {text}"
+
+
+def said_field(what, text, fault):
+    """The field in quotes, and what is wrong with it."""
+    return f"{what} {quoted(text)[:80]}: {fault}"
+
+
+def at_row(asked, name, row):
+    """The record of a row, and the lines that begin an explanation."""
+    record = record_at(asked.path(name), row)
+    lines = [] if record is None else [said_record(name, record)]
+    if record is not None and record.line != row + 1:
+        lines.append(f"row {row} is line {record.line}: the heading and blank lines are no rows")
+    return record, lines
+
+
+def open_quote(asked, name):
+    """A line with one quote too few, from which on all is one field."""
+    for at, line in enumerate(lines_of(asked.path(name)), 1):
+        if is_open(line):
+            yield f"{name}, line {at}: a double quote is opened and isn't closed in its line"
+            return
+
+
+def heading_fault(asked, name, heading, other, other_is):
+    """Of a file without its heading: what stands in its place."""
+    record = record_at(asked.path(name), 0)
+    if record is None:
+        yield f"{name} has no record: it is empty, or has blank lines alone"
+        return
+    found = ",".join(record.fields)
+    yield f"{name}, line {record.line}: {','.join(map(quoted_if_odd, record.fields))}"
+    bare = re.sub(r"[\s\"']", "", found).lower()
+    if found == other:
+        yield f"this is {other_is}: the schedule is named first, and then the policies"
+    elif re.match(r"\s*(\[|#|\w+\s*=)", found):
+        yield "this looks like TOML: the network's file stands behind --net"
+    elif bare == heading:
+        seen = ["blanks, which count"] * any(one != one.strip() for one in record.fields)
+        seen += ["capitals, and lower case alone is read"] * (found != found.lower())
+        yield f"it has {' and '.join(seen) or 'quotes'}: write {heading}"
+    elif found.replace(";", ",").replace("\t", ",") == heading:
+        yield "the fields are joined by commas"
+    elif len(record.fields) == heading.count(",") + 1 and record.fields[0][:1].isdigit():
+        yield f"the first record is a row: put {heading} before it"
+    elif heading == SCHEDULE_HEADING and record.fields[0] in FORMS:
+        yield f"the first record is a row: put {heading} before it"
+    else:
+        yield from differing_columns(record.fields, heading.split(","))
+
+
+def differing_columns(found, wanted):
+    """The first column that has another name, or how many there are."""
+    for number, (one, name) in enumerate(zip(found, wanted), 1):
+        if one != name:
+            yield f"its column {number} is {quoted(one)}, in the place of {name}"
+            return
+    yield f"{len(found)} of its columns are there, and {len(wanted)} are wanted"
+
+
+def wrong_width(asked, name, record, form):
+    """How many fields there are, and the form that is wanted."""
+    count, wanted = len(record.fields), form.count(",") + 1
+    yield f"it has {count} field{'s' * (count != 1)}, and its form has {wanted}: {form}"
+    if no_row_meant(record):
+        yield no_row_meant(record)
+    elif count == 1 and re.search("[;\t]", record.fields[0]):
+        yield "the fields are joined by commas"
+    elif count == wanted + 1 and record.fields[-1] == "":
+        yield "a comma behind the last field makes one more, which is empty"
+    if record.last > record.line:
+        yield from open_quote(asked, name)
+
+
+def no_row_meant(record):
+    """Of a line that isn't meant as a row, or an empty text."""
+    if record.fields[0].startswith("#"):
+        return "there are no comments in these files"
+    if not "".join(record.fields).strip():
+        return "a line with blanks is a row; only a line with nothing is passed over"
+    return ""

@@ -1,0 +1,82 @@
+"""Explains arguments that are off the grammar of the command line."""
+from difflib import get_close_matches
+from textwrap import shorten
+
+from . import fields
+from .records import quoted, quoted_if_odd
+
+
+def explain_words(args):
+    """The first rule of the command line that the arguments break."""
+    said = " ".join(map(quoted_if_odd, args))
+    yield f"the arguments are off the grammar: {shorten(said, 90, placeholder=' ..') or 'none'}"
+    yield next(filter(None, word_faults(args)), "options stand in front of the names or behind them")
+
+
+def word_faults(args):
+    """The rules of the command line in turn; empty texts for those that hold."""
+    forms = {
+        "replay": "replay SCHEDULE POLICY.. [--net NET] [--quiet]",
+        "compile": "compile POLICY [--net NET]",
+        "show": "show POLICY SWITCH [--net NET]",
+        "load": "load N",
+    }
+    if not args:
+        yield "the commands are " + ", ".join(forms)
+        return
+    command, *rest = args
+    if command not in forms:
+        near = get_close_matches(command.strip("-").lower(), forms, 1)
+        hint = f": perhaps {near[0]}" if near else ""
+        yield f"{quoted(command)} is no command{hint}; these are {', '.join(forms)}, without --help"
+        return
+    yield from option_faults(rest, command)
+    names = names_among(rest)
+    if command == "load":
+        yield from (load_fault(names),)
+    count = len(names)
+    if command == "replay" and count > 65:
+        yield f"{count - 1} policies are named, and 64 is the most"
+    wanted = {"replay": "a schedule and a policy", "compile": "one policy", "show": "a policy and a switch"}
+    if command in wanted:
+        said = f"{count} name{'s are' if count != 1 else ' is'} there"
+        yield f"{command} takes {wanted[command]}, and {said}: {forms[command]}" * (
+            not {"replay": count >= 2, "compile": count == 1, "show": count == 2}[command]
+        )
+
+
+def names_among(rest):
+    """The arguments that are no options, nor the network behind one."""
+    return [
+        arg for at, arg in enumerate(rest)
+        if not arg.startswith("-") and not (at and rest[at - 1] == "--net")
+    ]
+
+
+def option_faults(rest, command):
+    """What is wrong with the options."""
+    if "" in rest:
+        yield "an argument is empty"
+    for option in ("--net", "--quiet"):
+        if sum(arg == option or arg.startswith(f"{option}=") for arg in rest) > 1:
+            yield f"{option} stands twice"
+    if rest and rest[-1] == "--net" or "--net=" in rest:
+        yield "behind --net stands the name of a network's file"
+    if "--quiet" in rest and command != "replay":
+        yield "--quiet goes with replay alone"
+    if command == "load" and any(arg.startswith("--net") for arg in rest):
+        yield "load takes no network"
+    for at, arg in enumerate(rest):
+        known = arg in ("--net", "--quiet") or arg.startswith("--net=")
+        if arg.startswith("-") and not known:
+            near = get_close_matches(arg, ["--net", "--quiet"], 1)
+            hint = f", perhaps {near[0]}" if near else ""
+            yield f"{quoted(arg)} is no option{hint}, and no name begins with a dash: write ./{arg}"
+
+
+def load_fault(names):
+    """What is wrong with the number of a load case."""
+    if len(names) != 1:
+        return "load takes one number, from 1 to 1000"
+    fault = fields.fault_of(lambda text: fields.number_fault(text, 1000, 1), names[0])
+    return fault and f"the number is {quoted(names[0])}: {fault}"
