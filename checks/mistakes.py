@@ -3,7 +3,7 @@
 
 Each case of checks/mistakes.toml has the program's line and what desk/mistakes.py says behind it.
 Where BIN is given, the line is that of this program; otherwise it is that of `model/refusals.py`.
-`checks/mistakes.py --write` puts the present lines into the table. It ends with 1 where one differs.
+`checks/mistakes.py --write` puts the present ones into the table. It ends with 1 where one differs.
 
 A case has `run`, the arguments, and files that differ from those of BASES: `policy`, `policy2` and
 `schedule` are rows behind a heading, `net` is a text, `files` are whole files by their names,
@@ -120,7 +120,7 @@ def main():
     twice = [name for name, count in Counter(case["is"] for case in cases).items() if count > 1]
     print("".join(f"two cases are called {name}\n" for name in twice), end="")
     source = program or "model/refusals.py"
-    print(f"{len(cases)} mistakes, {wrong} explained otherwise; the program's lines are of {source}")
+    print(f"{len(cases)} mistakes, {wrong} told otherwise; the program's lines are of {source}")
     sys.exit(wrong + len(twice) > 0)
 
 

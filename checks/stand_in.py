@@ -49,7 +49,8 @@ def end_of(text, status):
     """How a run ended, and its lines on standard error."""
     if len(text) > LIMIT:
         return "run=no-answer", "checked: no-answer: the program wrote more than 1048576 bytes\n"
-    return f"run=ended status={status} runners=1 races=unchecked", f"checked: ended status={status}\n"
+    end = f"ended status={status}"
+    return f"run={end} runners=1 races=unchecked", f"checked: {end}\n"
 
 
 def try_one(args, folder):

@@ -30,6 +30,10 @@ TOML_HINTS = {
     "Invalid value": ": texts stand in double quotes, and each key has a value",
     "Expected ']]' at the end of an array declaration": ", which begins with two brackets",
 }
+TYPES = {
+    bool: "a boolean", int: "an integer", float: "a float", str: "a text", list: "an array",
+    dict: "a table",
+}
 SETTINGS = {"leaf_rules": (1, 8192), "backups": (0, 3), "cache": (0, 65536)}
 
 
@@ -44,7 +48,8 @@ def explain_network(asked, name, code, row):
     key, number = ("link", row - LINK_ROWS) if row > LINK_ROWS else ("switch", row)
     start = header_line(lines, key, number)
     table = net[key][number - 1]
-    what = f"{key} {number} of {name}" + (f", line {start}: {lines[start - 1].strip()}" if start else "")
+    what = f"{key} {number} of {name}"
+    what += f", line {start}: {lines[start - 1].strip()}" if start else ""
     explainer = link_fault if key == "link" else switch_fault
     return [what, *explainer(net, table, code, number, Place(name, lines, start))]
 
@@ -99,8 +104,7 @@ def toml_fault(error, name, lines):
 
 def type_name(value):
     """What a value is, in TOML's words."""
-    names = {bool: "a boolean", int: "an integer", float: "a float", str: "a text", list: "an array"}
-    return names.get(type(value), "a table" if isinstance(value, dict) else "a date or a time")
+    return TYPES.get(type(value), "a date or a time")
 
 
 def number_said(value, least, most):

@@ -68,7 +68,8 @@ def absent_port(asked, action):
     port = action.removeprefix("out:")
     owned = [(row["name"], row["ports"]) for row in asked.switches() if row.get("ports")]
     said = "; ".join(f"{name} has {', '.join(map(str, ports))}" for name, ports in owned)
-    yield f"look at {asked.said_network()}: no switch has the port {port} ({said or 'none has any'})"
+    said = said or "none has any"
+    yield f"look at {asked.said_network()}: no switch has the port {port} ({said})"
     yield from network_hints(asked)
 
 
@@ -94,11 +95,11 @@ def too_many_words(asked, name, code):
     yield f"the rows of {name} have {sum(words for words, _ in found):,} words"
     words, record = max(found, key=lambda one: one[0])
     if words > 1:
-        yield f"the most are of row {record.row}, {words:,}: a range is as many as its aligned blocks"
+        yield f"the most are of row {record.row}, {words:,}: a range has one for each aligned block"
         yield said_record(name, record)
     if code == 14:
         most = asked.network().get("leaf_rules", 64)
-        yield f"look at {asked.said_network()}: leaf_rules is {most}, and a larger one has fewer leaves"
+        yield f"look at {asked.said_network()}: leaf_rules is {most}; a larger one has fewer leaves"
 
 
 def no_room(asked, part):

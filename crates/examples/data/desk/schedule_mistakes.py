@@ -7,7 +7,8 @@ from .records import quoted
 from .row_mistakes import FORMS, POLICY_HEADING, SCHEDULE_HEADING
 from .row_mistakes import at_row, heading_fault, no_row_meant, said_field, wrong_width
 
-SWITCH_FIELDS = {form.split(",")[0]: form.count("S,T") + 1 for form in FORMS.values() if ",S" in form}
+# How many fields behind a kind name switches.
+SWITCH_FIELDS = {kind: form.count("S,T") + 1 for kind, form in FORMS.items() if ",S" in form}
 SCHEDULE = {
     1: f"a schedule's first record is {SCHEDULE_HEADING}",
     2: "a row of this kind has another number of fields",
@@ -45,7 +46,8 @@ def explain_schedule(asked, name, code, row):
         lines.append(f"the switch is {quoted(absent)}")
         lines += names_hint(asked, absent)
     elif code == 5:
-        lines.append(said_field("the number", left[-1], fields.fault_of(fields.count_fault, left[-1])))
+        fault = fields.fault_of(fields.count_fault, left[-1])
+        lines.append(said_field("the number", left[-1], fault))
     elif code == 6:
         lines += wrong_header(left[1:])
     elif code == 7:

@@ -5,44 +5,48 @@ from textwrap import shorten
 from . import fields
 from .records import quoted, quoted_if_odd
 
+# Of each command its form, what its names are, and how many they are at least and at most.
+COMMANDS = {
+    "replay": ("replay SCHEDULE POLICY.. [--net NET] [--quiet]", "a schedule and policies", 2, 65),
+    "compile": ("compile POLICY [--net NET]", "one policy", 1, 1),
+    "show": ("show POLICY SWITCH [--net NET]", "a policy and a switch", 2, 2),
+    "load": ("load N", "a number", 1, 1),
+}
+
 
 def explain_words(args):
     """The first rule of the command line that the arguments break."""
     said = " ".join(map(quoted_if_odd, args))
     yield f"the arguments are off the grammar: {shorten(said, 90, placeholder=' ..') or 'none'}"
-    yield next(filter(None, word_faults(args)), "options stand in front of the names or behind them")
+    otherwise = "options stand in front of the names or behind them"
+    yield next(filter(None, word_faults(args)), otherwise)
 
 
 def word_faults(args):
     """The rules of the command line in turn; empty texts for those that hold."""
-    forms = {
-        "replay": "replay SCHEDULE POLICY.. [--net NET] [--quiet]",
-        "compile": "compile POLICY [--net NET]",
-        "show": "show POLICY SWITCH [--net NET]",
-        "load": "load N",
-    }
     if not args:
-        yield "the commands are " + ", ".join(forms)
+        yield f"the commands are {', '.join(COMMANDS)}"
         return
     command, *rest = args
-    if command not in forms:
-        near = get_close_matches(command.strip("-").lower(), forms, 1)
+    if command not in COMMANDS:
+        near = get_close_matches(command.strip("-").lower(), COMMANDS, 1)
         hint = f": perhaps {near[0]}" if near else ""
-        yield f"{quoted(command)} is no command{hint}; these are {', '.join(forms)}, without --help"
+        yield f"{quoted(command)} is no command{hint}; these are {', '.join(COMMANDS)}"
         return
     yield from option_faults(rest, command)
     names = names_among(rest)
-    if command == "load":
-        yield from (load_fault(names),)
-    count = len(names)
-    if command == "replay" and count > 65:
-        yield f"{count - 1} policies are named, and 64 is the most"
-    wanted = {"replay": "a schedule and a policy", "compile": "one policy", "show": "a policy and a switch"}
-    if command in wanted:
-        said = f"{count} name{'s are' if count != 1 else ' is'} there"
-        yield f"{command} takes {wanted[command]}, and {said}: {forms[command]}" * (
-            not {"replay": count >= 2, "compile": count == 1, "show": count == 2}[command]
-        )
+    yield load_fault(names) if command == "load" else count_fault(command, len(names))
+
+
+def count_fault(command, count):
+    """What is wrong with the number of names."""
+    form, what, least, most = COMMANDS[command]
+    if least <= count <= most:
+        return ""
+    if count > most > least:
+        return f"{count - 1} policies are named, and {most - 1} is the most"
+    said = "1 name is" if count == 1 else f"{count} names are"
+    return f"{command} takes {what}, and {said} there: {form}"
 
 
 def names_among(rest):
