@@ -207,4 +207,5 @@ def link_fault(net, table, code, number, place):
     if code == 8:
         return [f"{place.of('ends')}: both ends are {ends[0]}"]
     first = [set(row["ends"]) for row in net["link"]].index(set(ends)) + 1
-    return [f"{place.of('ends')}: link {first} joins {ends[0]} and {ends[1]} too: one link is both ways"]
+    said = f"link {first} joins {ends[0]} and {ends[1]} too, and one link is both ways"
+    return [f"{place.of('ends')}: {said}"]

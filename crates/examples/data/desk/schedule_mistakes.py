@@ -99,5 +99,6 @@ def absent_link(asked, ends):
         yield f"both ends are {one}"
     links = asked.network().get("link", [])
     far = [end for link in links if one in link["ends"] for end in link["ends"] if end != one]
-    yield f"look at {asked.said_network()}: the links of {one} lead to {', '.join(far) or 'nothing'}"
+    said = ", ".join(far) or "nothing"
+    yield f"look at {asked.said_network()}: the links of {one} lead to {said}"
     yield from network_hints(asked)
