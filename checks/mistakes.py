@@ -9,7 +9,8 @@ A case has `run`, the arguments, and files that differ from those of BASES: `pol
 `schedule` are rows behind a heading, `net` is a text, `files` are whole files by their names,
 `latin` too, in Latin-1, `absent` names files that are not there, and `folders` has folders. `many`
 says how often a row, in which `{}` is its number, stands behind a file. A case without a line of
-the program has the cautions of its folder.
+the program has the cautions of its folder. Where `line` is there, it is the program's: no file
+causes it.
 """
 import re
 import shlex
@@ -88,7 +89,7 @@ def answer(program, case):
     with tempfile.TemporaryDirectory() as name:
         folder, args = Path(name), shlex.split(case["run"])
         write_files(case, folder)
-        line = told(program, args, folder)
+        line = case.get("line") or told(program, args, folder)
         says = explain(line, args, folder) if line else folder_cautions(folder, "schedule.csv")
         return line, "".join(f"{text}\n" for text in says)
 

@@ -12,6 +12,11 @@ PROTOCOLS = {
     "ospf": 89, "vrrp": 112, "sctp": 132,
 }
 DROPS = ("deny", "block", "reject", "discard")
+SERVICES = {
+    "ftp": 21, "ssh": 22, "telnet": 23, "smtp": 25, "dns": 53, "domain": 53, "http": 80, "www": 80,
+    "ntp": 123, "snmp": 161, "bgp": 179, "https": 443,
+}
+QUOTES = re.compile("[\"'`]")
 PERMITS = ("permit", "allow", "accept", "forward", "pass", "out")
 
 
@@ -80,6 +85,8 @@ def port_fault(text):
 def range_fault(text):
     """Of a range of ports."""
     low, dash, high = text.partition("-")
+    if text in SERVICES:
+        return f"names of services aren't read: {text} is {SERVICES[text]}"
     if text == "any":
         return ""
     if text == "*":
@@ -148,12 +155,15 @@ def name_fault(text):
 
 
 def looks(text):
-    """What of a text is seen badly: blanks and capitals."""
-    front, behind = text[: -len(text.lstrip())], text[len(text.rstrip()) :]
+    """What of a text is seen badly: blanks, capitals and quotes."""
+    inside = text.strip()
+    front, behind = text[: len(text) - len(text.lstrip())], text[len(text.rstrip()) :]
     blanks = [f"{blank_name(front)} in front"] * (front != "")
     blanks += [f"{blank_name(behind)} behind"] * (behind != "")
+    blanks += ["a blank inside"] * (len(inside.split()) > 1)
     found = [" and ".join(blanks) + ", and blanks count"] * (blanks != [])
     found += ["capitals, and lower case alone is read"] * (text != text.lower())
+    found += ["quotes, which aren't read"] * bool(QUOTES.search(text))
     return "it has " + ", and ".join(found)
 
 
@@ -163,8 +173,7 @@ def blank_name(blank):
 
 def fault_of(check, text):
     """What is wrong with the text: first that it would be read without blanks and capitals."""
-    bare = text.strip().strip("\"'").strip().lower()
+    bare = QUOTES.sub("", "".join(text.split())).lower()
     if bare != text and not check(bare):
-        seen = looks(text) if (text.strip(), text.lower()) != (text, text) else "it has quotes"
-        return f"{seen}: write {bare}"
+        return f"{looks(text)}: write {bare}"
     return check(text)

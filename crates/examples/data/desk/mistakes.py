@@ -3,6 +3,7 @@
 `explain(told, args, folder)` takes the line that the program wrote, the arguments that it had, and
 the folder in which their file names stand. Nothing here decides whether a file is refused.
 """
+import os
 import re
 from difflib import get_close_matches
 from pathlib import Path
@@ -35,6 +36,7 @@ def explain(told, args, folder):
         lines = [f"row {row} takes a step before which 990,000 messages were sent: it stops there"]
     else:
         lines = [STATUSES[told]] if told in STATUSES else []
+        lines += unreadable(args, folder) if told == "difane: read fault" else []
     return ["  " + line for line in lines]
 
 
@@ -53,6 +55,15 @@ def explain_refusal(asked, name, code, row):
         "policy": (POLICY, explain_policy),
     }[role]
     return [f"code {code} of a {role}: {codes[code]}", *explainer(asked, name, code, row)]
+
+
+def unreadable(args, folder):
+    """The files that can't be read, since the line doesn't name them."""
+    for name in [arg.removeprefix("--net=") for arg in args[1:]]:
+        if (folder / name).is_dir():
+            yield f"{name} is a folder"
+        elif (folder / name).exists() and not os.access(folder / name, os.R_OK):
+            yield f"{name} may not be read"
 
 
 def absent_switch(asked, name):

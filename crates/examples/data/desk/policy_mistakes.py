@@ -42,7 +42,9 @@ def explain_policy(asked, name, code, row):
     record, lines = at_row(asked, name, row)
     if record is None:
         return lines
-    if code == 2:
+    if code == 11:
+        lines.append("this is the first row that is too many")
+    elif code == 2:
         lines += wrong_width(asked, name, record, POLICY_HEADING)
     elif code == 10:
         lines += earlier_priority(asked, name, record)

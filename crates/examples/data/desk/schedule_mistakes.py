@@ -52,6 +52,8 @@ def explain_schedule(asked, name, code, row):
         lines += wrong_header(left[1:])
     elif code == 7:
         lines += wrong_file(asked, left[0])
+    elif code == 8:
+        lines.append("this is the first row that is too many")
     elif code == 9:
         lines += absent_link(asked, left)
     return lines
