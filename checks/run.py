@@ -122,8 +122,8 @@ def examples_stay_as_they_are(desk):
 @case
 def one_build_serves_all(desk):
     desk.add_rt()
-    own, other = desk.copy("campus", "own"), desk.copy("crash", "other")
-    _, errors, status = desk.run("own", "other", "--anew")
+    own, other = desk.copy("campus", "a/own"), desk.copy("crash", "b/own")
+    _, errors, status = desk.run("a/own", "b/own", "--anew")
     assert status == 0 and errors.count("builds the program") == 1
     assert (own / "journal.txt").read_text() == text("campus/journal.txt")
     assert (other / "journal.txt").read_text() == text("crash/journal.txt")
@@ -207,7 +207,8 @@ def one_example_has_a_caution(desk):
 def wrong_words_are_one_line(desk):
     for words in (
         ["nowhere"], ["campus", "show"], ["compile"], ["--quite"], ["campus", "replay", "crash"],
-        ["load"], ["campus", "--program"], ["leaves"], ["campus", "--program", "nowhere"],
+        ["load"], ["load", "5", "compile"], ["campus", "compile", "--quiet"],
+        ["campus", "--program"], ["leaves"], ["campus", "--program", "nowhere"],
     ):
         out, errors, status = desk.run(*words)
         assert out == "" and errors.count("\n") == 1 and status == 2, errors
