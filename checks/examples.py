@@ -2,19 +2,38 @@
 """Compares the texts of examples/ with the models, and the README's picture with `examples/draw`.
 
 Plans and tables are those of `model/plan_model.py`, and what replays print is that of
-`model/slow_replay.py`. The gate compares the same texts with the program (crates/examples).
+`model/slow_replay.py`. The gate compares the same texts with the program (crates/examples). What
+the gate told of commands that are refused is what `model/refusals.py` says.
 """
+import re
 import subprocess
 import sys
 from pathlib import Path
 
 HOME = Path(__file__).resolve().parent.parent
 FOLDER = HOME / "examples"
+TOLD = HOME / "crates/examples/stdout"
+
+sys.dont_write_bytecode = True
+sys.path.insert(0, str(HOME / "model"))
+
+import refusals
+
 MODELS = {"compile": "plan_model.py", "show": "plan_model.py", "replay": "slow_replay.py"}
 
 
+def wrong_refusals():
+    """The refused commands of which the model says something else than the program did."""
+    lines = re.findall(r"^(.+)\n  status (\d), as -\n(difane: .+)$", TOLD.read_text(), re.M)
+    for args, status, told in lines:
+        if refusals.answer(args.split(" "), FOLDER) != (told, int(status)):
+            yield f"{args} is refused in another way than the model's"
+    if not lines:
+        yield f"{TOLD} has no refused commands"
+
+
 def main():
-    wrong = []
+    wrong = list(wrong_refusals())
     for line in (FOLDER / "index.txt").read_text().splitlines():
         name, command, *args = line.replace("--net=", "--net ").split(" ")
         if name != "-":
