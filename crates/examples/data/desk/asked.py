@@ -57,6 +57,8 @@ class Asked:
         return [row["name"] for row in self.switches() if isinstance(row.get("name"), str)]
 
     def said_network(self):
+        if self.net_name is not None and not self.network():
+            return f"{self.net_name}, which Python's reader of TOML 1.0 can't read"
         return self.net_name or "the network of one switch s0, since no network file is named"
 
 
@@ -77,7 +79,8 @@ def names_hint(asked, absent):
         yield f"capitals count in names: write {alike[0]}"
     elif near := get_close_matches(absent, names, 1):
         yield f"perhaps {near[0]}"
-    yield f"look at {asked.said_network()}: its switches are {', '.join(names[:20]) or 'none'}"
+    said = f": its switches are {', '.join(names[:20])}" if names else ""
+    yield f"look at {asked.said_network()}{said}"
     yield from forgotten_network(asked)
 
 
