@@ -459,6 +459,8 @@ def damaged_faults(rng, folder):
 
 
 def main():
+    if len(sys.argv) > 2 or sys.argv[1:] in (["-h"], ["--help"]):
+        sys.exit(__doc__)
     seed = sys.argv[1] if sys.argv[1:] else "1"
     rng = random.Random(seed)
     faults = [*play_faults()]

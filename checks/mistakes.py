@@ -107,6 +107,8 @@ def write_table(answers):
 
 
 def main():
+    if len(sys.argv) > 2 or sys.argv[1:] in (["-h"], ["--help"]):
+        sys.exit(__doc__)
     cases = tomllib.loads(TABLE.read_text())["case"]
     if sys.argv[1:] == ["--write"]:
         write_table([answer(None, case) for case in cases])

@@ -240,6 +240,8 @@ def is_right(one, program):
 
 
 def main():
+    if len(sys.argv) > 2 or sys.argv[1:] in (["-h"], ["--help"]):
+        sys.exit(__doc__)
     program = sys.argv[1] if sys.argv[1:] else STAND_IN
     wrong = sum(not is_right(one, program) for one in CASES)
     print(f"{len(CASES)} cases, {wrong} wrong; the program is {program}")

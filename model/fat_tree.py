@@ -82,7 +82,7 @@ def write(path, records):
 
 
 def main():
-    if len(sys.argv) != 2:
+    if len(sys.argv) != 2 or sys.argv[1].startswith("-"):
         sys.exit(__doc__)
     folder, rng = Path(sys.argv[1]), random.Random(2010)
     folder.mkdir(exist_ok=True)

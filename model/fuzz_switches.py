@@ -37,7 +37,7 @@ def play(seed):
 
 
 def main():
-    if len(sys.argv) not in (2, 3):
+    if len(sys.argv) not in (2, 3) or not all(arg.isdecimal() for arg in sys.argv[1:]):
         sys.exit(__doc__)
     count, start = int(sys.argv[1]), int(sys.argv[2]) if len(sys.argv) == 3 else 0
     counts, wrong = Counter(), 0

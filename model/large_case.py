@@ -84,6 +84,6 @@ def make(folder, packets):
 
 
 if __name__ == "__main__":
-    if len(sys.argv) != 3:
+    if len(sys.argv) != 3 or not sys.argv[2].isdecimal():
         sys.exit(__doc__)
     make(sys.argv[1], int(sys.argv[2]))
