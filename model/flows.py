@@ -56,6 +56,8 @@ def packet(rng, like):
 
 
 def main():
+    if len(sys.argv) != 2 or sys.argv[1].startswith("-"):
+        sys.exit(__doc__)
     folder, rng = Path(sys.argv[1]), random.Random(2010)
     folder.mkdir(exist_ok=True)
     rows = [row(rng, priority) for priority in range(ROWS, 0, -1)]
