@@ -2,7 +2,7 @@
 """Makes a folder for `examples/openvswitch --check`.
 
     model/flows.py FOLDER
-    examples/run FOLDER > FOLDER/journal.txt
+    examples/run FOLDER
 
 Four switches stand in a ring, two of them are authorities, and leaves have few rules, so that
 regions are cut at bits of ports and of protocols too. Half of the 300 rows have ports and any
