@@ -6,6 +6,7 @@ import base64
 import fcntl
 import json
 import os
+import select
 import shutil
 import subprocess
 import sys
@@ -15,6 +16,7 @@ from pathlib import Path
 
 NAMES = ["chromium", "chromium-browser", "google-chrome", "chrome"]
 FLAGS = ["--headless", "--no-sandbox", "--disable-gpu", "--no-first-run", "--disable-extensions"]
+LIMIT = 60  # seconds in which the browser must answer
 FREE = 10  # the least file number that is taken for a pipe's end, so that 3 and 4 stay free
 START = """import os, sys
 os.dup2(int(sys.argv[1]), 3)
@@ -67,6 +69,8 @@ class Browser:
     def read(self):
         """The next message."""
         while b"\0" not in self.rest:
+            if not select.select([self.into], [], [], LIMIT)[0]:
+                raise Failed(f"the browser says nothing for {LIMIT} seconds")
             more = os.read(self.into, 1 << 20)
             if not more:
                 raise Failed("the browser ended")
