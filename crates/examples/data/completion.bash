@@ -1,0 +1,19 @@
+# Completion of difane's arguments for bash: `source examples/completion.bash`.
+_difane() {
+    local word=${COMP_WORDS[COMP_CWORD]} command=${COMP_WORDS[1]}
+    COMPREPLY=()
+    if ((COMP_CWORD == 1)); then
+        mapfile -t COMPREPLY < <(compgen -W 'replay compile show load' -- "$word")
+    elif [[ $command == load ]]; then
+        return
+    elif [[ ${COMP_WORDS[COMP_CWORD - 1]} == --net ]]; then
+        mapfile -t COMPREPLY < <(compgen -f -X '!*.toml' -- "$word")
+    elif [[ $word == -* ]]; then
+        local options=--net
+        [[ $command == replay ]] && options='--net --quiet'
+        mapfile -t COMPREPLY < <(compgen -W "$options" -- "$word")
+    else
+        mapfile -t COMPREPLY < <(compgen -f -X '!*.csv' -- "$word")
+    fi
+}
+complete -o filenames -o plusdirs -F _difane difane
