@@ -2,57 +2,55 @@
 use Rattle.std.proofs.Common.{ℕ, ◌≡◌, ◌∙◌, true, false, List, refl, ap, sym, subst}
 use Rattle.failover.specs.Links.{no_links}
 use Rattle.five_tuple.specs.declared.header.Header.{Header}
-use Rattle.net_file.specs.declared.ports.Ports.{Ports}
 use Rattle.switch_core.specs.Answering.{entered, incoming, looked_up}
 use Rattle.switch_core.specs.Deciding.{packet_with}
-use Rattle.switch_core.specs.Ends.{Site, are_isolated, around, cause_of, set_out}
+use Rattle.switch_core.specs.Ends.{Site, are_isolated, cause_of, leave_by, next_of, set_out}
 use Rattle.switch_core.specs.State.{SwitchValue, call_counted, serves}
 use Rattle.switch_core.specs.Verdicts.{answer_of}
 use Rattle.switch_core.specs.declared.answers.Answer.{Answer}
 use Rattle.switch_core.specs.declared.answers.Entered.TheVariants as entry
 use Rattle.switch_core.specs.declared.packet.Packet.{Packet}
 use Rattle.switch_core.specs.declared.verdicts.Verdict.{Verdict}
-use Rattle.switch_core.specs.declared.verdicts.Verdict.TheVariants.{Here, Away, Seek}
+use Rattle.switch_core.specs.declared.verdicts.Verdict.TheVariants.{Decided, Seek}
 use Rattle.switch_core.proofs.Arrivals.{entry_by}
 
 -- one more call changes no answer
-pub answer_counted : (s after : SwitchValue) (near : ℕ) (packet : Packet) (verdict : Verdict) →
-    after ≡ call_counted s → answer_of after near packet verdict ≡ answer_of s near packet verdict
-unfolding set_out cause_of are_isolated
-answer_counted s after near packet verdict is =
-    ap (λ w. answer_of w near packet verdict) is ∙ by_verdict verdict
+pub answer_counted : (s after : SwitchValue) (site : Site) (packet : Packet) (verdict : Verdict) →
+    after ≡ call_counted s → answer_of after site packet verdict ≡ answer_of s site packet verdict
+unfolding next_of leave_by set_out cause_of are_isolated
+answer_counted s after site packet verdict is =
+    ap (λ w. answer_of w site packet verdict) is ∙ by_verdict verdict
   where
     by_verdict : (verdict : Verdict) →
-        answer_of (call_counted s) near packet verdict ≡ answer_of s near packet verdict
-    by_verdict (Here decision cache end) = refl
-    by_verdict (Away decision cache port owner) = refl
+        answer_of (call_counted s) site packet verdict ≡ answer_of s site packet verdict
+    by_verdict (Decided decision word) = refl
     by_verdict (Seek leg targets) = refl
 
-module _ (s after : SwitchValue) (near : ℕ) (ports : Ports) (number : ℕ) (header : Header)
+module _ (s after : SwitchValue) (site : Site) (number : ℕ) (header : Header)
     (verdict : Verdict) where
   -- what is said of a packet that comes in at a switch that serves
   pub admitted : (ingress : ℕ) → after ≡ call_counted s → serves s ≡ true → ingress ≡ s.number →
-      answer_of s near (packet_with number header ingress no_links) verdict
-      ≡ looked_up s (around near ports) (packet_with number header ingress no_links) →
-      entry.Answered (answer_of after near (incoming s number header) verdict)
-      ≡ entered s (around near ports) (incoming s number header)
+      answer_of s site (packet_with number header ingress no_links) verdict
+      ≡ looked_up s site (packet_with number header ingress no_links) →
+      entry.Answered (answer_of after site (incoming s number header) verdict)
+      ≡ entered s site (incoming s number header)
   admitted ingress is serving here looked =
-      ap entry.Answered (answer_counted s after near (incoming s number header) verdict is
-      ∙ subst (λ i. answer_of s near (packet_with number header i no_links) verdict
-      ≡ looked_up s (around near ports) (packet_with number header i no_links)) here looked)
-      ∙ sym (entry_by s (around near ports) (incoming s number header) true serving)
+      ap entry.Answered (answer_counted s after site (incoming s number header) verdict is
+      ∙ subst (λ i. answer_of s site (packet_with number header i no_links) verdict
+      ≡ looked_up s site (packet_with number header i no_links)) here looked)
+      ∙ sym (entry_by s site (incoming s number header) true serving)
 
   -- and what is answered then
   pub answered : (answer : Answer) (ingress : ℕ) (down : List ℕ) → ingress ≡ s.number →
       down ≡ no_links →
-      answer ≡ answer_of after near (packet_with number header ingress down) verdict →
-      entry.Answered (answer_of after near (incoming s number header) verdict)
-      ≡ entered s (around near ports) (incoming s number header) →
-      entry.Answered answer ≡ entered s (around near ports) (incoming s number header)
+      answer ≡ answer_of after site (packet_with number header ingress down) verdict →
+      entry.Answered (answer_of after site (incoming s number header) verdict)
+      ≡ entered s site (incoming s number header) →
+      entry.Answered answer ≡ entered s site (incoming s number header)
   answered answer ingress down here none is so =
       ap entry.Answered (is
-      ∙ ap (λ i. answer_of after near (packet_with number header i down) verdict) here
-      ∙ ap (λ d. answer_of after near (packet_with number header s.number d) verdict) none)
+      ∙ ap (λ i. answer_of after site (packet_with number header i down) verdict) here
+      ∙ ap (λ d. answer_of after site (packet_with number header s.number d) verdict) none)
       ∙ so
 
 -- at a switch that doesn't serve

@@ -18,6 +18,7 @@ use Rattle.tunnel.specs.Moves.{tunnel_begun}
 use Rattle.switch_core.specs.declared.answers.Next.{Next}
 use Rattle.switch_core.specs.declared.answers.Next.TheVariants.{Dropped, Out, Exit, Stuck}
 use Rattle.switch_core.specs.declared.packet.Packet.{Packet}
+use Rattle.switch_core.specs.declared.site.Site as given
 use Rattle.switch_core.specs.State.{SwitchValue}
 
 -- what a switch is given with a packet: a mask of the switches to which it has a usable link, and
@@ -28,6 +29,10 @@ pub record Site : Type 0 where
 
 abbrev pub around : ℕ → Ports → Site
 around near ports = record { near = near; ports = ports }
+
+-- as the code is given it
+abbrev pub site_of : given.Site → Site
+site_of site = around site.near site.ports.now
 
 -- ---- the cause rule
 

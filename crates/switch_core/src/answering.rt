@@ -2,12 +2,13 @@ ghost use Rattle.std.specs.Prelude.{◌≡◌, ℕ, List, IsSomeAnd, IsTrue};
 ghost use Rattle.policy_rules.specs.Hosted.{is_in};
 ghost use Rattle.policy_rules.specs.declared.packet.Leg.TheVariants.{Seek as SeekLeg};
 ghost use Rattle.switch_core.specs.declared.answers.Arrived.TheVariants.{Answered};
-ghost use Rattle.switch_core.specs.Exports.{CanLookUp, IsAtAuthority, IsFirstHit, IsFound, IsUncached, answer_by, answer_of, around, arrived, arrived_as, arrived_on, call_counted, decided_at, decided_in, entered, entered_as, holds_version, incoming, looked_up, own_part, packet_of, packet_with, serves};
+ghost use Rattle.switch_core.specs.Exports.{CanLookUp, IsAtAuthority, IsFirstHit, IsFound, IsUncached, Site as SiteValue, answer_by, answer_of, around, arrived, arrived_as, arrived_on, call_counted, decided_at, decided_in, entered, entered_as, holds_version, incoming, looked_up, own_part, packet_of, packet_with, serves};
 
 use crate::answers::{Arrived, Decision, Entered};
-use crate::deciding::{cache_rule, found_in, own_part, rule_in};
+use crate::deciding::{cache_word, found_in, own_part, rule_in};
 use crate::kept::KeptTables;
 use crate::packet::Packet;
+use crate::site::Site;
 use crate::switch::Switch;
 use crate::verdicts::{Received, Verdict};
 use failover::DownSet;
@@ -37,10 +38,10 @@ impl Switch {
             ingress: self.number,
             down: DownSet::empty(),
         };
-        match self.admit(h, ports) {
+        match self.admit(h) {
             None => Entered::Closed,
             Some(verdict) => {
-                let answer = self.answer(near, &packet, verdict);
+                let answer = self.answer(Site { near, ports }, &packet, verdict);
                 Entered::Answered(answer)
             }
         }
@@ -49,20 +50,20 @@ impl Switch {
     /// `enter` before any route is taken: what is said of a packet that comes in here, whatever its
     /// number; `None` exactly where the switch doesn't serve. It copies no route and no set of
     /// links.
-    pub fn admit(&mut self, h: &Header, ports: &Ports) -> Option<Verdict>
+    pub fn admit(&mut self, h: &Header) -> Option<Verdict>
         requires { CanLookUp self.old }
-        ensures answer { (near number : ℕ) →
-            entered_as self.new near (incoming self.old number h.now) result
-            ≡ entered self.old (around near ports.now) (incoming self.old number h.now) }
-        ensures uncached { (near number : ℕ) →
-            IsUncached (entered_as self.new near (incoming self.old number h.now) result) }
+        ensures answer { (site : SiteValue) (number : ℕ) →
+            entered_as self.new site (incoming self.old number h.now) result
+            ≡ entered self.old site (incoming self.old number h.now) }
+        ensures uncached { (site : SiteValue) (number : ℕ) →
+            IsUncached (entered_as self.new site (incoming self.old number h.now) result) }
         ensures after { self.new ≡ call_counted self.old }
     {
         if !self.serves() {
             self.count();
             return None;
         }
-        let verdict = self.look_up(ports, h, self.number);
+        let verdict = self.look_up(h, self.number);
         self.count();
         Some(verdict)
     }
@@ -80,10 +81,10 @@ impl Switch {
         ensures answer { result ≡ arrived self.old (around near ports.now) t.now }
         ensures after { self.new ≡ call_counted self.old }
     {
-        match self.receive(&t.header, t.ingress, t.leg, ports) {
+        match self.receive(&t.header, t.ingress, t.leg) {
             Received::Out(port) => Arrived::Out(port),
             Received::Judged(verdict) => {
-                let answer = self.answer(near, &carried(t), verdict);
+                let answer = self.answer(Site { near, ports }, &carried(t), verdict);
                 Arrived::Answered(answer)
             }
         }
@@ -92,14 +93,13 @@ impl Switch {
     /// `arrive` before any route is taken: what is said of a packet of this header that came in at
     /// `ingress` and is at the end of its route, whatever its number and the links that it found
     /// down. It copies no route and no set of links.
-    pub fn receive(&mut self, h: &Header, ingress: u32, leg: Leg, ports: &Ports) -> Received
+    pub fn receive(&mut self, h: &Header, ingress: u32, leg: Leg) -> Received
         requires serving { IsTrue (serves self.old) }
         requires stamped { CanLookUp self.old }
         requires authority { IsAtAuthority self.old h.now leg }
-        ensures answer { (near number : ℕ) (down : List ℕ) →
-            arrived_as self.new near (packet_with number h.now ingress down) result
-            ≡ arrived_on self.old (around near ports.now)
-            (packet_with number h.now ingress down) leg }
+        ensures answer { (site : SiteValue) (number : ℕ) (down : List ℕ) →
+            arrived_as self.new site (packet_with number h.now ingress down) result
+            ≡ arrived_on self.old site (packet_with number h.now ingress down) leg }
         ensures after { self.new ≡ call_counted self.old }
     {
         match leg {
@@ -108,7 +108,7 @@ impl Switch {
                 Received::Out(port)
             }
             Leg::Seek { version, partition } => {
-                let verdict = self.judge(ports, h, ingress, version, partition);
+                let verdict = self.judge(h, ingress, version, partition);
                 self.count();
                 Received::Judged(verdict)
             }
@@ -116,62 +116,50 @@ impl Switch {
     }
 
     // By the tables of this version, if they are held, and otherwise by a lookup.
-    fn judge(
-        &self,
-        ports: &Ports,
-        h: &Header,
-        ingress: u32,
-        version: u32,
-        partition: u32,
-    ) -> Verdict
+    fn judge(&self, h: &Header, ingress: u32, version: u32, partition: u32) -> Verdict
         requires stamped { IsTrue (holds_version self.now self.now.stamp) }
         requires authority { IsAtAuthority self.now h.now (SeekLeg version partition) }
-        ensures { (near number : ℕ) (down : List ℕ) → Answered
-            (answer_of self.now near (packet_with number h.now ingress down) result)
-            ≡ arrived_on self.now (around near ports.now)
+        ensures { (site : SiteValue) (number : ℕ) (down : List ℕ) → Answered
+            (answer_of self.now site (packet_with number h.now ingress down) result)
+            ≡ arrived_on self.now site
             (packet_with number h.now ingress down) (SeekLeg version partition) }
     {
         match self.held_tables(version) {
-            Some(tables) => self.decide_in(ports, h, ingress, partition, tables),
-            None => self.look_up(ports, h, ingress),
+            Some(tables) => self.decide_in(h, ingress, partition, tables),
+            None => self.look_up(h, ingress),
         }
     }
 
     // By a lookup under the switch's stamp.
     #[tactic(auto, unfolding(crate::specs::Answering::looked_up))]
-    fn look_up(&self, ports: &Ports, h: &Header, ingress: u32) -> Verdict
+    fn look_up(&self, h: &Header, ingress: u32) -> Verdict
         requires { IsTrue (holds_version self.now self.now.stamp) }
-        ensures { (near number : ℕ) (down : List ℕ) →
-            answer_of self.now near (packet_with number h.now ingress down) result
-            ≡ looked_up self.now (around near ports.now)
-            (packet_with number h.now ingress down) }
+        ensures { (site : SiteValue) (number : ℕ) (down : List ℕ) →
+            answer_of self.now site (packet_with number h.now ingress down) result
+            ≡ looked_up self.now site (packet_with number h.now ingress down) }
     {
         let tables = self.stamp_tables();
         let found = found_in(&self.cache, tables, h);
-        self.by_found(ports, h, ingress, tables.tables(), &found)
+        self.by_found(h, ingress, tables.tables(), &found)
     }
 
     // By what was found in these tables.
     #[tactic(auto, unfolding(crate::specs::Answering::answer_by))]
-    fn by_found(
-        &self,
-        ports: &Ports,
-        h: &Header,
-        ingress: u32,
-        tables: &Tables,
-        found: &Found,
-    ) -> Verdict
+    fn by_found(&self, h: &Header, ingress: u32, tables: &Tables, found: &Found) -> Verdict
         requires { IsFound tables.now h.now found.now }
-        ensures { (near number : ℕ) (down : List ℕ) →
-            answer_of self.now near (packet_with number h.now ingress down) result
-            ≡ answer_by self.now (around near ports.now)
+        ensures { (site : SiteValue) (number : ℕ) (down : List ℕ) →
+            answer_of self.now site (packet_with number h.now ingress down) result
+            ≡ answer_by self.now site
             (packet_with number h.now ingress down) tables.now found.now }
     {
         match found {
-            Found::Cached(entry) => self.decided(ports, Decision::by_entry(entry), None),
+            Found::Cached(entry) => Verdict::Decided {
+                decision: Decision::by_entry(entry),
+                word: None,
+            },
             Found::Authority { partition, rule } => {
                 let part = own_part(tables, *partition).unwrap();
-                self.decide_at(ports, h, ingress, tables.version, part, *rule)
+                self.decide_at(h, ingress, tables.version, part, *rule)
             }
             Found::Redirect { partition, targets } => Verdict::Seek {
                 leg: Leg::Seek {
@@ -185,32 +173,24 @@ impl Switch {
 
     // By these tables' partition of this number.
     #[tactic(auto, unfolding(crate::specs::Answering::decided_in))]
-    fn decide_in(
-        &self,
-        ports: &Ports,
-        h: &Header,
-        ingress: u32,
-        partition: u32,
-        tables: &KeptTables,
-    ) -> Verdict
+    fn decide_in(&self, h: &Header, ingress: u32, partition: u32, tables: &KeptTables) -> Verdict
         requires { IsSomeAnd (own_part tables.now partition)
             (λ part. IsTrue (is_in h.now part)) }
-        ensures { (near number : ℕ) (down : List ℕ) →
-            answer_of self.now near (packet_with number h.now ingress down) result
-            ≡ decided_in self.now (around near ports.now)
+        ensures { (site : SiteValue) (number : ℕ) (down : List ℕ) →
+            answer_of self.now site (packet_with number h.now ingress down) result
+            ≡ decided_in self.now site
             (packet_with number h.now ingress down) partition tables.now }
     {
         let place = tables.first_place(partition, h);
         let tables = tables.tables();
         let part = own_part(tables, partition).unwrap();
-        self.decide_at(ports, h, ingress, tables.version, part, place)
+        self.decide_at(h, ingress, tables.version, part, place)
     }
 
     // The rule at this place decides.
     #[tactic(auto, unfolding(crate::specs::Answering::decided_at))]
     fn decide_at(
         &self,
-        ports: &Ports,
         h: &Header,
         ingress: u32,
         version: u32,
@@ -218,17 +198,16 @@ impl Switch {
         place: u32,
     ) -> Verdict
         requires { IsFirstHit h.now part.now place }
-        ensures { (near number : ℕ) (down : List ℕ) →
-            answer_of self.now near (packet_with number h.now ingress down) result
-            ≡ decided_at self.now (around near ports.now)
+        ensures { (site : SiteValue) (number : ℕ) (down : List ℕ) →
+            answer_of self.now site (packet_with number h.now ingress down) result
+            ≡ decided_at self.now site
             (packet_with number h.now ingress down) version part.now place }
     {
         let rule = rule_in(part, place);
-        self.decided(
-            ports,
-            Decision::by_rule(self.number, version, part.number, rule),
-            cache_rule(self.number, h, ingress, version, part, place),
-        )
+        Verdict::Decided {
+            decision: Decision::by_rule(self.number, version, part.number, rule),
+            word: cache_word(self.number, h, ingress, part, place),
+        }
     }
 }
 

@@ -4,14 +4,15 @@ ghost use Rattle.five_tuple.specs.Header.{IsHeader};
 ghost use Rattle.switch_table.specs.Lookup.{lookup_of};
 ghost use Rattle.switch_table.specs.Tables.{AreSoundTables};
 ghost use Rattle.switch_core.specs.Deciding.{IsFirstHit, IsFound, by_entry, by_rule, rule_for_cache, own_part, packet_with, rule_in};
+ghost use Rattle.switch_core.specs.Verdicts.{cached_by};
 
 use crate::answers::Decision;
 use crate::kept::KeptTables;
 use cache_maker::widen;
-use ctrl_msg::Body;
 use five_tuple::Header;
 use policy_rules::{How, Partition, Rule};
 use switch_table::{Cache, CacheEntry, Found, Tables};
+use ternary::Word;
 
 impl Decision {
     /// By a cached rule.
@@ -73,28 +74,22 @@ pub fn rule_in(part: &Partition, place: u32) -> &Rule
     &part.rules.items()[place as usize]
 }
 
-/// The rule for the cache of the switch where the packet entered, unless it is this one.
+/// The word of the rule for the cache of the switch where the packet entered, unless it is this one.
 #[tactic(auto, unfolding(crate::specs::Deciding::rule_for_cache))]
-pub fn cache_rule(
+pub fn cache_word(
     switch: u32,
     header: &Header,
     ingress: u32,
-    version: u32,
     part: &Partition,
     place: u32,
-) -> Option<Body>
+) -> Option<Word>
     requires { IsFirstHit header.now part.now place }
-    ensures { (number : ℕ) (down : List ℕ) → result
+    ensures { (number version : ℕ) (down : List ℕ) →
+        cached_by (by_rule switch version part.now.number (rule_in part.now place)) result
         ≡ rule_for_cache switch (packet_with number header.now ingress down) version part.now place }
 {
     if ingress == switch {
         return None;
     }
-    let rule = rule_in(part, place);
-    Some(Body::CacheRule {
-        version,
-        word: widen(header, &part.region, part.rules.items(), place),
-        rule: rule.rule,
-        action: rule.action,
-    })
+    Some(widen(header, &part.region, part.rules.items(), place))
 }

@@ -1,10 +1,11 @@
-ghost use Rattle.std.specs.Prelude.{◌≡◌, ◌<◌, IfSome, if◌then◌else◌};
+ghost use Rattle.std.specs.Prelude.{◌≡◌, ◌+◌, ◌<◌, IfSome, None, Some, if◌then◌else◌, slice_get};
 ghost use Rattle.tunnel.specs.Moves.{next};
 ghost use Rattle.switch_core.specs.Exports.{call_counted, hopped, is_free, link_found_down, rerouted_here};
 
 use crate::answers::{Hop, HopEnd};
 use crate::switch::Switch;
 use base::has;
+use failover::Route;
 use tunnel::Tunnel;
 
 impl Switch {
@@ -44,20 +45,22 @@ impl Switch {
         hop
     }
 
-    /// Whether a packet finds no link down, by the next switch of its route alone: no tunnel is
-    /// made for it. It is counted exactly where the answer is true; otherwise `hop` says what
-    /// becomes of it.
-    pub fn pass(&mut self, next: Option<u32>, near: u64) -> bool
-        requires { IfSome next (λ other. other < 64) }
-        ensures free { result ≡ is_free near next }
-        ensures after { self.new ≡ (if result then call_counted self.old else self.old) }
+    /// The next switch on the route of a packet at this place of it, or `None` at the route's end,
+    /// where the packet finds no link down; no tunnel is made for it. Nothing is answered, and it
+    /// isn't counted, where the link to the next switch isn't usable: `hop` says what becomes of it
+    /// then.
+    pub fn pass(&mut self, route: &Route, place: u32, near: u64) -> Option<Option<u32>>
+        ensures next { result ≡ (if is_free near (slice_get route.now (place + 1))
+            then Some (slice_get route.now (place + 1)) else None) }
+        ensures after { self.new ≡ (if is_free near (slice_get route.now (place + 1))
+            then call_counted self.old else self.old) }
     {
-        if is_free(next, near) {
-            self.count();
-            true
-        } else {
-            false
+        let next = route.items().get(place as usize + 1).copied();
+        if !is_free(next, near) {
+            return None;
         }
+        self.count();
+        Some(next)
     }
 
     // Along a new route, once a link was found down.

@@ -26,6 +26,7 @@ mod kept;
 mod laws;
 mod life;
 mod packet;
+mod site;
 mod switch;
 mod verdicts;
 
@@ -33,5 +34,6 @@ pub use answers::{Answer, Arrived, Decision, Entered, Heard, Hop, HopEnd, Next, 
 pub use laws::{
     arrive_laws, decision_laws, enter_laws, exit_laws, hop_laws, lookup_laws, switch_laws,
 };
+pub use site::Site;
 pub use switch::Switch;
-pub use verdicts::{End, Received, Verdict};
+pub use verdicts::{Received, Verdict};

@@ -119,8 +119,9 @@ impl Switch {
         self.held_tables(version).is_some()
     }
 
-    /// How many calls of `enter`, `hop` and `arrive` it answered; the count stands still at its
-    /// last value.
+    /// How many calls of `enter`, `hop` and `arrive` it answered, each to a packet that was put to
+    /// it; those of `admit`, `pass` and `receive` are their first parts, and count in their place.
+    /// The count stands still at its last value.
     pub fn handled(&self) -> u64
         ensures { result ≡ self.now.handled }
     {

@@ -1,32 +1,25 @@
-ghost use Rattle.std.specs.Prelude.{◌≡◌, ℕ, [], ◌∷◌};
+ghost use Rattle.std.specs.Prelude.{◌≡◌, ◌∷◌, []};
+ghost use Rattle.ctrl_msg.specs.declared.message.Body.TheVariants.{CacheRule};
 ghost use Rattle.policy_rules.specs.declared.packet.Leg.TheVariants.{Exit as ExitLeg};
-ghost use Rattle.switch_core.specs.Exports.{answer_of, around, exit_by, next_at, next_of, seek_by, set_out};
-ghost use Rattle.switch_core.specs.declared.answers.Answer.TheVariants.{Decided as DecidedBy};
-ghost use Rattle.switch_core.specs.declared.packet.Packet.{Packet as PacketValue};
+ghost use Rattle.switch_core.specs.Exports.{answer_of, cached_by, exit_by, next_of, seek_by, set_out, site_of};
 
 use crate::answers::{Answer, Decision, Next};
 use crate::packet::Packet;
+use crate::site::Site;
 use crate::switch::Switch;
 use ctrl_msg::Body;
-use net_file::Ports;
 use policy_rules::{Action, Cause, Leg, Targets};
+use ternary::Word;
 
 /// What a lookup or a rule says of a packet, before a route is taken: small beside the answer,
 /// which has room for a route. `Switch::way` finds the route.
 #[derive(Drop)]
 pub enum Verdict {
-    /// Decided, and at its end.
-    Here {
+    /// Decided, with the word of a rule for the cache of the switch where the packet entered,
+    /// unless that is this one. It goes on as the decision's action says.
+    Decided {
         decision: Decision,
-        cache: Option<Body>,
-        end: End,
-    },
-    /// Decided, and its port is another switch's.
-    Away {
-        decision: Decision,
-        cache: Option<Body>,
-        port: u32,
-        owner: u32,
+        word: Option<Word>,
     },
     /// To one of these authority switches.
     Seek {
@@ -43,89 +36,57 @@ pub enum Received {
     Judged(Verdict),
 }
 
-/// Where a packet ends that takes no route.
-#[derive(Clone, Copy)]
-pub enum End {
-    Dropped,
-    /// Out of the network, by this port of the switch itself.
-    Out(u32),
-    /// No switch has its port.
-    Unowned,
+impl Decision {
+    /// The rule of the decision with this word, for a cache.
+    pub fn cache_rule(&self, word: Word) -> Body
+        ensures { result ≡ CacheRule self.now.version word self.now.rule self.now.action }
+    {
+        Body::CacheRule {
+            version: self.version,
+            word,
+            rule: self.rule,
+            action: self.action,
+        }
+    }
 }
 
-impl End {
-    /// Where the packet goes.
-    pub fn next(self) -> Next
-        ensures { result ≡ next_at self }
-    {
-        match self {
-            End::Dropped => Next::Dropped,
-            End::Out(port) => Next::Out(port),
-            End::Unowned => Next::Stuck(Cause::NoRoute),
-        }
+// The rule for a cache, where there is a word.
+fn cached_by(decision: &Decision, word: Option<Word>) -> Option<Body>
+    ensures { result ≡ cached_by decision.now word }
+{
+    match word {
+        None => None,
+        Some(word) => Some(decision.cache_rule(word)),
     }
 }
 
 impl Switch {
-    /// By this decision, with this rule for a cache.
-    #[tactic(auto, unfolding(crate::specs::Ends::next_of, crate::specs::Ends::leave_by))]
-    pub(crate) fn decided(&self, ports: &Ports, decision: Decision, cache: Option<Body>) -> Verdict
-        ensures { (near : ℕ) (packet : PacketValue) → answer_of self.now near packet result
-            ≡ DecidedBy decision cache
-            (next_of self.now (around near ports.now) packet decision.action) }
+    /// The answer to a packet of this verdict.
+    pub(crate) fn answer(&self, site: Site, packet: &Packet, verdict: Verdict) -> Answer
+        ensures { result ≡ answer_of self.now (site_of site.entry) packet.now verdict }
     {
-        match decision.action {
-            Action::Drop => Verdict::Here {
+        match verdict {
+            Verdict::Decided { decision, word } => Answer::Decided {
                 decision,
-                cache,
-                end: End::Dropped,
+                cache: cached_by(&decision, word),
+                next: self.next(site, packet, decision.action),
             },
-            Action::Out(port) => match ports.owner(port) {
-                None => Verdict::Here {
-                    decision,
-                    cache,
-                    end: End::Unowned,
-                },
-                Some(owner) if owner == self.number => Verdict::Here {
-                    decision,
-                    cache,
-                    end: End::Out(port),
-                },
-                Some(owner) => Verdict::Away {
-                    decision,
-                    cache,
-                    port,
-                    owner,
-                },
-            },
+            Verdict::Seek { leg, targets } => self.seek(site.near, packet, leg, &targets),
         }
     }
 
-    /// The answer to a packet of this verdict.
-    pub(crate) fn answer(&self, near: u64, packet: &Packet, verdict: Verdict) -> Answer
-        ensures { result ≡ answer_of self.now near packet.now verdict }
+    // Where a packet goes that was decided by this action.
+    #[tactic(auto, unfolding(crate::specs::Ends::next_of, crate::specs::Ends::leave_by))]
+    fn next(&self, site: Site, packet: &Packet, action: Action) -> Next
+        ensures { result ≡ next_of self.now (site_of site.entry) packet.now action }
     {
-        match verdict {
-            Verdict::Here {
-                decision,
-                cache,
-                end,
-            } => Answer::Decided {
-                decision,
-                cache,
-                next: end.next(),
+        match action {
+            Action::Drop => Next::Dropped,
+            Action::Out(port) => match site.ports.owner(port) {
+                None => Next::Stuck(Cause::NoRoute),
+                Some(owner) if owner == self.number => Next::Out(port),
+                Some(owner) => self.exit(site.near, packet, port, owner),
             },
-            Verdict::Away {
-                decision,
-                cache,
-                port,
-                owner,
-            } => Answer::Decided {
-                decision,
-                cache,
-                next: self.exit(near, packet, port, owner),
-            },
-            Verdict::Seek { leg, targets } => self.seek(near, packet, leg, &targets),
         }
     }
 

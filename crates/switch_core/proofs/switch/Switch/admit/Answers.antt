@@ -1,31 +1,30 @@
 use Rattle.std.proofs.Common.{ap, sym, subst, ◌∙◌}
 use Rattle.failover.specs.Links.{no_links}
 use Rattle.switch_core.specs.Answering.{IsUncached, incoming}
-use Rattle.switch_core.specs.Ends.{around}
 use Rattle.switch_core.specs.State.{SwitchValue}
 use Rattle.switch_core.proofs.Admitting.{admitted, not_admitted}
 use Rattle.switch_core.proofs.Lookups.{entry_uncached}
 use Rattle.switch_core.proofs.switch.Switch.admit.Goals as goal
 
 pub returns-then-not-serves-clause-answer : goal.returns-then-not-serves-clause-answer
-returns-then-not-serves-clause-answer c = λ near number.
-    not_admitted c.args.self.now (around near c.args.ports.now)
+returns-then-not-serves-clause-answer c = λ site number.
+    not_admitted c.args.self.now site
     (incoming c.args.self.now number c.args.h.now) (sym c.serves.ensures ∙ c.if-not-serves.true)
 
 pub returns-clause-answer : goal.returns-clause-answer
-returns-clause-answer c = λ near number.
-    admitted c.args.self.now c.count-2.new.self near c.args.ports.now number c.args.h.now
+returns-clause-answer c = λ site number.
+    admitted c.args.self.now c.count-2.new.self site number c.args.h.now
     c.look_up-verdict.result c.self.inside.number c.count-2.ensures
     (sym c.serves.ensures ∙ c.if-not-serves.false)
     (ap (λ (s : SwitchValue). s.number) c.self.view_is)
-    (c.look_up-verdict.ensures near number no_links)
+    (c.look_up-verdict.ensures site number no_links)
 
 pub returns-clause-uncached : goal.returns-clause-uncached
-returns-clause-uncached c = λ near number.
+returns-clause-uncached c = λ site number.
     subst IsUncached
-    (sym (admitted c.args.self.now c.count-2.new.self near c.args.ports.now number c.args.h.now
+    (sym (admitted c.args.self.now c.count-2.new.self site number c.args.h.now
     c.look_up-verdict.result c.self.inside.number c.count-2.ensures
     (sym c.serves.ensures ∙ c.if-not-serves.false)
     (ap (λ (s : SwitchValue). s.number) c.self.view_is)
-    (c.look_up-verdict.ensures near number no_links)))
-    (entry_uncached c.args.self.now (around near c.args.ports.now) number c.args.h.now)
+    (c.look_up-verdict.ensures site number no_links)))
+    (entry_uncached c.args.self.now site number c.args.h.now)

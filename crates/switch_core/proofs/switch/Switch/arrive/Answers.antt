@@ -11,4 +11,5 @@ returns-in-Out-clause-answer c =
     subst (λ (t : TunnelValue). Out c.in-Out.port
     ≡ arrived_on c.args.self.now (around c.args.near c.args.ports.now) (packet_of t) t.leg)
     c.t.view_is
-    (c.in-Out.ensures.answer c.args.near c.t.inside.packet c.t.inside.down)
+    (c.in-Out.ensures.answer (around c.args.near c.args.ports.now) c.t.inside.packet
+    c.t.inside.down)

@@ -8,13 +8,14 @@ use Rattle.switch_core.proofs.switch.Switch.enter.Goals as goal
 
 pub returns-in-Some : goal.returns-in-Some
 returns-in-Some c =
-    let answers = answered c.args.self.now c.admit.new.self c.args.near c.args.ports.now
-    c.args.packet c.args.h.now c.in-Some.verdict c.answer-answer.result c.self.inside.number
+    let site = around c.args.near c.args.ports.now in
+    let answers = answered c.args.self.now c.admit.new.self site c.args.packet c.args.h.now
+    c.in-Some.verdict c.answer-answer.result c.self.inside.number
     c.empty.result (ap (λ (s : SwitchValue). s.number) c.self.view_is) c.empty.ensures.value
-    c.answer-answer.ensures (c.in-Some.ensures.answer c.args.near c.args.packet) in
+    c.answer-answer.ensures (c.in-Some.ensures.answer site c.args.packet) in
     record {
       answer = answers;
-      uncached = subst IsUncached (sym answers) (entry_uncached c.args.self.now
-          (around c.args.near c.args.ports.now) c.args.packet c.args.h.now);
+      uncached = subst IsUncached (sym answers) (entry_uncached c.args.self.now site
+          c.args.packet c.args.h.now);
       after = c.admit.ensures.after;
     }
