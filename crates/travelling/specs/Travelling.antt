@@ -1,5 +1,5 @@
 -- The packets on their way, by their numbers.
-use Rattle.std.specs.Prelude.{ℕ, ◌≡◌, ◌+◌, ◌<◌, ◌≤◌, ◌==◌, Bool, true, false, if◌then◌else◌, Option, Some, None, List, IsSome, IsSomeAnd, MatchOption, filter, length, slice_index_or, unwrap_or}
+use Rattle.std.specs.Prelude.{ℕ, ◌≡◌, ◌+◌, ◌<◌, ◌≤◌, ◌==◌, Bool, true, false, if◌then◌else◌, Option, Some, None, List, IsSome, MatchOption, filter, length, slice_index_or, unwrap_or}
 use Rattle.std.specs.List.{range_with_len}
 use Rattle.failover.specs.Links.{no_links}
 use Rattle.five_tuple.specs.declared.header.Header.{Header}
@@ -8,7 +8,7 @@ use Rattle.tunnel.specs.Moves.{tunnel_begun, here}
 use Rattle.tunnel.specs.Tunnel.{TunnelValue}
 use Rattle.travelling.specs.Marks.{is_marked}
 use Rattle.travelling.specs.declared.kept.Kept.TheInside.{Inside}
-use Rattle.travelling.specs.declared.standing.Standing.TheInside as standing
+use Rattle.travelling.specs.declared.standing.Standing as standing
 use Rattle.travelling.specs.declared.travelling.Traveller.{Traveller}
 
 -- of the packet of each number what is known of it, if it travels
@@ -30,11 +30,6 @@ IsNextFrom travellers from next = MatchOption next
     (λ least. (from ≤ least) × IsSome (traveller travellers least)
     × ((i : ℕ) → from ≤ i → i < least → traveller travellers i ≡ None))
 
--- all other packets are as before
-abbrev pub OthersStay : Travellers → ℕ → Travellers → Type 0
-OthersStay before packet after =
-    (i : ℕ) → (i == packet) ≡ false → traveller after i ≡ traveller before i
-
 -- the packet of this tunnel, with the version and the rule of its decision
 abbrev pub travels_by : TunnelValue → ℕ → Option ℕ → Traveller
 travels_by tunnel version rule = record { tunnel = tunnel; version = version; rule = rule }
@@ -46,11 +41,6 @@ HasPlace place t = place < length t.tunnel.route
 -- at this place of its route
 abbrev pub placed_at : ℕ → Traveller → Traveller
 placed_at place t = record t { tunnel = record t.tunnel { place = place } }
-
--- it is known but for its place
-abbrev pub IsKeptOn : Travellers → Traveller → Type 0
-IsKeptOn travellers t = IsSomeAnd (traveller travellers t.tunnel.packet)
-    (λ was. placed_at t.tunnel.place was ≡ t)
 
 -- ---- one packet where it stands
 
@@ -77,7 +67,7 @@ begun_at at leg targets route =
     tunnel_begun at.packet at.header at.ingress leg targets route at.down
 
 -- without a set of links it found none down
-abbrev pub standing_kept : standing.Inside → Standing
+abbrev pub standing_kept : standing.Standing → Standing
 standing_kept at = record {
   packet = at.packet;
   header = at.header;

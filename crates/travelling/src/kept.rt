@@ -1,15 +1,15 @@
-ghost use Rattle.std.specs.Prelude.{◌≡◌, ◌+◌, ◌<◌, IfOk, IfSome, length};
-ghost use Rattle.tunnel.specs.Moves.{here, next};
-ghost use Rattle.travelling.specs.Travelling.{HasPlace, begun_at, placed_at, standing_at, travels_by};
+ghost use Rattle.std.specs.Prelude.{◌≡◌, ◌<◌, IfOk};
+ghost use Rattle.tunnel.specs.Moves.{here};
+ghost use Rattle.travelling.specs.Travelling.{HasPlace, begun_at, placed_at, standing_at, standing_kept, travels_by};
 
-use crate::standing::{Standing, clone_links};
+use crate::standing::Standing;
 use crate::travelling::Traveller;
 use five_tuple::Header;
 use journal::{DownSet, SharedLinks, SharedRoute};
 use policy_rules::{Leg, Targets};
 use std::alloc::{AllocError, Global};
 use std::marker::Model;
-use tunnel::Tunnel;
+use tunnel::{Route, Tunnel};
 
 /// What the table keeps of a packet on its way: its route is the one that the journal's item has,
 /// and a set of links is there only where the packet found one down. Contracts see the traveller.
@@ -77,25 +77,14 @@ impl Kept {
         })
     }
 
-    /// What is kept of a packet that begins this route on its leg to these targets, with the
-    /// version and the rule of its decision. The route and the set of links stay shared.
-    ///
-    /// # Errors
-    /// Want of memory alone; no set is copied.
-    pub fn begin(
-        at: &Standing,
-        leg: Leg,
-        targets: Targets,
-        route: SharedRoute,
-        version: u32,
-        rule: Option<u32>,
-    ) -> Result<Kept, AllocError>
-        ensures { IfOk result (λ kept.
-            kept ≡ travels_by (begun_at at.now leg targets route) version rule) }
+    /// What is kept of a packet that begins this route on its leg to these targets. The route and
+    /// the set of links stay shared, and it takes no memory.
+    pub fn begin(at: Standing, leg: Leg, targets: Targets, route: SharedRoute) -> Kept
+        ensures { result
+            ≡ travels_by (begun_at (standing_kept at) leg targets route) at.version at.rule }
     {
         let _items = route.get().items();
-        let down = clone_links(&at.down)?;
-        Ok(Kept {
+        Kept {
             packet: at.packet,
             header: at.header,
             ingress: at.ingress,
@@ -103,10 +92,10 @@ impl Kept {
             targets,
             route,
             place: 0,
-            down,
-            version,
-            rule,
-        })
+            down: at.down,
+            version: at.version,
+            rule: at.rule,
+        }
     }
 
     /// The packet at the switch where it stands; the set of links stays shared.
@@ -114,15 +103,22 @@ impl Kept {
     /// # Errors
     /// Want of memory alone.
     pub fn standing(&self, switch: u32) -> Result<Standing, AllocError>
-        ensures { IfOk result (λ at. at ≡ standing_at switch self.now) }
+        ensures at { IfOk result (λ at. standing_kept at ≡ standing_at switch self.now) }
+        ensures version { IfOk result (λ at. at.version ≡ self.now.version) }
+        ensures rule { IfOk result (λ at. at.rule ≡ self.now.rule) }
     {
-        let down = clone_links(&self.down)?;
+        let down = match &self.down {
+            None => None,
+            Some(links) => Some(links.clone()?),
+        };
         Ok(Standing {
             packet: self.packet,
             header: self.header,
             ingress: self.ingress,
             switch,
             down,
+            version: self.version,
+            rule: self.rule,
         })
     }
 
@@ -131,20 +127,6 @@ impl Kept {
         ensures { result ≡ self.now.tunnel.leg }
     {
         self.leg
-    }
-
-    /// The version of its decision; 0 before it.
-    pub fn version(&self) -> u32
-        ensures { result ≡ self.now.version }
-    {
-        self.version
-    }
-
-    /// The rule of its decision: a row's priority, or `None` for the default and before it.
-    pub fn rule(&self) -> Option<u32>
-        ensures { result ≡ self.now.rule }
-    {
-        self.rule
     }
 
     /// The traveller, with a copy of its route. It takes no memory.
@@ -179,17 +161,11 @@ impl Kept {
         self.route.get().items()[self.place as usize]
     }
 
-    /// The switch after that one on its route; `None` exactly at the route's end.
-    pub fn next(&self) -> Option<u32>
-        ensures next { result ≡ next self.now.tunnel }
-        ensures place { IfSome result (λ other.
-            (self.now.tunnel.place + 1 < length self.now.tunnel.route) × (other < 64)) }
+    /// Its route, which begins at the switch where it set out.
+    pub fn route(&self) -> &Route
+        ensures { result.now ≡ self.now.tunnel.route }
     {
-        self.route
-            .get()
-            .items()
-            .get(self.place as usize + 1)
-            .copied()
+        self.route.get()
     }
 
     /// The place on its route, from 0.
@@ -206,26 +182,5 @@ impl Kept {
         ensures { self.new ≡ placed_at place self.old }
     {
         self.place = place;
-    }
-}
-
-impl Clone for Kept {
-    ghost is_clone = { λ kept copy. copy ≡ kept };
-
-    fn clone(&self) -> Result<Kept, AllocError> {
-        let route = self.route.clone()?;
-        let down = clone_links(&self.down)?;
-        Ok(Kept {
-            packet: self.packet,
-            header: self.header,
-            ingress: self.ingress,
-            leg: self.leg,
-            targets: self.targets,
-            route,
-            place: self.place,
-            down,
-            version: self.version,
-            rule: self.rule,
-        })
     }
 }

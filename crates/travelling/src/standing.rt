@@ -1,15 +1,14 @@
 ghost use Rattle.std.specs.Prelude.{◌≡◌, IfOk, unwrap_or};
 ghost use Rattle.std.specs.Option.{option_copied};
 ghost use Rattle.failover.specs.Links.{no_links};
-ghost use Rattle.travelling.specs.Travelling.{standing_at};
+ghost use Rattle.travelling.specs.Travelling.{standing_at, standing_kept};
 
 use crate::travelling::Traveller;
 use five_tuple::Header;
 use journal::{DownSet, SharedLinks};
 use std::alloc::{AllocError, Global};
-use std::marker::Model;
 
-/// A packet where it stands. Contracts see the links that it found down as a set.
+/// A packet at a switch: as it comes in, or at the end of its route.
 #[derive(Drop)]
 pub struct Standing {
     pub packet: u32,
@@ -19,14 +18,10 @@ pub struct Standing {
     pub switch: u32,
     /// The links that it found down; a set is there only where it found one.
     pub down: Option<SharedLinks>,
-}
-
-impl Model for Standing {
-    ghost use Rattle.travelling.specs.Travelling.{Standing, standing_kept};
-
-    ghost Value = { Standing };
-
-    ghost view = { standing_kept };
+    /// The version of its decision; 0 before it.
+    pub version: u32,
+    /// The rule of its decision: a row's priority, or `None` for the default and before it.
+    pub rule: Option<u32>,
 }
 
 impl Standing {
@@ -35,7 +30,9 @@ impl Standing {
     /// # Errors
     /// Want of memory alone.
     pub fn of(alloc: Global, traveller: &Traveller, switch: u32) -> Result<Standing, AllocError>
-        ensures { IfOk result (λ at. at ≡ standing_at switch traveller.now) }
+        ensures at { IfOk result (λ at. standing_kept at ≡ standing_at switch traveller.now) }
+        ensures version { IfOk result (λ at. at.version ≡ traveller.now.version) }
+        ensures rule { IfOk result (λ at. at.rule ≡ traveller.now.rule) }
     {
         let down = SharedLinks::new(alloc, traveller.tunnel.down)?;
         Ok(Standing {
@@ -44,12 +41,14 @@ impl Standing {
             ingress: traveller.tunnel.ingress,
             switch,
             down: Some(down),
+            version: traveller.version,
+            rule: traveller.rule,
         })
     }
 
     /// The links that it found down, if there is one.
     pub fn links(&self) -> Option<&DownSet>
-        ensures { unwrap_or (option_copied result) no_links ≡ self.now.down }
+        ensures { unwrap_or (option_copied result) no_links ≡ (standing_kept self.now).down }
     {
         match &self.down {
             None => None,
@@ -61,25 +60,12 @@ impl Standing {
     ///
     /// # Errors
     /// Want of memory alone, which is taken only where it found none.
-    pub fn shared_links(&self, alloc: Global) -> Result<SharedLinks, AllocError>
-        ensures { IfOk result (λ links. links ≡ self.now.down) }
+    pub fn into_links(self, alloc: Global) -> Result<SharedLinks, AllocError>
+        ensures { IfOk result (λ links. links ≡ (standing_kept self).down) }
     {
-        match &self.down {
+        match self.down {
             None => SharedLinks::new(alloc, DownSet::empty()),
-            Some(links) => links.clone(),
-        }
-    }
-}
-
-/// The same set, if there is one.
-pub fn clone_links(down: &Option<SharedLinks>) -> Result<Option<SharedLinks>, AllocError>
-    ensures { IfOk result (λ links. links ≡ down.now) }
-{
-    match down {
-        None => Ok(None),
-        Some(links) => {
-            let links = links.clone()?;
-            Ok(Some(links))
+            Some(links) => Ok(links),
         }
     }
 }
