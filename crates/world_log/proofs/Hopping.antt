@@ -1,6 +1,5 @@
--- What a switch's move makes of a packet: it keeps its number, its leg and its ingress, and where
--- no link was found down all but its place.
-use Rattle.std.proofs.Common.{ℕ, ◌≡◌, Option, Some, None, List, refl, sym, subst}
+-- What a switch's move makes of a packet: it keeps its number, its header, its leg and its ingress.
+use Rattle.std.proofs.Common.{ℕ, ◌≡◌, Option, Some, None, List, refl}
 use Rattle.five_tuple.specs.declared.header.Header.{Header}
 use Rattle.policy_rules.specs.declared.packet.Leg.{Leg}
 use Rattle.policy_rules.specs.declared.packet.Leg.TheVariants.{Seek, Exit}
@@ -39,20 +38,6 @@ hopped_same w near t = by_link (link_found_down near (next t))
         let met : TunnelValue = marked_down t other in
         let same = along_same w near met (route_from_here met w.database near) in
         record { packet = same.packet; header = same.header; leg = same.leg; ingress = same.ingress }
-
--- where no link was found down, its place alone may change
-abbrev pub OnlyPlace : TunnelValue → TunnelValue → Type 0
-OnlyPlace old new = record old { place = new.place } ≡ new
-
-pub none_found : (w : SwitchValue) (near : ℕ) (t : TunnelValue) → link_found_down near (next t) ≡ None
-    → OnlyPlace t (hopped w near t).tunnel
-unfolding hopped
-none_found w near t none =
-    subst (λ o. OnlyPlace t (hopped_to w near t o).tunnel) (sym none) (by_next (next t))
-  where
-    by_next : (o : Option ℕ) → OnlyPlace t (moved t o).tunnel
-    by_next None = refl
-    by_next (Some other) = refl
 
 -- one more call changes nothing at an authority switch
 pub authority_counted : (w : SwitchValue) (header : Header) (leg : Leg)

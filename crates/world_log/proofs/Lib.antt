@@ -1,8 +1,7 @@
 pub mod Writing
+pub mod Logs
+pub mod Going
 pub mod Sends
-mod Brings
 pub mod Hopping
-pub mod Turning
 pub mod LosingAt
 pub mod Passing
-pub mod Arriving

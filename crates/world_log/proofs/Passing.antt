@@ -1,24 +1,30 @@
--- A packet that finds no link down goes on by its next switch alone.
-use Rattle.std.proofs.Common.{ℕ, ◌≡◌, ◌+◌, Bool, true, false, Option, Some, None, List, ◌∷◌, [], ◌++◌, refl, ap, sym, subst, ◌∙◌, append-nil, if◌then◌else◌, length}
-use Rattle.std.specs.Prelude.{OnErr, OnOk, Result, option_map}
-use Rattle.std.proofs.lemmas.Result.{on_err_weaker, on_ok_weaker}
+-- What a hop wrote, by the link that it found down, if any, and by where it ended.
+use Rattle.std.proofs.Common.{ℕ, ◌≡◌, ◌+◌, Bool, true, false, Option, Some, None, List, ◌∷◌, [], ◌++◌, refl, ap, sym, subst, ◌∙◌, append-nil, if◌then◌else◌}
+use Rattle.std.specs.Prelude.{Result, option_map, slice_get}
 use Rattle.journal.specs.declared.item.Item.{Item}
 use Rattle.journal.specs.declared.item.Item.TheVariants as item
+use Rattle.message_bag.specs.Posts.{Post}
 use Rattle.net_file.specs.declared.ports.Ports.{Ports}
-use Rattle.switch_core.specs.Answering.{IsAtAuthority}
+use Rattle.policy_rules.specs.declared.packet.Leg.{Leg}
+use Rattle.switch_core.specs.Answering.{arrived, arrived_on}
+use Rattle.switch_core.specs.Ends.{around}
 use Rattle.switch_core.specs.Moving.{Moved, link_found_down, hopped, hopped_to, is_free, moved}
 use Rattle.switch_core.specs.State.{SwitchValue, call_counted}
-use Rattle.switch_core.specs.declared.answers.HopEnd.TheVariants.{Arrive}
+use Rattle.switch_core.specs.declared.answers.Arrived.{Arrived}
+use Rattle.switch_core.specs.declared.answers.HopEnd.{HopEnd}
+use Rattle.switch_core.specs.declared.answers.HopEnd.TheVariants as hop
 use Rattle.tunnel.specs.Moves.{advanced, next}
-use Rattle.travelling.specs.Travelling.{WithOne, placed_at, traveller}
+use Rattle.tunnel.specs.Tunnel.{TunnelValue}
+use Rattle.travelling.specs.Travelling.{Standing, placed_at, standing_at}
 use Rattle.travelling.specs.declared.travelling.Traveller.{Traveller}
-use Rattle.world_log.specs.Packets.{Hops, arrival, arrival_items, arrival_posts, ended_items, ended_posts, ended_switch, ended_traveller, hop_written, hop_posts, hop_traveller, hopped_switch, turned_items}
-use Rattle.world_log.specs.Writing.{IsPart}
+use Rattle.world_log.specs.Packets.{arrival, arrival_items, arrival_posts, ended_items, ended_posts, ended_switch, ended_traveller, hop_posts, hop_traveller, hop_written, hopped_switch, turned_items}
+use Rattle.world_log.specs.Writing.{IsPart, LogAfter, arrived_items, arrived_posts, arrived_traveller, packet_standing}
 use Rattle.world_log.specs.declared.log.Log.{Log}
-use Rattle.world_log.proofs.Hopping.{authority_counted}
-use Rattle.world_log.proofs.Writing.{part_none}
+use Rattle.world_log.proofs.Logs.{log_behind}
+use Rattle.world_log.proofs.Writing.{part_first}
 
-free_none : (near : ℕ) (o : Option ℕ) → is_free near o ≡ true → link_found_down near o ≡ None
+-- a link that is free isn't found down
+pub free_none : (near : ℕ) (o : Option ℕ) → is_free near o ≡ true → link_found_down near o ≡ None
 free_none near None free = refl
 free_none near (Some other) free = by_test _ free
   where
@@ -26,78 +32,226 @@ free_none near (Some other) free = by_test _ free
     by_test true is = refl
     by_test false is = absurd cc
 
+-- what a switch answered to a packet with this next switch, and how it is then
+pub record IsPassed (s now : SwitchValue) (near : ℕ) (onward : Option ℕ)
+    (answer : Option (Option ℕ)) : Type 0 where
+  pub next : answer ≡ (if is_free near onward then Some onward else None)
+  pub after : now ≡ (if is_free near onward then call_counted s else s)
+
+pub passed_by : (s now : SwitchValue) (near : ℕ) (answer : Option (Option ℕ)) (route : List ℕ)
+    (place : ℕ) (t : TunnelValue) → route ≡ t.route → place ≡ t.place
+    → IsPassed s now near (slice_get route (place + 1)) answer
+    → IsPassed s now near (next t) answer
+passed_by s now near answer route place t route_is place_is is =
+    subst (λ k. IsPassed s now near (slice_get t.route (k + 1)) answer) place_is
+    (subst (λ way. IsPassed s now near (slice_get way (place + 1)) answer) route_is is)
+
+module _ (s now : SwitchValue) (near : ℕ) (onward : Option ℕ) (answer : Option (Option ℕ))
+    (is : IsPassed s now near onward answer) where
+  -- it found none
+  pub passed_to : (next : Option ℕ) → answer ≡ Some next
+      → (is_free near onward ≡ true) × (onward ≡ next) × (now ≡ call_counted s)
+  passed_to next some = by_test (is_free near onward) refl
+    where
+      by_test : (b : Bool) → is_free near onward ≡ b
+          → (is_free near onward ≡ true) × (onward ≡ next) × (now ≡ call_counted s)
+      by_test true free =
+          let both : Some onward ≡ Some next =
+          sym (is.next ∙ ap (λ b. if b then Some onward else None) free) ∙ some in
+          (free, cc, is.after ∙ ap (λ b. if b then call_counted s else s) free)
+      by_test false taken =
+          let clash : ◌≡◌ {A = Option (Option ℕ)} None (Some next) =
+          sym (is.next ∙ ap (λ b. if b then Some onward else None) taken) ∙ some in
+          absurd cc
+
+-- ---- all that a hop wrote
+
 module _ (s : SwitchValue) (near : ℕ) (ports : Ports) (t : Traveller) where
-  abbrev items_by : ℕ → Option ℕ → Moved → List Item
+  abbrev pub items_by : ℕ → Option ℕ → Moved → List Item
   items_by number found m =
       turned_items t.tunnel.packet s.number found m.end m.tunnel.route
       ++ ended_items number (call_counted s) near ports (record t { tunnel = m.tunnel }) m.end
 
-  module _ (onward : Option ℕ) (none : link_found_down near (next t.tunnel) ≡ None)
-      (onward_is : next t.tunnel ≡ onward) where
-    hopped_is : hopped s near t.tunnel ≡ moved t.tunnel onward
-    unfolding hopped
-    hopped_is =
-        ap (hopped_to s near t.tunnel) none ∙ ap (moved t.tunnel) onward_is
+  abbrev pub posts_by : Moved → List Post
+  posts_by m = ended_posts (call_counted s) near ports (record t { tunnel = m.tunnel }) m.end
 
-    items_are : (number : ℕ) → hop_written number s near ports t
-        ≡ items_by number None (moved t.tunnel onward)
-    items_are number =
-        ap (λ found. items_by number found (hopped s near t.tunnel)) none
-        ∙ ap (items_by number None) hopped_is
+  abbrev pub traveller_by : Moved → Option Traveller
+  traveller_by m =
+      ended_traveller (call_counted s) near ports (record t { tunnel = m.tunnel }) m.end
 
-    posts_are : hop_posts s near ports t ≡ ended_posts (call_counted s) near ports
-        (record t { tunnel = (moved t.tunnel onward).tunnel }) (moved t.tunnel onward).end
-    posts_are = ap (λ (m : Moved). ended_posts (call_counted s) near ports
-        (record t { tunnel = m.tunnel }) m.end) hopped_is
+  pub hop_log : {T E : Type 0} (r : Result T E) (number packet : ℕ) (found : Option ℕ) (m : Moved)
+      (old new : Log) → link_found_down near (next t.tunnel) ≡ found → hopped s near t.tunnel ≡ m
+      → LogAfter r (items_by number found m) (posts_by m) packet (traveller_by m) old new
+      → LogAfter r (hop_written number s near ports t) (hop_posts s near ports t) packet
+      (hop_traveller s near ports t) old new
+  hop_log r number packet found m old new found_is moved_is log =
+      subst (λ f. LogAfter r (items_by number f (hopped s near t.tunnel))
+      (posts_by (hopped s near t.tunnel)) packet (traveller_by (hopped s near t.tunnel)) old new)
+      (sym found_is)
+      (subst (λ m. LogAfter r (items_by number found m) (posts_by m) packet (traveller_by m) old new)
+      (sym moved_is) log)
 
-    traveller_is : hop_traveller s near ports t ≡ ended_traveller (call_counted s) near ports
-        (record t { tunnel = (moved t.tunnel onward).tunnel }) (moved t.tunnel onward).end
-    traveller_is = ap (λ (m : Moved). ended_traveller (call_counted s) near ports
-        (record t { tunnel = m.tunnel }) m.end) hopped_is
+  -- where no link was found down
+  pub free_hop : (onward : Option ℕ) → is_free near (next t.tunnel) ≡ true
+      → next t.tunnel ≡ onward → hopped s near t.tunnel ≡ moved t.tunnel onward
+  unfolding hopped
+  free_hop onward free is =
+      ap (hopped_to s near t.tunnel) (free_none near (next t.tunnel) free)
+      ∙ ap (moved t.tunnel) is
 
-    switch_is : hopped_switch s near t ≡ ended_switch (call_counted s) (moved t.tunnel onward).end
-    switch_is = ap (λ (m : Moved). ended_switch (call_counted s) m.end) hopped_is
+  pub passed_log : {T E : Type 0} (r : Result T E) (number packet : ℕ) (onward : Option ℕ)
+      (old new : Log) → is_free near (next t.tunnel) ≡ true → next t.tunnel ≡ onward
+      → LogAfter r (items_by number None (moved t.tunnel onward)) (posts_by (moved t.tunnel onward))
+      packet (traveller_by (moved t.tunnel onward)) old new
+      → LogAfter r (hop_written number s near ports t) (hop_posts s near ports t) packet
+      (hop_traveller s near ports t) old new
+  passed_log r number packet onward old new free is =
+      hop_log r number packet None (moved t.tunnel onward) old new
+      (free_none near (next t.tunnel) free) (free_hop onward free is)
 
-  -- over a usable link
-  module _ (other : ℕ) (free : is_free near (next t.tunnel) ≡ true)
-      (next_is : next t.tunnel ≡ Some other) where
-    none_met : link_found_down near (next t.tunnel) ≡ None
-    none_met = free_none near (next t.tunnel) free
+  pub passed_switch : (onward : Option ℕ) → is_free near (next t.tunnel) ≡ true
+      → next t.tunnel ≡ onward
+      → hopped_switch s near t ≡ ended_switch (call_counted s) (moved t.tunnel onward).end
+  passed_switch onward free is =
+      ap (λ (m : Moved). ended_switch (call_counted s) m.end) (free_hop onward free is)
 
-    pub move_items : (number : ℕ)
-        → hop_written number s near ports t ≡ item.Hopped t.tunnel.packet other ∷ []
-    move_items = items_are (Some other) none_met next_is
+-- it moved on over a usable link
+pub move_log : {T E : Type 0} (r : Result T E) (s : SwitchValue) (near : ℕ) (ports : Ports)
+    (t : Traveller) (number packet place other : ℕ) (there : Option Traveller) (old new : Log)
+    → Some t ≡ there → t.tunnel.packet ≡ packet → place ≡ t.tunnel.place + 1
+    → is_free near (next t.tunnel) ≡ true → next t.tunnel ≡ Some other
+    → LogAfter r (item.Hopped packet other ∷ []) [] packet (option_map (placed_at place) there)
+    old new
+    → LogAfter r (hop_written number s near ports t) (hop_posts s near ports t) packet
+    (hop_traveller s near ports t) old new
+move_log r s near ports t number packet place other there old new its same place_is free is log =
+    passed_log s near ports t r number packet (Some other) old new free is
+    (subst (λ k. LogAfter r (item.Hopped k other ∷ []) [] packet
+    (Some (record t { tunnel = advanced t.tunnel })) old new) (sym same)
+    (subst (λ o. LogAfter r (item.Hopped packet other ∷ []) [] packet
+    (option_map (placed_at (t.tunnel.place + 1)) o) old new) (sym its)
+    (subst (λ k. LogAfter r (item.Hopped packet other ∷ []) [] packet
+    (option_map (placed_at k) there) old new) place_is log)))
 
-    pub move_posts : hop_posts s near ports t ≡ []
-    move_posts = posts_are (Some other) none_met next_is
+-- ---- a link was found down
 
-    pub move_traveller : hop_traveller s near ports t
-        ≡ Some (record t { tunnel = advanced t.tunnel })
-    move_traveller = traveller_is (Some other) none_met next_is
+moved_is : (m : Moved) (end : HopEnd) (tunnel : TunnelValue) → end ≡ m.end → tunnel ≡ m.tunnel
+    → m ≡ record { end = end; tunnel = tunnel }
+moved_is m end tunnel end_is tunnel_is =
+    ap (λ e. record { end = e; tunnel = m.tunnel }) (sym end_is)
+    ∙ ap (λ u. record { end = end; tunnel = u }) (sym tunnel_is)
 
-    pub move_switch : hopped_switch s near t ≡ call_counted s
-    move_switch = switch_is (Some other) none_met next_is
+-- what the switch answered to a hop of this packet there
+pub record IsMet (s : SwitchValue) (near : ℕ) (t : Traveller) (packet here other : ℕ)
+    (end : HopEnd) (tunnel : TunnelValue) : Type 0 where
+  pub same : t.tunnel.packet ≡ packet
+  pub at : here ≡ s.number
+  pub found : link_found_down near (next t.tunnel) ≡ Some other
+  pub ends : end ≡ (hopped s near t.tunnel).end
+  pub moves : tunnel ≡ (hopped s near t.tunnel).tunnel
 
-  -- at the end of its route
-  module _ (last_is : next t.tunnel ≡ None) where
-    none_last : link_found_down near (next t.tunnel) ≡ None
-    none_last = ap (link_found_down near) last_is
+-- behind the link, and the route that was taken around it, if one was
+pub met_log : {T E : Type 0} (r : Result T E) (s : SwitchValue) (near : ℕ) (ports : Ports)
+    (t : Traveller) (number packet here other : ℕ) (end : HopEnd) (tunnel : TunnelValue)
+    (old mid new : Log) → IsMet s near t packet here other end tunnel
+    → mid.journal ≡ old.journal ++ turned_items packet here (Some other) end tunnel.route
+    → mid.bag ≡ old.bag → mid.travelling ≡ old.travelling
+    → LogAfter r
+    (ended_items number (call_counted s) near ports (record t { tunnel = tunnel }) end)
+    (ended_posts (call_counted s) near ports (record t { tunnel = tunnel }) end) packet
+    (ended_traveller (call_counted s) near ports (record t { tunnel = tunnel }) end) mid new
+    → LogAfter r (hop_written number s near ports t) (hop_posts s near ports t) packet
+    (hop_traveller s near ports t) old new
+met_log r s near ports t number packet here other end tunnel old mid new is grown same_bag same log =
+    let u : Traveller = record t { tunnel = tunnel } in
+    let ended : List Item = ended_items number (call_counted s) near ports u end in
+    let posts : List Post = ended_posts (call_counted s) near ports u end in
+    let this : Option Traveller = ended_traveller (call_counted s) near ports u end in
+    hop_log s near ports t r number packet (Some other) (record { end = end; tunnel = tunnel })
+    old new is.found (moved_is (hopped s near t.tunnel) end tunnel is.ends is.moves)
+    (subst (λ k. LogAfter r (turned_items k s.number (Some other) end tunnel.route ++ ended) posts
+    packet this old new) (sym is.same)
+    (subst (λ n. LogAfter r (turned_items packet n (Some other) end tunnel.route ++ ended) posts
+    packet this old new) is.at
+    (log_behind r (turned_items packet here (Some other) end tunnel.route) ended [] posts packet
+    this old mid new grown (same_bag ∙ sym (append-nil old.bag)) same log)))
 
-    pub last_end : (hopped s near t.tunnel).end ≡ Arrive
-    last_end = ap (λ (m : Moved). m.end) (hopped_is None none_last last_is)
+-- where memory ran out, a part was written: up to the route that was taken, or the link alone
+module _ (s : SwitchValue) (near : ℕ) (ports : Ports) (t : Traveller)
+    (number packet here other : ℕ) (end : HopEnd) (tunnel : TunnelValue) (old new : List Item)
+    (is : IsMet s near t packet here other end tunnel) where
+  part_by : IsPart old (items_by s near ports t number (Some other)
+      (record { end = end; tunnel = tunnel })) new
+      → IsPart old (hop_written number s near ports t) new
+  part_by part =
+      subst (λ f. IsPart old (items_by s near ports t number f (hopped s near t.tunnel)) new)
+      (sym is.found)
+      (subst (λ m. IsPart old (items_by s near ports t number (Some other) m) new)
+      (sym (moved_is (hopped s near t.tunnel) end tunnel is.ends is.moves)) part)
 
-    pub last_items : (number : ℕ)
-        → hop_written number s near ports t ≡ arrival_items number (call_counted s) near ports t
-    last_items = items_are None none_last last_is
+  pub met_turned : new ≡ old ++ turned_items packet here (Some other) end tunnel.route
+      → IsPart old (hop_written number s near ports t) new
+  met_turned grown =
+      let u : Traveller = record t { tunnel = tunnel } in
+      part_by (record {
+        written = turned_items t.tunnel.packet s.number (Some other) end tunnel.route;
+        rest = ended_items number (call_counted s) near ports u end;
+        split = refl;
+        grown = grown
+            ∙ ap (λ k. old ++ turned_items k here (Some other) end tunnel.route) (sym is.same)
+            ∙ ap (λ n. old ++ turned_items t.tunnel.packet n (Some other) end tunnel.route) is.at;
+      })
 
-    pub last_posts : hop_posts s near ports t ≡ arrival_posts (call_counted s) near ports t
-    last_posts = posts_are None none_last last_is
+  pub met_first : new ≡ old ++ item.FoundDown packet here other ∷ []
+      → IsPart old (hop_written number s near ports t) new
+  met_first grown =
+      let u : Traveller = record t { tunnel = tunnel } in
+      let told : new ≡ old ++ item.FoundDown t.tunnel.packet s.number other ∷ [] =
+      grown ∙ ap (λ k. old ++ item.FoundDown k here other ∷ []) (sym is.same)
+      ∙ ap (λ n. old ++ item.FoundDown t.tunnel.packet n other ∷ []) is.at in
+      part_by (by_end end told)
+    where
+      by_end : (e : HopEnd) → new ≡ old ++ item.FoundDown t.tunnel.packet s.number other ∷ []
+          → IsPart old (turned_items t.tunnel.packet s.number (Some other) e tunnel.route
+          ++ ended_items number (call_counted s) near ports (record t { tunnel = tunnel }) e) new
+      by_end hop.Arrive told = part_first old new _ _ told
+      by_end (hop.Move onward) told = part_first old new _ _ told
+      by_end (hop.Stuck cause) told = part_first old new _ _ told
 
-    pub last_traveller : hop_traveller s near ports t ≡ arrival (call_counted s) near ports t
-    last_traveller = traveller_is None none_last last_is
+-- and the switch was asked so often
+pub met_switch : (s : SwitchValue) (near : ℕ) (t : Traveller) (end : HopEnd)
+    → end ≡ (hopped s near t.tunnel).end
+    → ended_switch (call_counted s) end ≡ hopped_switch s near t
+met_switch s near t end is = ap (ended_switch (call_counted s)) is
 
-    pub last_switch : hopped_switch s near t ≡ call_counted (call_counted s)
-    last_switch = switch_is None none_last last_is
+-- ---- at the end of its route
+
+-- what was written of the packet that stands there is what its arrival writes
+pub arrival_log : {T E : Type 0} (r : Result T E) (number : ℕ) (w : SwitchValue) (near : ℕ)
+    (ports : Ports) (t : Traveller) (at : Standing) (version : ℕ) (rule : Option ℕ) (leg : Leg)
+    (packet : ℕ) (old new : Log)
+    → at ≡ standing_at w.number t → version ≡ t.version → rule ≡ t.rule → leg ≡ t.tunnel.leg
+    → LogAfter r (arrived_items number at version rule
+    (arrived_on w (around near ports) (packet_standing at) leg))
+    (arrived_posts at (arrived_on w (around near ports) (packet_standing at) leg))
+    packet (arrived_traveller version rule
+    (arrived_on w (around near ports) (packet_standing at) leg)) old new
+    → LogAfter r (arrival_items number w near ports t) (arrival_posts w near ports t) packet
+    (arrival w near ports t) old new
+unfolding arrival_items arrival_posts arrival arrived
+arrival_log r number w near ports t at version rule leg packet old new at_is version_is rule_is
+    leg_is log =
+    let P : Standing → ℕ → Option ℕ → Arrived → Type 0 = λ at version rule what.
+    LogAfter r (arrived_items number at version rule what) (arrived_posts at what) packet
+    (arrived_traveller version rule what) old new in
+    subst (λ leg. P (standing_at w.number t) t.version t.rule
+    (arrived_on w (around near ports) (packet_standing (standing_at w.number t)) leg)) leg_is
+    (subst (λ rule. P (standing_at w.number t) t.version rule
+    (arrived_on w (around near ports) (packet_standing (standing_at w.number t)) leg)) rule_is
+    (subst (λ version. P (standing_at w.number t) version rule
+    (arrived_on w (around near ports) (packet_standing (standing_at w.number t)) leg)) version_is
+    (subst (λ at. P at version rule (arrived_on w (around near ports) (packet_standing at) leg))
+    at_is log)))
 
 -- what holds of the packet that was looked up holds of any that is there
 pub of_kept : (P : Traveller → Type 0) (there : Option Traveller) (kept : Traveller)
@@ -106,76 +260,3 @@ of_kept P there kept is holds t its =
     let both : ◌≡◌ {A = Option Traveller} (Some kept) (Some t) = is ∙ its in
     let same : kept ≡ t = cc in
     subst P same holds
-
--- it moved on over a usable link
-pub move_hops : {T E : Type 0} (r : Result T E) (s : SwitchValue) (near : ℕ) (ports : Ports)
-    (t : Traveller) (old new : Log) (asked : SwitchValue) (packet other : ℕ)
-    → Some t ≡ traveller old.travelling packet → t.tunnel.packet ≡ packet
-    → is_free near (next t.tunnel) ≡ true → next t.tunnel ≡ Some other → asked ≡ call_counted s
-    → OnOk r (new.journal ≡ old.journal ++ item.Hopped packet other ∷ [])
-    → OnOk r (WithOne old.travelling packet (option_map (placed_at (t.tunnel.place + 1))
-    (traveller old.travelling packet)) new.travelling)
-    → OnErr r (new.journal ≡ old.journal) → new.bag ≡ old.bag
-    → Hops r s near ports t old new asked
-move_hops r s near ports t old new asked packet other there number free is counts written moved
-    unwritten unsent =
-    let items = move_items s near ports t other free is (length old.bag + 1) in
-    record {
-      written = on_ok_weaker r (λ grown. grown
-          ∙ ap (λ k. old.journal ++ item.Hopped k other ∷ []) (sym number)
-          ∙ ap (λ js. old.journal ++ js) (sym items)) written;
-      posted = on_ok_weaker r (λ _. unsent ∙ sym (append-nil old.bag)
-          ∙ ap (λ posts. old.bag ++ posts) (sym (move_posts s near ports t other free is))) written;
-      travels = on_ok_weaker r (λ with.
-          subst (λ this. WithOne old.travelling t.tunnel.packet this new.travelling)
-          (sym (move_traveller s near ports t other free is))
-          (subst (λ k. WithOne old.travelling k (Some (record t { tunnel = advanced t.tunnel }))
-          new.travelling) (sym number)
-          (subst (λ o. WithOne old.travelling packet
-          (option_map (placed_at (t.tunnel.place + 1)) o) new.travelling) (sym there) with))) moved;
-      part = on_err_weaker r (λ same. part_none old.journal _ new.journal same) unwritten;
-      counted = on_ok_weaker r (λ _. counts ∙ sym (move_switch s near ports t other free is)) written;
-    }
-
--- it arrived
-pub last_hops : {T E : Type 0} (r : Result T E) (s mid : SwitchValue) (near : ℕ) (ports : Ports)
-    (t : Traveller) (old new : Log) (asked : SwitchValue)
-    → next t.tunnel ≡ None → mid ≡ call_counted s → OnOk r (asked ≡ call_counted mid)
-    → OnOk r (new.journal
-    ≡ old.journal ++ arrival_items (length old.bag + 1) mid near ports t)
-    → OnOk r (new.bag ≡ old.bag ++ arrival_posts mid near ports t)
-    → OnOk r (WithOne old.travelling t.tunnel.packet (arrival mid near ports t) new.travelling)
-    → OnErr r (IsPart old.journal (arrival_items (length old.bag + 1) mid near ports t)
-    new.journal)
-    → Hops r s near ports t old new asked
-last_hops r s mid near ports t old new asked is counts counts_on written posted travels part =
-    let items = ap (λ w. arrival_items (length old.bag + 1) w near ports t) counts
-    ∙ sym (last_items s near ports t is (length old.bag + 1)) in
-    record {
-      written = on_ok_weaker r (λ grown. grown ∙ ap (λ js. old.journal ++ js) items) written;
-      posted = on_ok_weaker r (λ grown. grown ∙ ap (λ posts. old.bag ++ posts)
-          (ap (λ w. arrival_posts w near ports t) counts ∙ sym (last_posts s near ports t is)))
-          posted;
-      travels = on_ok_weaker r (λ with.
-          subst (λ this. WithOne old.travelling t.tunnel.packet this new.travelling)
-          (ap (λ w. arrival w near ports t) counts ∙ sym (last_traveller s near ports t is)) with)
-          travels;
-      part = on_err_weaker r (λ some. subst (λ js. IsPart old.journal js new.journal) items some)
-          part;
-      counted = on_ok_weaker r (λ grown. grown ∙ ap call_counted counts
-          ∙ sym (last_switch s near ports t is)) counts_on;
-    }
-
--- what a switch needs that was asked once more
-pub authority_on : (s mid : SwitchValue) (near : ℕ) (ports : Ports) (t : Traveller)
-    → next t.tunnel ≡ None → mid ≡ call_counted s
-    → ((hopped s near t.tunnel).end ≡ Arrive → IsAtAuthority s t.tunnel.header t.tunnel.leg)
-    → IsAtAuthority mid t.tunnel.header t.tunnel.leg
-authority_on s mid near ports t is counts at =
-    subst (λ w. IsAtAuthority w t.tunnel.header t.tunnel.leg) (sym counts)
-    (authority_counted s t.tunnel.header t.tunnel.leg (at (last_end s near ports t is)))
-
--- the switch was counted exactly where it answered so
-pub counted_where : (s mid : SwitchValue) (b : Bool) → b ≡ true
-    → mid ≡ (if b then call_counted s else s) → mid ≡ call_counted s
-counted_where s mid b is after = after ∙ ap (λ t. if t then call_counted s else s) is

@@ -10,6 +10,12 @@ pub part_none : (old items new : List Item) → new ≡ old → IsPart old items
 part_none old items new is =
     record { written = []; rest = items; split = refl; grown = is ∙ sym (append-nil old) }
 
+-- the first item was written
+pub part_first : (old new rest : List Item) (first : Item) → new ≡ old ++ first ∷ []
+    → IsPart old (first ∷ rest) new
+part_first old new rest first is =
+    record { written = first ∷ []; rest = rest; split = refl; grown = is }
+
 pub by_error : {T E P : Type 0} (r : Result T E) → P → OnErr r P
 by_error (Ok x) p = tt
 by_error (Err e) p = p

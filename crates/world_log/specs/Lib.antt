@@ -1,4 +1,3 @@
 pub mod Writing
 pub mod Packets
 pub mod Sending
-pub mod Outcomes

@@ -1,5 +1,5 @@
 -- What becomes of the journal and of the packets on their way as a packet comes in or moves on.
-use Rattle.std.specs.Prelude.{ℕ, ◌≡◌, ◌+◌, Option, Some, None, List, [], ◌∷◌, ◌++◌, Result, OnOk, OnErr, length}
+use Rattle.std.specs.Prelude.{ℕ, Option, Some, None, List, [], ◌∷◌, ◌++◌}
 use Rattle.message_bag.specs.Posts.{Post}
 use Rattle.failover.specs.Links.{no_links}
 use Rattle.five_tuple.specs.declared.header.Header.{Header}
@@ -14,9 +14,8 @@ use Rattle.switch_core.specs.declared.answers.Entered.{Entered}
 use Rattle.switch_core.specs.declared.answers.HopEnd.{HopEnd}
 use Rattle.switch_core.specs.declared.answers.HopEnd.TheVariants as hop
 use Rattle.tunnel.specs.Moves.{next}
-use Rattle.travelling.specs.Travelling.{OthersStay, Standing, Travellers, WithOne, standing_at}
-use Rattle.world_log.specs.Writing.{IsPart, arrived_items, arrived_posts, arrived_traveller}
-use Rattle.world_log.specs.declared.log.Log.{Log}
+use Rattle.travelling.specs.Travelling.{Standing, standing_at}
+use Rattle.world_log.specs.Writing.{arrived_items, arrived_posts, arrived_traveller}
 use Rattle.travelling.specs.declared.travelling.Traveller.{Traveller}
 
 -- a packet that comes in at a switch
@@ -38,7 +37,7 @@ entry s near ports packet header =
 -- packet is then
 unfoldable pub arrival_items : ℕ → SwitchValue → ℕ → Ports → Traveller → List Item
 arrival_items number s near ports traveller =
-    arrived_items number (standing_at s.number traveller) traveller
+    arrived_items number (standing_at s.number traveller) traveller.version traveller.rule
     (arrived s (around near ports) traveller.tunnel)
 
 unfoldable pub arrival_posts : SwitchValue → ℕ → Ports → Traveller → List Post
@@ -47,7 +46,8 @@ arrival_posts s near ports traveller =
 
 unfoldable pub arrival : SwitchValue → ℕ → Ports → Traveller → Option Traveller
 arrival s near ports traveller =
-    arrived_traveller traveller (arrived s (around near ports) traveller.tunnel)
+    arrived_traveller traveller.version traveller.rule
+    (arrived s (around near ports) traveller.tunnel)
 
 -- ---- as it moves on
 
@@ -59,11 +59,6 @@ turned_items packet here (Some other) (hop.Stuck cause) route =
 turned_items packet here (Some other) _ route =
     item.FoundDown packet here other ∷ item.Rerouted packet route ∷ []
 
--- where a packet that moves is kept on its way, and all others are as before
-abbrev pub IsTurned : HopEnd → Traveller → Travellers → Travellers → Type 0
-IsTurned (hop.Move other) t before after = WithOne before t.tunnel.packet (Some t) after
-IsTurned _ t before after = OthersStay before t.tunnel.packet after
-
 -- it is at the end of its route, moves to the next switch or is stuck
 abbrev pub ended_items : ℕ → SwitchValue → ℕ → Ports → Traveller → HopEnd → List Item
 ended_items number s near ports t hop.Arrive = arrival_items number s near ports t
@@ -74,13 +69,6 @@ ended_items number s near ports t (hop.Stuck cause) =
 abbrev pub ended_posts : SwitchValue → ℕ → Ports → Traveller → HopEnd → List Post
 ended_posts s near ports t hop.Arrive = arrival_posts s near ports t
 ended_posts s near ports t _ = []
-
-abbrev pub IsEnded : SwitchValue → ℕ → Ports → Traveller → HopEnd → Travellers → Travellers
-    → Type 0
-IsEnded s near ports t hop.Arrive before after =
-    WithOne before t.tunnel.packet (arrival s near ports t) after
-IsEnded s near ports t (hop.Move other) before after = after ≡ before
-IsEnded s near ports t (hop.Stuck cause) before after = WithOne before t.tunnel.packet None after
 
 -- the switch is asked once more where it arrives
 abbrev pub ended_switch : SwitchValue → HopEnd → SwitchValue
@@ -114,16 +102,3 @@ hop_traveller s near ports t =
 
 abbrev pub hopped_switch : SwitchValue → ℕ → Traveller → SwitchValue
 hopped_switch s near t = ended_switch (call_counted s) (hopped s near t.tunnel).end
-
--- what a hop leaves: all of its items and posts, the packet where it is then, and the switch that
--- was asked; or a part of the items, where memory ran out
-pub record Hops {T E : Type 0} (result : Result T E) (s : SwitchValue) (near : ℕ) (ports : Ports)
-    (t : Traveller) (old new : Log) (asked : SwitchValue) : Type 0 where
-  pub written : OnOk result (new.journal
-      ≡ old.journal ++ hop_written (length old.bag + 1) s near ports t)
-  pub posted : OnOk result (new.bag ≡ old.bag ++ hop_posts s near ports t)
-  pub travels : OnOk result (WithOne old.travelling t.tunnel.packet
-      (hop_traveller s near ports t) new.travelling)
-  pub part : OnErr result (IsPart old.journal (hop_written (length old.bag + 1) s near ports t)
-      new.journal)
-  pub counted : OnOk result (asked ≡ hopped_switch s near t)

@@ -1,15 +1,17 @@
 -- What the answers of a switch to a packet make of the journal and of the packet.
-use Rattle.std.specs.Prelude.{ℕ, ◌≡◌, Option, Some, None, option_map, List, [], ◌∷◌, ◌++◌, map}
+use Rattle.std.specs.Prelude.{ℕ, ◌≡◌, Option, Some, None, option_map, List, [], ◌∷◌, ◌++◌, map, Result, Ok, Err, OnOk, OnErr}
 use Rattle.message_bag.specs.Posts.{Post, posted}
 use Rattle.ctrl_msg.specs.declared.message.Body.{Body}
 use Rattle.ctrl_msg.specs.declared.message.Message.{Message}
 use Rattle.ctrl_msg.specs.declared.message.Receiver.TheVariants as receiver
+use Rattle.policy_rules.specs.declared.packet.Cause.{Cause}
 use Rattle.policy_rules.specs.declared.packet.Leg.{Leg}
 use Rattle.policy_rules.specs.declared.packet.Leg.TheVariants.{Exit as ExitLeg}
 use Rattle.policy_rules.specs.declared.policy.Action.{Action}
 use Rattle.policy_rules.specs.declared.policy.Action.TheVariants as action
 use Rattle.journal.specs.declared.item.Item.{Item}
 use Rattle.journal.specs.declared.item.Item.TheVariants as item
+use Rattle.switch_core.specs.Deciding.{packet_with}
 use Rattle.switch_core.specs.declared.answers.Answer.{Answer}
 use Rattle.switch_core.specs.declared.answers.Answer.TheVariants as answer
 use Rattle.switch_core.specs.declared.answers.Arrived.{Arrived}
@@ -19,10 +21,13 @@ use Rattle.switch_core.specs.declared.answers.Entered.{Entered}
 use Rattle.switch_core.specs.declared.answers.Entered.TheVariants as entered
 use Rattle.switch_core.specs.declared.answers.Next.{Next}
 use Rattle.switch_core.specs.declared.answers.Next.TheVariants as next
+use Rattle.switch_core.specs.declared.packet.Packet.{Packet}
+use Rattle.tunnel.specs.Tunnel.{TunnelValue}
 use Rattle.update_machine.specs.Messages.{sent_from}
 use Rattle.update_machine.specs.Moves.{takes_route}
-use Rattle.travelling.specs.Travelling.{Standing}
+use Rattle.travelling.specs.Travelling.{Standing, WithOne}
 use Rattle.travelling.specs.declared.travelling.Traveller.{Traveller}
+use Rattle.world_log.specs.declared.log.Log.{Log}
 
 -- the items begin with what was written behind the old journal
 pub record IsPart (old items new : List Item) : Type 0 where
@@ -30,6 +35,32 @@ pub record IsPart (old items new : List Item) : Type 0 where
   pub rest : List Item
   pub split : items ≡ written ++ rest
   pub grown : new ≡ old ++ written
+
+-- what a call leaves of a log: it wrote these items and posted these frames, and of the packets on
+-- their way this one alone is what it is now; where memory ran out, a part of the items is written
+pub record LogAfter {T E : Type 0} (result : Result T E) (items : List Item) (posts : List Post)
+    (packet : ℕ) (this : Option Traveller) (old new : Log) : Type 0 where
+  pub written : OnOk result (new.journal ≡ old.journal ++ items)
+  pub posted : OnOk result (new.bag ≡ old.bag ++ posts)
+  pub travels : OnOk result (WithOne old.travelling packet this new.travelling)
+  pub part : OnErr result (IsPart old.journal items new.journal)
+
+-- the packet that stands there, as the switch is asked of it
+abbrev pub packet_standing : Standing → Packet
+packet_standing at = packet_with at.packet at.header at.ingress at.down
+
+-- ---- on a leg
+
+-- it takes the route there, or is stuck
+abbrev pub set_item : Standing → Leg → Result TunnelValue Cause → Item
+set_item at leg (Ok tunnel) = takes_route at.packet tunnel.leg tunnel.route
+set_item at leg (Err cause) = item.Stuck at.packet at.switch cause leg at.down
+
+-- where the packet had this version and this rule
+abbrev pub set_traveller : ℕ → Option ℕ → Result TunnelValue Cause → Option Traveller
+set_traveller version rule (Ok tunnel) =
+    Some (record { tunnel = tunnel; version = version; rule = rule })
+set_traveller version rule (Err cause) = None
 
 -- ---- once it is decided
 
@@ -82,14 +113,6 @@ abbrev pub answer_message : Standing → Answer → Option Message
 answer_message at (answer.Decided decision cache onward) = cache_message at.ingress cache
 answer_message at _ = None
 
-abbrev pub entered_message : Standing → Entered → Option Message
-entered_message at entered.Closed = None
-entered_message at (entered.Answered what) = answer_message at what
-
-abbrev pub arrived_message : Standing → Arrived → Option Message
-arrived_message at (arrived.Out port) = None
-arrived_message at (arrived.Answered what) = answer_message at what
-
 -- where the next message has this number
 abbrev pub answer_items : ℕ → Standing → Answer → List Item
 answer_items number at (answer.Decided decision cache onward) =
@@ -129,16 +152,15 @@ entered_traveller (entered.Answered what) = answer_traveller 0 None what
 
 -- ---- at the end of its route
 
-abbrev pub arrived_items : ℕ → Standing → Traveller → Arrived → List Item
-arrived_items number at traveller (arrived.Out port) =
-    left_item at traveller.version traveller.rule port ∷ []
-arrived_items number at traveller (arrived.Answered what) = answer_items number at what
+-- where the packet had this version and this rule
+abbrev pub arrived_items : ℕ → Standing → ℕ → Option ℕ → Arrived → List Item
+arrived_items number at version rule (arrived.Out port) = left_item at version rule port ∷ []
+arrived_items number at version rule (arrived.Answered what) = answer_items number at what
 
 abbrev pub arrived_posts : Standing → Arrived → List Post
 arrived_posts at (arrived.Out port) = []
 arrived_posts at (arrived.Answered what) = answer_posts at what
 
-abbrev pub arrived_traveller : Traveller → Arrived → Option Traveller
-arrived_traveller traveller (arrived.Out port) = None
-arrived_traveller traveller (arrived.Answered what) =
-    answer_traveller traveller.version traveller.rule what
+abbrev pub arrived_traveller : ℕ → Option ℕ → Arrived → Option Traveller
+arrived_traveller version rule (arrived.Out port) = None
+arrived_traveller version rule (arrived.Answered what) = answer_traveller version rule what

@@ -7,9 +7,10 @@
 //! items have to do with earlier ones is for the crates above to say.
 //!
 //! ```text
-//! enter(alloc, &mut log, 1, &header, &mut switch, near, &ports)?;
+//! let site = Site { near, ports: &ports };
+//! log.enter(alloc, 1, &header, &mut switch, site)?;
 //! if log.travelling.has(1) {
-//!     hop_kept(alloc, &mut log, 1, &mut switch, near, &ports)?;
+//!     log.hop(alloc, 1, &mut switch, site)?;
 //! }
 //! log.send(alloc, message)?;
 //! ```
@@ -17,11 +18,8 @@
 
 mod log;
 mod losing;
-mod outcome;
 mod packets;
 mod sending;
 
 pub use log::Log;
-pub use outcome::{Onward, Outcome};
-pub use packets::{enter, hop, hop_kept};
-pub use travelling::Standing;
+pub use switch_core::Site;

@@ -1,0 +1,252 @@
+-- A packet goes around a link that it found down.
+use Rattle.std.proofs.Common.{ℕ, ◌≡◌, ◌+◌, ◌++◌, ◌∷◌, ◌<◌, [], Option, Some, None, List, ap, length, refl, subst, sym, ◌∙◌}
+use Rattle.std.specs.Option.{option_copied}
+use Rattle.std.specs.Prelude.{IsSomeAnd}
+use Rattle.journal.specs.declared.item.Item.{Item}
+use Rattle.journal.specs.declared.item.Item.TheVariants as item
+use Rattle.message_bag.specs.Posts.{Post}
+use Rattle.policy_rules.specs.declared.packet.Leg.{Leg}
+use Rattle.switch_core.specs.Answering.{IsAtAuthority, arrived_on}
+use Rattle.switch_core.specs.Ends.{around}
+use Rattle.switch_core.specs.Moving.{hopped}
+use Rattle.switch_core.specs.State.{SwitchValue, call_counted}
+use Rattle.switch_core.specs.declared.answers.HopEnd.{HopEnd}
+use Rattle.switch_core.specs.declared.answers.HopEnd.TheVariants as hop
+use Rattle.travelling.specs.Travelling.{Standing, WithOne, standing_at, standing_kept, traveller}
+use Rattle.travelling.specs.declared.travelling.Traveller.{Traveller}
+use Rattle.tunnel.specs.Tunnel.{TunnelValue}
+use Rattle.world_log.specs.Packets.{hop_posts, hop_traveller, hop_written}
+use Rattle.world_log.specs.Writing.{LogAfter, arrived_items, arrived_posts, arrived_traveller, packet_standing}
+use Rattle.world_log.specs.declared.log.Log.{Log}
+use Rattle.world_log.proofs.Hopping.{SamePacket, authority_counted, hopped_same}
+use Rattle.world_log.proofs.Logs.{log_failed, log_one}
+use Rattle.world_log.proofs.Passing.{IsMet, arrival_log, met_log, met_turned, of_kept}
+use Rattle.world_log.proofs.Writing.{both_written}
+use Rattle.world_log.proofs.log.Log.go_around.Goals as goal
+use Rattle.world_log.proofs.log.Log.go_around.Goals.{After-unwrap-other}
+
+its : (c : After-unwrap-other) → ◌≡◌ {A = Option Traveller} (Some c.traveller-traveller.result)
+    (traveller c.args.self.now.travelling c.args.packet)
+its c = ap Some c.traveller-traveller.ensures
+    ∙ sym (ap option_copied c.unwrap-kept.ensures) ∙ c.look.ensures
+
+met : (c : After-unwrap-other) (end : HopEnd) → c.hop-hop.result.end ≡ end
+    → IsMet c.args.switch.now c.args.site.near c.traveller-traveller.result c.args.packet
+    c.number-here.result c.unwrap-other.result end c.hop-hop.new.t
+met c end is = record {
+  same = subst (λ o. IsSomeAnd o (λ (t : Traveller). t.tunnel.packet ≡ c.args.packet))
+      (sym (its c)) c.requires.known;
+  at = c.number-here.ensures.number ∙ ap (λ (w : SwitchValue). w.number) c.hop-hop.ensures.after;
+  found = sym c.hop-hop.ensures.found ∙ c.unwrap-other.ensures;
+  ends = sym is ∙ c.hop-hop.ensures.end;
+  moves = c.hop-hop.ensures.tunnel;
+}
+
+-- it is the same packet behind the switch's move
+same : (c : After-unwrap-other) → SamePacket c.traveller-traveller.result.tunnel
+    (hopped c.args.switch.now c.args.site.near c.traveller-traveller.result.tunnel).tunnel
+same c = hopped_same c.args.switch.now c.args.site.near c.traveller-traveller.result.tunnel
+
+packet_is : (c : After-unwrap-other) → c.hop-hop.new.t.packet ≡ c.args.packet
+packet_is c = ap (λ (u : TunnelValue). u.packet) c.hop-hop.ensures.tunnel ∙ (same c).packet
+    ∙ (met c c.hop-hop.result.end refl).same
+
+leg_was : (c : After-unwrap-other) → c.leg-leg.result ≡ c.traveller-traveller.result.tunnel.leg
+leg_was c = c.leg-leg.ensures
+    ∙ ap (λ (t : Traveller). t.tunnel.leg) (sym c.traveller-traveller.ensures)
+
+leg_is : (c : After-unwrap-other) → c.leg-leg.result ≡ c.hop-hop.new.t.leg
+leg_is c = leg_was c
+    ∙ sym (ap (λ (u : TunnelValue). u.leg) c.hop-hop.ensures.tunnel ∙ (same c).leg)
+
+-- what was written up to its new route
+rerouted : (c : After-unwrap-other) (old begun new : List Item)
+    → begun ≡ old ++ item.FoundDown c.args.packet c.number-here.result c.unwrap-other.result ∷ []
+    → new ≡ begun ++ item.Rerouted c.hop-hop.new.t.packet c.hop-hop.new.t.route ∷ []
+    → new ≡ old ++ item.FoundDown c.args.packet c.number-here.result c.unwrap-other.result
+    ∷ item.Rerouted c.args.packet c.hop-hop.new.t.route ∷ []
+rerouted c old begun new first grown =
+    both_written old begun new
+    (item.FoundDown c.args.packet c.number-here.result c.unwrap-other.result ∷ [])
+    (item.Rerouted c.args.packet c.hop-hop.new.t.route ∷ []) first
+    (grown ∙ ap (λ k. begun ++ item.Rerouted k c.hop-hop.new.t.route ∷ []) (packet_is c))
+
+-- ---- there is no other route
+
+pub returns-in_ok-at-in-Stuck-clause-log : goal.returns-in_ok-at-in-Stuck-clause-log
+returns-in_ok-at-in-Stuck-clause-log c =
+    let before = (goal.at.returns-in_ok-at-in-Stuck-clause-log c).After-unwrap-other in
+    let t = c.traveller-traveller.result in
+    let s = c.args.switch.now in
+    let near = c.args.site.near in
+    let ports = c.args.site.ports.now in
+    let n = length c.args.self.now.bag + 1 in
+    let end = hop.Stuck c.in-Stuck.cause in
+    let tunnel = c.hop-hop.new.t in
+    let begun : Log = record c.args.self.now { journal = c.push.new.self } in
+    let is = met before end c.in-Stuck.is in
+    let stuck : ℕ → ℕ → Leg → Type 0 = λ k here leg. LogAfter c.stuck.result
+    (item.Stuck tunnel.packet here c.in-Stuck.cause leg tunnel.down ∷ []) [] k None begun
+    c.stuck.new.self in
+    of_kept (λ t. LogAfter c.stuck.result (hop_written n s near ports t) (hop_posts s near ports t)
+    c.args.packet (hop_traveller s near ports t) c.args.self.now c.stuck.new.self) _ t (its before)
+    (met_log c.stuck.result s near ports t n c.args.packet c.number-here.result
+    c.unwrap-other.result end tunnel c.args.self.now begun c.stuck.new.self is
+    c.in_ok-push.ensures.pushed refl refl
+    (subst (λ k. stuck k s.number tunnel.leg) (packet_is before)
+    (subst (λ leg. stuck tunnel.packet s.number leg) (leg_is before)
+    (subst (λ here. stuck tunnel.packet here c.leg-leg.result) is.at
+    (subst (λ (a : Standing). LogAfter c.stuck.result
+    (item.Stuck a.packet a.switch c.in-Stuck.cause c.leg-leg.result a.down ∷ []) [] a.packet None
+    begun c.stuck.new.self) c.in_ok-at-in-Stuck.ensures.at c.stuck.ensures)))))
+
+-- ---- it moves on along another route
+
+pub returns-in_err-put-in-Move-clause-log : goal.returns-in_err-put-in-Move-clause-log
+returns-in_err-put-in-Move-clause-log c =
+    let before = (goal.at.returns-in_err-put-in-Move-clause-log c).After-unwrap-other in
+    let t = c.traveller-traveller.result in
+    let s = c.args.switch.now in
+    let near = c.args.site.near in
+    let ports = c.args.site.ports.now in
+    let n = length c.args.self.now.bag + 1 in
+    let r = c.from_residual-in_err-put-in-Move.result in
+    let end = hop.Move c.in-Move.next in
+    let now : Log = record {
+      journal = c.reroute.new.self.journal;
+      travelling = c.put.new.self;
+      bag = c.reroute.new.self.bag;
+    } in
+    of_kept (λ t. LogAfter r (hop_written n s near ports t) (hop_posts s near ports t)
+    c.args.packet (hop_traveller s near ports t) c.args.self.now now) _ t (its before)
+    (log_failed r _ _ c.args.packet _ c.args.self.now now
+    c.from_residual-in_err-put-in-Move.ensures.0
+    (met_turned s near ports t n c.args.packet c.number-here.result c.unwrap-other.result end
+    c.hop-hop.new.t c.args.self.now.journal c.reroute.new.self.journal
+    (met before end c.in-Move.is)
+    (rerouted before c.args.self.now.journal c.push.new.self c.reroute.new.self.journal
+    c.in_ok-push.ensures.pushed c.in_ok-kept-in-Move.ensures.written)))
+
+pub returns-in_ok-put-in-Move-clause-log : goal.returns-in_ok-put-in-Move-clause-log
+returns-in_ok-put-in-Move-clause-log c =
+    let before = (goal.at.returns-in_ok-put-in-Move-clause-log c).After-unwrap-other in
+    let t = c.traveller-traveller.result in
+    let s = c.args.switch.now in
+    let near = c.args.site.near in
+    let ports = c.args.site.ports.now in
+    let n = length c.args.self.now.bag + 1 in
+    let r = c.push-in-Move.result in
+    let end = hop.Move c.in-Move.next in
+    let tunnel = c.hop-hop.new.t in
+    let u : Traveller = record t { tunnel = tunnel } in
+    let mid : Log = c.reroute.new.self in
+    let now : Log = record {
+      journal = c.push-in-Move.new.self;
+      travelling = c.put.new.self;
+      bag = c.reroute.new.self.bag;
+    } in
+    of_kept (λ t. LogAfter r (hop_written n s near ports t) (hop_posts s near ports t)
+    c.args.packet (hop_traveller s near ports t) c.args.self.now now) _ t (its before)
+    (met_log r s near ports t n c.args.packet c.number-here.result c.unwrap-other.result end
+    tunnel c.args.self.now mid now (met before end c.in-Move.is)
+    (rerouted before c.args.self.now.journal c.push.new.self mid.journal
+    c.in_ok-push.ensures.pushed c.in_ok-kept-in-Move.ensures.written)
+    c.reroute.ensures.unsent c.reroute.ensures.travelling
+    (subst (λ k. LogAfter r (item.Hopped k c.in-Move.next ∷ []) [] c.args.packet (Some u) mid now)
+    (sym (packet_is before))
+    (log_one r (item.Hopped c.args.packet c.in-Move.next) c.args.packet (Some u) mid now
+    c.push-in-Move.ensures.pushed c.push-in-Move.ensures.unchanged refl
+    (subst (λ (k : Traveller). WithOne mid.travelling c.args.packet (Some k) c.put.new.self)
+    c.in_ok-kept-in-Move.ensures.kept c.in_ok-put-in-Move.ensures))))
+
+-- ---- or it is at its end
+
+pub returns-in_err-at-in-Arrive-clause-log : goal.returns-in_err-at-in-Arrive-clause-log
+returns-in_err-at-in-Arrive-clause-log c =
+    let before = (goal.at.returns-in_err-at-in-Arrive-clause-log c).After-unwrap-other in
+    let t = c.traveller-traveller.result in
+    let s = c.args.switch.now in
+    let near = c.args.site.near in
+    let ports = c.args.site.ports.now in
+    let n = length c.args.self.now.bag + 1 in
+    let r = c.from_residual-in_err-at-in-Arrive.result in
+    let now : Log = c.reroute-in-Arrive.new.self in
+    of_kept (λ t. LogAfter r (hop_written n s near ports t) (hop_posts s near ports t)
+    c.args.packet (hop_traveller s near ports t) c.args.self.now now) _ t (its before)
+    (log_failed r _ _ c.args.packet _ c.args.self.now now
+    c.from_residual-in_err-at-in-Arrive.ensures.0
+    (met_turned s near ports t n c.args.packet c.number-here.result c.unwrap-other.result
+    hop.Arrive c.hop-hop.new.t c.args.self.now.journal now.journal
+    (met before hop.Arrive c.in-Arrive.is)
+    (rerouted before c.args.self.now.journal c.push.new.self now.journal
+    c.in_ok-push.ensures.pushed c.in_ok-kept-in-Arrive.ensures.written)))
+
+pub arrive-requires-clause-authority : goal.arrive-requires-clause-authority
+arrive-requires-clause-authority c =
+    let before = (goal.at.arrive-requires-clause-authority c).After-unwrap-other in
+    let t = c.traveller-traveller.result in
+    let s = c.args.switch.now in
+    let header : c.in_ok-at-in-Arrive.at.header ≡ t.tunnel.header =
+    ap (λ (a : Standing). a.header) c.in_ok-at-in-Arrive.ensures.at
+    ∙ ap (λ (k : Traveller). k.tunnel.header) c.in_ok-kept-in-Arrive.ensures.kept
+    ∙ ap (λ (u : TunnelValue). u.header) c.hop-hop.ensures.tunnel ∙ (same before).header in
+    subst (λ w. IsAtAuthority w c.in_ok-at-in-Arrive.at.header c.leg-leg.result)
+    (sym c.hop-hop.ensures.after)
+    (subst (λ h. IsAtAuthority (call_counted s) h c.leg-leg.result) (sym header)
+    (subst (IsAtAuthority (call_counted s) t.tunnel.header) (sym (leg_was before))
+    (authority_counted s t.tunnel.header t.tunnel.leg
+    (c.requires.authority t (sym (its before)) (sym c.hop-hop.ensures.end ∙ c.in-Arrive.is)))))
+
+pub arrive-requires-clause-ingress : goal.arrive-requires-clause-ingress
+arrive-requires-clause-ingress c =
+    let before = (goal.at.arrive-requires-clause-ingress c).After-unwrap-other in
+    let ingress : c.in_ok-at-in-Arrive.at.ingress ≡ c.traveller-traveller.result.tunnel.ingress =
+    ap (λ (a : Standing). a.ingress) c.in_ok-at-in-Arrive.ensures.at
+    ∙ ap (λ (k : Traveller). k.tunnel.ingress) c.in_ok-kept-in-Arrive.ensures.kept
+    ∙ ap (λ (u : TunnelValue). u.ingress) c.hop-hop.ensures.tunnel ∙ (same before).ingress in
+    subst (λ i. i < 64) (sym ingress)
+    (c.requires.ingress c.traveller-traveller.result (sym (its before)))
+
+pub returns-in_ok-at-in-Arrive-clause-log : goal.returns-in_ok-at-in-Arrive-clause-log
+returns-in_ok-at-in-Arrive-clause-log c =
+    let before = (goal.at.returns-in_ok-at-in-Arrive-clause-log c).After-unwrap-other in
+    let t = c.traveller-traveller.result in
+    let s = c.args.switch.now in
+    let near = c.args.site.near in
+    let ports = c.args.site.ports.now in
+    let n = length c.args.self.now.bag + 1 in
+    let r = c.arrive.result in
+    let tunnel = c.hop-hop.new.t in
+    let u : Traveller = record t { tunnel = tunnel } in
+    let mid : Log = c.reroute-in-Arrive.new.self in
+    let now : Log = c.arrive.new.self in
+    let at = c.in_ok-at-in-Arrive.at in
+    let says = c.in_ok-at-in-Arrive.ensures in
+    let kept = c.in_ok-kept-in-Arrive.ensures.kept in
+    let is = met before hop.Arrive c.in-Arrive.is in
+    let stands : standing_kept at ≡ standing_at s.number u =
+    says.at ∙ ap (standing_at c.number-here.result) kept ∙ ap (λ n. standing_at n u) is.at in
+    let P : List Post → SwitchValue → ℕ → Type 0 = λ bag w packet. LogAfter r
+    (arrived_items (length bag + 1) (standing_kept at) at.version at.rule
+    (arrived_on w (around near ports) (packet_standing (standing_kept at)) c.leg-leg.result))
+    (arrived_posts (standing_kept at)
+    (arrived_on w (around near ports) (packet_standing (standing_kept at)) c.leg-leg.result))
+    packet (arrived_traveller at.version at.rule
+    (arrived_on w (around near ports) (packet_standing (standing_kept at)) c.leg-leg.result))
+    mid now in
+    of_kept (λ t. LogAfter r (hop_written n s near ports t) (hop_posts s near ports t)
+    c.args.packet (hop_traveller s near ports t) c.args.self.now now) _ t (its before)
+    (met_log r s near ports t n c.args.packet c.number-here.result c.unwrap-other.result
+    hop.Arrive tunnel c.args.self.now mid now is
+    (rerouted before c.args.self.now.journal c.push.new.self mid.journal
+    c.in_ok-push.ensures.pushed c.in_ok-kept-in-Arrive.ensures.written)
+    c.reroute-in-Arrive.ensures.unsent c.reroute-in-Arrive.ensures.travelling
+    (arrival_log r n (call_counted s) near ports u (standing_kept at) at.version at.rule
+    c.leg-leg.result c.args.packet mid now stands
+    (says.version ∙ ap (λ (k : Traveller). k.version) kept)
+    (says.rule ∙ ap (λ (k : Traveller). k.rule) kept) (leg_is before)
+    (subst (P c.args.self.now.bag (call_counted s))
+    (ap (λ (a : Standing). a.packet) stands ∙ packet_is before)
+    (subst (λ w. P c.args.self.now.bag w at.packet) c.hop-hop.ensures.after
+    (subst (λ bag. P bag c.hop-hop.new.self at.packet) c.reroute-in-Arrive.ensures.unsent
+    c.arrive.ensures.log)))))

@@ -1,0 +1,145 @@
+-- A packet goes on as it is kept.
+use Rattle.std.proofs.Common.{ℕ, ◌≡◌, ◌+◌, Option, Some, None, ap, length, subst, sym, true, ◌∙◌}
+use Rattle.std.specs.Option.{option_copied}
+use Rattle.std.specs.Prelude.{IsSomeAnd, OnOk}
+use Rattle.std.proofs.lemmas.Result.{on_ok_weaker}
+use Rattle.switch_core.specs.Answering.{IsAtAuthority, arrived_on}
+use Rattle.switch_core.specs.Ends.{around}
+use Rattle.switch_core.specs.Moving.{Moved, hopped, is_free}
+use Rattle.switch_core.specs.State.{SwitchValue, call_counted}
+use Rattle.switch_core.specs.declared.answers.HopEnd.TheVariants.{Arrive}
+use Rattle.travelling.specs.Travelling.{Standing, standing_at, standing_kept, traveller}
+use Rattle.travelling.specs.declared.travelling.Traveller.{Traveller}
+use Rattle.tunnel.specs.Moves.{next}
+use Rattle.world_log.specs.Packets.{hop_posts, hop_traveller, hop_written, hopped_switch}
+use Rattle.world_log.specs.Writing.{LogAfter, arrived_items, arrived_posts, arrived_traveller, packet_standing}
+use Rattle.world_log.proofs.Hopping.{authority_counted}
+use Rattle.world_log.proofs.Passing.{IsPassed, arrival_log, free_hop, move_log, of_kept, passed_by, passed_log, passed_switch, passed_to}
+use Rattle.world_log.proofs.log.Log.hop.Goals as goal
+use Rattle.world_log.proofs.log.Log.hop.Goals.{After-pass}
+
+its : (c : After-pass) → ◌≡◌ {A = Option Traveller} (Some c.unwrap-kept.result.now)
+    (traveller c.args.self.now.travelling c.args.packet)
+its c = sym (ap option_copied c.unwrap-kept.ensures) ∙ c.look.ensures
+
+passed : (c : After-pass) → IsPassed c.args.switch.now c.pass.new.self c.args.site.near
+    (next c.unwrap-kept.result.now.tunnel) c.pass.result
+passed c =
+    passed_by c.args.switch.now c.pass.new.self c.args.site.near c.pass.result
+    c.route.result.now c.place.result c.unwrap-kept.result.now.tunnel c.route.ensures
+    c.place.ensures.place (record { next = c.pass.ensures.next; after = c.pass.ensures.after })
+
+onward : (c : After-pass) (to : Option ℕ) → c.pass.result ≡ Some to
+    → (is_free c.args.site.near (next c.unwrap-kept.result.now.tunnel) ≡ true)
+    × (next c.unwrap-kept.result.now.tunnel ≡ to)
+    × (c.pass.new.self ≡ call_counted c.args.switch.now)
+onward c to some = passed_to c.args.switch.now c.pass.new.self c.args.site.near
+    (next c.unwrap-kept.result.now.tunnel) c.pass.result (passed c) to some
+
+number : (c : After-pass) → c.unwrap-kept.result.now.tunnel.packet ≡ c.args.packet
+number c = subst (λ o. IsSomeAnd o (λ (t : Traveller). t.tunnel.packet ≡ c.args.packet))
+    (sym (its c)) c.requires.known
+
+-- ---- it moves on
+
+pub returns-in-Some-Some-clause-log : goal.returns-in-Some-Some-clause-log
+returns-in-Some-Some-clause-log c =
+    let before = (goal.at.returns-in-Some-Some-clause-log c).After-pass in
+    let k = c.unwrap-kept.result.now in
+    let s = c.args.switch.now in
+    let near = c.args.site.near in
+    let ports = c.args.site.ports.now in
+    let other = c.in-Some-Some.next in
+    let on = onward before (Some other) (c.in-Some-Some.is ∙ ap Some c.in-Some-Some.field-0-is) in
+    of_kept (λ t. LogAfter c.move_on.result
+    (hop_written (length c.args.self.now.bag + 1) s near ports t)
+    (hop_posts s near ports t) c.args.packet (hop_traveller s near ports t)
+    c.args.self.now c.move_on.new.self) _ k (its before)
+    (move_log c.move_on.result s near ports k (length c.args.self.now.bag + 1)
+    c.args.packet (c.place-place.result + 1) other
+    (traveller c.args.self.now.travelling c.args.packet) c.args.self.now
+    c.move_on.new.self (its before) (number before)
+    (ap (λ place. place + 1) c.place-place.ensures.place) on.0 on.1 c.move_on.ensures)
+
+pub returns-in-Some-Some-clause-counted : goal.returns-in-Some-Some-clause-counted
+returns-in-Some-Some-clause-counted c =
+    let before = (goal.at.returns-in-Some-Some-clause-counted c).After-pass in
+    let k = c.unwrap-kept.result.now in
+    let s = c.args.switch.now in
+    let near = c.args.site.near in
+    let other = c.in-Some-Some.next in
+    let on = onward before (Some other) (c.in-Some-Some.is ∙ ap Some c.in-Some-Some.field-0-is) in
+    of_kept (λ t. OnOk c.move_on.result (c.pass.new.self ≡ hopped_switch s near t)) _ k
+    (its before) (on_ok_weaker c.move_on.result (λ _. on.2
+    ∙ sym (passed_switch s near c.args.site.ports.now k (Some other) on.0 on.1))
+    c.move_on.ensures.written)
+
+-- ---- it is at the end of its route
+
+ended : (c : After-pass) → c.pass.result ≡ Some None
+    → (hopped c.args.switch.now c.args.site.near c.unwrap-kept.result.now.tunnel).end ≡ Arrive
+ended c last =
+    let on = onward c None last in
+    ap (λ (m : Moved). m.end) (free_hop c.args.switch.now c.args.site.near c.args.site.ports.now
+    c.unwrap-kept.result.now None on.0 on.1)
+
+pub arrive-requires-clause-authority : goal.arrive-requires-clause-authority
+arrive-requires-clause-authority c =
+    let before = (goal.at.arrive-requires-clause-authority c).After-pass in
+    let k = c.unwrap-kept.result.now in
+    let s = c.args.switch.now in
+    let last = c.in-Some-None.is ∙ ap Some c.in-Some-None.field-0-is in
+    let on = onward before None last in
+    let at = c.in_ok-at-in-Some-None.at in
+    subst (λ w. IsAtAuthority w at.header c.leg-leg.result) (sym on.2)
+    (subst (λ h. IsAtAuthority (call_counted s) h c.leg-leg.result)
+    (sym (ap (λ (a : Standing). a.header) c.in_ok-at-in-Some-None.ensures.at))
+    (subst (IsAtAuthority (call_counted s) k.tunnel.header) (sym c.leg-leg.ensures)
+    (authority_counted s k.tunnel.header k.tunnel.leg
+    (c.requires.authority k (sym (its before)) (ended before last)))))
+
+pub returns-in_ok-at-in-Some-None-clause-log : goal.returns-in_ok-at-in-Some-None-clause-log
+returns-in_ok-at-in-Some-None-clause-log c =
+    let before = (goal.at.returns-in_ok-at-in-Some-None-clause-log c).After-pass in
+    let k = c.unwrap-kept.result.now in
+    let s = c.args.switch.now in
+    let near = c.args.site.near in
+    let ports = c.args.site.ports.now in
+    let n = length c.args.self.now.bag + 1 in
+    let on = onward before None (c.in-Some-None.is ∙ ap Some c.in-Some-None.field-0-is) in
+    let at = c.in_ok-at-in-Some-None.at in
+    let says = c.in_ok-at-in-Some-None.ensures in
+    let here : c.number.result ≡ (call_counted s).number =
+    c.number.ensures.number ∙ ap (λ (w : SwitchValue). w.number) on.2 in
+    let P : SwitchValue → ℕ → Type 0 = λ w packet. LogAfter c.arrive.result
+    (arrived_items n (standing_kept at) at.version at.rule
+    (arrived_on w (around near ports) (packet_standing (standing_kept at)) c.leg-leg.result))
+    (arrived_posts (standing_kept at)
+    (arrived_on w (around near ports) (packet_standing (standing_kept at)) c.leg-leg.result))
+    packet (arrived_traveller at.version at.rule
+    (arrived_on w (around near ports) (packet_standing (standing_kept at)) c.leg-leg.result))
+    c.args.self.now c.arrive.new.self in
+    of_kept (λ t. LogAfter c.arrive.result (hop_written n s near ports t)
+    (hop_posts s near ports t) c.args.packet (hop_traveller s near ports t)
+    c.args.self.now c.arrive.new.self) _ k (its before)
+    (passed_log s near ports k c.arrive.result n c.args.packet None c.args.self.now
+    c.arrive.new.self on.0 on.1
+    (arrival_log c.arrive.result n (call_counted s) near ports k (standing_kept at) at.version
+    at.rule c.leg-leg.result c.args.packet c.args.self.now c.arrive.new.self
+    (says.at ∙ ap (λ n. standing_at n k) here) says.version says.rule c.leg-leg.ensures
+    (subst (P (call_counted s)) (ap (λ (a : Standing). a.packet) says.at ∙ number before)
+    (subst (λ w. P w at.packet) on.2 c.arrive.ensures.log))))
+
+pub returns-in_ok-at-in-Some-None-clause-counted :
+    goal.returns-in_ok-at-in-Some-None-clause-counted
+returns-in_ok-at-in-Some-None-clause-counted c =
+    let before = (goal.at.returns-in_ok-at-in-Some-None-clause-counted c).After-pass in
+    let k = c.unwrap-kept.result.now in
+    let s = c.args.switch.now in
+    let near = c.args.site.near in
+    let on = onward before None (c.in-Some-None.is ∙ ap Some c.in-Some-None.field-0-is) in
+    of_kept (λ t. OnOk c.arrive.result (c.arrive.new.switch ≡ hopped_switch s near t)) _ k
+    (its before) (on_ok_weaker c.arrive.result (λ _. c.arrive.ensures.counted
+    ∙ ap call_counted on.2
+    ∙ sym (passed_switch s near c.args.site.ports.now k None on.0 on.1))
+    c.arrive.ensures.log.written)

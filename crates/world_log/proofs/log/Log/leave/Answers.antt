@@ -1,0 +1,66 @@
+-- What was written of a packet that was decided is the way that its decision says.
+use Rattle.std.proofs.Common.{ℕ, ◌≡◌, ◌∙◌, ◌∷◌, [], None, List, true, false, eq-eqb, ne_eqb, subst, sym}
+use Rattle.std.specs.Option.{option_copied}
+use Rattle.std.specs.Prelude.{Result, unwrap_or}
+use Rattle.failover.specs.Links.{no_links}
+use Rattle.journal.specs.declared.item.Item.{Item}
+use Rattle.policy_rules.specs.declared.packet.Cause.{Cause}
+use Rattle.policy_rules.specs.declared.packet.Leg.TheVariants.{Exit as ExitLeg}
+use Rattle.policy_rules.specs.declared.policy.Action.TheVariants.{Drop, Out as OutBy}
+use Rattle.switch_core.specs.Ends.{next_of, set_out, site_of}
+use Rattle.switch_core.specs.declared.answers.Decision.{Decision}
+use Rattle.travelling.specs.Travelling.{standing_kept}
+use Rattle.tunnel.specs.Tunnel.{TunnelValue}
+use Rattle.world_log.specs.Writing.{LogAfter, packet_standing, set_item, set_traveller}
+use Rattle.world_log.proofs.Going.{by_action, exits, owned, unowned, way_is}
+use Rattle.world_log.proofs.log.Log.leave.Goals as goal
+
+pub returns-in-Drop : goal.returns-in-Drop
+unfolding next_of
+returns-in-Drop c =
+    by_action c.end.result (standing_kept c.args.at) c.args.at.packet c.args.self.now
+    c.end.new.self c.args.switch.now (site_of c.args.site) c.args.decision Drop c.in-Drop.is
+    c.end.ensures
+
+pub returns-in-None : goal.returns-in-None
+returns-in-None c =
+    unowned c.stuck.result (standing_kept c.args.at) c.args.at.packet c.args.self.now
+    c.stuck.new.self c.args.switch.now (site_of c.args.site) c.args.decision c.in-Out.port
+    c.in-Out.is (sym c.owner.ensures ∙ c.in-None.is) c.stuck.ensures
+
+pub returns-then-owner-number : goal.returns-then-owner-number
+returns-then-owner-number c =
+    owned c.end-then-owner-number.result (standing_kept c.args.at) c.args.at.packet
+    c.args.self.now c.end-then-owner-number.new.self c.args.switch.now (site_of c.args.site)
+    c.args.decision c.in-Out.port c.in-Some.owner true c.in-Out.is (sym c.owner.ensures ∙ c.in-Some.is)
+    (eq-eqb c.in-Some.owner c.args.switch.now.number
+    (c.if-owner-number.true ∙ c.number.ensures.number))
+    (subst (λ (i : Item). LogAfter c.end-then-owner-number.result (i ∷ []) [] c.args.at.packet
+    None c.args.self.now c.end-then-owner-number.new.self) c.leaves.ensures
+    c.end-then-owner-number.ensures)
+
+pub returns-else-owner-number : goal.returns-else-owner-number
+returns-else-owner-number c =
+    let at = standing_kept c.args.at in
+    let s = c.args.switch.now in
+    let site = site_of c.args.site in
+    let leg = ExitLeg c.in-Out.port in
+    let decision : Decision = record c.args.decision { action = OutBy c.in-Out.port } in
+    let to : List ℕ = c.in-Some.owner ∷ [] in
+    let targets : c.unwrap-targets.result ≡ to =
+    rw c.unwrap-targets.ensures at c.new.ensures.list in
+    let is = way_is s site.near at leg c.unwrap-targets.result
+    (unwrap_or (option_copied c.links.result) no_links) c.way-way.result c.links.ensures
+    (c.way-way.ensures at.packet at.header at.ingress) in
+    let Q : Result TunnelValue Cause → Type 0 = λ way.
+    LogAfter c.set_out.result (set_item at leg way ∷ []) [] c.args.at.packet
+    (set_traveller decision.version decision.rule way) c.args.self.now c.set_out.new.self in
+    owned c.set_out.result at c.args.at.packet c.args.self.now c.set_out.new.self s site
+    c.args.decision c.in-Out.port c.in-Some.owner false c.in-Out.is
+    (sym c.owner.ensures ∙ c.in-Some.is)
+    (ne_eqb c.in-Some.owner s.number
+    (λ same. c.if-owner-number.false (same ∙ sym c.number.ensures.number)))
+    (exits c.set_out.result at c.args.at.packet c.args.self.now c.set_out.new.self decision
+    (set_out s site.near (packet_standing at) leg to)
+    (subst (λ these. Q (set_out s site.near (packet_standing at) leg these)) targets
+    (subst Q is c.set_out.ensures)))

@@ -1,0 +1,85 @@
+-- What was written of a packet is its switch's answer.
+use Rattle.std.proofs.Common.{◌+◌, ◌∷◌, [], List, length, map, subst, sym, ◌∙◌}
+use Rattle.std.specs.Option.{option_copied}
+use Rattle.std.specs.Prelude.{Result, unwrap_or}
+use Rattle.failover.specs.Links.{no_links}
+use Rattle.journal.specs.declared.item.Item.{Item}
+use Rattle.journal.specs.declared.item.Item.TheVariants as item
+use Rattle.message_bag.specs.Posts.{Post, posted}
+use Rattle.policy_rules.specs.declared.packet.Cause.{Cause}
+use Rattle.switch_core.specs.Ends.{set_out, site_of}
+use Rattle.switch_core.specs.Verdicts.{answer_of, cached_by}
+use Rattle.switch_core.specs.declared.verdicts.Verdict.{Verdict}
+use Rattle.travelling.specs.Travelling.{standing_kept}
+use Rattle.tunnel.specs.Tunnel.{TunnelValue}
+use Rattle.update_machine.specs.Messages.{sent_from}
+use Rattle.world_log.specs.Writing.{LogAfter, answer_items, answer_posts, answer_traveller, cache_message, messages_in, packet_standing, set_item, set_traveller}
+use Rattle.world_log.proofs.Going.{sought, way_is}
+use Rattle.world_log.proofs.Logs.{log_ends, log_failed}
+use Rattle.world_log.proofs.Writing.{both_written, part_first, part_none}
+use Rattle.world_log.proofs.log.Log.settle.Goals as goal
+
+pub returns-in_err-push-in-Decided : goal.returns-in_err-push-in-Decided
+returns-in_err-push-in-Decided c =
+    log_failed c.from_residual.result _ _ _ _ _ _ c.from_residual.ensures.0
+    (part_none _ _ _ c.in_err-push-in-Decided.ensures.unchanged)
+
+pub returns-in_err-send_rule-in-Decided : goal.returns-in_err-send_rule-in-Decided
+returns-in_err-send_rule-in-Decided c =
+    let at = standing_kept c.args.at in
+    let P : Verdict → Type 0 = λ verdict.
+    let what = answer_of c.args.switch.now (site_of c.args.site) (packet_standing at) verdict in
+    LogAfter c.from_residual-in_err-send_rule-in-Decided.result
+    (answer_items (length c.args.self.now.bag + 1) at what) (answer_posts at what)
+    c.args.at.packet (answer_traveller c.args.at.version c.args.at.rule what) c.args.self.now
+    c.send_rule.new.self in
+    subst P (sym c.in-Decided.is)
+    (log_failed c.from_residual-in_err-send_rule-in-Decided.result _ _ _ _ _ _
+    c.from_residual-in_err-send_rule-in-Decided.ensures.0
+    (part_first _ _ _ _ (c.in_err-send_rule-in-Decided.ensures.unwritten ∙ c.in_ok-push-in-Decided.ensures.pushed)))
+
+pub returns-in_ok-send_rule-in-Decided : goal.returns-in_ok-send_rule-in-Decided
+returns-in_ok-send_rule-in-Decided c =
+    let at = standing_kept c.args.at in
+    let decision = c.in-Decided.decision in
+    let message = cache_message at.ingress (cached_by decision c.in-Decided.word) in
+    let decided : Item = item.Decided at.packet decision.version decision.rule decision.action
+    decision.how in
+    let sends : List Item = sent_from (length c.args.self.now.bag + 1) (messages_in message) in
+    let posts : List Post = map posted (messages_in message) in
+    let P : Verdict → Type 0 = λ verdict.
+    let what = answer_of c.args.switch.now (site_of c.args.site) (packet_standing at) verdict in
+    LogAfter c.leave.result
+    (answer_items (length c.args.self.now.bag + 1) at what) (answer_posts at what)
+    c.args.at.packet (answer_traveller c.args.at.version c.args.at.rule what) c.args.self.now
+    c.leave.new.self in
+    subst P (sym c.in-Decided.is)
+    (log_ends c.leave.result (decided ∷ sends) _ posts c.args.at.packet _ c.args.self.now
+    c.send_rule.new.self c.leave.new.self
+    (both_written c.args.self.now.journal _ c.send_rule.new.self.journal (decided ∷ []) sends
+    c.in_ok-push-in-Decided.ensures.pushed c.in_ok-send_rule-in-Decided.ensures.written)
+    c.in_ok-send_rule-in-Decided.ensures.posted c.in_ok-send_rule-in-Decided.ensures.travelling c.leave.ensures)
+
+pub returns-in-Seek : goal.returns-in-Seek
+returns-in-Seek c =
+    let at = standing_kept c.args.at in
+    let site = site_of c.args.site in
+    let s = c.args.switch.now in
+    let leg = c.in-Seek.leg in
+    let P : Verdict → Type 0 = λ verdict.
+    let what = answer_of s site (packet_standing at) verdict in
+    LogAfter c.set_out.result
+    (answer_items (length c.args.self.now.bag + 1) at what) (answer_posts at what)
+    c.args.at.packet (answer_traveller c.args.at.version c.args.at.rule what) c.args.self.now
+    c.set_out.new.self in
+    let is = way_is s site.near at leg c.in-Seek.targets
+    (unwrap_or (option_copied c.links.result) no_links) c.way-way.result c.links.ensures
+    (c.way-way.ensures at.packet at.header at.ingress) in
+    let Q : Result TunnelValue Cause → Type 0 = λ way.
+    LogAfter c.set_out.result (set_item at leg way ∷ []) [] c.args.at.packet
+    (set_traveller c.args.at.version c.args.at.rule way) c.args.self.now c.set_out.new.self in
+    subst P (sym c.in-Seek.is)
+    (sought c.set_out.result at c.args.at.packet c.args.self.now c.set_out.new.self
+    (length c.args.self.now.bag + 1) leg c.args.at.version c.args.at.rule
+    (set_out s site.near (packet_standing at) leg c.in-Seek.targets)
+    (subst Q is c.set_out.ensures))

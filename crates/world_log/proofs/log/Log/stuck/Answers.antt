@@ -1,0 +1,17 @@
+use Rattle.std.proofs.Common.{None, [], ◌∷◌, refl, subst}
+use Rattle.journal.specs.declared.item.Item.TheVariants as item
+use Rattle.world_log.specs.Writing.{LogAfter}
+use Rattle.world_log.proofs.Logs.{log_failed}
+use Rattle.world_log.proofs.Writing.{part_none}
+use Rattle.world_log.proofs.log.Log.stuck.Goals as goal
+
+pub returns-in_err-down : goal.returns-in_err-down
+returns-in_err-down c =
+    log_failed c.from_residual.result _ _ _ _ _ _ c.from_residual.ensures.0
+    (part_none _ _ _ refl)
+
+pub returns : goal.returns
+returns c =
+    subst (λ down. LogAfter c.end.result
+    (item.Stuck c.args.at.packet c.args.at.switch c.args.cause c.args.leg down ∷ []) []
+    c.args.at.packet None c.args.self.now c.end.new.self) c.in_ok-down.ensures c.end.ensures
