@@ -166,12 +166,12 @@ module _ (setting : Setting) (journal : List Item) (s : ℕ) (w : SwitchValue) (
             partition (first_place_in setting journal version partition
             (header_at journal packet.number))) journal
       ]
-      ≡ arrived_items (next_message journal) at t
+      ≡ arrived_items (next_message journal) at t.version t.rule
       (arrived_on w (around mask ports) packet (Seek version partition))
   unfolding decided_in
   sought_law t version partition false missing ours =
       looked_law setting journal s w mask ports packet asked
-      ∙ ap (λ (o : Option Tables). arrived_items (next_message journal) at t
+      ∙ ap (λ (o : Option Tables). arrived_items (next_message journal) at t.version t.rule
       (arrived.Answered (option_map_or (decided_in w (around mask ports) packet partition) o
       (looked_up w (around mask ports) packet))))
       (sym (asked.sees.tables version
@@ -181,11 +181,12 @@ module _ (setting : Setting) (journal : List Item) (s : ℕ) (w : SwitchValue) (
       (authority_rule setting journal version partition place) journal)
       (place_in_plan version partition ours)
       ∙ sym (ruled_law setting journal s w mask ports packet asked version partition ours)
-      ∙ ap (λ place. arrived_items (next_message journal) at t (arrived.Answered
+      ∙ ap (λ place. arrived_items (next_message journal) at t.version t.rule
+      (arrived.Answered
       (decided_at w (around mask ports) packet version
       (part_numbered (tables_at setting journal version s) partition) place)))
       (sym (place_in_tables version partition ours))
-      ∙ ap (λ (o : Option Tables). arrived_items (next_message journal) at t
+      ∙ ap (λ (o : Option Tables). arrived_items (next_message journal) at t.version t.rule
       (arrived.Answered (option_map_or (decided_in w (around mask ports) packet partition) o
       (looked_up w (around mask ports) packet))))
       (sym (asked.sees.tables version
@@ -196,7 +197,7 @@ module _ (setting : Setting) (journal : List Item) (s : ℕ) (w : SwitchValue) (
       → (what_is_known journal packet.number).leg ≡ Some leg
       → IsAtEnd setting journal s packet.header leg
       → arrive_items setting packet.number s journal
-      ≡ arrived_items (next_message journal) (at_switch s packet) t
+      ≡ arrived_items (next_message journal) (at_switch s packet) t.version t.rule
       (arrived_on w (around mask ports) packet leg)
   unfolding arrive_items what_is_known
   arrive_law t (Exit port) of takes end =
@@ -236,9 +237,9 @@ module _ (setting : Setting) (journal : List Item) (s : ℕ) (w : SwitchValue) (
 pub arrival_goes : (targets : Targets) (before : List Item) (number : ℕ) (at : Standing)
     (t : Traveller) (what : Arrived) (facts : PacketFacts) → IsSeen at at.ingress facts
     → AreOfFacts t.version t.rule facts → GoesOut targets at what
-    → arrived_traveller t what
+    → arrived_traveller t.version t.rule what
     ≡ traveller_by targets at.packet
-    (facts_along at.packet before (arrived_items number at t what) facts)
+    (facts_along at.packet before (arrived_items number at t.version t.rule what) facts)
 arrival_goes targets before number at t (arrived.Out port) facts seen of goes =
     let own : (at.packet == at.packet) ≡ true = eq-eqb _ _ refl in
     rw own refl

@@ -22,9 +22,9 @@ use Rattle.update_machine.specs.Packets.{decision_of, header_in}
 use Rattle.update_machine.specs.Setting.{Setting}
 use Rattle.update_machine.specs.Ways.{found_down, no_switch, owner}
 use Rattle.update_machine.proofs.CallerLemmas.{known_link_laws}
-use Rattle.world_log.specs.Writing.{end_item, left_item}
+use Rattle.world_log.specs.Writing.{end_item, left_item, set_item}
 use Rattle.travelling.specs.Travelling.{Standing}
-use Rattle.refinement.proofs.Legs.{at_switch, leg_law, set_item}
+use Rattle.refinement.proofs.Legs.{at_switch, leg_law}
 use Rattle.refinement.proofs.Seeing.{Sees}
 
 -- what the journal says of a packet that was decided just now

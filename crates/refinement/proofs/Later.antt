@@ -80,7 +80,7 @@ answer_later number at (answer.Seek tunnel) =
 answer_later number at (answer.Stuck cause leg) = (tt, tt)
 
 pub arrived_later : (number : ℕ) (at : Standing) (t : Traveller) (what : Arrived)
-    → AreInStep (arrived_items number at t what)
+    → AreInStep (arrived_items number at t.version t.rule what)
 arrived_later number at t (arrived.Out port) = (tt, tt)
 arrived_later number at t (arrived.Answered what) = answer_later number at what
 
@@ -106,7 +106,7 @@ decided_still number at decision None onward = end_still at decision onward
 decided_still number at decision (Some message) onward = end_still at decision onward
 
 pub arrived_still : (number : ℕ) (at : Standing) (t : Traveller) (what : Arrived)
-    → stays_on_way (arrived_items number at t what) ≡ false
+    → stays_on_way (arrived_items number at t.version t.rule what) ≡ false
 arrived_still number at t (arrived.Out port) = refl
 arrived_still number at t (arrived.Answered (answer.Decided decision cache onward)) =
     decided_still number at decision (cache_message at.ingress cache) onward
@@ -162,7 +162,7 @@ entered_sends number at entered.Closed = (tt, refl)
 entered_sends number at (entered.Answered what) = answer_sends number at what
 
 arrived_sends : (number : ℕ) (at : Standing) (t : Traveller) (what : Arrived)
-    → SendPosts number (arrived_items number at t what) (arrived_posts at what)
+    → SendPosts number (arrived_items number at t.version t.rule what) (arrived_posts at what)
 arrived_sends number at t (arrived.Out port) = (tt, refl)
 arrived_sends number at t (arrived.Answered what) = answer_sends number at what
 

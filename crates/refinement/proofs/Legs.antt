@@ -1,6 +1,6 @@
 -- A switch takes a leg as the journal's definitions say.
 use Rattle.std.proofs.Common.{ℕ, ◌≡◌, Bool, ◌&&◌, Option, Some, None, if◌then◌else◌, List, [], ◌∷◌, refl, ap, ◌∙◌, sym}
-use Rattle.std.specs.Prelude.{Result, Ok, Err, option_map}
+use Rattle.std.specs.Prelude.{option_map}
 use Rattle.std.specs.List.{list_all}
 use Rattle.std.specs.Option.{ok_or}
 use Rattle.failover.specs.Isolated.{is_isolated}
@@ -15,12 +15,12 @@ use Rattle.switch_core.specs.Ends.{are_isolated, cause_of, set_out}
 use Rattle.switch_core.specs.State.{SwitchValue}
 use Rattle.switch_core.specs.declared.packet.Packet.{Packet}
 use Rattle.tunnel.specs.Moves.{tunnel_begun}
-use Rattle.tunnel.specs.Tunnel.{TunnelValue}
 use Rattle.update_machine.specs.Adverts.{is_cut_off, route_from}
 use Rattle.update_machine.specs.Moves.{cause_at, leg_items, takes_route}
 use Rattle.update_machine.specs.Ways.{found_down, targets_of}
 use Rattle.update_machine.specs.Setting.{Setting}
 use Rattle.travelling.specs.Travelling.{Standing}
+use Rattle.world_log.specs.Writing.{set_item}
 use Rattle.refinement.proofs.Seeing.{Sees}
 
 abbrev pub at_switch : ℕ → Packet → Standing
@@ -31,11 +31,6 @@ at_switch s packet = record {
   switch = s;
   down = packet.down;
 }
-
--- what setting out on the leg writes
-abbrev pub set_item : Standing → Leg → Result TunnelValue Cause → Item
-set_item at leg (Ok tunnel) = takes_route at.packet tunnel.leg tunnel.route
-set_item at leg (Err cause) = item.Stuck at.packet at.switch cause leg at.down
 
 all_same : (one other : ℕ → Bool) → ((x : ℕ) → one x ≡ other x) → (xs : List ℕ)
     → list_all one xs ≡ list_all other xs

@@ -37,11 +37,11 @@ use Rattle.update_machine.specs.Versions.{policy_at, stamp_of, tables_at, plan_a
 use Rattle.control_laws.specs.ItemCauses.{HasItemCause}
 use Rattle.packet_laws.proofs.Lookups.{FindsRule, FindsTargets, IsStamped, authority_found, deciding, redirect_found, rule_there, stamped}
 use Rattle.packet_laws.proofs.Plans.{Finds, IsPlanned}
-use Rattle.world_log.specs.Writing.{answer_items}
+use Rattle.world_log.specs.Writing.{answer_items, set_item}
 use Rattle.travelling.specs.Travelling.{Standing}
 use Rattle.refinement.proofs.Deciding.{IsPacket, authority_law, decided_facts, found_of, header_is}
 use Rattle.refinement.proofs.Ends.{end_law}
-use Rattle.refinement.proofs.Legs.{at_switch, leg_law, set_item}
+use Rattle.refinement.proofs.Legs.{at_switch, leg_law}
 use Rattle.refinement.proofs.Saying.{own_numbered}
 use Rattle.refinement.proofs.Seeing.{Sees, sees_one}
 

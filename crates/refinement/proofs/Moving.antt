@@ -253,8 +253,8 @@ module _ (setting : Setting) (journal : List Item) (row i s : ℕ) (header : Hea
       (asked_now now ws found stays are) u leg
       (subst (AreOfFacts t.version t.rule) (sym are.same) (of_now now ws found are))
       (ap (λ ws. ws.leg) are.same ∙ are.takes) end
-      ∙ ap (λ n. arrived_items n (at_switch s (packet found)) u what) stays.numbered
-      ∙ ap (λ s. arrived_items number (standing_at s u) u what) (sym hops.sees.number)
+      ∙ ap (λ n. arrived_items n (at_switch s (packet found)) u.version u.rule what) stays.numbered
+      ∙ ap (λ s. arrived_items number (standing_at s u) u.version u.rule what) (sym hops.sees.number)
 
   -- and so the packet goes on
   arrival_goes_on : (now : List Item) (ws : PacketFacts) (route : List ℕ) (k : ℕ)
@@ -273,9 +273,9 @@ module _ (setting : Setting) (journal : List Item) (row i s : ℕ) (header : Hea
       (arrive_comes setting now s (call_counted w) mask ports (packet found)
       (asked_now now ws found stays are) leg)
       ∙ by_targets (targets_of setting now) targets i
-      (facts_along i now (arrived_items number at u what) ws) (stays.leads _)
+      (facts_along i now (arrived_items number at u.version u.rule what) ws) (stays.leads _)
       ∙ ap (λ s. traveller_by targets i
-      (facts_along i now (arrived_items number (standing_at s u) u what) ws))
+      (facts_along i now (arrived_items number (standing_at s u) u.version u.rule what) ws))
       (sym hops.sees.number)
 
   arrival_stays : (route : List ℕ) (k : ℕ) (found : List ℕ)

@@ -91,7 +91,7 @@ entered_other q number at (entered.Answered what) other =
     (other, answer_other q number at what other)
 
 pub arrived_other : (q number : ℕ) (at : Standing) (traveller : Traveller) (what : Arrived)
-    → (at.packet == q) ≡ false → NoneName q (arrived_items number at traveller what)
+    → (at.packet == q) ≡ false → NoneName q (arrived_items number at traveller.version traveller.rule what)
 arrived_other q number at traveller (arrived.Out port) other = (other, tt)
 arrived_other q number at traveller (arrived.Answered what) other =
     answer_other q number at what other
