@@ -16,7 +16,7 @@ use Rattle.travelling.specs.Travelling.{Travellers, WithOne, traveller}
 use Rattle.world_log.specs.Writing.{entered_items, entered_posts, entered_traveller}
 use Rattle.world.specs.declared.parts.Parts.{Parts}
 use Rattle.travelling.specs.declared.travelling.Traveller.{Traveller}
-use Rattle.refinement.proofs.Asking.{can_ask, within_here, number_of_packet}
+use Rattle.refinement.proofs.Asking.{can_ask, within_here}
 use Rattle.refinement.proofs.CanAsk.{CanAsk}
 use Rattle.refinement.proofs.HopTie.{hop_piece_of, hop_tied}
 use Rattle.refinement.proofs.Incoming.{come_piece, come_tied}
@@ -86,7 +86,7 @@ module _ (parts : Parts) (before : List Item) (row i : ℕ) (t : Traveller) (s :
   pub hop_ties : {T E : Type 0} (r : Result T E) (changed : SwitchValue) (after : Travellers)
       (bag : List Post)
       → OnOk r (changed ≡ hopped_switch switch (slice_index parts.near s) t)
-      → OnOk r (WithOne parts.log.travelling t.tunnel.packet
+      → OnOk r (WithOne parts.log.travelling i
       (hop_traveller switch (slice_index parts.near s) parts.ports t) after)
       → OnOk r (bag ≡ parts.log.bag ++ hop_posts switch (slice_index parts.near s) parts.ports t)
       → OnOk r (AreTied (setting_in parts) (before ++ item.Row row (Hop i)
@@ -109,7 +109,4 @@ module _ (parts : Parts) (before : List Item) (row i : ℕ) (t : Traveller) (s :
       parts.log.travelling parts.packets i t s ready.tied its at)
       (switch_is (control_in parts) (setting_in parts) before parts.switches.items
       parts.log.travelling parts.packets s switch ready.tied there own) answered
-      (subst (λ k. WithOne parts.log.travelling k
-      (hop_traveller switch near parts.ports t) after)
-      (number_of_packet (control_in parts) (setting_in parts) before parts.switches.items
-      parts.log.travelling parts.packets i t ready.tied its) with))) changed_is posted travels
+      with)) changed_is posted travels

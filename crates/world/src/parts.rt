@@ -9,7 +9,7 @@ use net_file::Ports;
 use std::alloc::{AllocError, Global};
 use steps::Step;
 use switch_core::Switch;
-use world_log::{Log, enter, hop_kept};
+use world_log::{Log, Site};
 
 /// What a world is made of.
 #[derive(Drop)]
@@ -61,14 +61,16 @@ impl Parts {
         ensures { Plays (PacketStep switch header.now) result self.old self.new }
     {
         self.packets += 1;
-        enter(
+        let site = Site {
+            near: self.near[switch as usize],
+            ports: &self.ports,
+        };
+        self.log.enter(
             alloc,
-            &mut self.log,
             self.packets,
             header,
             &mut self.switches[switch as usize],
-            self.near[switch as usize],
-            &self.ports,
+            site,
         )
     }
 
@@ -81,14 +83,11 @@ impl Parts {
             None => return self.log.journal.push(Item::Nothing),
             Some(kept) => kept.here() as usize,
         };
-        hop_kept(
-            alloc,
-            &mut self.log,
-            packet,
-            &mut self.switches[here],
-            self.near[here],
-            &self.ports,
-        )
+        let site = Site {
+            near: self.near[here],
+            ports: &self.ports,
+        };
+        self.log.hop(alloc, packet, &mut self.switches[here], site)
     }
 
     // A packet is lost on its way.

@@ -33,8 +33,8 @@ index_mut-requires c =
     c.requires.begins.ready.tied (sym c.look.ensures ∙ ap option_copied c.in-Some.is) c.here.ensures.here in
     omega (arith, there)
 
-pub hop_kept-requires : goal.hop_kept-requires
-hop_kept-requires c =
+pub hop-requires : goal.hop-requires
+hop-requires c =
     let self = c.args.self.now in
     let its = sym c.look.ensures ∙ ap option_copied c.in-Some.is in
     let ready = c.requires.begins.ready in
@@ -62,14 +62,14 @@ pub returns : goal.returns
 returns c = λ before row begins.
     let self = c.args.self.now in
     let its = sym c.look.ensures ∙ ap option_copied c.in-Some.is in
-    let hops = c.hop_kept.ensures c.in-Some.kept.now its in
+    let log = c.hop.ensures.log c.in-Some.kept.now its in
     goes_quiet begins
     (net_stays refl refl) _ (plane_stays refl refl refl)
     (hop_is self before row c.args.packet c.in-Some.kept.now c.here.result
     c.index_mut.result.now begins.ready its c.here.ensures.here c.index_mut.ensures.value)
-    (on_ok_weaker c.hop_kept.result (λ done. none_in _) hops.written)
-    hops.written hops.part
+    (on_ok_weaker c.hop.result (λ done. none_in _) log.written)
+    log.written log.part
     (hop_ties self before row c.args.packet c.in-Some.kept.now c.here.result
     c.index_mut.result.now begins.ready its c.here.ensures.here c.index_mut.ensures.value
-    c.hop_kept.result c.hop_kept.new.switch c.hop_kept.new.log.travelling c.hop_kept.new.log.bag
-    hops.counted hops.travels hops.posted)
+    c.hop.result c.hop.new.switch c.hop.new.self.travelling c.hop.new.self.bag
+    (c.hop.ensures.counted c.in-Some.kept.now its) log.travels log.posted)

@@ -34,8 +34,9 @@ returns c = λ before row begins.
     (net_stays refl refl) _ (plane_stays refl refl refl)
     (come_is self before row c.args.switch c.args.header.now c.index_mut.result.now begins.ready
     c.index_mut.ensures.value)
-    (on_ok_weaker c.enter.result (λ done. refl) c.enter.ensures.written)
-    c.enter.ensures.written c.enter.ensures.part
+    (on_ok_weaker c.enter.result (λ done. refl) c.enter.ensures.log.written)
+    c.enter.ensures.log.written c.enter.ensures.log.part
     (come_ties self before row c.args.switch c.args.header.now c.index_mut.result.now begins.ready
-    c.index_mut.ensures.value c.enter.result c.enter.new.switch c.enter.new.log.travelling
-    c.enter.new.log.bag c.enter.ensures.counted c.enter.ensures.travels c.enter.ensures.posted)
+    c.index_mut.ensures.value c.enter.result c.enter.new.switch c.enter.new.self.travelling
+    c.enter.new.self.bag c.enter.ensures.counted c.enter.ensures.log.travels
+    c.enter.ensures.log.posted)
