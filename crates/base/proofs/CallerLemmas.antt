@@ -1,11 +1,13 @@
 -- Masks number by number.
-use Rattle.std.proofs.Common.{◌≡◌, ◌≢◌, ℕ, zero, suc, ◌+◌, ◌^◌, ◌<◌, ◌≤◌, min, max, Bool, true, false, ◌&&◌, ◌||◌, ◌==◌, List, [], ◌∷◌, length, get_or, refl, sym, ◌∙◌, ap, arith}
-use Rattle.std.specs.Int.{w64}
-use Rattle.std.specs.Int.Bits.{bit_and, bit_or}
+use Rattle.std.proofs.Common.{◌≡◌, ◌≢◌, ℕ, zero, suc, ◌+◌, ◌^◌, ◌<◌, ◌≤◌, min, max, Bool, true, false, ◌&&◌, ◌||◌, ◌==◌, List, [], ◌∷◌, length, get_or, refl, sym, ◌∙◌, ap, arith, ◌%◌, not}
+use Rattle.std.specs.Int.{w64, bit_at}
+use Rattle.std.specs.Int.Bits.{bit_and, bit_or, bit_xor}
 use Rattle.std.proofs.lemmas.Bool.Decides.{nat_tests}
 use Rattle.std.proofs.lemmas.Nat.{pow_below, pow_pos, or_lt}
-use Rattle.std.proofs.lemmas.Nat.Bits.{bit_at_and, bit_at_or, bit_at-lt, bit_at-zero, bit_at-pow_same, bit_at-pow_other, bit_at_above, same_from_bits, same_from_bits_below, bit_at-trailing_zeros}
+use Rattle.std.proofs.lemmas.Nat.Bits.{bit_at_and, bit_at_or, bit_at-lt, bit_at-zero, bit_at-pow_same, bit_at-pow_other, bit_at_above, same_from_bits, same_from_bits_below, bit_at-trailing_zeros, bit_at_xor}
 use Rattle.std.proofs.lemmas.List.FromFn.{get_or-range_with_len}
+use Rattle.std.proofs.Math.Bool.{or-false}
+use Rattle.std.proofs.lemmas.Bool.{eq-eqb}
 use Rattle.base.specs.Masks.{has, switches}
 use Rattle.base.specs.ComputedMasks.{mask_of, mask_where, only_if, least_in}
 use Rattle.base.specs.MaskLaws.{MaskLaws}
@@ -38,6 +40,19 @@ pub has-pow_other : (k j : ℕ) → j ≢ k → has (2 ^ k) j ≡ false
 unfolding has
 has-pow_other k j apart = ap (λ d. d == 1) (bit_at-pow_other k j apart)
 
+same_sum : (a b : ℕ) → a < 2 → b ≡ 0 → ((a + b) % 2 == 1) ≡ (a == 1)
+same_sum a b fits e = grind (arith, nat_tests)
+
+pub has-xor_other : (mask k j : ℕ) → j ≢ k → has (bit_xor mask (2 ^ k)) j ≡ has mask j
+unfolding has
+has-xor_other mask k j apart =
+    rw (bit_at_xor mask (2 ^ k) j)
+    (same_sum (bit_at mask j) (bit_at (2 ^ k) j) (bit_at-lt mask j) (bit_at-pow_other k j apart))
+
+-- a mask of some switches is above 0
+pub some_of : (mask : ℕ) → not (mask == 0) ≡ true → 0 < mask
+some_of mask some = grind (arith, nat_tests)
+
 pub has_above : (mask k : ℕ) → mask < 2 ^ 64 → 64 ≤ k → has mask k ≡ false
 unfolding has
 has_above mask k fits past = ap (λ d. d == 1) (bit_at_above mask 64 k fits past)
@@ -63,10 +78,6 @@ has_only_other false k j apart = has-zero j
 
 -- ---- masks of the places that pass
 
-or_false : (a : Bool) → (a || false) ≡ a
-or_false true = refl
-or_false false = refl
-
 pub mask_where_below : {X : Type 0} (test : X → Bool) (k : ℕ) (xs : List X) (z : ℕ) → z < k →
     has (mask_where test k xs) z ≡ false
 unfolding mask_where
@@ -83,7 +94,7 @@ unfolding mask_where
 mask_where_at test k [] d z j e below = absurd (omega arith)
 mask_where_at test k (x ∷ xs) d z zero e below =
     let same : z ≡ k = omega arith in
-    rw (has-or, mask_where_below test (k + 1) xs z (omega arith), same, has_only_same) (or_false _)
+    rw (has-or, mask_where_below test (k + 1) xs z (omega arith), same, has_only_same) (or-false _)
 mask_where_at test k (x ∷ xs) d z (suc j) e below =
     let apart : z ≢ k = omega arith in
     rw (has-or, has_only_other _ _ _ apart)
@@ -104,9 +115,6 @@ mask_where_lt test k (x ∷ xs) n fits =
 
 -- ---- the least switch
 
-least_test : (d : ℕ) → d ≡ 1 → (d == 1) ≡ true
-least_test d e = grind (arith, nat_tests)
-
 zero_test : (d : ℕ) → d ≡ 0 → (d == 1) ≡ false
 zero_test d e = grind (arith, nat_tests)
 
@@ -116,7 +124,7 @@ least_lt mask some fits = (bit_at-trailing_zeros w64 mask some fits).0
 
 pub has_least : (mask : ℕ) → 0 < mask → mask < 2 ^ 64 → has mask (least_in mask) ≡ true
 unfolding least_in has
-has_least mask some fits = least_test _ (bit_at-trailing_zeros w64 mask some fits).1
+has_least mask some fits = eq-eqb _ 1 (bit_at-trailing_zeros w64 mask some fits).1
 
 pub least_below : (mask : ℕ) → 0 < mask → mask < 2 ^ 64 → (j : ℕ) → j < least_in mask →
     has mask j ≡ false

@@ -2,7 +2,7 @@
 use Rattle.std.proofs.Common.{ℕ, ◌≡◌, ◌<◌, ◌^◌, Bool, true, false, ◌&&◌, Option, Some, None, List, [], ◌∷◌, length, All, get_or, take, refl, ap, sym, ◌∙◌, subst, arith, cond}
 use Rattle.std.specs.Prelude.{nat_lt, IsTrue, IsSomeAnd, is_some, is_none, IsNone, not, slice_get, position}
 use Rattle.std.specs.Option.{option_map_or}
-use Rattle.std.proofs.lemmas.Bool.{and_parts, lt-ltb}
+use Rattle.std.proofs.lemmas.Bool.{and_parts, lt-ltb, not-true}
 use Rattle.std.proofs.lemmas.Option.{slice_get_within, slice_get-get_or, get_or_from_slice_get}
 use Rattle.std.proofs.lemmas.List.{get_or-take, length-take}
 use Rattle.std.proofs.lemmas.List.Quantifiers.{position-Some}
@@ -13,17 +13,10 @@ use Rattle.ternary.specs.Laws.{CoversLaws, MeetLaws}
 use Rattle.ternary.specs.Meets.{exact_word, covers_of, meet_of}
 use Rattle.policy_rules.specs.declared.rules.Rule.{Rule}
 use Rattle.policy_rules.specs.Rules.{is_held}
+use Rattle.policy_rules.proofs.CallerLemmas.{none_from_not_some}
 use Rattle.cache_maker.specs.Independent.{IsIndependent, is_apart, is_independent}
 
 -- ---- tests and facts
-
-none_of : (m : Option WordValue) → IsNone m → m ≡ None
-none_of None none = refl
-none_of (Some m) none = cc
-
-not_true : (b : Bool) → not b ≡ true → b ≡ false
-not_true true e = cc
-not_true false e = refl
 
 pub true_not : (b : Bool) → b ≡ false → not b ≡ true
 true_not true e = cc
@@ -58,7 +51,7 @@ test_true region rules index word test =
     record {
       in_region = parts.0;
       in_rule = some_and index rules word parts.1;
-      earlier = λ k d within. not_true _
+      earlier = λ k d within. not-true _
           (AllPass-from_list_all _ (take index rules) both.1 k d within);
     }
 
@@ -98,7 +91,7 @@ first_hit covers meet region rules index word h is held = by_rule (slice_get rul
         apart : (earlier : Rule) → IsNone (meet_of word earlier.word) → holds earlier.word h ≡ false
         apart earlier none = right_false (holds earlier.word h)
             (ap (λ b. b && holds earlier.word h) (sym held)
-            ∙ meet.none word earlier.word h (none_of _ none))
+            ∙ meet.none word earlier.word h (none_from_not_some _ none))
 
         not_held : (k : ℕ) → k < index → is_held h (get_or rules k rule) ≡ false
         not_held k below =
@@ -123,7 +116,7 @@ smaller covers meet region rules index word part inside is = record {
     by_rule (Some rule) covered = covers.transitive rule.word word part covered inside
 
     apart : (rule : Rule) → IsNone (meet_of word rule.word) → IsNone (meet_of part rule.word)
-    apart rule none = ap is_some (meet.monotone word part rule.word inside (none_of _ none))
+    apart rule none = ap is_some (meet.monotone word part rule.word inside (none_from_not_some _ none))
 
 -- there is a rule at the first hit
 hit_within : (h : ℕ) (rules : List Rule) (index : ℕ) → position (is_held h) rules ≡ Some index

@@ -1,6 +1,7 @@
 -- The commands of the grammar, by their lines.
 use Rattle.std.specs.Prelude.{nat_le, option_and_then}
 use Rattle.std.proofs.Common.{ap, drop, ◌≡◌, ℕ, ◌==◌, ◌<◌, ◌≤◌, ◌^◌, Bool, true, false, cond, ◌||◌, Option, Some, None, is_some, List, [], ◌∷◌, ◌∙◌, length, refl, sym, true≢false, eqb-true, leb-true, arith}
+use Rattle.std.proofs.lemmas.Bool.{not-true}
 use Rattle.clap.specs.Matches.{found_of}
 use Rattle.clap.specs.Simple.{App, HasMatchesOf}
 use Rattle.clap.specs.Takes.{takes}
@@ -10,7 +11,7 @@ use Rattle.clap.proofs.WalkLemmas.{both}
 use Rattle.command_line.specs.Line.{line_app, net_and, none, options_of}
 use Rattle.command_line.specs.Named.{command_in, kind_name}
 use Rattle.command_line.specs.Grammar.{Line, command_by, line_of, load_from, load_number, load_of, print_of, replay_from}
-use Rattle.command_line.proofs.Parses.{Found, IsWithin, WalksTo, is_not, matches_found, reads, taken}
+use Rattle.command_line.proofs.Parses.{Found, IsWithin, WalksTo, matches_found, reads, taken}
 use Rattle.command_line.specs.declared.grammar.Kind.{Kind}
 use Rattle.command_line.specs.Commands.{Command}
 use Rattle.command_line.specs.declared.grammar.Kind.TheVariants as kind
@@ -68,7 +69,7 @@ print_within : (count : ℕ) (line : Line) → is_some (print_of count line) ≡
     → IsWithin (net_and false) line.net line.quiet
 print_within count line e =
     let none : line.quiet ≡ false =
-    is_not line.quiet (both (length line.names == count) _ (passes _ _ e)).1 in
+    not-true line.quiet (both (length line.names == count) _ (passes _ _ e)).1 in
     record { has_net = λ some. refl; has_flag = λ some. sym none ∙ some }
 
 load_within : (line : Line) → is_some (load_of line) ≡ true → IsWithin none line.net line.quiet

@@ -4,6 +4,7 @@ use Rattle.std.specs.List.{list_all, prefix_len}
 use Rattle.std.specs.Option.{option_or}
 use Rattle.std.proofs.Common.{◌≡◌, ℕ, ◌==◌, ◌<◌, Bool, true, false, cond, not, ◌&&◌, ◌||◌, Option, Some, None, is_some, List, [], ◌∷◌, ◌++◌, length, zero, suc, take, drop, refl, sym, ap, ◌∙◌, subst, append-nil, true≢false, eqb-true, arith}
 use Rattle.std.proofs.lemmas.List.Folds.{length-prefix_len}
+use Rattle.std.proofs.lemmas.Bool.{not-true}
 use Rattle.clap.specs.Simple.{App, HasMatchesOf, Shape, argument_words, built, is_simple, matches_of, names_of}
 use Rattle.clap.specs.Matches.{first_value, found_of, matched_of, one_text, raw_values}
 use Rattle.clap.specs.declared.parser.matches.ArgMatches.{ArgMatches}
@@ -174,10 +175,6 @@ joined_by zero xs = refl
 joined_by (suc k) [] = refl
 joined_by (suc k) (x ∷ xs) = ap (λ ys. x ∷ ys) (joined_by k xs)
 
-pub is_not : (b : Bool) → not b ≡ true → b ≡ false
-is_not true e = absurd (true≢false (sym e))
-is_not false e = refl
-
 no_args : (xs : List (List ℕ)) → (length xs == 0) ≡ true → xs ≡ []
 no_args [] e = refl
 no_args (x ∷ xs) e = absurd (omega (arith, eqb-true _ _ e))
@@ -241,8 +238,8 @@ parts_of args line e = go (end_together front back) refl e
           ends = no_args back.args q.1;
           net = refl;
           quiet = refl;
-          one_net = is_not _ p.0;
-          one_flag = is_not _ p.1;
+          one_net = not-true _ p.0;
+          one_flag = not-true _ p.1;
         })
 
 -- the walk over them, to its end

@@ -1,5 +1,6 @@
 -- Causes of items and facts of journals: what each item keeps, a journal has.
-use Rattle.std.proofs.Common.{ℕ, ◌≤◌, List, [], ◌∷◌, ◌++◌, append-nil, append_assoc, sym, subst}
+use Rattle.std.proofs.Common.{ℕ, ◌≤◌, List, [], ◌∷◌, ◌++◌, append-nil, append_assoc, sym, subst, ◌≡◌, ◌==◌, true, refl}
+use Rattle.std.proofs.lemmas.Bool.{eq-eqb}
 use Rattle.journal.specs.declared.item.Item.{Item}
 use Rattle.journal.specs.declared.item.Item.TheVariants as item
 use Rattle.steps.specs.declared.step.Step.{Step}
@@ -9,6 +10,9 @@ use Rattle.update_machine.specs.Setting.{Setting}
 use Rattle.update_machine.proofs.CallerLemmas.{have_first}
 pub use Rattle.update_machine.proofs.CallerLemmas.{steps_have}
 use Rattle.control_laws.specs.ItemCauses.{HasItemCause}
+
+pub own : (i : ℕ) → (i == i) ≡ true
+own i = eq-eqb i i refl
 
 -- the items have their causes behind the journal
 abbrev pub Has : Setting → List Item → List Item → Type 0

@@ -33,7 +33,7 @@ open_within journal s bound within = by_opened (opened_at journal s) refl
     by_opened None e = omega arith
     by_opened (Some version) e = within version e
 
-fold_up : (first : ℕ) (xs : List ℕ) → first ≤ fold max first xs
+pub fold_up : (first : ℕ) (xs : List ℕ) → first ≤ fold max first xs
 fold_up first [] = omega arith
 fold_up first (x ∷ xs) = omega (arith, fold_up (max first x) xs)
 

@@ -11,11 +11,12 @@ use Rattle.std.proofs.lemmas.List.Sums.{sum_by-le-sum_by}
 use Rattle.ctrl_msg.specs.declared.message.Message.{Message}
 use Rattle.failover.specs.Adverts.{held}
 use Rattle.base.specs.Masks.{has, switches}
+use Rattle.base.proofs.CallerLemmas.{mask_of_lt}
 use Rattle.net_file.specs.Net.{IsNet}
 use Rattle.net_file.specs.declared.net.LinkRow.{LinkRow}
 use Rattle.net_file.specs.Joins.{are_linked, joins}
 use Rattle.net_file.specs.Owners.{links_of}
-use Rattle.net_file.proofs.Masks.{in_mask_of, in_mask_past, mask_of_small}
+use Rattle.net_file.proofs.Masks.{in_mask_of, in_mask_past}
 use Rattle.journal.specs.declared.item.Item.{Item}
 use Rattle.update_machine.specs.Adverts.{adverts_known, held_adverts, own_advert}
 use Rattle.update_machine.specs.Deliveries.{advert_to, has_changed, messages_of, messages_over}
@@ -100,8 +101,8 @@ unfolding has
 same_bits one other s k same = elim (cases_lt k 64) [
   | inl small ↦ in_mask_of (are_linked one s) k small ∙ same
       ∙ sym (in_mask_of (are_linked other s) k small)
-  | inr past ↦ in_mask_past (links_of one s) k (mask_of_small (are_linked one s)) past
-      ∙ sym (in_mask_past (links_of other s) k (mask_of_small (are_linked other s)) past)
+  | inr past ↦ in_mask_past (links_of one s) k (mask_of_lt (are_linked one s)) past
+      ∙ sym (in_mask_past (links_of other s) k (mask_of_lt (are_linked other s)) past)
 ]
 
 same_neighbour : (setting : Setting) (before now : List Item) (t s k : ℕ)

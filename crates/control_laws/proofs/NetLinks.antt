@@ -10,12 +10,12 @@ use Rattle.failover.specs.Links.{is_link, neighbours_named, named_links, AreJoin
 use Rattle.base.specs.Masks.{has}
 use Rattle.failover.specs.Paths.{IsRoute}
 use Rattle.failover.specs.declared.advert.Advert.{Advert}
-use Rattle.base.proofs.CallerLemmas.{has-zero}
+use Rattle.base.proofs.CallerLemmas.{has-zero, mask_of_lt}
 use Rattle.net_file.specs.Joins.{are_linked, joins}
 use Rattle.net_file.specs.declared.net.LinkRow.{LinkRow}
 use Rattle.net_file.specs.declared.net.Net.{Net}
 use Rattle.net_file.specs.Owners.{links_of}
-use Rattle.net_file.proofs.Masks.{in_mask, in_mask_of, in_mask_past, mask_of_small}
+use Rattle.net_file.proofs.Masks.{in_mask, in_mask_of, in_mask_past}
 use Rattle.steps.specs.Steps.{HasLink}
 use Rattle.journal.specs.declared.item.Item.{Item}
 use Rattle.update_machine.specs.Adverts.{advert_known, adverts_known, own_advert, own_if_sent}
@@ -38,7 +38,7 @@ linked_by_mask links s k is = elim (cases_lt k 64) [
   | inl small ↦ sym (in_mask_of (are_linked links s) k small) ∙ is
   | inr past ↦
       let none : in_mask (links_of links s) k ≡ false =
-      in_mask_past (links_of links s) k (mask_of_small (are_linked links s)) past in
+      in_mask_past (links_of links s) k (mask_of_lt (are_linked links s)) past in
       absurd cc
 ]
 

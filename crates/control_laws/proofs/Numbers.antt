@@ -12,10 +12,9 @@ use Rattle.ctrl_msg.specs.declared.message.Message.{Message}
 use Rattle.failover.specs.Adverts.{held}
 use Rattle.base.specs.Masks.{has, switches}
 use Rattle.base.specs.ComputedMasks.{least_in}
-use Rattle.base.proofs.CallerLemmas.{has_least}
+use Rattle.base.proofs.CallerLemmas.{has_least, mask_of_lt}
 use Rattle.net_file.specs.Net.{IsNet}
 use Rattle.net_file.specs.Joins.{are_linked}
-use Rattle.net_file.proofs.Masks.{mask_of_small}
 use Rattle.net_file.proofs.Places.{links}
 use Rattle.journal.specs.declared.item.Item.{Item}
 use Rattle.journal.specs.declared.item.Item.TheVariants as item
@@ -230,7 +229,7 @@ over_some setting before now s k holds = by_link (has (near setting before s) k)
 
 near_small : (setting : Setting) (journal : List Item) (s : ℕ) → near setting journal s < 2 ^ 64
 unfolding near
-near_small setting journal s = mask_of_small (are_linked (usable_links setting journal) s)
+near_small setting journal s = mask_of_lt (are_linked (usable_links setting journal) s)
 
 -- a mask that isn't 0 has a switch of the network
 has_neighbour : (setting : Setting) (now : List Item) (s : ℕ) → IsNet setting.net
@@ -384,7 +383,7 @@ links_few setting before items net piece few =
 
 -- ---- a boot
 
-one_if : (b : Bool) → (if b then 1 else 0) ≤ 1
+pub one_if : (b : Bool) → (if b then 1 else 0) ≤ 1
 one_if true = omega arith
 one_if false = omega arith
 

@@ -5,6 +5,7 @@ use Rattle.std.specs.Prelude.{IsTrue, IsFalse, is_some}
 use Rattle.std.specs.List.{AllByRecursion}
 use Rattle.std.proofs.lemmas.Bool.{eqb-true}
 use Rattle.std.proofs.lemmas.Bool.Decides.{nat_tests}
+use Rattle.std.proofs.lemmas.Option.{same_Some}
 use Rattle.journal.specs.declared.item.Item.{Item}
 use Rattle.journal.specs.declared.item.Item.TheVariants as item
 use Rattle.update_machine.specs.Boots.{boot_of}
@@ -122,14 +123,11 @@ opened_stamps_on setting before next s cause known is = record {
       stamps_on setting before next s cause known is serving version opened;
 }
 
-some_same : (x y : ℕ) → Some x ≡ Some y → x ≡ y
-some_same x y e = cc
-
 pub opened_stamps_at_first : (s : ℕ) → StampsOpened [] s
 unfolding opened_at known_boot controller_heard
 opened_stamps_at_first s = record {
   stamps = λ serving version opened.
-      omega (arith, some_same 1 version opened, start_laws.stamp s);
+      omega (arith, same_Some 1 version opened, start_laws.stamp s);
 }
 
 -- ---- the acknowledged stamp

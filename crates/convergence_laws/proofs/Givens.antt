@@ -1,7 +1,7 @@
 -- The adverts that switches have: those with which they began, those that they heard, and those
 -- that were sent to them in their present boot.
-use Rattle.std.proofs.Common.{ℕ, ◌≡◌, ◌≢◌, ◌+◌, ◌<◌, ◌⊎◌, ◌==◌, ◌&&◌, ◌||◌, Bool, true, false, if◌then◌else◌, Option, Some, None, List, [], ◌∷◌, ◌++◌, refl, ap, sym, subst, ◌∙◌, append_assoc, append-nil, arith, inl, inr}
-use Rattle.std.specs.Prelude.{⊤, IsTrue, nat_lt}
+use Rattle.std.proofs.Common.{ℕ, ◌≡◌, ◌≢◌, ◌+◌, ◌<◌, ◌⊎◌, ◌==◌, Bool, true, false, if◌then◌else◌, Option, Some, None, List, [], ◌∷◌, ◌++◌, refl, ap, sym, subst, ◌∙◌, append_assoc, append-nil, arith, inl, inr}
+use Rattle.std.specs.Prelude.{⊤, IsTrue}
 use Rattle.std.specs.Option.{option_map_or}
 use Rattle.std.proofs.lemmas.Bool.Decides.{nat_tests}
 use Rattle.ctrl_msg.specs.declared.message.Body.{Body}
@@ -9,6 +9,7 @@ use Rattle.ctrl_msg.specs.declared.message.Body.TheVariants.{Advertise}
 use Rattle.ctrl_msg.specs.declared.message.Message.{Message}
 use Rattle.failover.specs.Adverts.{held, is_newer}
 use Rattle.failover.specs.declared.advert.Advert.{Advert}
+use Rattle.failover.proofs.Newest.{not_newer}
 use Rattle.base.specs.Masks.{has}
 use Rattle.journal.specs.declared.item.Item.{Item}
 use Rattle.journal.specs.declared.item.Item.TheVariants as item
@@ -30,11 +31,8 @@ use Rattle.convergence_laws.proofs.Sendings.{delivered_grows, sendings_more, sen
 
 -- ---- as new
 
-itself_new : (b s : ℕ) → (nat_lt b b || ((b == b) && nat_lt s s)) ≡ false
-itself_new b s = grind (arith, nat_tests)
-
 pub as_new_itself : (advert : Advert) → IsAsNew advert advert
-as_new_itself advert = record { origin = refl; new = itself_new advert.boot advert.seq }
+as_new_itself advert = record { origin = refl; new = not_newer advert.boot advert.seq }
 
 new_through : (a b c : Advert) → is_newer b c ≡ false → is_newer a b ≡ false
     → is_newer a c ≡ false

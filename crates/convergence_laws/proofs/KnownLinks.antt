@@ -1,11 +1,11 @@
 -- So of links that end where it reaches a switch knows exactly those that can be used.
 use Rattle.std.proofs.Common.{ℕ, ◌≡◌, ◌≢◌, ◌<◌, ◌⊎◌, ◌==◌, ◌&&◌, Bool, true, false, not, None, List, [], ◌∷◌, ◌++◌, map, length, get_or, set, refl, ap, sym, subst, ◌∙◌, arith, inl, inr, get_or-set_other, get_or-set_same}
 use Rattle.std.specs.Prelude.{All, IsTrue, slice_index}
-use Rattle.std.specs.List.{AllByRecursion}
 use Rattle.std.proofs.lemmas.Bool.{cases_eq}
 use Rattle.std.proofs.lemmas.Bool.Decides.{nat_tests}
 use Rattle.std.proofs.lemmas.List.{length-map}
 use Rattle.std.proofs.lemmas.List.Elements.{All-from_recursion}
+use Rattle.policy_rules.proofs.CallerLemmas.{each_weaker}
 use Rattle.failover.specs.Links.{is_link, neighbours_named, named_links, has_link, AreJoined, IsReachable, LinksLead}
 use Rattle.failover.proofs.Searching.{length-known_links, straight_path}
 use Rattle.base.specs.Masks.{has}
@@ -166,11 +166,6 @@ leads_known setting journal are s target down is unusable at (next ∷ rest) rea
       (reach_more setting journal s at next reaches leads.0) leads.1,
 )
 
-each_unreached : (P Q : ℕ → Type 0) → ((x : ℕ) → P x → Q x) → (xs : List ℕ)
-    → AllByRecursion P xs → AllByRecursion Q xs
-each_unreached P Q f [] all = tt
-each_unreached P Q f (x ∷ xs) all = (f x all.0, each_unreached P Q f xs all.1)
-
 -- a way over links that can be used is one over known links
 way_known : (setting : Setting) (journal : List Item) → AreQuiet setting journal
     → (s target : ℕ) (down : List ℕ) → AreUnusable setting journal down → (rest : List ℕ)
@@ -189,7 +184,7 @@ stuck_apart : (setting : Setting) (journal : List Item) → AreQuiet setting jou
     → All (λ target. Reaches setting journal s target → ⊥) targets
 stuck_apart setting journal are s targets down there unusable none =
     All-from_recursion (λ target. Reaches setting journal s target → ⊥) targets
-    (each_unreached
+    (each_weaker
     (λ target. IsReachable (links_known setting journal s down) s target → ⊥)
     (λ target. Reaches setting journal s target → ⊥)
     (λ target unreached reaches. unreached

@@ -25,7 +25,7 @@ use Rattle.update_machine.specs.Quiet.{Sending, boot_at, changes_sendings, sendi
 use Rattle.update_machine.specs.Setting.{Setting}
 use Rattle.update_machine.specs.Settling.{to_switch}
 use Rattle.update_machine.specs.Links.{message_of}
-use Rattle.update_machine.proofs.CallerLemmas.{PiecesHave, count_of_append, folded_append, piece_next, start_laws}
+use Rattle.update_machine.proofs.CallerLemmas.{PiecesHave, count_of_append, folded_append, piece_next, start_laws, next_rises}
 use Rattle.control_laws.specs.ItemCauses.{HasItemCause}
 use Rattle.control_laws.proofs.Boots.{boot_rises}
 use Rattle.control_laws.proofs.Facts.{AreKept, Both, fact_on, have_both}
@@ -120,15 +120,6 @@ next_more before next = counted_more is_sending before next
 next_first : (journal : List Item) → 1 ≤ next_message journal
 unfolding next_message
 next_first journal = omega arith
-
-next_rises : (before : List Item) (next : Item)
-    → next_message before ≤ next_message (before ++ next ∷ [])
-next_rises before next = rw (next_more before next) (by_test (is_sending next))
-  where
-    by_test : (b : Bool) → next_message before
-        ≤ (if b then next_message before + 1 else next_message before)
-    by_test true = omega arith
-    by_test false = omega arith
 
 pub delivered_more : (before : List Item) (next : Item) (n : ℕ)
     → was_delivered (before ++ next ∷ []) n ≡ (is_delivery n next || was_delivered before n)

@@ -30,7 +30,7 @@ use Rattle.control_laws.proofs.Grown.{opened_in, opened_is}
 use Rattle.control_laws.proofs.Sends.{each_map, each_range}
 use Rattle.control_laws.proofs.Openings.{member_parts}
 use Rattle.control_laws.specs.Bounds.{MarksAreBounded}
-use Rattle.control_laws.proofs.Greatest.{acked_stamp_opened, known_first}
+use Rattle.control_laws.proofs.Greatest.{acked_stamp_opened, known_first, fold_up}
 use Rattle.control_laws.proofs.Marks.{bounded}
 use Rattle.control_laws.proofs.Ends.{settled_at_ends}
 use Rattle.convergence_laws.specs.Updated.{IsUpdated}
@@ -43,10 +43,6 @@ use Rattle.convergence_laws.proofs.Sendings.{AreTraced, IsInOrder, IsSent, cause
 use Rattle.convergence_laws.proofs.Stamps.{HaveStamps, piece_stamps, stamps_at_first}
 
 -- ---- greatest and least numbers
-
-fold_up : (first : ℕ) (xs : List ℕ) → first ≤ fold max first xs
-fold_up first [] = omega arith
-fold_up first (x ∷ xs) = omega (arith, fold_up (max first x) xs)
 
 in_fold : (first v : ℕ) (xs : List ℕ) → IsIn v xs → v ≤ fold max first xs
 in_fold first v [] is = absurd is

@@ -1,22 +1,19 @@
 -- Narrowing twice, and the first rule of a narrowed list.
-use Rattle.std.proofs.Common.{◌≡◌, ℕ, Bool, true, false, ◌&&◌, Option, Some, List, [], ◌∷◌, find, option_map, refl, sym, ◌∙◌, ap, inl, inr}
+use Rattle.std.proofs.Common.{◌≡◌, ℕ, true, false, ◌&&◌, Option, Some, List, [], ◌∷◌, find, option_map, sym, ◌∙◌, ap, inl, inr}
 use Rattle.std.specs.Bool.{IsTrue}
 use Rattle.std.specs.Option.{option_and_then, is_some}
 use Rattle.std.proofs.lemmas.Bool.{cases_Bool, both_ways, false_from_ne_true}
+use Rattle.std.proofs.Math.Bool.{and-true}
 use Rattle.ternary.specs.Word.{WordValue, holds}
 use Rattle.ternary.specs.Meets.{meets, joined, meet_of, covers_of}
-use Rattle.ternary.proofs.CallerLemmas.{covers_held, covers_transitive, is_some-meet_of, meet_both, meet_disjoint, meet_greatest, meet_narrowed, meets_comm, meets_cover}
+use Rattle.ternary.proofs.CallerLemmas.{covers_held, covers_transitive, is_some-meet_of, meet_both, meet_disjoint, meet_greatest, meet_narrowed, meets_comm, meets_cover, met_joined, apart_none}
 use Rattle.policy_rules.specs.Rules.{is_held}
 use Rattle.policy_rules.specs.declared.rules.Rule.{Rule}
 use Rattle.cut_tree.specs.Narrow.{narrowed, narrow}
-use Rattle.cut_tree.proofs.NarrowLemmas.{met_joined, apart_none, narrow_none, narrow_apart, narrow_covered, narrow_more}
+use Rattle.cut_tree.proofs.NarrowLemmas.{narrow_none, narrow_apart, narrow_covered, narrow_more}
 
 abbrev with_word : Rule → WordValue → Rule
 with_word rule word = record rule { word = word }
-
-and_true : (t : Bool) → (t && true) ≡ t
-and_true true = refl
-and_true false = refl
 
 some_word : (a b : WordValue) → Some a ≡ Some b → a ≡ b
 some_word a b e = cc
@@ -39,7 +36,7 @@ covers_inner : (w outer inner : WordValue) → IsTrue (covers_of outer inner) �
     → covers_of (joined w outer) inner ≡ covers_of w inner
 covers_inner w outer inner within meet =
     meet_greatest w outer _ inner (met_joined w outer meet) ∙ ap (λ t. covers_of w inner && t)
-    within ∙ and_true (covers_of w inner)
+    within ∙ and-true (covers_of w inner)
 
 joined_inner : (w outer inner : WordValue) → IsTrue (covers_of outer inner) → meets w outer ≡ true
     → meets w inner ≡ true → joined (joined w outer) inner ≡ joined w inner
@@ -138,7 +135,7 @@ find_more header rule rules miss = rw miss
 not_held : (rule : Rule) (region : WordValue) (header : ℕ) → IsTrue (holds region header)
     → meets rule.word region ≡ false → holds rule.word header ≡ false
 not_held rule region header here apart =
-    sym (and_true (holds rule.word header)) ∙ sym (ap (λ t. holds rule.word header && t) here)
+    sym (and-true (holds rule.word header)) ∙ sym (ap (λ t. holds rule.word header && t) here)
     ∙ meet_disjoint rule.word region header (apart_none rule.word region apart)
 
 -- a narrowed rule holds the headers of the region that the rule holds
@@ -148,7 +145,7 @@ same_held : (rule : Rule) (region : WordValue) (header : ℕ) → IsTrue (holds 
 unfolding narrowed
 same_held rule region header here meet =
     meet_both rule.word region _ (met_joined rule.word region meet) header
-    ∙ ap (λ t. holds rule.word header && t) here ∙ and_true (holds rule.word header)
+    ∙ ap (λ t. holds rule.word header && t) here ∙ and-true (holds rule.word header)
 
 pub narrow_first : (rules : List Rule) (region : WordValue) (header : ℕ)
     → IsTrue (holds region header) → find (is_held header) (narrow rules region) ≡ option_map

@@ -1,5 +1,5 @@
 -- Narrowing, rule by rule.
-use Rattle.std.proofs.Common.{◌≡◌, ℕ, ◌+◌, ◌<◌, ◌≤◌, Bool, true, false, cond, Some, None, List, [], ◌∷◌, length, get_or, drop, refl, ◌∙◌, ap}
+use Rattle.std.proofs.Common.{◌≡◌, ℕ, ◌+◌, ◌<◌, ◌≤◌, true, false, Some, None, List, [], ◌∷◌, length, get_or, drop, refl, ◌∙◌, ap}
 use Rattle.std.proofs.Common.{inl, inr, arith}
 use Rattle.std.specs.List.{All}
 use Rattle.std.proofs.lemmas.Bool.{cases_Bool}
@@ -7,27 +7,14 @@ use Rattle.std.proofs.lemmas.List.{at_drop_all}
 use Rattle.std.proofs.lemmas.List.Elements.{All-nil, All-cons, All-head, All-tail, All-same}
 use Rattle.ternary.specs.Word.{WordValue}
 use Rattle.ternary.specs.WordBits.{IsWord}
-use Rattle.ternary.specs.Meets.{meets, joined, meet_of, covers_of}
-use Rattle.ternary.proofs.CallerLemmas.{covers_full, meet_within, meet_word}
+use Rattle.ternary.specs.Meets.{meets, meet_of, covers_of}
+use Rattle.ternary.proofs.CallerLemmas.{covers_full, meet_within, meet_word, meet_none, meet_some, met_joined}
 use Rattle.policy_rules.specs.declared.rules.Rule.{Rule}
 use Rattle.policy_rules.proofs.CallerLemmas.{at_item}
 use Rattle.cut_tree.specs.Narrow.{narrowed, narrow}
 use Rattle.cut_tree.specs.Nodes.{AreNodeRules, AreWords, IsOneHeader, LiesIn}
 
 -- ---- meets of words
-
-pub meet_some : (a b m : WordValue) → meet_of a b ≡ Some m → (meets a b ≡ true) × (joined a b ≡ m)
-unfolding meet_of
-meet_some a b m =
-    let P : Bool → Type 0 = λ t. cond t (Some (joined a b)) None ≡ Some m → (t ≡ true)
-    × (joined a b ≡ m) in
-    elim (meets a b) as P [ true ↦ λ e. (refl, cc) | false ↦ λ e. cc ]
-
-pub meet_none : (a b : WordValue) → meet_of a b ≡ None → meets a b ≡ false
-unfolding meet_of
-meet_none a b =
-    let P : Bool → Type 0 = λ t. cond t (Some (joined a b)) None ≡ None → t ≡ false in
-    elim (meets a b) as P [ true ↦ λ e. cc | false ↦ λ e. refl ]
 
 -- ---- one rule
 
@@ -111,14 +98,6 @@ all_narrowed P (rule ∷ rules) region each =
       ]
       | inr apart ↦ All-same P _ _ (narrow_apart region rule rules apart) rest
     ]
-
-pub apart_none : (a b : WordValue) → meets a b ≡ false → meet_of a b ≡ None
-unfolding meet_of
-apart_none a b apart = rw apart
-
-pub met_joined : (a b : WordValue) → meets a b ≡ true → meet_of a b ≡ Some (joined a b)
-unfolding meet_of
-met_joined a b meet = rw meet
 
 pub narrow_within : (rules : List Rule) (region : WordValue)
     → All (LiesIn region) (narrow rules region)

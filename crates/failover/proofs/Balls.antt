@@ -1,14 +1,14 @@
 -- The switches at most k links away from a target, and the least of them that is one link nearer.
 use Rattle.std.proofs.Common.{◌≡◌, ℕ, zero, suc, ◌^◌, ◌<◌, ◌≤◌, ◌⊎◌, Bool, true, false, not, ◌&&◌, ◌||◌, ◌==◌, List, length, get_or, refl, sym, ◌∙◌, arith, inl, inr}
 use Rattle.std.specs.Int.Bits.{bit_and}
-use Rattle.std.proofs.lemmas.Bool.{cases_lt, cases_eq}
+use Rattle.std.proofs.lemmas.Bool.{cases_lt, cases_eq, and_parts}
 use Rattle.std.proofs.lemmas.Bool.Decides.{nat_tests}
 use Rattle.std.proofs.lemmas.Nat.{pow_below, or_lt, and_le_r}
 use Rattle.base.specs.Masks.{has}
 use Rattle.base.specs.ComputedMasks.{least_in}
 use Rattle.failover.specs.Routes.{wider, ball, nearer}
 use Rattle.failover.specs.Search.{IsAway}
-use Rattle.base.proofs.CallerLemmas.{has-or, has-and, has-zero, has-pow_same, has-pow_other, mask_where_at, mask_where_lt, least_lt, has_least, least_below}
+use Rattle.base.proofs.CallerLemmas.{has-or, has-and, has-zero, has-pow_same, has-pow_other, mask_where_at, mask_where_lt, least_lt, has_least, least_below, some_of}
 
 -- ---- Bool
 
@@ -27,14 +27,6 @@ apart_tests b holds fails = absurd (false_is_not_true (sym fails ∙ holds))
     false_is_not_true : false ≡ true → ⊥
     false_is_not_true e = cc
 
-pub and_left : (a b : Bool) → (a && b) ≡ true → a ≡ true
-and_left true b h = refl
-and_left false b h = h
-
-pub and_right : (a b : Bool) → (a && b) ≡ true → b ≡ true
-and_right true b h = h
-and_right false b h = apart_tests false h refl
-
 pub or_cases : (a b : Bool) → (a || b) ≡ true → (a ≡ true) ⊎ (b ≡ true)
 or_cases true b h = inl refl
 or_cases false b h = inr h
@@ -51,20 +43,10 @@ pub and_both : (a b : Bool) → a ≡ true → b ≡ true → (a && b) ≡ true
 and_both true b p q = q
 and_both false b p q = apart_tests false p refl
 
--- equality as a test
-pub same_number : (x y : ℕ) → (x == y) ≡ true → x ≡ y
-same_number x y e = grind (arith, nat_tests)
-
-pub number_test : (x y : ℕ) → x ≡ y → (x == y) ≡ true
-number_test x y e = grind (arith, nat_tests)
-
 -- ---- one widening
 
 meets_of : (m : ℕ) → 0 < m → not (m == 0) ≡ true
 meets_of m some = grind (arith, nat_tests)
-
-some_of : (m : ℕ) → not (m == 0) ≡ true → 0 < m
-some_of m h = grind (arith, nat_tests)
 
 positive : (m k : ℕ) → has m k ≡ true → 0 < m
 positive zero k h = apart_tests _ h (has-zero k)
@@ -123,8 +105,8 @@ least_of links within at fits some =
     sym (has-and row within _) ∙ has_least _ some small in
     record {
       below = least_lt _ some small;
-      joined = and_left _ _ both;
-      inside = and_right _ _ both;
+      joined = (and_parts _ _ both).0;
+      inside = (and_parts _ _ both).1;
       least = λ other link member. elim (cases_lt other (least_in (bit_and row within))) [
         | inl below ↦ apart_tests _ (rw (has-and, link, member) refl)
             (least_below _ some small other below)

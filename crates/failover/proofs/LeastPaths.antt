@@ -1,13 +1,13 @@
 -- The route of the search is the least path.
 use Rattle.std.proofs.Common.{◌≡◌, ℕ, zero, suc, ◌<◌, ◌≤◌, true, false, nat_eq, List, [], ◌∷◌, length, refl, sym, ◌∙◌, ap, subst, arith, inl, inr}
 use Rattle.std.specs.List.{IsDistinct, AllByRecursion}
-use Rattle.std.proofs.lemmas.Bool.{cases_lt}
+use Rattle.std.proofs.lemmas.Bool.{cases_lt, eqb-true}
 use Rattle.base.specs.Masks.{has}
 use Rattle.failover.specs.Paths.{IsAtMost}
 use Rattle.failover.specs.Routes.{ball, onward}
 use Rattle.failover.specs.Search.{IsAway}
 use Rattle.failover.specs.Links.{LinksLead}
-use Rattle.failover.proofs.Balls.{false_of, apart_tests, ball_grows, ball_gains, at_target, has_target, next_step, same_number}
+use Rattle.failover.proofs.Balls.{false_of, apart_tests, ball_grows, ball_gains, at_target, has_target, next_step}
 
 -- ---- the route leads to the target
 
@@ -29,7 +29,7 @@ onward_leads links target (suc k) at rows target_fits at_fits away =
 
 differ : (x y : ℕ) (mask : ℕ) → has mask x ≡ false → has mask y ≡ true → nat_eq x y ≡ false
 differ x y mask absent member =
-    false_of _ (λ e. apart_tests _ (ap (has mask) (same_number x y e) ∙ member) absent)
+    false_of _ (λ e. apart_tests _ (ap (has mask) (eqb-true x y e) ∙ member) absent)
 
 onward_apart : (links : List ℕ) (target k at x : ℕ) → length links ≡ 64 → target < 64 → at < 64 →
     IsAway links target k at → ((j : ℕ) → j < k → has (ball links target j) x ≡ false) →

@@ -1,12 +1,13 @@
 -- Sets of links.
 use Rattle.std.proofs.Common.{◌≡◌, ◌≢◌, ℕ, ◌^◌, ◌<◌, ◌≤◌, ◌⊎◌, min, max, Bool, true, false, ◌&&◌, ◌==◌, ◌||◌, List, length, get_or, set, IsTrue, refl, sym, ◌∙◌, ap, arith, get_or-set_same, get_or-set_other, length-set, inl, inr}
 use Rattle.std.specs.Int.Bits.{bit_or}
-use Rattle.std.proofs.lemmas.Bool.{cases_eq, cases_lt}
+use Rattle.std.proofs.lemmas.Bool.{cases_eq, cases_lt, and_parts, eqb-true, eq-eqb}
 use Rattle.std.proofs.lemmas.List.{get_or-replicate, length-replicate, get_or_past, get_or_default, same_lists}
+use Rattle.std.proofs.Math.Bool.{or-false}
 use Rattle.base.specs.Masks.{has}
 use Rattle.failover.specs.DownSet.{is_link_of, IsLinkSet}
 use Rattle.failover.specs.Links.{has_link, no_links, with_link}
-use Rattle.failover.proofs.Balls.{and_both, and_left, and_right, or_left, or_right, or_cases, apart_tests, false_of, same_number, number_test}
+use Rattle.failover.proofs.Balls.{and_both, or_left, or_right, or_cases, apart_tests, false_of}
 use Rattle.base.proofs.CallerLemmas.{has-or, has-zero, has-pow_same, has-pow_other, same_sets}
 
 no_row : (k : ℕ) → get_or no_links k 0 ≡ 0
@@ -61,10 +62,6 @@ pub has_link-here : (links : List ℕ) (one other low high : ℕ) → low ≡ mi
 unfolding has_link
 has_link-here links one other low high p q = rw (p, q) refl
 
-or_false : (a : Bool) → (a || false) ≡ a
-or_false true = refl
-or_false false = refl
-
 not_above : (links : List ℕ) (k x : ℕ) → IsLinkSet links → x ≤ k → has (get_or links k 0) x ≡ false
 not_above links k x set past = false_of _ (λ h. absurd (omega (arith, set.above k x h)))
 
@@ -73,7 +70,7 @@ has_link-either : (links : List ℕ) (one other : ℕ) → IsLinkSet links →
     (has (get_or links one 0) other || has (get_or links other 0) one) ≡ has_link links one other
 has_link-either links one other set = elim (cases_lt one other) [
   | inl less ↦ ap (λ b. has (get_or links one 0) other || b)
-      (not_above links other one set (omega arith)) ∙ or_false _
+      (not_above links other one set (omega arith)) ∙ or-false _
       ∙ has_link-here links one other one other (omega arith) (omega arith)
   | inr past ↦ ap (λ b. b || has (get_or links other 0) one) (not_above links one other set past)
       ∙ has_link-here links one other other one (omega arith) (omega arith)
@@ -118,14 +115,14 @@ has_link-turned links x y =
 same_pair : (one other x y : ℕ) → min x y ≡ min one other → max x y ≡ max one other →
     is_link_of one other x y ≡ true
 same_pair one other x y low high = elim (cases_eq x one) [
-  | inl same ↦ or_left _ _ (and_both _ _ (number_test x one same)
-      (number_test y other (omega arith)))
-  | inr apart ↦ or_right _ _ (and_both _ _ (number_test x other (omega arith))
-      (number_test y one (omega arith)))
+  | inl same ↦ or_left _ _ (and_both _ _ (eq-eqb x one same)
+      (eq-eqb y other (omega arith)))
+  | inr apart ↦ or_right _ _ (and_both _ _ (eq-eqb x other (omega arith))
+      (eq-eqb y one (omega arith)))
 ]
 
 both_numbers : (a b c d : ℕ) → ((a == b) && (c == d)) ≡ true → (a ≡ b) × (c ≡ d)
-both_numbers a b c d h = (same_number a b (and_left _ _ h), same_number c d (and_right _ _ h))
+both_numbers a b c d h = (eqb-true a b (and_parts _ _ h).0, eqb-true c d (and_parts _ _ h).1)
 
 other_pair : (one other x y : ℕ) → (min x y ≡ min one other → max x y ≡ max one other → ⊥) →
     is_link_of one other x y ≡ false
@@ -160,7 +157,7 @@ has_link-with_link links one other x y set one_fits other_fits =
         get_or-set_other links (min one other)
             (min x y) _ 0 apart,
         other_pair one other x y (λ low high. apart low),
-      ) (sym (or_false _))
+      ) (sym (or-false _))
     ]
 
 row_at : (links : List ℕ) (k x : ℕ) → k < x → has (get_or links k 0) x ≡ has_link links k x

@@ -1,5 +1,5 @@
 -- The newest advert of an origin.
-use Rattle.std.proofs.Common.{◌≡◌, ◌≢◌, ℕ, ◌<◌, Bool, true, false, nat_lt, ◌&&◌, ◌++◌, All, option_to_list, Option, Some, None, List, [], ◌∷◌, refl, sym, ◌∙◌, ap, subst, arith, append_assoc, append-nil, inl, inr}
+use Rattle.std.proofs.Common.{◌≡◌, ◌≢◌, ℕ, ◌<◌, Bool, true, false, nat_lt, ◌&&◌, ◌++◌, All, option_to_list, Option, Some, None, List, [], ◌∷◌, refl, sym, ◌∙◌, ap, subst, arith, append_assoc, append-nil, inl, inr, ◌||◌, ◌==◌}
 use Rattle.std.specs.Option.{option_map_or}
 use Rattle.std.proofs.lemmas.Bool.{cases_eq}
 use Rattle.std.proofs.lemmas.Bool.Decides.{nat_tests}
@@ -10,7 +10,10 @@ use Rattle.failover.specs.Newest.{AreByOrigin, IsNewest}
 use Rattle.failover.proofs.Balls.{apart_tests}
 use Rattle.failover.proofs.Adverts.{hearing, held_heard, held_others, by_origin-hearing}
 
-newer_through : (a b c : Advert) → is_newer a b ≡ true → is_newer b c ≡ true → is_newer a c ≡ true
+pub not_newer : (boot seq : ℕ) → (nat_lt boot boot || ((boot == boot) && nat_lt seq seq)) ≡ false
+not_newer boot seq = grind (arith, nat_tests)
+
+pub newer_through : (a b c : Advert) → is_newer a b ≡ true → is_newer b c ≡ true → is_newer a c ≡ true
 newer_through a b c p q = grind (arith, nat_tests)
 
 newer_past : (a b c : Advert) → is_newer a b ≡ true → is_newer c b ≡ false → is_newer a c ≡ true

@@ -1,16 +1,17 @@
 -- The loop over the neighbours that a switch names.
-use Rattle.std.proofs.Common.{◌≡◌, ◌≢◌, ℕ, ◌+◌, ◌-◌, ◌*◌, ◌%◌, ◌^◌, ◌<◌, Bool, true, false, not, ◌&&◌, ◌||◌, ◌==◌, List, get_or, refl, sym, ◌∙◌, ap, arith, inl, inr}
+use Rattle.std.proofs.Common.{◌≡◌, ℕ, ◌+◌, ◌-◌, ◌*◌, ◌%◌, ◌^◌, ◌<◌, Bool, true, false, not, ◌&&◌, ◌||◌, ◌==◌, List, get_or, refl, sym, ◌∙◌, ap, arith, inl, inr}
 use Rattle.std.specs.Int.{bit_at, bit_not, w64}
 use Rattle.std.specs.Int.Bits.{bit_and, bit_or, bit_xor, xor_add_and, or_lt, xor_lt}
-use Rattle.std.proofs.lemmas.Bool.{cases_eq}
+use Rattle.std.proofs.lemmas.Bool.{cases_eq, eq-eqb, and_parts}
 use Rattle.std.proofs.lemmas.Bool.Decides.{nat_tests}
 use Rattle.std.proofs.lemmas.Nat.{pow_pos, pow_below, and_le_l, and_le_r}
-use Rattle.std.proofs.lemmas.Nat.Bits.{bit_at_xor, bit_at_not, bit_at_ones, bit_at-lt, bit_at-pow_same, bit_at-pow_other, and_pow}
+use Rattle.std.proofs.lemmas.Nat.Bits.{bit_at_xor, bit_at_not, bit_at_ones, bit_at-lt, bit_at-pow_same, and_pow}
+use Rattle.std.proofs.Math.Bool.{and-true}
 use Rattle.base.specs.Masks.{has}
 use Rattle.base.specs.ComputedMasks.{only_if, least_in}
 use Rattle.failover.specs.Links.{is_link, links_at}
-use Rattle.base.proofs.CallerLemmas.{has-or, has-and, has-zero, has_only_same, has_only_other, has_least, same_masks, only_if_lt, has_mask}
-use Rattle.failover.proofs.Balls.{apart_tests, and_left}
+use Rattle.base.proofs.CallerLemmas.{has-or, has-and, has-zero, has_only_same, has_only_other, has_least, same_masks, only_if_lt, has_mask, has-xor_other}
+use Rattle.failover.proofs.Balls.{apart_tests}
 
 -- the row has the links to the switches within a set that are not left
 pub record IsRowSoFar (neighbours down : List ℕ) (one within row rest : ℕ) : Type 0 where
@@ -48,7 +49,7 @@ pub row_begins : (neighbours down : List ℕ) (one within : ℕ) → within < 2 
 row_begins neighbours down one within fits = record {
   row_fits = pow_pos 64;
   rest_fits = omega (arith, and_le_r (get_or neighbours one 0) within);
-  named = λ k h. and_left _ _ (sym (has-and (get_or neighbours one 0) within k) ∙ h);
+  named = λ k h. (and_parts _ _ (sym (has-and (get_or neighbours one 0) within k) ∙ h)).0;
   found = λ k below. rw (has-zero k, has-and)
       (named_within (has (get_or neighbours one 0) k) (has within k) _
       (named neighbours down one k));
@@ -76,19 +77,10 @@ row_ends neighbours down one within row rest fits so_far none =
 sum_bit : (a b : ℕ) → a < 2 → b ≡ 1 → (a == 1) ≡ true → ((a + b) % 2 == 1) ≡ false
 sum_bit a b fits e h = grind (arith, nat_tests)
 
-same_sum : (a b : ℕ) → a < 2 → b ≡ 0 → ((a + b) % 2 == 1) ≡ (a == 1)
-same_sum a b fits e = grind (arith, nat_tests)
-
 pub has_less-same : (rest k : ℕ) → has rest k ≡ true → has (bit_xor rest (2 ^ k)) k ≡ false
 unfolding has
 has_less-same rest k h = rw (bit_at_xor rest (2 ^ k) k)
     (sum_bit (bit_at rest k) (bit_at (2 ^ k) k) (bit_at-lt rest k) (bit_at-pow_same k) h)
-
-pub has_less-other : (rest k j : ℕ) → j ≢ k → has (bit_xor rest (2 ^ k)) j ≡ has rest j
-unfolding has
-has_less-other rest k j apart =
-    rw (bit_at_xor rest (2 ^ k) j)
-    (same_sum (bit_at rest j) (bit_at (2 ^ k) j) (bit_at-lt rest j) (bit_at-pow_other k j apart))
 
 one_bit : (a : ℕ) → (a == 1) ≡ true → a ≡ 1
 one_bit a h = grind (arith, nat_tests)
@@ -129,7 +121,7 @@ row_goes_on neighbours down one within row rest other gain gone so_far left fits
       named = λ k h. elim (cases_eq k other) [
         | inl same ↦ apart_tests _ h
             (ap (has (bit_xor rest (2 ^ other))) same ∙ has_less-same rest other left)
-        | inr apart ↦ so_far.named k (sym (has_less-other rest other k apart) ∙ h)
+        | inr apart ↦ so_far.named k (sym (has-xor_other rest other k apart) ∙ h)
       ];
       found = λ k below. elim (cases_eq k other) [
         | inl same ↦ rw (has-or, same, has_only_same, has_less-same rest other left)
@@ -140,7 +132,7 @@ row_goes_on neighbours down one within row rest other gain gone so_far left fits
           has-or,
           has_only_other
               (is_link neighbours down one other) other k apart,
-          has_less-other rest other k apart,
+          has-xor_other rest other k apart,
         )
             (turn_other (has row k) (has rest k) _ _ (so_far.found k below))
       ];
@@ -191,22 +183,15 @@ or_others a b gain a_fits b_fits e =
     ∙ ap (λ t. has b k && t) (has-not a k a_fits below))
     ∙ or_more (has a k) (has b k) ∙ sym (has-or a b k))
 
-all_bit : (a : ℕ) → a ≡ 1 → (a == 1) ≡ true
-all_bit a e = grind (arith, nat_tests)
-
 has_all : (k : ℕ) → k < 64 → has (2 ^ 64 - 1) k ≡ true
 unfolding has
-has_all k below = all_bit _ (bit_at_ones 64 k below)
-
-and_true : (a : Bool) → (a && true) ≡ a
-and_true true = refl
-and_true false = refl
+has_all k below = eq-eqb _ 1 (bit_at_ones 64 k below)
 
 -- among all switches
 pub and_all : (a : ℕ) → a < 2 ^ 64 → bit_and a (2 ^ 64 - 1) ≡ a
 and_all a fits = same_masks _ _ (omega (arith, and_le_r a (2 ^ 64 - 1))) fits
     (λ k below. has-and a (2 ^ 64 - 1) k ∙ ap (λ t. has a k && t) (has_all k below)
-    ∙ and_true (has a k))
+    ∙ and-true (has a k))
 
 -- the first that is left
 pub first_left : (rest : ℕ) → rest < 2 ^ 64 → (rest ≡ 0 → ⊥) → has rest (least_in rest) ≡ true

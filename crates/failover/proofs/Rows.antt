@@ -1,7 +1,7 @@
 -- The rows of known links.
 use Rattle.std.proofs.Common.{◌≡◌, ◌≢◌, ℕ, ◌+◌, ◌<◌, ◌≤◌, Bool, true, false, not, ◌&&◌, ◌==◌, nat_le, List, [], ◌∷◌, length, get_or, ◌⊎◌, inl, inr, Option, map, set, length-set, get_or-set_same, get_or-set_other, None, ◌↔◌, IsTrue, refl, sym, ◌∙◌, ap, subst, arith}
 use Rattle.std.proofs.lemmas.Bool.Decides.{nat_tests}
-use Rattle.std.proofs.lemmas.Bool.{cases_lt}
+use Rattle.std.proofs.lemmas.Bool.{cases_lt, and_parts, eqb-true, eq-eqb}
 use Rattle.std.proofs.lemmas.List.{get_or_past, get_or-map, length-map}
 use Rattle.failover.specs.declared.advert.Advert.{Advert}
 use Rattle.base.specs.Masks.{has, switches}
@@ -10,7 +10,7 @@ use Rattle.failover.specs.Links.{named_links, is_link, links_at, known_links, ne
 use Rattle.failover.specs.Paths.{IsIsolated}
 use Rattle.failover.specs.Isolated.{is_isolated, names, IsDatabase, links_of_each}
 use Rattle.base.proofs.CallerLemmas.{has-zero, same_sets, length-switches, get_or-switches, has_mask, has_mask_past}
-use Rattle.failover.proofs.Balls.{and_both, and_left, and_right, apart_tests, false_of, same_number, number_test}
+use Rattle.failover.proofs.Balls.{and_both, apart_tests, false_of}
 use Rattle.failover.proofs.LinkSets.{has_link-turned}
 use Rattle.failover.proofs.WiderLoop.{AreBothWays}
 
@@ -83,7 +83,7 @@ swapped true false true d = refl
 swapped true false false d = refl
 swapped false b c d = refl
 
-turned_number : (x y : ℕ) → (x == y) ≡ (y == x)
+pub turned_number : (x y : ℕ) → (x == y) ≡ (y == x)
 turned_number x y = grind (arith, nat_tests)
 
 link_turned : (neighbours down : List ℕ) (one other : ℕ) →
@@ -192,12 +192,12 @@ pub isolated_tells : (adverts : List (Option Advert)) (at target near : ℕ) (do
 unfolding is_isolated
 isolated_tells adverts at target near down rows = (
   (λ h. record {
-    other = apart_of target at (and_left _ _ h);
+    other = apart_of target at (and_parts _ _ h).0;
     linkless = λ one joined. joined_row adverts at near down target
-        (same_number _ 0 (and_right _ _ h)) one joined;
+        (eqb-true _ 0 (and_parts _ _ h).1) one joined;
   }),
   (λ isolated. and_both _ _ (not_test target at isolated.other)
-      (number_test _ 0 (same_sets _ 0
+      (eq-eqb _ 0 (same_sets _ 0
       (λ other. bare_row adverts at near down target rows isolated.linkless other
       ∙ sym (has-zero other))))),
 )

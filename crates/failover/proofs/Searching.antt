@@ -1,7 +1,7 @@
 -- How the search ends: with the least path, or where no path is.
 use Rattle.std.proofs.Common.{◌≡◌, ℕ, zero, suc, ◌+◌, ◌-◌, ◌<◌, ◌≤◌, ◌⊎◌, Bool, true, false, ◌&&◌, ◌==◌, nat_eq, nat_lt, Option, Some, None, option_map, List, [], ◌∷◌, length, All, refl, sym, ◌∙◌, ap, subst, arith, inl, inr, IsSomeAnd, IfSome}
 use Rattle.std.specs.List.{list_any}
-use Rattle.std.proofs.lemmas.Bool.{cases_lt}
+use Rattle.std.proofs.lemmas.Bool.{cases_lt, eqb-true}
 use Rattle.std.proofs.lemmas.Bool.Decides.{nat_tests}
 use Rattle.std.proofs.lemmas.List.Elements.{All-cons, All-nil}
 use Rattle.std.proofs.lemmas.Map.Steps.{length-le_from_distinct_below}
@@ -12,7 +12,7 @@ use Rattle.failover.specs.Paths.{IsAtMost, IsLeastPath, IsRoute}
 use Rattle.failover.specs.Routes.{wider, ball, onward, links_away, route_to, first_route, route_of}
 use Rattle.failover.specs.RouteList.{IsRouteList}
 use Rattle.failover.specs.Search.{IsAway, IsOutOfReach}
-use Rattle.failover.proofs.Balls.{false_of, apart_tests, or_cases, same_number}
+use Rattle.failover.proofs.Balls.{false_of, apart_tests, or_cases}
 use Rattle.failover.proofs.LeastPaths.{length-onward, onward_leads, onward_distinct, onward_least, reaches}
 
 -- ---- paths
@@ -21,13 +21,13 @@ switch_below : (links : List ℕ) (target at : ℕ) (rest : List ℕ) → at < 6
     LinksLead links target at rest → (q : ℕ) → list_any (nat_eq q) (at ∷ rest) ≡ true → q < 64
 switch_below links target at [] fits leads q h =
     elim (or_cases (nat_eq q at) false h) [
-      | inl same ↦ (let e = same_number q at same in omega arith)
+      | inl same ↦ (let e = eqb-true q at same in omega arith)
       | inr none ↦ apart_tests false
           none refl
     ]
 switch_below links target at (next ∷ rest) fits leads q h =
     elim (or_cases (nat_eq q at) (list_any (nat_eq q) (next ∷ rest)) h) [
-      | inl same ↦ (let e = same_number q at same in omega arith)
+      | inl same ↦ (let e = eqb-true q at same in omega arith)
       | inr later ↦ switch_below links target next rest leads.0 leads.2 q later
     ]
 
@@ -167,7 +167,7 @@ grows : (links : List ℕ) (target j k from : ℕ) → IsAway links target (j + 
     (wider links (ball links target j) == ball links target j) ≡ false
 unfolding ball
 grows links target j k from away = false_of _ (λ still.
-    let same : ball links target (suc j) ≡ ball links target j = same_number _ _ still in
+    let same : ball links target (suc j) ≡ ball links target j = eqb-true _ _ still in
     let there : has (ball links target j) from ≡ true =
     ap (λ b. has b from) (sym (stands_still links target j (suc k) same)) ∙ away.here in
     apart_tests _ there (away.later j (omega arith)))

@@ -3,12 +3,13 @@ use Rattle.std.proofs.Common.{◌≡◌, ℕ, ◌^◌, ◌<◌, ◌⊎◌, Bool,
 use Rattle.std.specs.Int.Bits.{bit_or, bit_xor, or_lt, xor_lt}
 use Rattle.std.proofs.lemmas.Bool.{cases_eq}
 use Rattle.std.proofs.lemmas.Nat.{pow_below}
+use Rattle.std.proofs.lemmas.Bool.Decides.{same_from_decides}
 use Rattle.base.specs.Masks.{has}
 use Rattle.failover.specs.Routes.{wider, nearer}
 use Rattle.failover.specs.Search.{IsEdge}
-use Rattle.base.proofs.CallerLemmas.{has-or, has-zero, same_masks}
+use Rattle.base.proofs.CallerLemmas.{has-or, has-zero, same_masks, has-xor_other}
 use Rattle.failover.proofs.Balls.{added_is_nearer, apart_tests, or_cases, or_left, or_right, true_of, wider_gains, wider_keeps, wider_lt}
-use Rattle.failover.proofs.RowLoop.{has_less-same, has_less-other, has_both, has_first}
+use Rattle.failover.proofs.RowLoop.{has_less-same, has_both, has_first}
 
 -- each link is known from both its ends
 abbrev pub AreBothWays : List ℕ → Type 0
@@ -56,7 +57,7 @@ wide_goes_on links ball wide rest at gone rows both so_far here fits row_fits go
   rest_fits = xor_lt 64 _ _ so_far.rest_fits (pow_below at 64 fits);
   inside = λ k below h. elim (cases_eq k at) [
     | inl same ↦ apart_tests _ h (ap (has (bit_xor rest (2 ^ at))) same ∙ has_less-same rest at here)
-    | inr apart ↦ so_far.inside k below (sym (has_less-other rest at k apart) ∙ h)
+    | inr apart ↦ so_far.inside k below (sym (has-xor_other rest at k apart) ∙ h)
   ];
   sound = λ j below h. elim (or_cases _ _ (sym (has-or wide (get_or links at 0) j) ∙ h)) [
     | inl there ↦ so_far.sound j below there
@@ -68,25 +69,22 @@ wide_goes_on links ball wide rest at gone rows both so_far here fits row_fits go
     | inr more ↦ elim (cases_eq more.0 at) [
       | inl same ↦ inl (has-or wide (get_or links at 0) j ∙ or_right _ _
           (both at j ∙ ap (has (get_or links j 0)) (sym same) ∙ more.1))
-      | inr apart ↦ inr (more.0, more.1, has_less-other rest at more.0 apart ∙ more.2)
+      | inr apart ↦ inr (more.0, more.1, has-xor_other rest at more.0 apart ∙ more.2)
     ]
   ];
 })
-
-same_test : (a b : Bool) → (a ≡ true → b ≡ true) → (b ≡ true → a ≡ true) → a ≡ b
-same_test true b there back = sym (there refl)
-same_test false true there back = back refl
-same_test false false there back = refl
 
 pub wide_ends : (links : List ℕ) (ball wide rest : ℕ) → length links ≡ 64 → ball < 2 ^ 64
     → IsWideSoFar links ball wide rest → rest ≡ 0 → wide ≡ wider links ball
 wide_ends links ball wide rest rows fits so_far none =
     same_masks wide _ so_far.wide_fits (wider_lt links ball (omega arith) fits)
-    (λ j below. same_test (has wide j) (has (wider links ball) j) (so_far.sound j below)
-    (λ h. elim (so_far.left j below h) [
-      | inl there ↦ there
-      | inr more ↦ apart_tests _ more.2 (ap (λ n. has n more.0) none ∙ has-zero more.0)
-    ]))
+    (λ j below. same_from_decides {P = has (wider links ball) j ≡ true} _ _ (
+      so_far.sound j below,
+      λ h. elim (so_far.left j below h) [
+        | inl there ↦ there
+        | inr more ↦ apart_tests _ more.2 (ap (λ n. has n more.0) none ∙ has-zero more.0)
+      ],
+    ) (λ t. t, λ t. t))
 
 -- ---- edges
 

@@ -1,9 +1,9 @@
 -- The parts of a text round a byte, taken off one at a time.
-use Rattle.std.proofs.Common.{◌≡◌, Bool, ◌+◌, ◌<◌, ℕ, List, [], ◌∷◌, length, take, drop, true, false, cond, ltb, leb, ◌&&◌, ◌==◌, Some, None, position, Option, ◌⊎◌, inl, inr, refl, ap, ◌∙◌, arith}
+use Rattle.std.proofs.Common.{◌≡◌, ◌+◌, ◌<◌, ℕ, List, [], ◌∷◌, length, take, drop, true, false, ltb, leb, ◌&&◌, ◌==◌, Some, None, position, Option, ◌⊎◌, inl, inr, refl, ap, ◌∙◌, arith, sym}
 use Rattle.std.specs.List.{All, position_or_len, list_all}
-use Rattle.std.proofs.lemmas.Bool.{ltb-true, ltb-false, false_from_ne_true, and_parts, eqb-true, both_ways}
+use Rattle.std.proofs.lemmas.Bool.{ltb-true, ltb-false, false_from_ne_true, and_parts, eqb-true, both_ways, cond-true}
 use Rattle.std.proofs.lemmas.List.Folds.{list_all_at}
-use Rattle.std.proofs.lemmas.Option.{cond_some}
+use Rattle.std.proofs.lemmas.Option.{cond_some, none-some}
 use Rattle.std.proofs.lemmas.List.Splits.{slice_split_first, slice_split_none, length-slice_split}
 use Rattle.std.proofs.lemmas.List.Sums.{fails_before_first}
 use Rattle.std.specs.Char.{is_ascii_digit}
@@ -18,16 +18,14 @@ parts_at byte text at e =
     (position_or_len (λ b. b == byte) text) at e in
     rw (← p.1) (slice_split_first (λ b. b == byte) text 0 (ltb-true _ _ p.0))
 
-cond_none : {A : Type 0} (b : Bool) (x : A) → cond b (Some x) None ≡ None → b ≡ false
-cond_none true x e = cc
-cond_none false x e = refl
-
 -- no such byte stands there
 pub parts_none : (byte : ℕ) (text : List ℕ) → position (λ b. b == byte) text ≡ None
     → parts_round byte text ≡ text ∷ []
 parts_none byte text e =
-    let l = cond_none (ltb (position_or_len (λ b. b == byte) text) (length text))
-    (position_or_len (λ b. b == byte) text) e in
+    let l = false_from_ne_true (ltb (position_or_len (λ b. b == byte) text) (length text))
+    (λ t. none-some (position_or_len (λ b. b == byte) text) (sym e
+    ∙ cond-true (ltb (position_or_len (λ b. b == byte) text) (length text))
+    (Some (position_or_len (λ b. b == byte) text)) None t)) in
     slice_split_none (λ b. b == byte) text
     (λ k d h. fails_before_first (λ b. b == byte) text k d (omega (arith, ltb-false _ _ l)))
 

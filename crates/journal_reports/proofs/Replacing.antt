@@ -3,6 +3,7 @@ use Rattle.std.proofs.Common.{ℕ, ◌≡◌, ◌⊎◌, ◌&&◌, ◌||◌, ◌
 use Rattle.std.specs.Prelude.{IsTrue, IsFalse, nat_le}
 use Rattle.std.proofs.lemmas.Bool.{and_parts, eq-eqb, eqb-true, or_right}
 use Rattle.std.proofs.lemmas.Bool.Decides.{nat_tests}
+use Rattle.control_laws.proofs.Facts.{own}
 use Rattle.ctrl_msg.specs.declared.message.Body.{Body}
 use Rattle.ctrl_msg.specs.declared.message.Body.TheVariants.{Install, OpenAt, Stamp, Collect, CacheRule, Advertise, Hello, Installed, Stamped}
 use Rattle.ctrl_msg.specs.declared.message.Message.{Message}
@@ -10,6 +11,7 @@ use Rattle.ctrl_msg.specs.declared.message.Receiver.{Receiver}
 use Rattle.ctrl_msg.specs.declared.message.Receiver.TheVariants as receiver
 use Rattle.failover.specs.Adverts.{is_newer}
 use Rattle.failover.specs.declared.advert.Advert.{Advert}
+use Rattle.failover.proofs.Newest.{newer_through}
 use Rattle.switch_table.specs.declared.tables.Tables.{Tables}
 use Rattle.update_machine.specs.Quiet.{is_later_body}
 use Rattle.journal_reports.specs.Judging.{is_same, is_same_receiver, says_again, says_as_much}
@@ -35,10 +37,6 @@ advert_means one other true e says = inl (same_advert one other e)
         ∙ ap (λ n. record { origin = other.origin; boot = other.boot; seq = n; up = one.up }) seq
         ∙ ap (λ u. record { origin = other.origin; boot = other.boot; seq = other.seq; up = u }) up
 advert_means one other false e says = inr says
-
-newer_through : (one two three : Advert) → is_newer one two ≡ true → is_newer two three ≡ true
-    → is_newer one three ≡ true
-newer_through one two three first second = grind (arith, nat_tests)
 
 adverts_through : (one two three : Advert)
     → (is_same one two || (one.origin == two.origin && is_newer one two)) ≡ true
@@ -158,24 +156,21 @@ abbrev pub is_cache_rule : Body → Bool
 is_cache_rule (CacheRule version word rule action) = true
 is_cache_rule _ = false
 
-itself : (n : ℕ) → (n == n) ≡ true
-itself n = eq-eqb n n refl
-
 up_itself : (n : ℕ) → nat_le n n ≡ true
 up_itself n = grind (arith, nat_tests)
 
 body_itself : (body : Body) → IsFalse (is_cache_rule body) → says_as_much body body ≡ true
-body_itself (Install boot tables) plain = rw (itself boot, itself tables.version) refl
-body_itself (OpenAt boot version) plain = rw (itself boot, itself version) refl
-body_itself (Stamp boot version) plain = rw (itself boot, up_itself version) refl
-body_itself (Collect boot version) plain = rw (itself boot, up_itself version) refl
+body_itself (Install boot tables) plain = rw (own boot, own tables.version) refl
+body_itself (OpenAt boot version) plain = rw (own boot, own version) refl
+body_itself (Stamp boot version) plain = rw (own boot, up_itself version) refl
+body_itself (Collect boot version) plain = rw (own boot, up_itself version) refl
 body_itself (Advertise advert) plain =
-    rw (itself advert.origin, itself advert.boot, itself advert.seq, itself advert.up) refl
-body_itself (Hello s boot) plain = rw (itself s, itself boot) refl
+    rw (own advert.origin, own advert.boot, own advert.seq, own advert.up) refl
+body_itself (Hello s boot) plain = rw (own s, own boot) refl
 body_itself (Installed s boot version) plain =
-    rw (itself s, itself boot, itself version) refl
+    rw (own s, own boot, own version) refl
 body_itself (Stamped s boot version) plain =
-    rw (itself s, itself boot, up_itself version) refl
+    rw (own s, own boot, up_itself version) refl
 body_itself body plain = absurd cc
 
 later_says : (later earlier : Body) → IsTrue (is_later_body later earlier)
@@ -188,7 +183,7 @@ later_says (Advertise one) (Advertise other) later =
 later_says later earlier is = absurd cc
 
 receiver_itself : (to : Receiver) → is_same_receiver to to ≡ true
-receiver_itself (receiver.Switch s) = itself s
+receiver_itself (receiver.Switch s) = own s
 receiver_itself receiver.Controller = refl
 
 pub means_says : (later earlier : Message) → IsFalse (is_cache_rule earlier.body)

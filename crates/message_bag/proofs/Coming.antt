@@ -2,17 +2,17 @@
 use Rattle.std.proofs.Common.{◌≡◌, ◌≢◌, ℕ, ◌+◌, ◌<◌, Bool, true, false, cond, inl, inr, List, [], ◌∷◌, length, Some, None, refl, sym, ap, subst, ◌∙◌, arith}
 use Rattle.std.specs.Prelude.{IsSome, is_some, slice_index_or, ◌↔◌}
 use Rattle.std.specs.List.{Contains, flat_map}
-use Rattle.std.proofs.lemmas.Bool.{cases_eq}
+use Rattle.std.proofs.lemmas.Bool.{cases_eq, ne_eqb}
 use Rattle.std.proofs.lemmas.List.Elements.{All-contains, All-contains_itself, All-head, All-tail}
+use Rattle.std.proofs.lemmas.Option.{same_Some}
 use Rattle.ctrl_msg.specs.declared.message.Message.{Message}
 use Rattle.wire.specs.Frames.{AreFrames, count_in_frame, frames, piece_of, pieces, place_in_frame}
 use Rattle.wire.specs.Assembly.{held_at, with_frame, AreAllHeld, AreRising, IsOfCount, IsRefusedFrame, too_short, too_long, past_the_count, another_count, another_frame, no_message}
-use Rattle.wire.proofs.Laws.{some_is}
 use Rattle.wire.proofs.Assembling.{spelled_by}
 use Rattle.wire.proofs.Decoding.{one_message}
-use Rattle.wire.proofs.Holding.{all_held, first_is, held_count}
+use Rattle.wire.proofs.Holding.{all_held, first_is, held_count, same_place}
 use Rattle.message_bag.specs.Feeding.{AreAllAmong, AreOf, HasFrames, held_after}
-use Rattle.message_bag.proofs.Parts.{differ, found_there, held_part, held_there, is_found, part, part_all, part_none, part_rises, same_place, some_passes, the_some, with_part}
+use Rattle.message_bag.proofs.Parts.{found_there, held_part, held_there, is_found, part, part_all, part_none, part_rises, some_passes, the_some, with_part}
 use Rattle.message_bag.proofs.Sized.{IsSized, frames_rise, frames_sized, length_frames}
 
 -- ---- a frame that comes, whichever are held
@@ -25,7 +25,7 @@ of_count from count (g ∷ gs) place f rising at =
     elim (cases_eq (place_in_frame g) place) [
       | inl same ↦ subst (IsOfCount count) (first_is g f gs place same at) rising.1
       | inr other ↦
-          let miss : held_at (g ∷ gs) place ≡ held_at gs place = rw (differ (place_in_frame g) place other) refl in
+          let miss : held_at (g ∷ gs) place ≡ held_at gs place = rw (ne_eqb (place_in_frame g) place other) refl in
           of_count (place_in_frame g + 1) count gs place f rising.2 (sym miss ∙ at)
     ]
 
@@ -67,7 +67,7 @@ never_refused m p q f has one joined (another_frame g at other) =
     other (by_test (p (place_in_frame f)) (sym (held_part p (frames m) (place_in_frame f)) ∙ at))
   where
     by_test : (b : Bool) → cond b (held_at (frames m) (place_in_frame f)) None ≡ Some g → g ≡ f
-    by_test true is = some_is g f (sym is ∙ one.at)
+    by_test true is = same_Some g f (sym is ∙ one.at)
     by_test false is = absurd (cc is)
 never_refused m p q f has one joined (no_message all none) =
     let held : AreAllHeld (part q (frames m)) (length (pieces m)) =
@@ -86,7 +86,7 @@ come_here f fed = rw (same_place (place_in_frame f)) refl
 
 come_elsewhere : (f : List ℕ) (fed : List (List ℕ)) (n : ℕ) → n ≢ place_in_frame f
     → has_come (f ∷ fed) n ≡ has_come fed n
-come_elsewhere f fed n other = rw (differ (place_in_frame f) n (λ e. other (sym e))) refl
+come_elsewhere f fed n other = rw (ne_eqb (place_in_frame f) n (λ e. other (sym e))) refl
 
 joins : (m : Message) (f : List ℕ) (fed : List (List ℕ)) → HasFrames m → IsOneOf m f
     → with_frame (part (has_come fed) (frames m)) f ≡ part (has_come (f ∷ fed)) (frames m)
@@ -132,7 +132,7 @@ frame_come m fed g has of there come =
     let found = found_there fed (place_in_frame g) h.0 h.1 in
     let one = is_one_of m g has there in
     let other = is_one_of m h.0 has (All-contains (Contains (frames m)) fed h.0 of found.0) in
-    let same : h.0 ≡ g = some_is h.0 g (sym other.at ∙ ap (held_at (frames m)) found.1 ∙ one.at) in
+    let same : h.0 ≡ g = same_Some h.0 g (sym other.at ∙ ap (held_at (frames m)) found.1 ∙ one.at) in
     subst (Contains fed) same found.0
 
 pub all_come : (m : Message) (f : List ℕ) (fed : List (List ℕ)) → HasFrames m → AreOf m (f ∷ fed)

@@ -4,13 +4,12 @@ use Rattle.std.proofs.Common.{◌≡◌, ◌≢◌, ℕ, zero, suc, ◌+◌, ◌
 use Rattle.std.specs.Prelude.{IsSome, slice_get}
 use Rattle.std.specs.List.{Contains}
 use Rattle.std.proofs.lemmas.Bool.{cases_lt, le-ltb, lt-ltb}
-use Rattle.std.proofs.lemmas.Option.{slice_get_within}
+use Rattle.std.proofs.lemmas.Option.{slice_get_within, same_Some}
 use Rattle.ctrl_msg.specs.declared.message.Message.{Message}
 use Rattle.wire.specs.Frames.{count_in_frame, frame, frames, frames_from, pieces, place_in_frame}
 use Rattle.wire.specs.Assembly.{held_at, with_frame, AreAllHeld, IsRefusedFrame}
 use Rattle.wire.proofs.Framing.{place_of_frame}
 use Rattle.wire.proofs.Holding.{all_held}
-use Rattle.wire.proofs.Laws.{some_is}
 use Rattle.message_bag.specs.Feeding.{HasFrames}
 use Rattle.message_bag.proofs.Coming.{IsOneOf, is_one_of, never_refused}
 use Rattle.message_bag.proofs.Parts.{held_part, part, part_all, part_none, some_passes, with_part}
@@ -34,14 +33,14 @@ place_from : (place count : ℕ) (parts : List (List ℕ)) (i : ℕ) (f : List �
     → count < 2 ^ 32 → slice_get (frames_from place count parts) i ≡ Some f → place_in_frame f ≡ place + i
 place_from place count [] i f within few at = absurd (cc at)
 place_from place count (part ∷ parts) zero f within few at =
-    ap place_in_frame (sym (some_is (frame place count part) f at))
+    ap place_in_frame (sym (same_Some (frame place count part) f at))
     ∙ place_of_frame place count part (omega arith) ∙ omega arith
 place_from place count (part ∷ parts) (suc i) f within few at =
     place_from (place + 1) count parts i f (omega arith) few at ∙ omega arith
 
 there : (fs : List (List ℕ)) (i : ℕ) (f : List ℕ) → slice_get fs i ≡ Some f → Contains fs f
 there [] i f at = absurd (cc at)
-there (g ∷ gs) zero f at = (0, omega arith, some_is g f at)
+there (g ∷ gs) zero f at = (0, omega arith, same_Some g f at)
 there (g ∷ gs) (suc i) f at = let rest = there gs i f at in (suc rest.0, omega (arith, rest.1), rest.2)
 
 -- one place more

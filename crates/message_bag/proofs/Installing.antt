@@ -3,6 +3,7 @@ use Rattle.std.proofs.Common.{◌≡◌, ℕ, ◌+◌, ◌-◌, ◌≤◌, true,
 use Rattle.std.specs.Int.{div_ceil}
 use Rattle.std.proofs.lemmas.Grind.{div_ceil_times}
 use Rattle.std.proofs.lemmas.List.{drop_at, length-append, take_at}
+use Rattle.std.proofs.lemmas.Bool.{and_parts}
 use Rattle.ctrl_msg.specs.declared.message.Receiver.{Receiver}
 use Rattle.ctrl_msg.specs.declared.message.Receiver.TheVariants.{Switch, Controller}
 use Rattle.ctrl_msg.specs.declared.message.Body.TheVariants.{Install}
@@ -13,7 +14,6 @@ use Rattle.wire.specs.Frames.{cut, frame, frames, frames_from, frames_of, most_o
 use Rattle.wire.specs.Messages.{body, front, install_form, message, receiver, spelled_front, suits}
 use Rattle.wire.proofs.Cutting.{length-slices}
 use Rattle.wire.proofs.Framing.{length_n4}
-use Rattle.wire.proofs.Laws.{both_true}
 use Rattle.message_bag.specs.Installing.{frame_count, install_frames, table_frames, table_pieces}
 use Rattle.message_bag.proofs.Lengths.{length_kind, length_receiver}
 use Rattle.message_bag.proofs.Sized.{length_from}
@@ -55,16 +55,16 @@ pub fits_parts : (to : Receiver) (boot : ℕ) (t : Tables) → message.fits (rec
     → (front.fits (to, (1, boot)) ≡ true) × (tables.fits t ≡ true) × (suits to (Install boot t) ≡ true)
 unfolding message body install_form front n1
 fits_parts to boot t fits =
-    let all = both_true (receiver.fits to && (n4.fits boot && tables.fits t)) (suits to (Install boot t)) fits in
-    let parts = both_true (receiver.fits to) (n4.fits boot && tables.fits t) all.0 in
-    let fields = both_true (n4.fits boot) (tables.fits t) parts.1 in
+    let all = and_parts (receiver.fits to && (n4.fits boot && tables.fits t)) (suits to (Install boot t)) fits in
+    let parts = and_parts (receiver.fits to) (n4.fits boot && tables.fits t) all.0 in
+    let fields = and_parts (n4.fits boot) (tables.fits t) parts.1 in
     (rw (parts.0, fields.0) refl, fields.1, all.1)
 
 pub fits_whole : (to : Receiver) (boot : ℕ) (t : Tables) → front.fits (to, (1, boot)) ≡ true → tables.fits t ≡ true
     → suits to (Install boot t) ≡ true → message.fits (record { to = to; body = Install boot t }) ≡ true
 unfolding message body install_form front n1
 fits_whole to boot t head rest is =
-    let parts = both_true (receiver.fits to) (n4.fits boot) head in
+    let parts = and_parts (receiver.fits to) (n4.fits boot) head in
     rw (parts.0, parts.1, rest, is) refl
 
 -- it doesn't matter of which boot and which tables

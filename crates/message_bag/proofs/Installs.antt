@@ -2,6 +2,7 @@
 use Rattle.std.proofs.Common.{◌≡◌, ℕ, ◌+◌, ◌-◌, ◌≤◌, ◌<◌, ◌^◌, true, Some, None, Result, Ok, Err, List, [], ◌∷◌, ◌++◌, length, take, drop, get_or, add-one, refl, sym, ap, subst, ◌∙◌, append_assoc, arith}
 use Rattle.std.specs.Prelude.{IfOk, MatchResult, OnOk, slice_get}
 use Rattle.std.proofs.lemmas.List.{length-append, length-take, take_all, take_at}
+use Rattle.std.proofs.lemmas.Option.{same_Some}
 use Rattle.ctrl_msg.specs.declared.message.Body.{Body}
 use Rattle.ctrl_msg.specs.declared.message.Body.TheVariants.{Install, OpenAt, Stamp, Collect, CacheRule, Advertise, Hello, Installed, Stamped}
 use Rattle.ctrl_msg.specs.declared.message.Message.{Message}
@@ -12,7 +13,6 @@ use Rattle.wire.specs.Frames.{AreFrames, cut, frame, frames, frames_of, frames_o
 use Rattle.wire.specs.Messages.{IsFront, front, message, spelled_front, suits}
 use Rattle.wire.proofs.Framing.{length_frame, length_n4, piece_of_frame}
 use Rattle.wire.proofs.Fronts.{one_front}
-use Rattle.wire.proofs.Laws.{some_is}
 use Rattle.message_bag.specs.Installing.{frame_count, install_frames, table_frames}
 use Rattle.message_bag.proofs.Coming.{same_message}
 use Rattle.message_bag.proofs.Versions.{behind, fits_too, same_count}
@@ -92,7 +92,7 @@ not_none fs of none = absurd (omega (arith, (its_say fs of).count, length_behind
 
 with_first : (fs : List (List ℕ)) (first : List ℕ) → slice_get fs 0 ≡ Some first → first ∷ drop 1 fs ≡ fs
 with_first [] first at = absurd (cc at)
-with_first (f ∷ fs) first at = ap (λ g. g ∷ fs) (sym (some_is f first at))
+with_first (f ∷ fs) first at = ap (λ g. g ∷ fs) (sym (same_Some f first at))
 
 pub of_message : (fs : List (List ℕ)) (first : List ℕ) → AreOfInstall fs → slice_get fs 0 ≡ Some first
     → AreOfMessage (first ∷ drop 1 fs)
@@ -123,7 +123,7 @@ not_alone fs first m of at are alone =
 
 own_is : (fs : List (List ℕ)) (own : List ℕ) → slice_get fs 0 ≡ Some own → get_or fs 0 [] ≡ own
 own_is [] own at = absurd (cc at)
-own_is (f ∷ fs) own at = some_is f own at
+own_is (f ∷ fs) own at = same_Some f own at
 
 own_header : (t : Tables) (fs : List (List ℕ)) (own : List ℕ) → SayTables t fs → slice_get fs 0 ≡ Some own
     → take 8 own ≡ n4.spell 0 ++ n4.spell (length fs)

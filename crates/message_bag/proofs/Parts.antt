@@ -2,22 +2,11 @@
 use Rattle.std.proofs.Common.{◌≡◌, ◌≢◌, ℕ, zero, suc, ◌+◌, ◌≤◌, ◌<◌, Bool, true, false, cond, eqb, ltb, inl, inr, List, [], ◌∷◌, length, filter, Option, Some, None, refl, sym, ap, ◌∙◌, arith}
 use Rattle.std.specs.Prelude.{IsSome, slice_index_or}
 use Rattle.std.specs.List.{Contains}
-use Rattle.std.proofs.lemmas.Bool.{cases_lt, cases_eq, le-ltb, lt-ltb}
-use Rattle.std.proofs.lemmas.Bool.Decides.{eqb_tells, nat_tests}
+use Rattle.std.proofs.lemmas.Bool.{cases_lt, cases_eq, le-ltb, lt-ltb, ne_eqb}
 use Rattle.wire.specs.Frames.{place_in_frame}
 use Rattle.wire.specs.Assembly.{held_at, with_frame, AreRising}
 use Rattle.wire.proofs.Decoding.{none_is_not}
-use Rattle.wire.proofs.Holding.{all_higher, first_is, held_above, none_lower, step_held}
-
-pub same_place : (n : ℕ) → eqb n n ≡ true
-same_place n = grind (arith, nat_tests)
-
-pub differ : (m n : ℕ) → (m ≡ n → ⊥) → eqb m n ≡ false
-differ m n other =
-    elim (eqb_tells m n) [
-      | inl same ↦ absurd (other same.1)
-      | inr differs ↦ differs.0
-    ]
+use Rattle.wire.proofs.Holding.{all_higher, first_is, held_above, none_lower, step_held, same_place}
 
 abbrev pub part : (ℕ → Bool) → List (List ℕ) → List (List ℕ)
 part p fs = filter (λ f. p (place_in_frame f)) fs
@@ -66,7 +55,7 @@ held_part p (f ∷ fs) n =
     let rest = held_part p fs n in
     elim (cases_eq (place_in_frame f) n) [
       | inl same ↦ here (p (place_in_frame f)) (ap p (sym same)) (rw same (same_place n)) rest
-      | inr other ↦ behind (p (place_in_frame f)) (differ (place_in_frame f) n other) rest
+      | inr other ↦ behind (p (place_in_frame f)) (ne_eqb (place_in_frame f) n other) rest
     ]
   where
     here : (b : Bool) → p n ≡ b → eqb (place_in_frame f) n ≡ true
@@ -146,7 +135,7 @@ found_there (g ∷ gs) place f at =
           let is : g ≡ f = first_is g f gs place same at in
           ((0, omega arith, is), ap place_in_frame (sym is) ∙ same)
       | inr other ↦
-          let miss : held_at (g ∷ gs) place ≡ held_at gs place = rw (differ (place_in_frame g) place other) refl in
+          let miss : held_at (g ∷ gs) place ≡ held_at gs place = rw (ne_eqb (place_in_frame g) place other) refl in
           let rest = found_there gs place f (sym miss ∙ at) in
           ((suc rest.0.0, omega (arith, rest.0.1), rest.0.2), rest.1)
     ]

@@ -74,10 +74,6 @@ posted_kept m before after firsts longer first grown kept more there has is =
 pub same_grown : (kept : List (List (List ℕ))) → IsGrown kept kept
 same_grown kept = take_all (length kept) kept (omega arith)
 
-pub on_err : {T E P : Type 0} (r : Result T E) → P → OnErr r P
-on_err (Ok x) p = tt
-on_err (Err e) p = p
-
 -- ---- a first frame that is pushed, or not for want of memory
 
 pub kept_after : {T E : Type 0} (r : Result T E) (m : Message) (before after : List (List (List ℕ)))

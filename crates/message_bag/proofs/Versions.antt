@@ -4,6 +4,7 @@ use Rattle.std.specs.Int.{div_ceil}
 use Rattle.std.proofs.Math.Seq.{drop-append-add, take-append-add}
 use Rattle.std.proofs.lemmas.Grind.{div_ceil_times}
 use Rattle.std.proofs.lemmas.List.{drop_at, length-append, take_at}
+use Rattle.std.proofs.lemmas.Bool.{and_parts}
 use Rattle.ctrl_msg.specs.declared.message.Receiver.{Receiver}
 use Rattle.ctrl_msg.specs.declared.message.Body.TheVariants.{Install}
 use Rattle.switch_table.specs.declared.tables.Tables.{Tables}
@@ -12,7 +13,6 @@ use Rattle.wire.specs.Format.{list_of}
 use Rattle.wire.specs.Frames.{begun_with, frame, frames, frames_from, frames_of_version, most_of_piece, slices}
 use Rattle.wire.specs.Messages.{spelled_front}
 use Rattle.wire.proofs.Framing.{length_n4}
-use Rattle.wire.proofs.Laws.{both_true}
 use Rattle.message_bag.specs.Installing.{frame_count, table_frames, table_pieces}
 use Rattle.message_bag.proofs.Installing.{installed}
 
@@ -108,5 +108,5 @@ pub fits_too : (version : ℕ) (t : Tables) → version < 2 ^ 32 → tables.fits
 unfolding tables n4
 fits_too version t few fits =
     let parts =
-    both_true (n4.fits t.version) ((list_of n4 region).fits t.parts && (list_of n4 partition).fits t.auth) fits in
+    and_parts (n4.fits t.version) ((list_of n4 region).fits t.parts && (list_of n4 partition).fits t.auth) fits in
     rw (lt-ltb version (2 ^ 32) few, parts.1) refl

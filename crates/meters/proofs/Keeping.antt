@@ -7,6 +7,7 @@ use Rattle.std.proofs.Math.Seq.{drop-cons, take-append_seam, drop-append_seam}
 use Rattle.std.proofs.lemmas.List.{append-nil, append_assoc, length-take-le, map-append, take_all, take-set, take_more_set, drop-set-lt}
 use Rattle.std.proofs.lemmas.Bool.Decides.{nat_tests}
 use Rattle.std.proofs.lemmas.List.Elements.{filter-append}
+use Rattle.std.proofs.lemmas.Bool.{ne_eqb}
 use Rattle.policy_rules.specs.declared.packet.Leaving.{Leaving}
 use Rattle.meters.specs.Meters.{PortLeavings, holding, has_ended, is_over_within, leavings_of, kept, IsNoted}
 use Rattle.meters.specs.Seen.{Seen}
@@ -101,9 +102,6 @@ map-filter seen test (meter ∷ meters) =
 same : (port other : ℕ) → other ≡ port → (port == other) ≡ true
 same port other equal = grind (arith, nat_tests)
 
-different : (port other : ℕ) → other ≢ port → (port == other) ≡ false
-different port other apart = grind (arith, nat_tests)
-
 leavings_here : (port : ℕ) (leaving : Leaving) (meter : Seen) → meter.port ≡ port
     → leavings_of meter.port ((port, leaving) ∷ []) ≡ leaving ∷ []
 leavings_here port leaving meter here =
@@ -114,7 +112,7 @@ leavings_elsewhere : (port : ℕ) (leaving : Leaving) (meter : Seen) → meter.p
     → leavings_of meter.port ((port, leaving) ∷ []) ≡ []
 leavings_elsewhere port leaving meter apart =
     ap (λ test. map (λ (one : ℕ × Leaving). one.1) (cond test ((port, leaving) ∷ []) []))
-    (different port meter.port apart)
+    (ne_eqb port meter.port (λ same. apart (sym same)))
 
 over_after_one : (leaving : Leaving) (old new : Seen) (over : Bool)
     → new ≡ holding (leaving ∷ []) old → has_ended new ≡ over

@@ -7,6 +7,7 @@ use Rattle.toml.specs.Data.{Data, Members, as_integer, get_member}
 use Rattle.toml.specs.View.{view}
 use Rattle.toml.specs.declared.value.Value.{Value}
 use Rattle.std.proofs.lemmas.Bool.Decides.{nat_tests}
+use Rattle.std.proofs.Math.Bool.{or-false}
 use Rattle.net_file.specs.Joins.{has_port}
 use Rattle.net_file.specs.Reading.{are_distinct, are_new, array_in, port_read, ports_at}
 use Rattle.net_file.specs.Refusals.{require}
@@ -83,10 +84,6 @@ or_assoc : (a b c : Bool) → (a || (b || c)) ≡ ((a || b) || c)
 or_assoc true b c = refl
 or_assoc false b c = refl
 
-pub or_nothing : (b : Bool) → (b || false) ≡ b
-or_nothing true = refl
-or_nothing false = refl
-
 pub any_next : (mask p : ℕ) (ports : List ℕ) (k : ℕ)
     → (in_mask mask k || list_any (nat_eq k) (p ∷ ports))
     ≡ (in_mask (bit_or mask (2 ^ p)) k || list_any (nat_eq k) ports)
@@ -105,7 +102,7 @@ ports_less ds more d split is = rw (split, ← is) refl
 pub have_port_push : (rows : List SwitchRow) (row : SwitchRow) (k : ℕ)
     → have_port (rows ++ row ∷ []) k ≡ (have_port rows k || has_port k row)
 have_port_push rows row k = list_any-append (has_port k) rows (row ∷ [])
-    ∙ ap (λ b. have_port rows k || b) (or_nothing (has_port k row))
+    ∙ ap (λ b. have_port rows k || b) (or-false (has_port k row))
 
 -- what the checks of the array `ports` say of its values
 pub ports_tested : (table : Members) (d : Data) (vs : List Value) (integers ports : Bool)

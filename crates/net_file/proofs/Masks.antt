@@ -30,9 +30,6 @@ pub in_mask_of : (test : ℕ → Bool) (k : ℕ) → k < 64 → in_mask (mask_of
 unfolding has
 in_mask_of = masks.has_mask
 
-pub mask_of_small : (test : ℕ → Bool) → mask_of test < 2 ^ 64
-mask_of_small = masks.mask_of_lt
-
 pub in_mask_past : (mask k : ℕ) → mask < 2 ^ 64 → 64 ≤ k → in_mask mask k ≡ false
 unfolding has
 in_mask_past = masks.has_above

@@ -10,6 +10,9 @@ use Rattle.std.proofs.lemmas.List.Quantifiers.{position-Some}
 use Rattle.std.proofs.lemmas.List.Sums.{position_or_len_is}
 use Rattle.std.proofs.lemmas.Option.{get_or_from_slice_get, slice_get-get_or, slice_get_within}
 use Rattle.std.proofs.lemmas.Slice.Eq.{bytes_eq-Decides}
+use Rattle.std.proofs.Math.Bool.{or_comm}
+use Rattle.base.proofs.ListLemmas.{none_from_not_some}
+use Rattle.base.proofs.CallerLemmas.{mask_of_lt}
 use Rattle.net_file.specs.declared.net.SwitchRow.{SwitchRow}
 use Rattle.net_file.specs.declared.net.LinkRow.{LinkRow}
 use Rattle.net_file.specs.declared.net.Net.{Net}
@@ -17,7 +20,7 @@ use Rattle.net_file.specs.Laws.{IsPlainByte, NetLinkLaws, NameLaws, PortLaws}
 use Rattle.net_file.specs.Net.{AreApart, IsLink, IsNet, IsSwitchRow, are_name_bytes, is_label, is_name, is_name_byte}
 use Rattle.net_file.specs.Owners.{have_port, port_mask}
 use Rattle.net_file.specs.Joins.{are_linked, has_port, joins, owner_of}
-use Rattle.net_file.proofs.Masks.{in_mask, in_mask_of, in_mask_past, mask_of_small}
+use Rattle.net_file.proofs.Masks.{in_mask, in_mask_of, in_mask_past}
 
 -- ---- places
 
@@ -32,13 +35,9 @@ pub some_position : {X : Type 0} (test : X → Bool) (xs : List X) → is_some (
     ≡ list_any test xs
 some_position test xs = ap is_some (position_from-zero test xs) ∙ some_from test 0 xs
 
-none_of : {X : Type 0} (o : Option X) → is_some o ≡ false → o ≡ None
-none_of None e = refl
-none_of (Some x) e = absurd (false≢true (sym e))
-
 pub position_none : {X : Type 0} (test : X → Bool) (xs : List X) → list_any test xs ≡ false
     → position test xs ≡ None
-position_none test xs none = none_of (position test xs) (some_position test xs ∙ none)
+position_none test xs none = none_from_not_some (position test xs) (some_position test xs ∙ none)
 
 -- the first place that passes
 position_at : {X : Type 0} (test : X → Bool) (xs : List X) (s : ℕ) (x : X) → slice_get xs s ≡ Some x
@@ -163,7 +162,7 @@ port_bits net port sound =
     elim (cases_lt port 64) [
       | inl small ↦ in_mask_of (have_port net.switches) port small
           ∙ sym (some_position (has_port port) net.switches)
-      | inr past ↦ in_mask_past _ port (mask_of_small (have_port net.switches)) past
+      | inr past ↦ in_mask_past _ port (mask_of_lt (have_port net.switches)) past
           ∙ sym (ap is_some (no_owner net.switches port sound.switches past))
     ]
 
@@ -182,17 +181,11 @@ ports = record {
 
 -- ---- links
 
-or_turn : (a b : Bool) → (a || b) ≡ (b || a)
-or_turn true true = refl
-or_turn true false = refl
-or_turn false true = refl
-or_turn false false = refl
-
-linked_turn : (links : List LinkRow) (s x : ℕ) → are_linked links s x ≡ are_linked links x s
+pub linked_turn : (links : List LinkRow) (s x : ℕ) → are_linked links s x ≡ are_linked links x s
 linked_turn [] s x = refl
 linked_turn (link ∷ links) s x =
     rw (
-      or_turn (link.one == s && link.two == x) (link.one == x && link.two == s),
+      or_comm (link.one == s && link.two == x) (link.one == x && link.two == s),
       linked_turn links s x,
     ) refl
 
@@ -206,7 +199,7 @@ not_joined count s link sound = false_from_ne_true _ (λ both.
         let (one, two) = and_parts (link.one == s) (link.two == s) here in
         sound.apart (eqb-true link.one s one ∙ sym (eqb-true link.two s two))
 
-joined_below : (count s x : ℕ) (link : LinkRow) → IsLink count link → joins s x link ≡ true
+pub joined_below : (count s x : ℕ) (link : LinkRow) → IsLink count link → joins s x link ≡ true
     → x < count
 joined_below count s x link sound joined =
     elim (or_cases (link.one == s && link.two == x) (link.one == x && link.two == s) joined) [
@@ -232,7 +225,7 @@ links = record {
   mask = λ net s sound k.
       elim (cases_lt k 64) [
         | inl small ↦ in_mask_of (are_linked net.links s) k small
-        | inr past ↦ in_mask_past _ k (mask_of_small (are_linked net.links s)) past
+        | inr past ↦ in_mask_past _ k (mask_of_lt (are_linked net.links s)) past
             ∙ sym (false_from_ne_true _
             (λ linked. absurd (omega
             (arith, linked_below net s k sound linked, sound.few_switches))))

@@ -16,13 +16,14 @@ use Rattle.net_file.specs.declared.net.LinkRow.{LinkRow}
 use Rattle.net_file.specs.declared.net.Net.{Net}
 use Rattle.net_file.specs.Keys.{at_key, number_within, of_type, within}
 use Rattle.base.specs.ComputedMasks.{mask_of}
+use Rattle.base.proofs.CallerLemmas.{mask_of_lt}
 use Rattle.net_file.specs.Net.{AreApart, AreOther, IsLink, IsNet, IsSwitchRow, is_name}
 use Rattle.net_file.specs.Reading.{are_distinct, are_new, array_in, document_of, end_read, ends_in, link_array, link_of, link_with, name_in, net_read, net_of, number_stated, ports_in, rows_read, setting_read, switch_array, switch_read, switch_with}
 use Rattle.net_file.specs.Refusals.{require, with_value}
 use Rattle.base.specs.Refusals.{in_row}
 use Rattle.net_file.specs.Owners.{have_name, have_port, switch_number}
 use Rattle.net_file.specs.Joins.{are_linked, has_port, joins}
-use Rattle.net_file.proofs.Masks.{in_mask, in_mask_of, in_mask_past, mask_of_small}
+use Rattle.net_file.proofs.Masks.{in_mask, in_mask_of, in_mask_past}
 
 -- ---- what led to a value
 
@@ -32,12 +33,12 @@ ok_value x y e = ap (λ r. result_unwrap_or r x) e
 not_ok : {X E P : Type 0} (e : E) (y : X) → ◌≡◌ {A = Result X E} (Err e) (Ok y) → P
 not_ok e y h = absurd (false≢true (ap is_ok h))
 
-with_value_ok : {X Y E : Type 0} (r : Result X E) (next : X → Result Y E) (y : Y)
+pub with_value_ok : {X Y E : Type 0} (r : Result X E) (next : X → Result Y E) (y : Y)
     → with_value r next ≡ Ok y → (x : X) × (r ≡ Ok x) × (next x ≡ Ok y)
 with_value_ok (Ok x) next y e = (x, refl, e)
 with_value_ok (Err refusal) next y e = not_ok refusal y e
 
-require_ok : {Y E : Type 0} (b : Bool) (refusal : E) (next : Result Y E) (y : Y)
+pub require_ok : {Y E : Type 0} (b : Bool) (refusal : E) (next : Result Y E) (y : Y)
     → require b refusal next ≡ Ok y → (b ≡ true) × (next ≡ Ok y)
 require_ok true refusal next y e = (refl, e)
 require_ok false refusal next y e = not_ok refusal y e
@@ -161,7 +162,7 @@ new_ports earlier ports port new has =
       | inl small ↦ member_fails (have_port earlier) ports port (not-true _ none)
           (sym (in_mask_of (λ port. list_any (nat_eq port) ports) port small) ∙ has)
       | inr past ↦ absurd (both_ways _
-          (in_mask_past _ port (mask_of_small (λ port. list_any (nat_eq port) ports)) past) has)
+          (in_mask_past _ port (mask_of_lt (λ port. list_any (nat_eq port) ports)) past) has)
     ]
 
 switch_with_new : (earlier : List SwitchRow) (keys : Members) (row : SwitchRow)
@@ -176,7 +177,7 @@ switch_with_new earlier keys row e =
     subst (IsNew earlier) (ok_value _ row e5) (record {
       switch = record {
         name = name_is keys (codes "name") name named;
-        ports = mask_of_small (λ port. list_any (nat_eq port) ports);
+        ports = mask_of_lt (λ port. list_any (nat_eq port) ports);
         room = (setting_range keys (codes "authority") 0 8192 0 room (omega arith) (omega arith)
             sized).1;
       };

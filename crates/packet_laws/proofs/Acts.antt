@@ -18,13 +18,13 @@ use Rattle.update_machine.specs.Setting.{Setting, IsSetting}
 use Rattle.update_machine.specs.Versions.{holds_version, policy_at, stamp_of, plan_at}
 use Rattle.update_machine.specs.Travels.{leg_of, travels}
 use Rattle.control_laws.specs.ItemCauses.{HasItemCause}
+use Rattle.control_laws.proofs.Facts.{own}
 use Rattle.packet_laws.specs.OnWay.{IsOnWay, IsOnLeg}
 use Rattle.packet_laws.specs.Facts.{PacketFacts, what_is_known}
 use Rattle.packet_laws.specs.Kept.{AllKept}
 use Rattle.packet_laws.specs.Rest.{AreResting}
 use Rattle.packet_laws.specs.Stages.{stage_of}
 use Rattle.packet_laws.specs.WayCauses.{IsAt}
-use Rattle.packet_laws.proofs.PacketBlocks.{own}
 use Rattle.packet_laws.proofs.AllKept.{all_kept}
 use Rattle.packet_laws.proofs.Here.{IsHere, here_of, leg_in, seeking_of}
 use Rattle.packet_laws.proofs.Lookups.{FindsRule, authority_found, current_planned, rule_there}

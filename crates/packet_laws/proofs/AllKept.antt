@@ -96,9 +96,6 @@ knows setting before i known = record {
 
 -- ---- packets
 
-same_packet : (packet i : ℕ) → (packet == i) ≡ true → packet ≡ i
-same_packet packet i e = eqb-true packet i e
-
 -- the packet that an item names
 named_as : (setting : Setting) (before : List Item) (packet i : ℕ) (next : Item) (stage : Stage)
     → (packet == i) ≡ true → tells_stage i next ≡ Some stage
@@ -110,7 +107,7 @@ named_as setting before packet i next stage named tells kept =
     subst (IsKept setting before (facts_after (retired_mark before) next (what_is_known before i)))
     (sym (stage_more before next i stage tells))
     (subst (λ k. IsKept setting before (facts_after (retired_mark before) next (what_is_known before k))
-    (Some stage)) (same_packet packet i named) kept)
+    (Some stage)) (eqb-true packet i named) kept)
 
 named_after : (setting : Setting) (before : List Item) (next : Item) (i : ℕ)
     → Before setting before → WayCause setting before next → is_of_packet i next ≡ true
@@ -200,29 +197,29 @@ named_travels : (setting : Setting) (before : List Item) (next : Item) (i : ℕ)
     ⊎ ((i ≡ next_packet before) × (next_packet (before ++ next ∷ []) ≡ next_packet before + 1))
 named_travels setting before (item.Entered packet s header) i way named =
     inr (
-      sym (same_packet packet i named) ∙ way.0.number,
+      sym (eqb-true packet i named) ∙ way.0.number,
       packet_more before (item.Entered packet s header),
     )
 named_travels setting before (item.Seeking packet version partition route) i way named =
-    inl (subst (λ k. IsTrue (travels before k)) (same_packet packet i named) way.at.travelling)
+    inl (subst (λ k. IsTrue (travels before k)) (eqb-true packet i named) way.at.travelling)
 named_travels setting before (item.Exiting packet route) i way named =
-    inl (subst (λ k. IsTrue (travels before k)) (same_packet packet i named) way.by.at.travelling)
+    inl (subst (λ k. IsTrue (travels before k)) (eqb-true packet i named) way.by.at.travelling)
 named_travels setting before (item.Rerouted packet route) i way named =
-    inl (subst (λ k. IsTrue (travels before k)) (same_packet packet i named) way.at.travelling)
+    inl (subst (λ k. IsTrue (travels before k)) (eqb-true packet i named) way.at.travelling)
 named_travels setting before (item.Hopped packet next) i way named =
-    inl (subst (λ k. IsTrue (travels before k)) (same_packet packet i named) way.at.travelling)
+    inl (subst (λ k. IsTrue (travels before k)) (eqb-true packet i named) way.at.travelling)
 named_travels setting before (item.FoundDown packet one two) i way named =
-    inl (subst (λ k. IsTrue (travels before k)) (same_packet packet i named) way.at.travelling)
+    inl (subst (λ k. IsTrue (travels before k)) (eqb-true packet i named) way.at.travelling)
 named_travels setting before (item.Decided packet version rule act by) i way named =
-    inl (subst (λ k. IsTrue (travels before k)) (same_packet packet i named) way.at.travelling)
+    inl (subst (λ k. IsTrue (travels before k)) (eqb-true packet i named) way.at.travelling)
 named_travels setting before (item.Left packet port leaving) i way named =
-    inl (subst (λ k. IsTrue (travels before k)) (same_packet packet i named) way.at.travelling)
+    inl (subst (λ k. IsTrue (travels before k)) (eqb-true packet i named) way.at.travelling)
 named_travels setting before (item.Dropped packet) i way named =
-    inl (subst (λ k. IsTrue (travels before k)) (same_packet packet i named) way.at.travelling)
+    inl (subst (λ k. IsTrue (travels before k)) (eqb-true packet i named) way.at.travelling)
 named_travels setting before (item.Lost packet) i way named =
-    inl (subst (λ k. IsTrue (travels before k)) (same_packet packet i named) way.travelling)
+    inl (subst (λ k. IsTrue (travels before k)) (eqb-true packet i named) way.travelling)
 named_travels setting before (item.Stuck packet switch cause leg down) i way named =
-    inl (subst (λ k. IsTrue (travels before k)) (same_packet packet i named) way.at.travelling)
+    inl (subst (λ k. IsTrue (travels before k)) (eqb-true packet i named) way.at.travelling)
 named_travels setting before next i way named = absurd cc
 
 unknown_on : (setting : Setting) (before : List Item) (next : Item) → Before setting before

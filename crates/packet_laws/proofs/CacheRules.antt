@@ -1,12 +1,12 @@
 -- The cache rule of the rule by which a partition of a plan decides a header is right: the policy
 -- decides each header of its word so.
-use Rattle.std.proofs.Common.{ℕ, zero, suc, ◌≡◌, ◌^◌, ◌-◌, ◌<◌, ◌&&◌, Bool, true, false, cond, if◌then◌else◌, Option, Some, None, IsNone, List, [], ◌∷◌, map, take, refl, ap, sym, subst, ◌∙◌, arith}
+use Rattle.std.proofs.Common.{ℕ, zero, suc, ◌≡◌, ◌^◌, ◌-◌, ◌<◌, ◌&&◌, Bool, true, false, cond, if◌then◌else◌, Some, IsNone, List, [], ◌∷◌, map, take, refl, ap, sym, subst, ◌∙◌, arith}
 use Rattle.std.specs.Prelude.{All, IsSomeAnd, IsTrue, bit_and, find, option_map, slice_get}
 use Rattle.std.proofs.Math.Nat.{mod-eq_of_lt}
 use Rattle.std.proofs.lemmas.Bool.{eqb-true}
 use Rattle.std.proofs.lemmas.List.Elements.{All-tail}
 use Rattle.std.proofs.lemmas.Nat.{and_mask}
-use Rattle.std.proofs.lemmas.Option.{get_or_from_slice_get, slice_get-map, slice_get_within}
+use Rattle.std.proofs.lemmas.Option.{get_or_from_slice_get, slice_get-map, slice_get_within, same_Some}
 use Rattle.cache_maker.specs.Independent.{IsIndependent, is_independent, widen, widened}
 use Rattle.cache_maker.proofs.Independence.{test_true}
 use Rattle.five_tuple.specs.Header.{IsHeader, number_of}
@@ -18,6 +18,7 @@ use Rattle.policy_rules.specs.Rules.{first_rule, is_held}
 use Rattle.policy_rules.specs.declared.policy.Row.{Row}
 use Rattle.policy_rules.specs.declared.rules.Partition.{Partition}
 use Rattle.policy_rules.specs.declared.rules.Rule.{Rule}
+use Rattle.policy_rules.proofs.CallerLemmas.{none_from_not_some}
 use Rattle.switch_table.specs.Tables.{Hosted, part_of}
 use Rattle.ternary.specs.Word.{WordValue, holds}
 use Rattle.ternary.specs.Meets.{covers_of, exact_word, free_of, meet_of}
@@ -26,10 +27,6 @@ use Rattle.update_machine.specs.Setting.{Setting}
 use Rattle.packet_laws.proofs.Plans.{Finds, IsPlanned}
 
 -- ---- headers of a word
-
-none_of : (o : Option WordValue) → IsNone o → o ≡ None
-none_of None none = refl
-none_of (Some word) none = cc
 
 -- the rule that covers a word, which no earlier rule meets, is the first to hold what it holds
 first_found : (rules : List Rule) (index : ℕ) (rule : Rule) (word : WordValue) (number : ℕ)
@@ -46,7 +43,7 @@ first_found (first ∷ rules) (suc index) rule word number at covered earlier he
     let apart : holds first.word number ≡ false =
     sym (ap (λ b. b && holds first.word number) held)
     ∙ meet_disjoint word first.word number
-    (none_of (meet_of word first.word) (earlier 0 first (omega arith))) in
+    (none_from_not_some (meet_of word first.word) (earlier 0 first (omega arith))) in
     ap (λ b. cond b (Some first) (find (is_held number) rules)) apart
     ∙ first_found rules index rule word number at covered
     (All-tail (λ later. IsNone (meet_of word later.word)) first (take index rules) earlier) held
@@ -88,9 +85,6 @@ Settles rows rule word =
     (header : Header) → IsHeader header → IsTrue (holds word (number_of header))
     → scan rows header ≡ hit_of_rule rule
 
-some_same : {X : Type 0} (x y : X) → Some x ≡ Some y → x ≡ y
-some_same x y e = cc
-
 exact_settles : (setting : Setting) (rows : List Row) (plan : List Hosted) (header : Header)
     (hosted : Hosted) (finds : Finds rows plan header hosted) → IsPlanned setting rows plan → IsHeader header
     → Settles rows finds.rule (exact_word (number_of header))
@@ -98,7 +92,7 @@ exact_settles setting rows plan header hosted finds is sound other fits held =
     let same : number_of other ≡ number_of header =
     exact_number (number_of header) (number_of other) (number_bound header sound)
     (number_bound other fits) held in
-    some_same _ _ (sym (region_decides setting rows plan hosted.0.number hosted other is fits finds.at
+    same_Some _ _ (sym (region_decides setting rows plan hosted.0.number hosted other is fits finds.at
     (subst (λ n. IsTrue (holds hosted.0.region n)) (sym same) finds.holds))
     ∙ ap (λ n. option_map hit_of_rule (find (is_held n) hosted.0.rules)) same
     ∙ region_decides setting rows plan hosted.0.number hosted header is sound finds.at finds.holds)
@@ -115,7 +109,7 @@ independent_settles setting rows plan header hosted finds word is apart other fi
     let first : find (is_held (number_of other)) hosted.0.rules ≡ Some finds.rule =
     first_found hosted.0.rules finds.place finds.rule word (number_of other) finds.ruled covered
     apart.earlier held in
-    some_same _ _ (sym (region_decides setting rows plan hosted.0.number hosted other is fits finds.at
+    same_Some _ _ (sym (region_decides setting rows plan hosted.0.number hosted other is fits finds.at
     (covers_held hosted.0.region word (number_of other) apart.in_region held))
     ∙ ap (option_map hit_of_rule) first)
 

@@ -1,6 +1,7 @@
 -- A switch is done with a packet at the end of its blocks: the packet is on its way, or ended.
 use Rattle.std.proofs.Common.{ℕ, ◌≡◌, ◌==◌, Bool, true, false, Option, Some, None, List, [], ◌∷◌, ◌++◌, refl, sym, subst, ◌∙◌, append-nil, append_assoc, arith}
 use Rattle.std.specs.Prelude.{IsTrue, unwrap_or}
+use Rattle.control_laws.proofs.Facts.{own}
 use Rattle.base.specs.Masks.{has}
 use Rattle.five_tuple.specs.declared.header.Header.{Header}
 use Rattle.policy_rules.specs.declared.packet.How.TheVariants as how
@@ -25,7 +26,7 @@ use Rattle.update_machine.specs.Ways.{next_switch, owner}
 use Rattle.update_machine.proofs.CallerLemmas.{folded_append}
 use Rattle.packet_laws.specs.Rest.{IsMoving}
 use Rattle.packet_laws.specs.Stages.{OnWay, tells_stage}
-use Rattle.packet_laws.proofs.PacketBlocks.{ended, own, stage_more, stage_stays, travels_more}
+use Rattle.packet_laws.proofs.PacketBlocks.{ended, stage_more, stage_stays, travels_more}
 
 -- ---- one item
 

@@ -3,13 +3,12 @@ use Rattle.std.proofs.Common.{rules, ℕ, ◌≡◌, ◌<◌, ◌≤◌, ◌==�
 use Rattle.std.specs.Prelude.{All, Contains, IsTrue, is_some, find, option_map, slice_get, unwrap_or}
 use Rattle.std.specs.Option.{option_map_or}
 use Rattle.std.proofs.lemmas.Bool.{and_parts, eqb-true}
-use Rattle.std.proofs.lemmas.Bool.Decides.{nat_tests}
 use Rattle.std.proofs.lemmas.List.Elements.{All-contains}
 use Rattle.five_tuple.specs.Header.{IsHeader, number_of}
 use Rattle.five_tuple.specs.declared.header.Header.{Header}
 use Rattle.net_file.specs.Net.{IsLink, IsNet}
-use Rattle.net_file.specs.declared.net.LinkRow.{LinkRow}
 use Rattle.net_file.specs.Joins.{are_linked, joins, owner_of}
+use Rattle.net_file.proofs.Places.{joined_below}
 use Rattle.std.specs.List.{Any}
 use Rattle.std.proofs.lemmas.List.Folds.{Any-from_list_any}
 use Rattle.policy_rules.specs.Hosted.{is_in}
@@ -93,11 +92,6 @@ gone setting before facts stage ended = record {
   avoids = λ travels is. absurd cc;
 }
 
--- a link of the network ends at a switch of the network
-joined_there : (count one two : ℕ) (link : LinkRow) → IsLink count link → joins one two link ≡ true
-    → two < count
-joined_there count one two link is joined = grind (arith, nat_tests)
-
 linked_there : (setting : Setting) (one two : ℕ) → IsNet setting.net
     → IsTrue (are_linked setting.net.links one two) → two < length setting.net.switches
 linked_there setting one two net linked =
@@ -108,7 +102,7 @@ linked_there setting one two net linked =
     by_link any =
         let is : IsLink (length setting.net.switches) any.1 =
         subst (IsLink (length setting.net.switches)) any.3 (net.links any.0 any.1 any.2) in
-        joined_there (length setting.net.switches) one two any.1 is any.4
+        joined_below (length setting.net.switches) one two any.1 is any.4
 
 -- ---- undecided packets
 

@@ -2,7 +2,6 @@
 use Rattle.std.proofs.Common.{rules, ℕ, ◌≡◌, ◌==◌, Bool, true, false, Option, Some, None, List, [], ◌∷◌, ◌++◌, refl, ap, sym, subst, ◌∙◌, append-nil, inl, inr, ◌⊎◌}
 use Rattle.std.specs.Option.{option_or}
 use Rattle.std.specs.Prelude.{IsTrue, option_map, slice_get, unwrap_or}
-use Rattle.std.proofs.lemmas.Bool.{eq-eqb}
 use Rattle.ctrl_msg.specs.declared.message.Message.{Message}
 use Rattle.base.specs.Masks.{has}
 use Rattle.five_tuple.specs.declared.header.Header.{Header}
@@ -33,6 +32,7 @@ use Rattle.update_machine.specs.Travels.{ingress_of, is_at, leg_of, tells_travel
 use Rattle.update_machine.specs.Ways.{changes_hops, found_down, next_switch, owner, route_in, route_place, targets_of, tells_route}
 use Rattle.update_machine.proofs.CallerLemmas.{folded_append, have_append, have_first, last_told_append, lookup_stays, near_stays, policies_keep, switch_keeps}
 use Rattle.control_laws.proofs.Grown.{last_more, serving_more}
+use Rattle.control_laws.proofs.Facts.{own}
 use Rattle.packet_laws.specs.Stages.{Stage, Blocked, CameIn, Judged, OnWay, stage_of, tells_stage}
 use Rattle.packet_laws.specs.Rest.{AreResting, IsServed}
 use Rattle.packet_laws.specs.WayCauses.{Arrives, AuthorityFinds, IsAt, IsLookedUp, IsOfRow, ReachesAuthority, TakesLeg, WayCause}
@@ -40,9 +40,6 @@ use Rattle.packet_laws.proofs.FirstLinks.{first_usable}
 
 abbrev pub Ways : Setting → List Item → List Item → Type 0
 Ways setting journal items = HaveCauses (WayCause setting) journal items
-
-pub own : (i : ℕ) → (i == i) ≡ true
-own i = eq-eqb i i refl
 
 -- ---- what stays behind one more item
 

@@ -98,8 +98,5 @@ facts_other i before item other = facts_grow i before item
     ∙ ap (λ b. if b then facts_after (retired_mark before) item (what_is_known before i) else what_is_known before
     i) other
 
-pub own_number : (i : ℕ) → (i == i) ≡ true
-own_number i = grind (arith, nat_tests)
-
 pub other_number : (i j : ℕ) → j ≢ i → (i == j) ≡ false
 other_number i j apart = grind (arith, nat_tests)

@@ -1,6 +1,7 @@
 -- The packet rows of the steps of events are those of the events.
 use Rattle.std.specs.Prelude.{◌-◌, ◌≤◌, take}
 use Rattle.std.proofs.Common.{ℕ, suc, ◌≡◌, ◌+◌, ◌⊎◌, inl, inr, Option, List, [], ◌∷◌, ◌++◌, refl, ap, sym, subst, ◌∙◌, append_assoc, append-nil, arith}
+use Rattle.policy_rules.proofs.CallerLemmas.{append_not_nil}
 use Rattle.journal.specs.declared.item.Item.{Item}
 use Rattle.steps.specs.declared.step.Event.{Event}
 use Rattle.steps.specs.declared.step.Event.TheVariants.{One, Flush, Drain}
@@ -48,10 +49,6 @@ record Front (row : ℕ) (steps : List StepOfRow) (last : StepOfRow) : Type 0 wh
   none : rows_of steps ≡ []
   of_row : last.row ≡ row
 
-no_front : (steps : List StepOfRow) (last : StepOfRow) → steps ++ last ∷ [] ≡ [] → ⊥
-no_front [] last e = absurd cc
-no_front (first ∷ steps) last e = absurd cc
-
 one_front : (row : ℕ) (one : StepOfRow) (steps : List StepOfRow) (last : StepOfRow)
     → one.row ≡ row → steps ++ last ∷ [] ≡ one ∷ [] → Front row steps last
 one_front row one [] last is e = record { none = refl; of_row = ap (λ xs. row_in xs) e ∙ is }
@@ -59,7 +56,7 @@ one_front row one [] last is e = record { none = refl; of_row = ap (λ xs. row_i
     row_in : List StepOfRow → ℕ
     row_in [] = 0
     row_in (first ∷ others) = first.row
-one_front row one (first ∷ steps) last is e = absurd (no_front steps last (ap tail_of e))
+one_front row one (first ∷ steps) last is e = absurd (append_not_nil steps last (ap tail_of e))
   where
     tail_of : List StepOfRow → List StepOfRow
     tail_of [] = []
@@ -88,7 +85,7 @@ none_front row steps last none is = record {
 event_front : (setting : Setting) (row : ℕ) (event : Event) (before : List Item)
     (steps : List StepOfRow) (last : StepOfRow)
     → AreFirstStepsOf setting row event before (steps ++ last ∷ []) → Front row steps last
-event_front setting row (One step) before steps last (inl e) = absurd (no_front steps last e)
+event_front setting row (One step) before steps last (inl e) = absurd (append_not_nil steps last e)
 event_front setting row (One step) before steps last (inr e) =
     one_front row (record { row = row; step = step }) steps last refl e
 event_front setting row Flush before steps last some =
@@ -186,7 +183,7 @@ pub steps_in_front : (setting : Setting) (row : ℕ) (events : List Event) (befo
     (steps : List StepOfRow) (last : StepOfRow)
     → AreFirstSteps setting row events before (steps ++ last ∷ [])
     → PlayedTo row events steps last
-steps_in_front setting row [] before steps last first = absurd (no_front steps last first)
+steps_in_front setting row [] before steps last first = absurd (append_not_nil steps last first)
 steps_in_front setting row (event ∷ events) before steps last (inl first) =
     of_front row (event ∷ events) steps last
     (event_front setting row event before steps last first)

@@ -29,7 +29,7 @@ use Rattle.control_laws.proofs.Versions.{caused_numbered}
 use Rattle.control_laws.proofs.Marks.{bounded}
 use Rattle.packet_laws.specs.OnWay.{IsUnknown}
 use Rattle.packet_laws.specs.Facts.{PacketFacts, is_of_packet, facts_after, what_is_known}
-use Rattle.packet_laws.proofs.PacketFacts.{other_number, own_number, facts_named, facts_other, facts_grow}
+use Rattle.packet_laws.proofs.PacketFacts.{other_number, facts_named, facts_other, facts_grow}
 use Rattle.packet_laws.specs.Kept.{AllKept}
 use Rattle.packet_laws.specs.Stages.{stage_of}
 use Rattle.packet_laws.specs.WayCauses.{IsDecided, WayCause}
@@ -257,7 +257,7 @@ goes_in setting machine journal i s header before matches number =
     let none : IsUnknown (what_is_known journal i) = before.kept.unknown i (omega (arith, number)) in
     let after : what_is_known (journal ++ entered ∷ []) i
     ≡ facts_after (retired_mark journal) entered (what_is_known journal i) =
-    facts_named i journal entered (own_number i) in
+    facts_named i journal entered (eq-eqb i i refl) in
     record {
       new = with_packet machine i packet;
       takes = record {
@@ -305,7 +305,7 @@ goes_decided setting machine journal i version rule act by before matches way =
     ap (scan policy) (sym same) ∙ now.rightly.first_match in
     let after : what_is_known (journal ++ decided ∷ []) i
     ≡ facts_after (retired_mark journal) decided facts =
-    facts_named i journal decided (own_number i) in
+    facts_named i journal decided (eq-eqb i i refl) in
     let new : Packet = record at.0 { decision = Some (record { rule = rule; action = act }) } in
     record {
       new = with_packet machine i new;
@@ -422,7 +422,7 @@ goes setting machine journal (item.Left i port leaving) before cause matches =
     goes_end setting machine journal next i (LeftBy port) before matches
     cause.way.at.travelling
     (left_action setting journal i port leaving before cause.way)
-    (facts_named i journal next (own_number i)) (λ j apart. other_number i j apart)
+    (facts_named i journal next (eq-eqb i i refl)) (λ j apart. other_number i j apart)
     (keeps_marks setting journal next refl refl) (λ new ends. ends)
 goes setting machine journal (item.Dropped i) before cause matches =
     let next : Item = item.Dropped i in
@@ -430,19 +430,19 @@ goes setting machine journal (item.Dropped i) before cause matches =
     (λ packet seen. action_of packet (what_is_known journal i) cause.way.decision seen
     (decision_in journal i (Some cause.way.decision) cause.way.decided)
     ∙ ap Some cause.way.action)
-    (facts_named i journal next (own_number i)) (λ j apart. other_number i j apart)
+    (facts_named i journal next (eq-eqb i i refl)) (λ j apart. other_number i j apart)
     (keeps_marks setting journal next refl refl) (λ new ends. ends)
 goes setting machine journal (item.Lost i) before cause matches =
     let next : Item = item.Lost i in
     goes_end setting machine journal next i Lost before matches cause.way.travelling
     (λ packet seen. tt)
-    (facts_named i journal next (own_number i)) (λ j apart. other_number i j apart)
+    (facts_named i journal next (eq-eqb i i refl)) (λ j apart. other_number i j apart)
     (keeps_marks setting journal next refl refl) (λ new ends. ends)
 goes setting machine journal (item.Stuck i switch why leg down) before cause matches =
     let next : Item = item.Stuck i switch why leg down in
     goes_end setting machine journal next i Stuck before matches cause.way.at.travelling
     (λ packet seen. tt)
-    (facts_named i journal next (own_number i)) (λ j apart. other_number i j apart)
+    (facts_named i journal next (eq-eqb i i refl)) (λ j apart. other_number i j apart)
     (keeps_marks setting journal next refl refl) (λ new ends. ends)
 goes setting machine journal next before cause matches =
     record { new = machine; takes = refl; matches = unseen_matches setting machine journal next tt matches }

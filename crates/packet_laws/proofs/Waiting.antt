@@ -15,7 +15,7 @@ use Rattle.update_machine.specs.Messages.{is_deliverable, is_delivery, is_forget
 use Rattle.update_machine.specs.Numbers.{TakesNext}
 use Rattle.update_machine.specs.Pieces.{deliver_items, piece}
 use Rattle.update_machine.specs.Setting.{Setting}
-use Rattle.update_machine.proofs.CallerLemmas.{count_of_append, message_keeps, piece_next}
+use Rattle.update_machine.proofs.CallerLemmas.{message_keeps, piece_next, next_rises}
 use Rattle.control_laws.proofs.Facts.{AreKept, fact_on}
 use Rattle.packet_laws.proofs.Counts.{count_more}
 
@@ -116,14 +116,9 @@ over_by bound k before (item.Delivered number) takes are below e =
     rw (delivered_now before number k e) (and_right _ false refl)
 over_by bound k before next takes are below e = absurd cc
 
-more_sent : (before : List Item) (next : Item)
-    → next_message before ≤ next_message (before ++ next ∷ [])
-unfolding next_message
-more_sent before next = omega (arith, count_of_append is_sending before (next ∷ []))
-
 over_kept : (bound : ℕ) → AreKept TakesNext (AreOver bound)
 over_kept bound before next takes are = record {
-  sent = omega (arith, are.sent, more_sent before next);
+  sent = omega (arith, are.sent, next_rises before next);
   over = λ k first below. by_concern k first below (concerns_message k before next) refl;
 }
   where
@@ -174,8 +169,8 @@ over_now setting journal row n next =
       sent = omega (
         arith,
         next.sent,
-        more_sent journal (item.Row row (Deliver n)),
-        more_sent at (item.Delivered n),
+        next_rises journal (item.Row row (Deliver n)),
+        next_rises at (item.Delivered n),
       );
       over = λ k first below. elim (cases_eq k n) [
         | inl own ↦ subst (λ j. is_waiting (at ++ item.Delivered n ∷ []) j ≡ false) (sym own)

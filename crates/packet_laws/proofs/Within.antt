@@ -4,6 +4,7 @@ use Rattle.std.specs.Prelude.{⊤, IsTrue}
 use Rattle.std.specs.Option.{option_or}
 use Rattle.std.proofs.lemmas.Bool.{and_parts, eqb-true}
 use Rattle.std.proofs.lemmas.Option.{slice_get_within}
+use Rattle.control_laws.proofs.Numbers.{one_if}
 use Rattle.policy_rules.specs.declared.packet.Leg.{Leg}
 use Rattle.policy_rules.specs.declared.packet.Leg.TheVariants.{Seek, Exit}
 use Rattle.journal.specs.declared.item.Item.{Item}
@@ -58,10 +59,6 @@ abbrev IsWithinOf : List Item → ℕ → Type 0
 IsWithinOf journal i =
     IsWithin (what_is_known journal i) (stage_of journal i) (is_asked journal i)
     (routes_taken journal i) (hops_taken journal i) (hops_on_route journal i)
-
-one_at_most : (b : Bool) → (if b then 1 else 0) ≤ 1
-one_at_most true = omega arith
-one_at_most false = omega arith
 
 none_asked : (b : Bool) → b ≡ false → (if b then 1 else 0) ≤ 0
 none_asked true e = absurd cc
@@ -183,11 +180,11 @@ within_by setting before (item.Hopped packet s) i facts true e within =
     rw e (record {
       all = within.all;
       each = within.each;
-      place = λ tr is. omega (arith, within.place tr moving, one_at_most (is_asked before i));
+      place = λ tr is. omega (arith, within.place tr moving, one_if (is_asked before i));
       left = λ tr is. omega (
         arith,
         within.left tr moving,
-        one_at_most (is_asked before i),
+        one_if (is_asked before i),
         inside tr,
       );
     })

@@ -7,7 +7,7 @@ use Rattle.std.proofs.lemmas.Bool.{cases_Bool, and_from}
 use Rattle.std.proofs.lemmas.List.Elements.{All-nil, All-cons, All-append}
 use Rattle.ternary.specs.Word.{WordValue}
 use Rattle.ternary.specs.Meets.{any_word, covers_of, fix_of, meets}
-use Rattle.ternary.proofs.CallerLemmas.{covers_reflexive, covers_transitive, fix_within, meet_greatest, meets_comm, meets_cover}
+use Rattle.ternary.proofs.CallerLemmas.{covers_reflexive, covers_transitive, fix_within, meet_greatest, meets_comm, meets_cover, met_joined}
 use Rattle.policy_rules.specs.Partitions.{EndInCover, LastCovers}
 use Rattle.policy_rules.specs.Policy.{IsPolicy}
 use Rattle.policy_rules.specs.RuleList.{default_rule, rules_of}
@@ -19,7 +19,7 @@ use Rattle.cut_tree.specs.DefinedTree.{IsDefinedTree, IsTreeOf, tree_of}
 use Rattle.cut_tree.specs.Narrow.{narrow, narrowed}
 use Rattle.cut_tree.specs.Shape.{Shape, End, Node, leaves_of}
 use Rattle.cut_tree.proofs.CallerLemmas.{tree_defined}
-use Rattle.cut_tree.proofs.NarrowLemmas.{met_joined, narrow_apart, narrow_covered, narrow_more}
+use Rattle.cut_tree.proofs.NarrowLemmas.{narrow_apart, narrow_covered, narrow_more}
 use Rattle.partition.specs.Parts.{parts_of, partitions_of}
 use Rattle.partition.proofs.PartLemmas.{numbered_all}
 

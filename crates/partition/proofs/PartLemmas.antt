@@ -9,6 +9,7 @@ use Rattle.std.proofs.lemmas.List.{length-map}
 use Rattle.std.proofs.lemmas.List.FromFn.{length-enumerate_from}
 use Rattle.std.proofs.lemmas.List.Sums.{sum_by-append, sum_by-cons}
 use Rattle.std.proofs.lemmas.Nat.Bits.{bit_at-lt}
+use Rattle.std.proofs.lemmas.Option.{same_Some}
 use Rattle.five_tuple.specs.Header.{number_of}
 use Rattle.five_tuple.specs.declared.header.Header.{Header}
 use Rattle.ternary.specs.Word.{WordValue, holds}
@@ -256,9 +257,6 @@ partitions_sound rows most some policy =
 some_same : (a b : Partition) → Some a ≡ Some b → a ≡ b
 some_same a b e = cc
 
-some_number : (a b : ℕ) → Some a ≡ Some b → a ≡ b
-some_number a b e = cc
-
 -- none of these partitions has the header
 none_in : (header : Header) (parts : List Partition) → count_by (is_in header) parts ≡ 0
     → All (λ part. is_in header part ≡ false) parts
@@ -310,7 +308,7 @@ alone_by header parts number one None is miss = cc
 alone_by header parts number one (Some found) is same =
     All-weaker (λ part. IsTrue (is_in header part) → part.number ≡ found.number)
     (λ part. IsTrue (is_in header part) → part.number ≡ number)
-    (λ part equal hit. equal hit ∙ some_number found.number number same) parts
+    (λ part equal hit. equal hit ∙ same_Some found.number number same) parts
     (found_alone header parts found one is)
 
 pub alone : (header : Header) (parts : List Partition) (number : ℕ) → count_by (is_in header) parts

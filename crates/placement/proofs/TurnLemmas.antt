@@ -7,6 +7,7 @@ use Rattle.std.proofs.lemmas.Bool.Decides.{nat_tests}
 use Rattle.std.proofs.lemmas.List.{append-nil, get_or_past, get_or-set_other, get_or-set_same, same_lists, get_or_default, length-replicate}
 use Rattle.std.proofs.lemmas.List.Elements.{filter_agree}
 use Rattle.std.proofs.lemmas.List.Sums.{sum_by-cons, sum_by-append, sum_by_push}
+use Rattle.policy_rules.proofs.CallerLemmas.{each_weaker}
 use Rattle.placement.specs.Order.{in_order}
 use Rattle.placement.specs.Placement.{is_earlier, targets_at, is_target, load_before, is_lighter, with_room, AreFirst, HasDueTargets, IsPlacement, LacksRoom, placement_from, placement_of, MeetsPlacement}
 use Rattle.placement.proofs.OrderLemmas.{Rises, one_of, one_of-same, one_of-other, count, count-range-le, count-range_within, range-within, sum-in_order, length-in_order, rises-in_order, each_from_count}
@@ -171,11 +172,6 @@ sum_none : (f : ℕ → ℕ) (xs : List ℕ) → AllByRecursion (λ x. f x ≡ 0
 sum_none f [] each = refl
 sum_none f (x ∷ xs) each = omega (arith, sum_by-cons f x xs, each.0, sum_none f xs each.1)
 
-each-weaker : (P Q : ℕ → Type 0) → ((x : ℕ) → P x → Q x) → (xs : List ℕ) → AllByRecursion P xs
-    → AllByRecursion Q xs
-each-weaker P Q so [] each = tt
-each-weaker P Q so (x ∷ xs) each = (so x each.0, each-weaker P Q so xs each.1)
-
 each-append : (P : ℕ → Type 0) (xs ys : List ℕ) → AllByRecursion P xs → AllByRecursion P ys
     → AllByRecursion P (xs ++ ys)
 each-append P [] ys front back = back
@@ -191,10 +187,10 @@ running_load sizes P done p left split s =
     let held : ℕ → Bool = λ o. is_earlier sizes o p && is_target P o s in
     let weight : ℕ → ℕ = λ o. cond (held o) (size o) 0 in
     let there : AllByRecursion (λ o. weight o ≡ cond (is_target P o s) (size o) 0) done =
-    each-weaker (λ o. is_earlier sizes o p ≡ true) _
+    each_weaker (λ o. is_earlier sizes o p ≡ true) _
     (λ o is. ap (λ b. cond (b && is_target P o s) (size o) 0) is) done parts.before in
     let later : AllByRecursion (λ o. weight o ≡ 0) left =
-    each-weaker (λ o. is_earlier sizes p o ≡ true) _
+    each_weaker (λ o. is_earlier sizes p o ≡ true) _
     (λ o is. ap (λ b. cond (b && is_target P o s) (size o) 0)
     (false_from_ne_true _ (λ flipped. not_both sizes p o is flipped))) left parts.after in
     let here : weight p ≡ 0 = ap (λ b. cond (b && is_target P p s) (size p) 0)
@@ -301,7 +297,7 @@ held_load_more sizes rooms backups P done p left chosen taken s =
     let after : ℕ → ℕ = λ o. cond (is_target (set P p chosen) o s) (get_or sizes o 0) 0 in
     let before : ℕ → ℕ = λ o. cond (is_target P o s) (get_or sizes o 0) 0 in
     let same : AllByRecursion (λ o. after o ≡ before o) done =
-    each-weaker (λ o. is_earlier sizes o p ≡ true) _ (λ o is.
+    each_weaker (λ o. is_earlier sizes o p ≡ true) _ (λ o is.
     let other : o ≢ p = λ here.
     false≢true (sym ((earlier_order sizes).never p) ∙ subst (λ z. is_earlier sizes z p ≡ true)
     here is) in

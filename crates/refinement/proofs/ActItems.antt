@@ -12,10 +12,10 @@ use Rattle.journal.specs.declared.item.Item.TheVariants as item
 use Rattle.update_machine.specs.Concerns.{NoneConcern}
 use Rattle.update_machine.specs.Folds.{count_of}
 use Rattle.update_machine.specs.Messages.{is_sending, next_message}
-use Rattle.update_machine.proofs.CallerLemmas.{messages_keep}
+use Rattle.update_machine.proofs.CallerLemmas.{messages_keep, next_sent}
 use Rattle.world_log.specs.Sending.{act_items, act_posts, act_item, number_after}
 use Rattle.refinement.proofs.Others.{NoneName}
-use Rattle.refinement.proofs.Posting.{SendFrom, posts_in, sending_one}
+use Rattle.refinement.proofs.Posting.{SendFrom, posts_in}
 use Rattle.update_machine.specs.Packets.{is_packet}
 
 -- what marks and messages concern not
@@ -97,7 +97,7 @@ written_is journal (act.Post message ∷ acts) =
     let n : ℕ = next_message journal in
     ap (λ items. item.Sent n message ∷ items)
     (written_is (journal ++ item.Sent n message ∷ []) acts
-    ∙ ap (λ k. act_items k acts) (sending_one journal n message))
+    ∙ ap (λ k. act_items k acts) (next_sent journal n message))
 
 -- none of it names a packet
 pub acts_unnamed : (i number : ℕ) (acts : List Act) → NoneName i (act_items number acts)

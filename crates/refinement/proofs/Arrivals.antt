@@ -49,11 +49,6 @@ use Rattle.refinement.proofs.FactsAlong.{Targets, traveller_by, facts_along}
 
 -- ---- where a route ends
 
-pub some_same : {X : Type 0} (o : Option X) (x y : X) → o ≡ Some x → o ≡ Some y → x ≡ y
-some_same o x y one other =
-    let both : Some x ≡ Some y = sym one ∙ other in
-    ap (λ o. unwrap_or o x) both
-
 -- at the end of its route its switch is an authority of the partition that it seeks, or has the
 -- port of its exit
 abbrev pub IsAtEnd : Setting → List Item → ℕ → Header → Leg → Type 0

@@ -1,6 +1,5 @@
 -- Switches as they begin.
-use Rattle.std.proofs.Common.{ℕ, ◌≡◌, ◌<◌, Bool, true, false, if◌then◌else◌, Some, None, List, refl, ap, sym, subst, ◌∙◌, length, map, get_or, arith, nat_lt}
-use Rattle.std.specs.Bool.{IsFalse}
+use Rattle.std.proofs.Common.{ℕ, ◌≡◌, ◌<◌, Bool, true, false, Some, None, List, refl, ap, sym, ◌∙◌, length, map, get_or, arith, nat_lt}
 use Rattle.std.specs.List.{range_with_len}
 use Rattle.std.proofs.lemmas.Bool.{ltb-true}
 use Rattle.std.proofs.lemmas.List.{ext_get_or}
@@ -10,28 +9,11 @@ use Rattle.controller.specs.Plan.{PlanValue}
 use Rattle.switch_table.specs.Tables.{tables_of}
 use Rattle.switch_table.specs.declared.tables.Tables.{Tables}
 use Rattle.failover.proofs.Adverts.{by_origin-first, held-first}
-use Rattle.failover.specs.Adverts.{first_advert, first_adverts, first_of, is_newer}
-use Rattle.failover.specs.declared.advert.Advert.{Advert}
+use Rattle.failover.specs.Adverts.{first_advert, first_adverts, first_of}
 use Rattle.net_file.specs.Net.{IsNet}
 use Rattle.net_file.specs.declared.net.Net.{Net}
 use Rattle.net_file.specs.Owners.{links_of}
-use Rattle.switch_core.specs.State.{HasOwnUpTo, own_advert}
 use Rattle.refinement.specs.Linking.{AreNear}
-
-not_newer : (number up : ℕ) (b : Bool) (advert : Advert)
-    → (if b then Some (first_advert number up) else None) ≡ Some advert
-    → IsFalse (is_newer advert (own_advert number 1 1 0))
-not_newer number up true advert is =
-    let e : advert ≡ first_advert number up = cc in
-    let P : Advert → Type 0 = λ a. IsFalse (is_newer a (own_advert number 1 1 0)) in
-    subst P (sym e) refl
-not_newer number up false advert is = absurd cc
-
--- a switch begins with its own first advert
-pub first_own : (near : List ℕ) (count number : ℕ) → number < 64
-    → HasOwnUpTo (first_adverts near count) number 1 1
-first_own near count number below advert is =
-    not_newer number _ (nat_lt number count) advert (sym (held-first near count number below) ∙ is)
 
 -- of the neighbours, those of the switches alone are told
 first_same : (near other : List ℕ) (count s : ℕ) (b : Bool) → nat_lt s count ≡ b

@@ -1,13 +1,15 @@
 -- What the controller hears changes what is known of the switch that speaks, and of no other one.
-use Rattle.std.proofs.Common.{ℕ, ◌≡◌, ◌≢◌, ◌-◌, ◌^◌, ◌<◌, ◌≤◌, ◌==◌, ◌&&◌, max, Bool, true, false, not, if◌then◌else◌, Option, Some, None, List, [], ◌∷◌, ◌++◌, length, refl, ap, sym, subst, ◌∙◌, arith, inl, inr}
+use Rattle.std.proofs.Common.{ℕ, ◌≡◌, ◌≢◌, ◌-◌, ◌^◌, ◌<◌, ◌≤◌, ◌==◌, ◌&&◌, max, Bool, true, false, not, if◌then◌else◌, Option, Some, None, List, [], ◌∷◌, ◌++◌, length, refl, ap, sym, subst, ◌∙◌, arith}
 use Rattle.std.specs.Prelude.{◌||◌, IsTrue, IsFalse, bit_or, fold, nat_eq, nat_lt, option_and_then, option_to_list, unwrap_or}
 use Rattle.std.specs.List.{list_any}
 use Rattle.std.specs.Option.{option_map_or, option_or}
-use Rattle.std.proofs.lemmas.Bool.{cases_eq, eq-eqb, ne_eqb}
+use Rattle.std.proofs.lemmas.Bool.{eq-eqb, ne_eqb}
 use Rattle.std.proofs.lemmas.Bool.Decides.{nat_tests}
 use Rattle.std.proofs.Math.Bool.{and-true, or-false}
 use Rattle.std.proofs.lemmas.Nat.Bits.{bit_at-zero}
 use Rattle.std.proofs.lemmas.List.Sums.{fold-append}
+use Rattle.packet_laws.proofs.PacketFacts.{other_number}
+use Rattle.failover.proofs.Rows.{turned_number}
 use Rattle.ctrl_msg.specs.declared.message.Body.{Body}
 use Rattle.ctrl_msg.specs.declared.message.Body.TheVariants.{Hello, Installed, Stamped}
 use Rattle.journal.specs.declared.item.Item.{Item}
@@ -134,10 +136,6 @@ untold here n t body said hello installed stamped =
 
 -- ---- hello
 
--- what speaks of another switch
-apart : (s t : ℕ) → t ≢ s → (s == t) ≡ false
-apart s t other = ne_eqb s t (λ e. other (sym e))
-
 -- a hello that isn't of a greater boot
 late_hello : (here : List Item) (n s boot : ℕ)
     → said_to_controller here n ≡ Some (Hello s boot) → nat_lt (known_boot here s) boot ≡ false
@@ -248,19 +246,13 @@ hello_known setting here n s boot known have said is =
 
 -- ---- acknowledgements
 
-eq_swap : (a b : ℕ) → (a == b) ≡ (b == a)
-eq_swap a b = elim (cases_eq a b) [
-  | inl same ↦ eq-eqb a b same ∙ sym (eq-eqb b a (sym same))
-  | inr other ↦ ne_eqb a b other ∙ sym (ne_eqb b a (λ e. other (sym e)))
-]
-
 -- of its known boot, and as the test says
 own_boot : (here : List Item) (s boot : ℕ) (known : SwitchRecord) (test : Bool)
     → known.boot ≡ known_boot here s → test ≡ true
     → (known.boot == boot && test) ≡ (s == s && boot == known_boot here s)
 own_boot here s boot known test same passes =
     ap (λ t. known.boot == boot && t) passes ∙ and-true (known.boot == boot)
-    ∙ ap (λ b. b == boot) same ∙ eq_swap (known_boot here s) boot
+    ∙ ap (λ b. b == boot) same ∙ turned_number (known_boot here s) boot
     ∙ ap (λ b. b && boot == known_boot here s) (sym (eq-eqb s s refl))
 
 -- so of the record only what it acknowledged may be another
@@ -386,19 +378,19 @@ pub marks_told : (setting : Setting) (here : List Item) (n : ℕ) (body : Body)
 marks_told setting here n (Hello s boot) marks have said there are =
     told_on setting here n s marks (hello_recorded boot)
     (λ t other. untold here n t (Hello s boot) said
-    (ap (λ b. if b then Some boot else None) (apart s t other)) refl refl) there
+    (ap (λ b. if b then Some boot else None) (other_number s t other)) refl refl) there
     (hello_known setting here n s boot (record_of marks s) have said (are.each s there)) are
 marks_told setting here n (Installed s boot v) marks have said there are =
     told_on setting here n s marks (after_installed boot v)
     (λ t other. untold here n t (Installed s boot v) said refl
-    (ap (λ b. if b && boot == known_boot here t then Some v else None) (apart s t other)) refl)
+    (ap (λ b. if b && boot == known_boot here t then Some v else None) (other_number s t other)) refl)
     there.switch_is
     (installed_known here n s boot v (record_of marks s) there.first said
     (are.each s there.switch_is)) are
 marks_told setting here n (Stamped s boot v) marks have said there are =
     told_on setting here n s marks (after_stamped boot v)
     (λ t other. untold here n t (Stamped s boot v) said refl refl
-    (ap (λ b. if b && boot == known_boot here t then Some v else None) (apart s t other)))
+    (ap (λ b. if b && boot == known_boot here t then Some v else None) (other_number s t other)))
     there.switch_is
     (stamped_known here n s boot v (record_of marks s) said (are.each s there.switch_is)) are
 marks_told setting here n body marks have said there are =
@@ -436,5 +428,5 @@ marks_over setting here s marks there are =
     (current_more here next) (retired_more here next)
     (λ t other. quiet_stays here next t (told_more here next) (known_more here next t)
     (over_more here next t
-    ∙ ap (λ b. if b then true else machine.is_over here t) (apart s t other)) refl) there
+    ∙ ap (λ b. if b then true else machine.is_over here t) (other_number s t other)) refl) there
     (over_known here s (record_of marks s) (are.each s there)) are

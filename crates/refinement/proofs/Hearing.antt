@@ -12,6 +12,7 @@ use Rattle.ctrl_msg.specs.declared.message.Body.{Body}
 use Rattle.ctrl_msg.specs.declared.message.Body.TheVariants.{Install, OpenAt, Stamp, Collect, CacheRule, Advertise, Hello, Installed, Stamped}
 use Rattle.failover.specs.Adverts.{after_hearing, held, is_news, is_newer}
 use Rattle.failover.specs.declared.advert.Advert.{Advert}
+use Rattle.failover.proofs.Adverts.{after_no_news}
 use Rattle.switch_core.specs.Hearing.{after_body, collected_to, informed, installed, is_news_here, raised_to}
 use Rattle.switch_core.specs.State.{SwitchValue}
 use Rattle.switch_table.specs.Cache.{raised}
@@ -177,11 +178,6 @@ hears_beside others own s advert other =
     by_test true = set_comm others advert.origin s (Some advert) own other
     by_test false = refl
 
-not_heard : (adverts : List (Option Advert)) (advert : Advert) → is_news adverts advert ≡ false
-    → after_hearing adverts advert ≡ adverts
-unfolding after_hearing
-not_heard adverts advert none = rw none refl
-
 hears_advert : (s : ℕ) (w : SwitchFacts) (stamp collected : ℕ) (tables : List Tables)
     (others : List (Option Advert)) (advert : Advert)
     → filled s w stamp collected tables
@@ -200,7 +196,7 @@ hears_advert s w stamp collected tables others advert = by_origin (advert.origin
         → kept (after_hearing switch.database advert)
         ≡ (if b then kept (after_hearing switch.database advert) else switch)
     by_news true is = refl
-    by_news false is = ap kept (not_heard switch.database advert is)
+    by_news false is = ap kept (after_no_news switch.database advert is)
 
     by_origin : (same : Bool) → (advert.origin == s) ≡ same
         → filled s w stamp collected tables

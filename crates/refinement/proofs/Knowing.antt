@@ -4,7 +4,7 @@ use Rattle.std.specs.Prelude.{filter, filter_map, find, fold, is_some, unwrap_or
 use Rattle.std.specs.List.{AllByRecursion, list_any}
 use Rattle.std.proofs.lemmas.Bool.{eqb-true}
 use Rattle.std.proofs.lemmas.Bool.Decides.{nat_tests}
-use Rattle.std.proofs.Math.Bool.{or-false, or_assoc}
+use Rattle.std.proofs.Math.Bool.{or-false, or_assoc, or_comm}
 use Rattle.std.proofs.lemmas.List.Elements.{All-contains, All-from_recursion, recursion_from_All}
 use Rattle.std.proofs.lemmas.List.Folds.{list_any-append}
 use Rattle.ctrl_msg.specs.declared.message.Body.{Body}
@@ -34,12 +34,6 @@ use Rattle.refinement.proofs.SwitchFacts.{all_by, came_by, first_tables, stamp_s
 
 abbrev of_version : ℕ → Tables → Bool
 of_version v tables = tables.version == v
-
-or_comm : (a b : Bool) → (a || b) ≡ (b || a)
-or_comm true true = refl
-or_comm true false = refl
-or_comm false true = refl
-or_comm false false = refl
 
 -- one more, where there is none of its version
 with_one : (v : ℕ) (all : List Tables) (tables : Tables)

@@ -1,5 +1,5 @@
 -- What a change of its links makes of a switch.
-use Rattle.std.proofs.Common.{ℕ, zero, suc, ◌≡◌, ◌+◌, ◌==◌, ◌⊎◌, Bool, true, false, ◌&&◌, not, cond, if◌then◌else◌, Option, Some, None, List, [], ◌∷◌, ◌++◌, set, refl, ap, sym, ◌∙◌, arith, inl, inr}
+use Rattle.std.proofs.Common.{ℕ, ◌≡◌, ◌+◌, ◌==◌, ◌⊎◌, Bool, true, false, ◌&&◌, not, cond, if◌then◌else◌, Option, Some, None, List, [], ◌∷◌, ◌++◌, set, refl, ap, sym, ◌∙◌, arith, inl, inr, set-set}
 use Rattle.std.specs.Prelude.{IsTrue, count_by}
 use Rattle.std.proofs.lemmas.Bool.{eq-eqb, eqb-true, ne_eqb}
 use Rattle.std.proofs.lemmas.List.Sums.{sum_by-cons}
@@ -83,11 +83,6 @@ seq_more setting before row s step items none boot up = by_up (is_up before s) r
 
 -- ---- the own advert in the record
 
-set_twice : {X : Type 0} (xs : List X) (i : ℕ) (a b : X) → set (set xs i a) i b ≡ set xs i b
-set_twice [] i a b = refl
-set_twice (x ∷ xs) zero a b = refl
-set_twice (x ∷ xs) (suc i) a b = ap (λ rest. x ∷ rest) (set_twice xs i a b)
-
 is_told : (seq : ℕ) → (seq + 1 == 0) ≡ false
 is_told seq = ne_eqb (seq + 1) 0 (λ same. absurd (omega (arith, same)))
 
@@ -108,7 +103,7 @@ relinks s w stamp mark tables others links true same =
       database = adverts;
     })
     (ap (set others s) told
-    ∙ sym (set_twice others s (own_if_sent (told_by_facts s w)) (Some own)))
+    ∙ sym (set-set others s (own_if_sent (told_by_facts s w)) (Some own)))
 relinks s w stamp mark tables others links false same = elim (same refl) [
   | inl links_same ↦ as_before (w.seq + 0) (omega arith) links_same
   | inr none ↦ untold (w.seq + 0) (omega (arith, none)) none

@@ -1,5 +1,5 @@
 -- A packet on its way at its switch: what a hop writes, and what becomes of the packet.
-use Rattle.std.proofs.Common.{ℕ, ◌≡◌, ◌+◌, ◌==◌, Bool, true, false, Option, Some, None, List, [], ◌∷◌, ◌++◌, refl, ap, sym, subst, ◌∙◌, eq-eqb, rules}
+use Rattle.std.proofs.Common.{ℕ, ◌≡◌, ◌+◌, Bool, true, false, Option, Some, None, List, [], ◌∷◌, ◌++◌, refl, ap, sym, subst, ◌∙◌, rules}
 use Rattle.std.specs.Prelude.{IsTrue, nat_eq, option_map, slice_get, unwrap_or}
 use Rattle.std.specs.List.{list_any}
 use Rattle.failover.specs.Links.{with_link}
@@ -37,6 +37,7 @@ use Rattle.update_machine.specs.Setting.{Setting}
 use Rattle.update_machine.specs.Travels.{leg_of}
 use Rattle.update_machine.proofs.CallerLemmas.{have_append, messages_keep, switch_keeps}
 use Rattle.control_laws.specs.ItemCauses.{HasItemCause}
+use Rattle.control_laws.proofs.Facts.{own}
 use Rattle.packet_laws.specs.OnWay.{IsOnLeg}
 use Rattle.packet_laws.specs.Facts.{PacketFacts, what_is_known}
 use Rattle.packet_laws.proofs.PacketFacts.{facts_grow}
@@ -59,9 +60,6 @@ use Rattle.refinement.proofs.Looking.{IsAsked}
 use Rattle.refinement.proofs.OnWay.{Stands, got, on_leg, on_route_of, tunnel_on}
 use Rattle.refinement.proofs.Seeing.{Sees, sees_counted, sees_one}
 use Rattle.refinement.proofs.FactsAlong.{Targets, by_targets, same_targets, traveller_by, facts_along}
-
-own : (i : ℕ) → (i == i) ≡ true
-own i = eq-eqb i i refl
 
 leg_in_facts : (journal : List Item) (i : ℕ) → leg_of journal i ≡ (what_is_known journal i).leg
 unfolding what_is_known

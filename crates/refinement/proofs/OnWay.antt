@@ -13,8 +13,8 @@ use Rattle.update_machine.specs.Setting.{Setting}
 use Rattle.packet_laws.specs.OnWay.{IsOnLeg, IsOnWay}
 use Rattle.packet_laws.specs.Facts.{PacketFacts, what_is_known}
 use Rattle.packet_laws.specs.Rest.{IsServed}
+use Rattle.packet_laws.proofs.Here.{some_same}
 use Rattle.travelling.specs.declared.travelling.Traveller.{Traveller}
-use Rattle.refinement.proofs.Arrivals.{some_same}
 use Rattle.refinement.proofs.Known.{Known, Travels, travels_known}
 use Rattle.refinement.proofs.FactsAlong.{Targets, traveller_by}
 

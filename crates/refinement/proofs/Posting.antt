@@ -16,17 +16,10 @@ use Rattle.update_machine.specs.Folds.{count_of, last_told}
 use Rattle.update_machine.specs.Laws.{MessageKeeps}
 use Rattle.update_machine.specs.Messages.{is_forgotten, is_forgetting, is_delivery, is_sending, next_message, was_delivered}
 use Rattle.update_machine.specs.Links.{message_of, tells_message}
-use Rattle.update_machine.proofs.CallerLemmas.{count_of_append, last_told_append, fewer, message_keeps, messages_keep, start_laws}
+use Rattle.update_machine.proofs.CallerLemmas.{count_of_append, last_told_append, fewer, message_keeps, messages_keep, start_laws, each_silent, next_sent}
 use Rattle.refinement.specs.Bags.{IsBagOf, post_in}
 
 -- ---- items that concern no message
-
-no_message : (n : ℕ) (before : List Item) (item : Item) → IsFalse (concerns_messages before item)
-    → IsFalse (concerns_message n before item)
-no_message n before (item.Sent number message) apart = absurd cc
-no_message n before (item.Delivered number) apart = absurd cc
-no_message n before (item.Forgotten number) apart = absurd cc
-no_message n before _ apart = refl
 
 -- facts that stay give the same post
 same_post : (n : ℕ) (before after : List Item) → MessageKeeps n before after
@@ -40,7 +33,7 @@ pub bag_on : (before items : List Item) (posts : List Post)
 bag_on before items posts apart is =
     let keeps : (n : ℕ) → MessageKeeps n before (before ++ items) =
     λ n. message_keeps n before items
-    (fewer (concerns_message n) concerns_messages (no_message n) before items apart) in record {
+    (fewer (concerns_message n) concerns_messages (each_silent n) before items apart) in record {
       many = (messages_keep before items apart).next ∙ is.many;
       each = λ n. is.each n ∙ sym (same_post n before (before ++ items) (keeps n));
       undelivered = λ n past. (keeps n).delivered ∙ is.undelivered n past;
@@ -61,12 +54,6 @@ number_on n before item apart = message_keeps n before (item ∷ []) (apart, tt)
 other_number : (n k : ℕ) → (n == k) ≡ false → (k == n) ≡ false
 other_number n k apart = ne_eqb k n (λ same. let yes : (n == k) ≡ true = eq-eqb n k (sym same) in
     cc)
-
-pub sending_one : (before : List Item) (number : ℕ) (message : Message)
-    → next_message (before ++ item.Sent number message ∷ []) ≡ next_message before + 1
-unfolding next_message
-sending_one before number message =
-    omega (arith, count_of_append is_sending before (item.Sent number message ∷ []))
 
 -- an item of its kind raises a flag, and any other one leaves it
 flag_on : (test : Item → Bool) (before : List Item) (item : Item)
@@ -128,7 +115,7 @@ bag_sent before posts message bag =
       same,
     ))))
     in record {
-      many = omega (arith, sending_one before k message, bag.many, more);
+      many = omega (arith, next_sent before k message, bag.many, more);
       each = λ n. numbered_pushed posts (posted message) n
           ∙ sent_post n before posts message (n == k) refl bag;
       undelivered = λ n past. (keeps n past).delivered
@@ -343,7 +330,7 @@ bag_sends number before (item.Sent n message ∷ items) posts of is bag =
     let rest : IsBagOf ((before ++ sent ∷ []) ++ items)
     ((posts ++ posted message ∷ []) ++ posts_in items) =
     bag_sends (number + 1) (before ++ sent ∷ []) items (posts ++ posted message ∷ []) of.1
-    (ap (λ k. k + 1) is ∙ sym (sending_one before n message)) one in
+    (ap (λ k. k + 1) is ∙ sym (next_sent before n message)) one in
     subst (λ js. IsBagOf js (posts ++ posted message ∷ posts_in items))
     (append_assoc before (sent ∷ []) items)
     (subst (IsBagOf ((before ++ sent ∷ []) ++ items))

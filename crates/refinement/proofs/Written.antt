@@ -1,13 +1,13 @@
 -- What acts write, one part after another.
-use Rattle.std.proofs.Common.{ℕ, ◌≡◌, ◌+◌, List, [], ◌∷◌, ◌++◌, map, refl, ap, sym, ◌∙◌, append-nil, append_assoc, arith}
+use Rattle.std.proofs.Common.{◌≡◌, List, [], ◌∷◌, ◌++◌, map, refl, ap, sym, ◌∙◌, append-nil, append_assoc, arith}
 use Rattle.controller.specs.declared.sends.Act.{Act}
 use Rattle.controller.specs.declared.sends.Act.TheVariants.{Post}
 use Rattle.ctrl_msg.specs.declared.message.Message.{Message}
 use Rattle.journal.specs.declared.item.Item.{Item}
 use Rattle.journal.specs.declared.item.Item.TheVariants as item
-use Rattle.update_machine.specs.Messages.{is_sending, next_message, sends, sent_from}
+use Rattle.update_machine.specs.Messages.{next_message, sends, sent_from}
 use Rattle.update_machine.specs.Moves.{in_turn}
-use Rattle.update_machine.proofs.CallerLemmas.{count_of_append}
+use Rattle.update_machine.proofs.CallerLemmas.{next_sent}
 use Rattle.refinement.specs.Written.{item_of, written}
 
 pub written_append : (journal : List Item) (xs ys : List Act)
@@ -42,12 +42,6 @@ written_in_three journal a b c xs ys zs first second third =
     ap (written journal) (append_assoc xs ys zs) ∙ written_append journal xs (ys ++ zs)
     ∙ ap (λ items. items ++ written (journal ++ items) (ys ++ zs)) first
     ∙ ap (λ items. a journal ++ items) (written_in_two one b c ys zs second third)
-
-next_sent : (journal : List Item) (n : ℕ) (message : Message)
-    → next_message (journal ++ item.Sent n message ∷ []) ≡ next_message journal + 1
-unfolding next_message
-next_sent journal n message =
-    rw (count_of_append is_sending journal (item.Sent n message ∷ [])) (omega arith)
 
 -- messages are sent
 pub posted : (messages : List Message) (journal : List Item)

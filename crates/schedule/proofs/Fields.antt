@@ -1,6 +1,7 @@
 -- The fields of a record, one by one.
-use Rattle.std.proofs.Common.{ℕ, ◌≡◌, ◌∙◌, Bool, true, false, ◌&&◌, Some, None, List, [], ◌∷◌, length, drop, refl, ap, arith}
+use Rattle.std.proofs.Common.{ℕ, ◌≡◌, ◌∙◌, false, ◌&&◌, Some, None, List, [], ◌∷◌, length, drop, refl, ap, arith}
 use Rattle.std.specs.Prelude.{◌≢◌, Err, bytes_eq, codes}
+use Rattle.std.proofs.Math.Bool.{and-true}
 use Rattle.csv.specs.Records.{field_at}
 use Rattle.csv_records.specs.Texts.{field, is_heading}
 use Rattle.net_file.specs.declared.net.Net.{Net}
@@ -12,16 +13,12 @@ use Rattle.schedule.specs.declared.kind.Kind.TheVariants as kind
 
 -- ---- the heading
 
-and_true : (b : Bool) → (b && true) ≡ b
-and_true true = refl
-and_true false = refl
-
 pub is_heading-two : (fields : List (List ℕ)) → length fields ≡ 2
     → is_heading schedule_heading fields ≡ (bytes_eq (field fields 0) (codes "event")
     && bytes_eq (field fields 1) (codes "arguments"))
 unfolding field_at
 is_heading-two (a ∷ b ∷ []) two = ap (λ last. bytes_eq a (codes "event") && last)
-    (and_true (bytes_eq b (codes "arguments")))
+    (and-true (bytes_eq b (codes "arguments")))
 is_heading-two _ two = absurd (omega arith)
 
 pub is_heading-other : (fields : List (List ℕ)) → length fields ≢ 2

@@ -8,30 +8,19 @@ use Rattle.std.proofs.lemmas.Slice.Eq.{bytes_eq-Decides}
 use Rattle.std.proofs.lemmas.List.FromFn.{map-range_with_len_more}
 use Rattle.std.proofs.lemmas.List.Elements.{All-cons, All-nil}
 use Rattle.std.proofs.lemmas.List.Kept.{AllPairs-cons}
+use Rattle.std.proofs.lemmas.Bool.{and_parts, not-true}
 use Rattle.net_file.specs.Net.{AreApart, AreOther, IsLink, IsNet, IsSwitchRow, is_name}
 use Rattle.net_file.specs.Joins.{has_port, joins, owner_of}
 use Rattle.schedule.specs.Case.{load_links, load_net, room_of, switch_row}
 
 -- ---- lists by a test that computes
 
-first : (a b : Bool) → (a && b) ≡ true → a ≡ true
-first true b e = refl
-first false b e = e
-
-second : (a b : Bool) → (a && b) ≡ true → b ≡ true
-second true b e = e
-second false b e = absurd (true≢false (sym e))
-
-is_not : (b : Bool) → not b ≡ true → b ≡ false
-is_not true e = absurd (true≢false (sym e))
-is_not false e = refl
-
 module _ {A X : Type 0} (f : A → X) where
   all_by : (P : X → Type 0) (test : A → Bool) → ((x : A) → test x ≡ true → P (f x))
       → (xs : List A) → list_all test xs ≡ true → All P (map f xs)
   all_by P test sound [] e = All-nil P
-  all_by P test sound (x ∷ xs) e = All-cons P (f x) (map f xs) (sound x (first (test x) _ e))
-      (all_by P test sound xs (second (test x) _ e))
+  all_by P test sound (x ∷ xs) e = All-cons P (f x) (map f xs) (sound x (and_parts (test x) _ e).0)
+      (all_by P test sound xs (and_parts (test x) _ e).1)
 
 -- each passes with each later one
 abbrev pairs_pass : {A : Type 0} → (A → A → Bool) → List A → Bool
@@ -44,8 +33,8 @@ module _ {A X : Type 0} (f : A → X) where
       → pairs_pass test xs ≡ true → AllPairs R (map f xs)
   pairs_by R test sound [] e = λ i j d below inside. absurd (omega arith)
   pairs_by R test sound (x ∷ xs) e = AllPairs-cons R (f x) (map f xs)
-      (all_by f (R (f x)) (test x) (sound x) xs (first (list_all (test x) xs) _ e))
-      (pairs_by R test sound xs (second (list_all (test x) xs) _ e))
+      (all_by f (R (f x)) (test x) (sound x) xs (and_parts (list_all (test x) xs) _ e).0)
+      (pairs_by R test sound xs (and_parts (list_all (test x) xs) _ e).1)
 
 -- ---- switches
 
@@ -53,11 +42,11 @@ all_sound : All IsSwitchRow load_net.switches
 all_sound = all_by switch_row IsSwitchRow
     (λ i. is_name (switch_row i).name && (nat_lt (2 ^ i) (2 ^ 64) && nat_le (room_of i) 8192))
     (λ i e.
-    let sizes = second (is_name (switch_row i).name) _ e in
+    let sizes = (and_parts (is_name (switch_row i).name) _ e).1 in
     record {
-      name = first (is_name (switch_row i).name) _ e;
-      ports = ltb-true _ _ (first (nat_lt (2 ^ i) (2 ^ 64)) _ sizes);
-      room = leb-true _ _ (second (nat_lt (2 ^ i) (2 ^ 64)) _ sizes);
+      name = (and_parts (is_name (switch_row i).name) _ e).0;
+      ports = ltb-true _ _ (and_parts (nat_lt (2 ^ i) (2 ^ 64)) _ sizes).0;
+      room = leb-true _ _ (and_parts (nat_lt (2 ^ i) (2 ^ 64)) _ sizes).1;
     })
     (range_with_len 0 8) refl
 
@@ -88,7 +77,7 @@ other_names i j apart = go (bytes_eq (switch_row i).name (switch_row j).name) re
 
 all_apart : AllPairs AreApart load_net.switches
 all_apart = pairs_by switch_row AreApart (λ i j. not (i == j))
-    (λ i j e. let apart : i ≢ j = λ same. true≢false (sym (eq-eqb i j same) ∙ is_not _ e) in
+    (λ i j e. let apart : i ≢ j = λ same. true≢false (sym (eq-eqb i j same) ∙ not-true _ e) in
     record { names = other_names i j apart; ports = λ port. other_ports i j port apart })
     (range_with_len 0 8) refl
 
@@ -98,16 +87,16 @@ all_links : All (IsLink 8) load_links
 all_links = all_by (λ link. link) (IsLink 8)
     (λ link. nat_lt link.one 8 && (nat_lt link.two 8 && not (link.one == link.two)))
     (λ link e. record {
-      one = ltb-true _ _ (first (nat_lt link.one 8) _ e);
-      two = ltb-true _ _ (first (nat_lt link.two 8) _ (second (nat_lt link.one 8) _ e));
+      one = ltb-true _ _ (and_parts (nat_lt link.one 8) _ e).0;
+      two = ltb-true _ _ (and_parts (nat_lt link.two 8) _ (and_parts (nat_lt link.one 8) _ e).1).0;
       apart = λ same. true≢false (sym (eq-eqb link.one link.two same)
-          ∙ is_not _ (second (nat_lt link.two 8) _ (second (nat_lt link.one 8) _ e)));
+          ∙ not-true _ (and_parts (nat_lt link.two 8) _ (and_parts (nat_lt link.one 8) _ e).1).1);
     })
     load_links refl
 
 other_links : AllPairs AreOther load_links
 other_links = pairs_by (λ link. link) AreOther (λ a b. not (joins b.one b.two a))
-    (λ a b e. is_not _ e) load_links refl
+    (λ a b e. not-true _ e) load_links refl
 
 pub load_net_sound : IsNet load_net
 load_net_sound =
@@ -133,11 +122,11 @@ in_range : (test : ℕ → Bool) (from count k : ℕ) → list_all test (range_w
     → from ≤ k → k < from + count → test k ≡ true
 in_range test from zero k e low high = absurd (omega (arith, low, high))
 in_range test from (suc count) k e low high =
-    go (from == k) refl (in_range test (from + 1) count k (second (test from) _ e))
+    go (from == k) refl (in_range test (from + 1) count k (and_parts (test from) _ e).1)
   where
     go : (b : Bool) → (from == k) ≡ b → (from + 1 ≤ k → k < from + 1 + count → test k ≡ true)
         → test k ≡ true
-    go true same later = ap test (sym (eqb-true from k same)) ∙ first (test from) _ e
+    go true same later = ap test (sym (eqb-true from k same)) ∙ (and_parts (test from) _ e).0
     go false other later =
         let apart : from ≢ k = λ same. true≢false (sym (eq-eqb from k same) ∙ other) in
         later (omega (arith, low, apart)) (omega (arith, high))

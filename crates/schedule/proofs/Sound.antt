@@ -19,6 +19,7 @@ use Rattle.net_file.specs.declared.net.LinkRow.{LinkRow}
 use Rattle.net_file.specs.declared.net.Net.{Net}
 use Rattle.net_file.specs.declared.net.SwitchRow.{SwitchRow}
 use Rattle.net_file.specs.Owners.{switch_number}
+use Rattle.net_file.proofs.Sound.{require_ok, with_value_ok}
 use Rattle.steps.specs.Steps.{HasLink, HasSwitch, IsEvent, IsStep}
 use Rattle.steps.specs.declared.step.Event.{Event}
 use Rattle.steps.specs.declared.step.Event.TheVariants.{One, Flush, Drain}
@@ -35,16 +36,6 @@ use Rattle.schedule.specs.declared.kind.Kind.TheVariants as kind
 use Rattle.schedule.proofs.Headers.{header_bound, number_bound}
 
 -- ---- what follows from a value
-
-value_of : {X Y E : Type 0} (read : Result X E) (next : X → Result Y E) (y : Y)
-    → with_value read next ≡ Ok y → (x : X) × (read ≡ Ok x) × (next x ≡ Ok y)
-value_of (Ok x) next y is = (x, refl, is)
-value_of (Err e) next y is = cc is
-
-required : {Y E : Type 0} (holds : Bool) (refusal : E) (next : Result Y E) (y : Y)
-    → require holds refusal next ≡ Ok y → (holds ≡ true) × (next ≡ Ok y)
-required true refusal next y is = (refl, is)
-required false refusal next y is = cc is
 
 some_of : {X E : Type 0} (read : Option X) (refusal : E) (x : X) → ok_or read refusal ≡ Ok x
     → read ≡ Some x
@@ -69,9 +60,9 @@ number_sound text n is = number_bound 999999999 text n
 file_sound : (files : ℕ) (text : List ℕ) (file : ℕ) → file_in files text ≡ Ok file → (1 ≤ file)
     × (file ≤ files)
 file_sound files text file is =
-    let (n, reads, rest) = value_of (ok_or (number_up_to files text) why.File)
+    let (n, reads, rest) = with_value_ok (ok_or (number_up_to files text) why.File)
     (λ n. require (nat_le 1 n) why.File (Ok n)) file is in
-    let (least, last) = required (nat_le 1 n) why.File (Ok n) file rest in
+    let (least, last) = require_ok (nat_le 1 n) why.File (Ok n) file rest in
     let same : n ≡ file = cc last in
     let some : 1 ≤ n = grind (arith, nat_tests) in (
       omega (arith, same, some),
@@ -86,14 +77,14 @@ file_sound files text file is =
 link_sound : (net : Net) (one two : List ℕ) (link : LinkRow) → link_in net one two ≡ Ok link
     → HasLink net link.one link.two
 link_sound net one two link is =
-    let (s, _, rest) = value_of (switch_in net one)
+    let (s, _, rest) = with_value_ok (switch_in net one)
     (λ s. with_value (switch_in net two)
     (λ x. require (are_linked net.links s x) why.NoLink (Ok (record { one = s; two = x }))))
     link is in
-    let (x, _, last) = value_of (switch_in net two)
+    let (x, _, last) = with_value_ok (switch_in net two)
     (λ x. require (are_linked net.links s x) why.NoLink (Ok (record { one = s; two = x }))) link
     rest in
-    let (linked, same) = required (are_linked net.links s x) why.NoLink
+    let (linked, same) = require_ok (are_linked net.links s x) why.NoLink
     (Ok (record { one = s; two = x })) link last in
     let first : s ≡ link.one = cc same in
     let second : x ≡ link.two = cc same in

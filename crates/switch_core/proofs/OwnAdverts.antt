@@ -7,6 +7,7 @@ use Rattle.std.proofs.lemmas.List.{get_or_past, get_or-replicate}
 use Rattle.failover.specs.declared.advert.Advert.{Advert}
 use Rattle.failover.specs.Adverts.{held, is_newer, is_news, after_hearing, no_adverts}
 use Rattle.failover.proofs.Adverts.{held_others}
+use Rattle.failover.proofs.Newest.{not_newer}
 use Rattle.switch_core.specs.Hearing.{is_news_here}
 use Rattle.switch_core.specs.State.{HasOwnUpTo, SwitchValue, own_advert}
 
@@ -16,9 +17,6 @@ newer_next : (boot seq other_boot other_seq : ℕ) →
     (nat_lt boot other_boot || ((boot == other_boot) && nat_lt seq other_seq)) ≡ false →
     (nat_lt other_boot boot || ((other_boot == boot) && nat_lt other_seq (seq + 1))) ≡ true
 newer_next boot seq other_boot other_seq h = grind (arith, nat_tests)
-
-not_newer : (boot seq : ℕ) → (nat_lt boot boot || ((boot == boot) && nat_lt seq seq)) ≡ false
-not_newer boot seq = grind (arith, nat_tests)
 
 below_then : (number : ℕ) (more : Bool) → number < 64 → more ≡ true →
     (nat_lt number 64 && more) ≡ true

@@ -15,6 +15,8 @@ use Rattle.std.proofs.lemmas.List.Elements.{All-append, All-cons, All-drop, All-
 use Rattle.std.proofs.lemmas.List.Folds.{list_any-append, list_any-from_Any}
 use Rattle.std.proofs.lemmas.List.Kept.{AllPairs-filter}
 use Rattle.std.proofs.lemmas.List.Quantifiers.{all_pairs_push, all_pairs_remove}
+use Rattle.std.proofs.Math.Bool.{or_comm}
+use Rattle.base.proofs.ListLemmas.{none_from_not_some}
 use Rattle.ternary.specs.Meets.{word_eq}
 use Rattle.switch_table.specs.Cache.{HaveDistinctKeys, same_key}
 use Rattle.switch_table.specs.Queue.{IsRing, Pair, equal_keys, key_of, pair_of, pairs_from, ring_entries, turned}
@@ -235,19 +237,13 @@ own_any key (pair ∷ pairs) own =
     (All-head IsOwn pair pairs own)
     ∙ ap (λ b. keyed key pair.1 || b) (own_any key pairs (All-tail IsOwn pair pairs own))
 
-or-comm : (a b : Bool) → (a || b) ≡ (b || a)
-or-comm true true = refl
-or-comm true false = refl
-or-comm false true = refl
-or-comm false false = refl
-
 turned_any : {X : Type 0} (test : X → Bool) (place : ℕ) (xs : List X) →
     list_any test xs ≡ list_any test (turned place xs)
 turned_any test place xs =
     let front = take place xs in
     let back = drop place xs in
     ap (list_any test) (sym (take-append-drop place xs)) ∙ list_any-append test front back
-    ∙ or-comm (list_any test front) (list_any test back) ∙ sym (list_any-append test back front)
+    ∙ or_comm (list_any test front) (list_any test back) ∙ sym (list_any-append test back front)
 
 -- whether the map has the key of an entry
 pub ring_has : (first : ℕ) (pairs : List Pair) (entry : CacheEntry) → IsRing first pairs →
@@ -260,10 +256,6 @@ ring_has first pairs entry is =
     ∙ own_any (key_of entry) (turned first pairs) (All-append IsOwn (drop first pairs)
     (take first pairs) (All-drop IsOwn first pairs is.own) (All-take IsOwn first pairs is.own))
 
-pub no_value : {X : Type 0} (o : Option X) → is_some o ≡ false → o ≡ None
-no_value None none = refl
-no_value (Some x) none = absurd (false≢true (sym none))
-
 -- a new key goes last into the map
 pub ring_inserted : (first : ℕ) (pairs new : List Pair) (key : CacheKey) (entry : CacheEntry)
     (entries : List CacheEntry) → IsRing first pairs → ring_entries first pairs ≡ entries →
@@ -275,7 +267,7 @@ ring_inserted first pairs new key entry entries is are absent own made =
     made ∙ ap (λ k. insert_entry equal_keys pairs k entry) own
     ∙ insert_entry-absent equal_keys (key_of entry) entry pairs
     (absent_from_lookup (equal_keys (key_of entry)) pairs
-    (no_value (lookup (equal_keys (key_of entry)) pairs) none))
+    (none_from_not_some (lookup (equal_keys (key_of entry)) pairs) none))
 
 -- the entry at a place, by where it stands in the map
 pub ring_later : (first place len : ℕ) (pairs : List Pair) (pair : Pair) → first ≤ length pairs →

@@ -1,5 +1,5 @@
 -- Plans and their tables: where a header lies, and where its rules stand.
-use Rattle.std.proofs.Common.{ℕ, suc, ◌≡◌, ◌≢◌, ◌∙◌, ◌+◌, ◌^◌, ◌<◌, ◌≤◌, Bool, true, false, cond, eqb, nat_lt, not, Option, Some, None, IsSome, List, [], ◌∷◌, ◌++◌, length, map, filter, find, position, unwrap_or, slice_get, get_or, option_map, refl, ap, sym, subst, arith, All, AllPairs, Contains, count_by}
+use Rattle.std.proofs.Common.{ℕ, suc, ◌≡◌, ◌≢◌, ◌∙◌, ◌+◌, ◌^◌, ◌<◌, Bool, true, false, cond, eqb, nat_lt, not, Option, Some, None, IsSome, List, [], ◌∷◌, ◌++◌, length, map, filter, find, position, unwrap_or, slice_get, get_or, option_map, refl, ap, sym, subst, arith, All, AllPairs, Contains, count_by}
 use Rattle.std.specs.List.{list_any, position_or_len}
 use Rattle.std.specs.Option.{IfSome, option_map_or, option_and_then}
 use Rattle.std.proofs.lemmas.Bool.{eq-eqb}
@@ -8,9 +8,8 @@ use Rattle.std.proofs.lemmas.List.Folds.{list_any-from_Any}
 use Rattle.std.proofs.lemmas.List.Elements.{All-map, All-filter, All-weaker, All-contains, All-contains_itself}
 use Rattle.std.proofs.lemmas.List.Kept.{AllPairs-filter}
 use Rattle.std.proofs.lemmas.List.Quantifiers.{position-Some}
-use Rattle.std.proofs.lemmas.List.Filters.{sum_by-filter_both}
-use Rattle.std.proofs.lemmas.List.Sums.{sum_by-cons}
 use Rattle.std.proofs.lemmas.Option.{slice_get-get_or, slice_get-map}
+use Rattle.base.proofs.ListLemmas.{count-filter-le, count_by-cons}
 use Rattle.five_tuple.specs.Header.{IsHeader, number_of}
 use Rattle.five_tuple.specs.declared.header.Header.{Header}
 use Rattle.ternary.proofs.CallerLemmas.{covers_held}
@@ -31,10 +30,6 @@ use Rattle.switch_table.specs.declared.search.Found.{Found}
 use Rattle.switch_table.specs.declared.search.Found.TheVariants.{Redirect}
 
 -- ---- the one that passes
-
-count_by-cons : {X : Type 0} (test : X → Bool) (x : X) (xs : List X)
-    → count_by test (x ∷ xs) ≡ cond (test x) 1 0 + count_by test xs
-count_by-cons test x xs = sum_by-cons (λ z. cond (test z) 1 0) x xs
 
 pub find-map : {X Y : Type 0} (test : Y → Bool) (f : X → Y) (xs : List X)
     → find test (map f xs) ≡ option_map f (find (λ x. test (f x)) xs)
@@ -91,11 +86,6 @@ some_from_count {X} test (x ∷ xs) one = by_case (test x) refl (some_from_count
         → (y : X) × (cond b (Some x) (find test xs) ≡ Some y)
     by_case true passes rest = (x, refl)
     by_case false fails rest = rest (grind (arith, count_by-cons test x xs))
-
-count-filter-le : {X : Type 0} (test kept : X → Bool) (xs : List X)
-    → count_by test (filter kept xs) ≤ count_by test xs
-count-filter-le test kept xs =
-    omega (arith, sum_by-filter_both kept (λ x. not (kept x)) (λ x. refl) (λ x. cond (test x) 1 0) xs)
 
 -- among the elements that are kept, the one that passes is there if it is kept
 find-filter : {X : Type 0} (test kept : X → Bool) (xs : List X) (x : X) → count_by test xs ≡ 1

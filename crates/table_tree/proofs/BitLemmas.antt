@@ -9,6 +9,7 @@ use Rattle.std.proofs.lemmas.List.Folds.{list_all_more, list_any_more}
 use Rattle.std.proofs.lemmas.Nat.Bits.{bit_at-lt, bit_at-zero, bit_at_and, bit_at_or, bit_at_ones, bit_at-trailing_zeros}
 use Rattle.ternary.specs.Word.{WordValue}
 use Rattle.ternary.specs.Meets.{is_fixed_of}
+use Rattle.ternary.proofs.CallerLemmas.{both_set}
 use Rattle.cut_tree.specs.Cuts.{IsFreeBit}
 use Rattle.table_tree.specs.Cutting.{IsLowest, IsLeastFree, NoneFree}
 use Rattle.table_tree.specs.Regions.{all_fix, some_fix}
@@ -74,9 +75,6 @@ pub lowest_of : (n : ℕ) → 0 < n → n < 2 ^ 128 → IsLowest n (trailing_zer
 lowest_of n some small =
     let lowest = bit_at-trailing_zeros w128 n some small in
     record { set = lowest.1; below = lowest.2 }
-
-both_set : (a b k : ℕ) → bit_at a k ≡ 1 → bit_at b k ≡ 1 → bit_at (bit_and a b) k ≡ 1
-both_set a b k p q = omega (arith, bit_at_and a b k, p, q)
 
 -- a mask of the bits that pass, and one of the bits that are free
 pub least_free : (region : WordValue) (passes : ℕ → Bool) (bits free bit : ℕ)

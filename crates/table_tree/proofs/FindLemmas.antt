@@ -10,6 +10,7 @@ use Rattle.std.proofs.lemmas.List.Elements.{All-nil, All-cons, All-head, All-tai
 use Rattle.std.proofs.lemmas.Nat.Bits.{bit_at-lt}
 use Rattle.std.proofs.lemmas.List.Quantifiers.{position-Some}
 use Rattle.std.proofs.lemmas.Option.{none-some, same_Some, slice_get-get_or, slice_get-map, slice_get_past}
+use Rattle.std.proofs.lemmas.Bool.Decides.{same_from_decides}
 use Rattle.five_tuple.specs.Header.{IsHeader, number_of}
 use Rattle.five_tuple.specs.Laws.{HeaderLaws}
 use Rattle.five_tuple.specs.declared.header.Header.{Header}
@@ -20,7 +21,7 @@ use Rattle.ternary.proofs.CallerLemmas.{any_holds, fix_holds}
 use Rattle.policy_rules.specs.Hosted.{is_in}
 use Rattle.policy_rules.specs.Rules.{is_held}
 use Rattle.policy_rules.specs.declared.rules.Partition.{Partition}
-use Rattle.policy_rules.proofs.CallerLemmas.{find-position}
+use Rattle.policy_rules.proofs.CallerLemmas.{find-position, count_by-cons}
 use Rattle.switch_table.specs.Tables.{AreSoundTables, row_has}
 use Rattle.switch_table.specs.Lookup.{authority_of, redirect_of, table_lookup}
 use Rattle.switch_table.specs.declared.search.Found.TheVariants.{Authority, Redirect}
@@ -34,7 +35,7 @@ use Rattle.table_tree.specs.Finding.{AreTreesOf, IsEnd, IsFinderTree, IsGrownSha
 use Rattle.table_tree.specs.LookupTrees.{LookupTree, CutsHeaderBits, Leaf, Sides, leaf_at}
 use Rattle.table_tree.specs.declared.node.Spot.{Spot}
 use Rattle.table_tree.specs.declared.trees.Trees.{Trees}
-use Rattle.table_tree.proofs.NodeLemmas.{count-cons, cut_is_free, found_from_count, half_node, never_stuck, root_node, several_spots, side_finds, spot_at, spots_count, weight}
+use Rattle.table_tree.proofs.NodeLemmas.{cut_is_free, found_from_count, half_node, never_stuck, root_node, several_spots, side_finds, spot_at, spots_count, weight}
 
 -- ---- the cut bit
 
@@ -179,9 +180,9 @@ none_pass : {X : Type 0} (test : X → Bool) (xs : List X) (k : ℕ) (x : X) →
 none_pass test [] k x none is passes = none-some x is
 none_pass test (y ∷ ys) zero x none is passes =
     let same : y ≡ x = same_Some y x is in
-    omega (arith, none, count-cons test y ys, ap weight (ap test same ∙ passes))
+    omega (arith, none, count_by-cons test y ys, ap weight (ap test same ∙ passes))
 none_pass test (y ∷ ys) (suc k) x none is passes =
-    none_pass test ys k x (omega (arith, none, count-cons test y ys)) is passes
+    none_pass test ys k x (omega (arith, none, count_by-cons test y ys)) is passes
 
 -- where one element alone passes, it has one place
 one_place : {X : Type 0} (test : X → Bool) (xs : List X) (j k : ℕ) (x y : X)
@@ -192,19 +193,19 @@ one_place test (z ∷ zs) zero zero x y one at_j p at_k q = refl
 one_place test (z ∷ zs) zero (suc k) x y one at_j p at_k q =
     let same : z ≡ x = same_Some z x at_j in
     absurd (none_pass test zs k y
-    (omega (arith, one, count-cons test z zs, ap weight (ap test same ∙ p))) at_k q)
+    (omega (arith, one, count_by-cons test z zs, ap weight (ap test same ∙ p))) at_k q)
 one_place test (z ∷ zs) (suc j) zero x y one at_j p at_k q =
     let same : z ≡ y = same_Some z y at_k in
     absurd (none_pass test zs j x
-    (omega (arith, one, count-cons test z zs, ap weight (ap test same ∙ q))) at_j p)
+    (omega (arith, one, count_by-cons test z zs, ap weight (ap test same ∙ q))) at_j p)
 one_place {X} test (z ∷ zs) (suc j) (suc k) x y one at_j p at_k q =
     by_case (test z) refl (λ rest. one_place test zs j k x y rest at_j p at_k q)
   where
     by_case : (b : Bool) → test z ≡ b → (count_by test zs ≡ 1 → j ≡ k) → suc j ≡ suc k
     by_case true passes later = absurd (none_pass test zs j x
-        (omega (arith, one, count-cons test z zs, ap weight passes)) at_j p)
+        (omega (arith, one, count_by-cons test z zs, ap weight passes)) at_j p)
     by_case false fails later =
-        ap suc (later (omega (arith, one, count-cons test z zs, ap weight fails)))
+        ap suc (later (omega (arith, one, count_by-cons test z zs, ap weight fails)))
 
 -- the row that holds a header
 row_found : (header : Header) (rows : List PartRow) → count_by (row_has header) rows ≡ 1
@@ -226,11 +227,6 @@ find_agree {X} p q (x ∷ xs) agree =
     ap (λ t. cond t (Some x) (find p xs)) (All-head (λ z. p z ≡ q z) x xs agree)
     ∙ ap (cond (q x) (Some x)) rest
 
-same_test : (a b : Bool) → (a ≡ true → b ≡ true) → (b ≡ true → a ≡ true) → a ≡ b
-same_test true b there back = sym (there refl)
-same_test false true there back = back refl
-same_test false false there back = refl
-
 -- the region of the partition of this number holds the header where the number is the row's place
 in_numbered : (rows : List PartRow) (header : Header) (place : ℕ) (part : Partition)
     → count_by (row_has header) rows ≡ 1 → position (row_has header) rows ≡ Some place
@@ -251,13 +247,15 @@ in_numbered rows header place part one is numbered =
     ∙ ap (option_map (λ (r : PartRow). r.region)) at_row in
     let has_it : holding row.region ≡ true =
     (find-there (row_has header) rows row found.1).1 in
-    same_test _ _
-    (λ inside. eq-eqb _ _ (one_place holding regions part.number place part.region row.region
-    one_region numbered inside at_place has_it))
-    (λ same.
-    let there : Some part.region ≡ Some row.region =
-    sym numbered ∙ ap (slice_get regions) (eqb-true _ _ same) ∙ at_place in
-    ap holding (same_Some part.region row.region there) ∙ has_it)
+    same_from_decides {P = (part.number == place) ≡ true} _ _ (
+      λ inside. eq-eqb _ _ (one_place holding regions part.number place part.region row.region
+          one_region numbered inside at_place has_it),
+      λ same.
+          let there : Some part.region ≡ Some row.region =
+          sym numbered ∙ ap (slice_get regions) (eqb-true _ _ same) ∙ at_place in
+          ap holding (same_Some part.region row.region there) ∙ has_it,
+    )
+    (λ t. t, λ t. t)
 
 -- the partition that holds a header is the one of the place to which the tree leads
 pub own_numbered : (tables : Tables) (header : Header) (place : ℕ) → AreSoundTables tables

@@ -1,13 +1,11 @@
 -- The regions at a node.
-use Rattle.std.proofs.Common.{◌≡◌, ℕ, ◌+◌, ◌^◌, ◌<◌, ◌≤◌, Bool, true, false, not, cond, ◌&&◌, ◌||◌, Option, Some, None, IsSome, List, [], ◌∷◌, ◌++◌, length, get_or, drop, append_assoc, filter, find, count_by, All, refl, sym, ◌∙◌, ap, subst, inl, inr, arith}
+use Rattle.std.proofs.Common.{◌≡◌, ℕ, ◌+◌, ◌^◌, ◌<◌, ◌≤◌, Bool, true, false, cond, ◌||◌, Option, Some, None, IsSome, List, [], ◌∷◌, ◌++◌, length, get_or, drop, append_assoc, filter, find, count_by, All, refl, sym, ◌∙◌, ap, subst, inl, inr, arith}
 use Rattle.std.specs.Bool.{IsTrue, IsFalse, ◌==◌}
 use Rattle.std.specs.Int.{bit_at}
 use Rattle.std.specs.Option.{is_some}
 use Rattle.std.proofs.lemmas.Bool.{cases_eq, cases_lt, cases_Bool, both_ways, eqb-true, and_parts}
-use Rattle.policy_rules.proofs.CallerLemmas.{at_item}
+use Rattle.policy_rules.proofs.CallerLemmas.{at_item, count_by-cons, count-filter-le}
 use Rattle.std.proofs.lemmas.List.Elements.{All-nil, All-cons, All-head, All-tail, All-filter, filter_passes}
-use Rattle.std.proofs.lemmas.List.Filters.{sum_by-filter_both}
-use Rattle.std.proofs.lemmas.List.Sums.{sum_by-cons}
 use Rattle.std.proofs.lemmas.Nat.Bits.{bit_at_above}
 use Rattle.five_tuple.specs.Header.{IsHeader}
 use Rattle.five_tuple.specs.Laws.{HeaderLaws}
@@ -17,7 +15,7 @@ use Rattle.ternary.specs.Laws.{HoldsLaws, MeetLaws}
 use Rattle.ternary.specs.Word.{WordValue, holds}
 use Rattle.ternary.specs.WordBits.{IsWord}
 use Rattle.ternary.specs.Meets.{any_word, fix_of, is_fixed_of, meets, meet_of}
-use Rattle.ternary.proofs.CallerLemmas.{any_covers, fix_holds, fix_word, free_bits_shorter, is_some-meet_of, meet_both, meet_disjoint, meet_word, meets_cover}
+use Rattle.ternary.proofs.CallerLemmas.{any_covers, fix_holds, fix_word, free_bits_shorter, is_some-meet_of, meet_both, meet_word, meets_cover, held_meets}
 use Rattle.switch_table.specs.Tables.{row_has}
 use Rattle.switch_table.specs.declared.tables.PartRow.{PartRow}
 use Rattle.cut_tree.specs.Cuts.{IsFreeBit}
@@ -31,15 +29,6 @@ use Rattle.table_tree.specs.declared.node.Spot.{Spot}
 -- what an element counts
 abbrev pub weight : Bool → ℕ
 weight t = cond t 1 0
-
-pub count-cons : {X : Type 0} (test : X → Bool) (x : X) (xs : List X)
-    → count_by test (x ∷ xs) ≡ cond (test x) 1 0 + count_by test xs
-count-cons test x xs = sum_by-cons (λ z. cond (test z) 1 0) x xs
-
-count-filter : {X : Type 0} (test kept : X → Bool) (xs : List X)
-    → count_by test (filter kept xs) ≤ count_by test xs
-count-filter test kept xs =
-    omega (arith, sum_by-filter_both kept (λ x. not (kept x)) (λ x. refl) (λ x. cond (test x) 1 0) xs)
 
 -- the first that passes is kept by a filter that keeps what passes
 pub find_kept : {X : Type 0} (test kept : X → Bool) (xs : List X)
@@ -65,7 +54,7 @@ found_from_count {X} test (x ∷ xs) one = by_case (test x) refl (found_from_cou
         → IsSome (cond b (Some x) (find test xs))
     by_case true passes rest = refl
     by_case false fails rest =
-        rest (omega (arith, one, count-cons test x xs, ap weight fails))
+        rest (omega (arith, one, count_by-cons test x xs, ap weight fails))
 
 -- ---- the root
 
@@ -79,8 +68,8 @@ spots_count place number [] = refl
 spots_count place number (row ∷ rows) =
     omega (
       arith,
-      count-cons (has_number number) (spot_at place row) (spots_from (place + 1) rows),
-      count-cons (λ (r : PartRow). holds r.region number) row rows,
+      count_by-cons (has_number number) (spot_at place row) (spots_from (place + 1) rows),
+      count_by-cons (λ (r : PartRow). holds r.region number) row rows,
       spots_count (place + 1) number rows,
     )
 
@@ -110,23 +99,6 @@ root_node laws rows one words =
 
 -- ---- a half
 
-none_from_not_some : {X : Type 0} (x : Option X) → is_some x ≡ false → x ≡ None
-none_from_not_some None is = refl
-none_from_not_some (Some x) is = absurd (both_ways true is refl)
-
--- words that hold one header meet
-pub held_meets : (a b : WordValue) (number : ℕ) → IsTrue (holds a number) → IsTrue (holds b number)
-    → meets a b ≡ true
-held_meets a b number p q = elim (cases_Bool (meets a b)) [
-  | inl meet ↦ meet
-  | inr apart ↦
-      let none : meet_of a b ≡ None = none_from_not_some (meet_of a b)
-      (is_some-meet_of a b ∙ apart) in
-      let never : (holds a number && holds b number) ≡ false = meet_disjoint a b number none in
-      let both : (holds a number && holds b number) ≡ true = rw (p, q) refl in
-      absurd (both_ways _ never both)
-]
-
 -- a header of a half is one of the region, with the bit
 pub half_holds : (region : WordValue) (bit number : ℕ) (one : Bool) → IsFalse
     (is_fixed_of region bit) → IsTrue (holds (fix_of region bit one) number)
@@ -154,7 +126,7 @@ half_node spots region bit one node free =
       one = λ number small. omega (
         arith,
         node.one number small,
-        count-filter (has_number number) (spot_meets half) spots,
+        count-filter-le (has_number number) (spot_meets half) spots,
       );
       held = λ number small inside. subst (λ found. IsSome found)
           (sym (side_finds spots region bit number one inside))
@@ -219,8 +191,8 @@ never_stuck holds_laws meet_laws (a ∷ b ∷ rest) region node none =
     absurd (omega (
       arith,
       node.one number shared.1,
-      count-cons (has_number number) a (b ∷ rest),
-      count-cons (has_number number) b rest,
+      count_by-cons (has_number number) a (b ∷ rest),
+      count_by-cons (has_number number) b rest,
       ap weight shared.2,
       ap weight shared.3,
     ))
@@ -276,6 +248,3 @@ kept_same test spots kept index spot within is fails so_far =
     let rest = filter test (drop (index + 1) spots) in
     so_far ∙ ap (λ (xs : List Spot). kept ++ xs)
     (at_item (filter test) spots index spot within is ∙ ap (λ t. cond t (spot ∷ rest) rest) fails)
-
-pub met_meets : (a b : WordValue) → is_some (meet_of a b) ≡ meets a b
-met_meets a b = is_some-meet_of a b

@@ -8,9 +8,10 @@ use Rattle.std.proofs.lemmas.Bool.{cases_Bool, cases_lt, cases_eq, both_ways, eq
 use Rattle.std.proofs.lemmas.Bool.Decides.{nat_tests}
 use Rattle.std.proofs.lemmas.List.Elements.{All-nil, All-cons, All-head, All-tail, All-same}
 use Rattle.std.proofs.lemmas.Nat.Bits.{bit_at-lt}
+use Rattle.std.proofs.Math.Bool.{and-true}
 use Rattle.ternary.specs.Word.{WordValue, holds}
 use Rattle.ternary.specs.Meets.{covers_of, fix_of, joined, meets}
-use Rattle.ternary.proofs.CallerLemmas.{meet_both}
+use Rattle.ternary.proofs.CallerLemmas.{meet_both, met_joined}
 use Rattle.policy_rules.specs.Rules.{is_held}
 use Rattle.policy_rules.specs.declared.rules.Rule.{Rule}
 use Rattle.switch_table.proofs.TableLemmas.{find-map}
@@ -19,7 +20,7 @@ use Rattle.cut_tree.specs.Narrow.{narrow, narrowed}
 use Rattle.cut_tree.specs.declared.choice.Cost.{Cost}
 use Rattle.cut_tree.proofs.CallerLemmas.{narrow_first}
 use Rattle.cut_tree.proofs.CutLemmas.{least_cuts}
-use Rattle.cut_tree.proofs.NarrowLemmas.{met_joined, narrow_apart, narrow_covered, narrow_more, narrow_none}
+use Rattle.cut_tree.proofs.NarrowLemmas.{narrow_apart, narrow_covered, narrow_more, narrow_none}
 use Rattle.table_tree.specs.Ruling.{is_held_at, if_pays, parted, paying_cut, pays, ranked_by_place, rule_tree, rule_tree_within}
 use Rattle.table_tree.specs.LookupTrees.{LookupTree, CutsHeaderBits, Leaf, Sides, leaf_at}
 use Rattle.table_tree.proofs.FindLemmas.{find_agree, in_half}
@@ -148,10 +149,6 @@ narrow_keeps P (rule ∷ rules) region each all =
       | inr apart ↦ All-same P _ _ (narrow_apart region rule rules apart) rest
     ]
 
-and_true : (t : Bool) → (t && true) ≡ t
-and_true true = refl
-and_true false = refl
-
 narrowed_agrees : (list : List Rule) (region : WordValue) (number : ℕ) (rule : Rule)
     → IsTrue (holds region number) → meets rule.word region ≡ true → Agrees list number rule
     → Agrees list number (narrowed region rule)
@@ -161,7 +158,7 @@ narrowed_agrees list region number rule inside meet agrees =
     ∙ sym (meet_both rule.word region (joined rule.word region)
     (met_joined rule.word region meet) number
     ∙ ap (λ t. holds rule.word number && t) inside
-    ∙ and_true (holds rule.word number))
+    ∙ and-true (holds rule.word number))
 
 side_agrees : (list rules : List Rule) (region : WordValue) (number : ℕ)
     → IsTrue (holds region number) → All (Agrees list number) rules

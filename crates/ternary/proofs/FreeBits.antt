@@ -3,11 +3,12 @@ use Rattle.std.proofs.Common.{◌≡◌, ◌≢◌, ℕ, zero, suc, ◌+◌, ◌
 use Rattle.std.specs.Bool.{IsTrue, IsFalse, ◌==◌}
 use Rattle.std.specs.List.{All, Contains, filter, range_with_len}
 use Rattle.std.specs.List.Sorted.{IsStrictlyIncreasing}
-use Rattle.std.proofs.lemmas.Bool.{cases_eq, cond_both, cond-true, eq-eqb, ne_eqb, both_ways, and_right}
+use Rattle.std.proofs.lemmas.Bool.{cases_eq, cond_both, cond-true, eq-eqb, ne_eqb, both_ways, and_right, not-true}
 use Rattle.std.proofs.lemmas.List.Elements.{All-nil, All-cons, All-weaker, All-contains, filter_agree}
 use Rattle.std.proofs.lemmas.List.FromFn.{length-range_with_len, get_or-range_with_len}
 use Rattle.std.proofs.lemmas.List.Kept.{IsStrictlyIncreasing-filter}
 use Rattle.std.proofs.lemmas.Nat.Bits.{bit_at-zero, bit_at_ones}
+use Rattle.std.proofs.Math.Bool.{and-true}
 use Rattle.ternary.specs.Word.{WordValue}
 use Rattle.ternary.specs.Meets.{any_word, exact_word, is_fixed_of, fix_of, free_bits}
 use Rattle.ternary.proofs.WordLemmas.{is_fixed_decides, fix_fixed, fix_other}
@@ -112,17 +113,13 @@ filter_twice p q (x ∷ xs) = filter_cond q (p x) x (filter p xs) _ (filter_twic
 abbrev is_free : WordValue → ℕ → Bool
 is_free w k = not (is_fixed_of w k)
 
-free_test : (b : Bool) → not b ≡ true → b ≡ false
-free_test true t = cc
-free_test false t = refl
-
 pub free_bits_member : (w : WordValue) (k : ℕ) → Contains (free_bits w) k
     ↔ ((k < 104) × IsFalse (is_fixed_of w k))
 unfolding free_bits
 free_bits_member w k = (
   λ has. let h = All-contains (IsKept (is_free w) 0 104) (kept (is_free w) 0 104) k
       (all_kept (is_free w) 0 104) has in
-      (omega (arith, h.1), free_test (is_fixed_of w k) h.2),
+      (omega (arith, h.1), not-true (is_fixed_of w k) h.2),
   λ free. kept_has (is_free w) 0 104 k (omega arith, omega (arith, free.0), ap not free.1),
 )
 
@@ -161,10 +158,6 @@ exact_free_bits h =
     (λ k has. let free = (free_bits_member (exact_word h) k).0 has in both_ways _ free.1
     (exact_fixed h k free.0))
 
-and_true : (b : Bool) → (b && true) ≡ b
-and_true true = refl
-and_true false = refl
-
 module _ (w : WordValue) (k : ℕ) (one : Bool) where
   pub free_bits_fixed : free_bits (fix_of w k one) ≡ filter (λ j. not (j == k)) (free_bits w)
   unfolding free_bits
@@ -178,7 +171,7 @@ module _ (w : WordValue) (k : ℕ) (one : Bool) where
         | inl here ↦ ap not (ap (is_fixed_of (fix_of w k one)) here ∙ fix_fixed w k one)
             ∙ sym (and_right (is_free w j) (not (j == k)) (ap not (eq-eqb j k here)))
         | inr away ↦ ap not (fix_other w k one j away)
-            ∙ sym (ap (λ t. is_free w j && t) (ap not (ne_eqb j k away)) ∙ and_true (is_free w j))
+            ∙ sym (ap (λ t. is_free w j && t) (ap not (ne_eqb j k away)) ∙ and-true (is_free w j))
       ]
 
   pub free_bits_shorter : k < 104 → IsFalse (is_fixed_of w k)

@@ -260,29 +260,29 @@ joined_covered a b fixed =
 
 -- ---- the meet
 
-meet_some : (a b m : WordValue) → meet_of a b ≡ Some m → (meets a b ≡ true) × (joined a b ≡ m)
+pub meet_some : (a b m : WordValue) → meet_of a b ≡ Some m → (meets a b ≡ true) × (joined a b ≡ m)
 unfolding meet_of
 meet_some a b m e = cond_some (meets a b) (joined a b) m e
 
-meet_at : (a b : WordValue) → meets a b ≡ true → meet_of a b ≡ Some (joined a b)
+pub met_joined : (a b : WordValue) → meets a b ≡ true → meet_of a b ≡ Some (joined a b)
 unfolding meet_of
-meet_at a b t = cond-true (meets a b) _ _ t
+met_joined a b t = cond-true (meets a b) _ _ t
 
-meet_none : (a b : WordValue) → meets a b ≡ false → meet_of a b ≡ None
+pub apart_none : (a b : WordValue) → meets a b ≡ false → meet_of a b ≡ None
 unfolding meet_of
-meet_none a b f = cond-false (meets a b) _ _ f
+apart_none a b f = cond-false (meets a b) _ _ f
 
 pub is_some-meet_of : (a b : WordValue) → is_some (meet_of a b) ≡ meets a b
 is_some-meet_of a b =
     elim (cases_Bool (meets a b)) [
-      | inl t ↦ ap is_some (meet_at a b t) ∙ sym t
-      | inr f ↦ ap is_some (meet_none a b f)
+      | inl t ↦ ap is_some (met_joined a b t) ∙ sym t
+      | inr f ↦ ap is_some (apart_none a b f)
           ∙ sym f
     ]
 
 -- where the meet is none the words do not agree
-apart : (a b : WordValue) → meet_of a b ≡ None → meets a b ≡ false
-apart a b e = sym (is_some-meet_of a b) ∙ ap is_some e
+pub meet_none : (a b : WordValue) → meet_of a b ≡ None → meets a b ≡ false
+meet_none a b e = sym (is_some-meet_of a b) ∙ ap is_some e
 
 pub meet_both : (a b m : WordValue) → meet_of a b ≡ Some m → IsMeet a b m
 meet_both a b m e h =
@@ -292,14 +292,14 @@ meet_both a b m e h =
 pub meet_word : (a b m : WordValue) → IsWord a → IsWord b → meet_of a b ≡ Some m → IsWord m
 meet_word a b m a_word b_word e = subst IsWord (meet_some a b m e).1 (joined_word a b a_word b_word)
 
-held_meets : (a b : WordValue) (h : ℕ) → IsTrue (holds a h) → IsTrue (holds b h) → meets a b ≡ true
+pub held_meets : (a b : WordValue) (h : ℕ) → IsTrue (holds a h) → IsTrue (holds b h) → meets a b ≡ true
 held_meets a b h p q =
     (meets_decides a b).1 (λ k s t. sym ((holds_decides a h).0 p k s) ∙ (holds_decides b h).0 q k t)
 
 pub meet_disjoint : (a b : WordValue) (h : ℕ) → meet_of a b ≡ None
     → (holds a h && holds b h) ≡ false
 meet_disjoint a b h e =
-    false_from_ne_true _ (λ t. let both = and_parts _ _ t in both_ways _ (apart a b e)
+    false_from_ne_true _ (λ t. let both = and_parts _ _ t in both_ways _ (meet_none a b e)
     (held_meets a b h both.0 both.1))
 
 pub meet_comm : (a b : WordValue) → meet_of a b ≡ meet_of b a
@@ -397,7 +397,7 @@ meets_itself a = (meets_decides a a).1 (λ k p q. refl)
 
 pub meet_covered : (a b : WordValue) → IsWord b → IsTrue (covers_of a b) → meet_of a b ≡ Some b
 meet_covered a b b_word ab =
-    meet_at a b (covers_meets a b b ab (meets_itself b))
+    met_joined a b (covers_meets a b b ab (meets_itself b))
     ∙ ap Some (joined_covered a b ((covers_decides a b).0 ab) ∙ same_word _ _ b_word.within refl)
 
 pub meets_cover : (a b : WordValue) → IsTrue (covers_of a b) → IsTrue (meets b a)
@@ -409,8 +409,8 @@ meet_any a a_word = meet_comm a any_word ∙ meet_covered any_word a a_word (any
 pub meet_monotone : (a b c : WordValue) → IsTrue (covers_of a b) → meet_of a c ≡ None
     → meet_of b c ≡ None
 meet_monotone a b c ab none =
-    meet_none b c (false_from_ne_true _
-    (λ t. both_ways _ (apart a c none) (covers_meets a b c ab t)))
+    apart_none b c (false_from_ne_true _
+    (λ t. both_ways _ (meet_none a c none) (covers_meets a b c ab t)))
 
 pub meet_narrowed : (w a b : WordValue) → IsTrue (covers_of a b)
     → option_and_then (λ m. meet_of m b) (meet_of w a) ≡ meet_of w b
@@ -546,7 +546,7 @@ halves_split w k h free =
 pub halves_apart : (w : WordValue) (k : ℕ) → meet_of (fix_of w k false) (fix_of w k true) ≡ None
 unfolding fix_of
 halves_apart w k =
-    meet_none _ _ (false_from_ne_true _ (λ t.
+    apart_none _ _ (false_from_ne_true _ (λ t.
     zero_not_one _ refl (sym (with_bit-same w.value k false)
     ∙ (meets_decides (fix_of w k false) (fix_of w k true)).0 t k (or_pow-same w.mask k)
     (or_pow-same w.mask k) ∙ with_bit-same w.value k true)))
@@ -717,7 +717,7 @@ module _ (a b : WordValue) (a_word : IsWord a) (b_word : IsWord b) where
   pub sum_meet : bit_and a.value (bit_and a.mask b.mask) ≡ bit_and b.value (bit_and a.mask b.mask)
       → Some (record { value = bit_or a.value b.value; mask = bit_or a.mask b.mask }) ≡ meet_of a b
   unfolding meets
-  sum_meet e = sym (meet_at a b (eq-eqb _ _ e) ∙ ap Some plain_sum)
+  sum_meet e = sym (met_joined a b (eq-eqb _ _ e) ∙ ap Some plain_sum)
 
   pub sum_word : IsWord (record { value = bit_or a.value b.value; mask = bit_or a.mask b.mask })
   sum_word = subst IsWord plain_sum (joined_word a b a_word b_word)
@@ -725,7 +725,7 @@ module _ (a b : WordValue) (a_word : IsWord a) (b_word : IsWord b) where
   pub no_meet : (bit_and a.value (bit_and a.mask b.mask) ≡ bit_and b.value (bit_and a.mask b.mask)
       → ⊥) → None ≡ meet_of a b
   unfolding meets
-  no_meet n = sym (meet_none a b (ne_eqb _ _ n))
+  no_meet n = sym (apart_none a b (ne_eqb _ _ n))
 
 module _ (w : WordValue) (w_word : IsWord w) where
   pub masked_holds : (h : ℕ) → (bit_and h w.mask == w.value) ≡ holds w h

@@ -1,10 +1,10 @@
 -- The marks of blocks: which masks have a bit.
-use Rattle.std.proofs.Common.{ℕ, ◌≡◌, ◌+◌, ◌-◌, ◌*◌, ◌/◌, ◌%◌, ◌^◌, ◌<◌, ◌≤◌, ◌==◌, ◌⊎◌, inl, inr, Bool, true, false, not, List, [], refl, ap, sym, ◌∙◌, length, arith, eqb-true, eq-eqb}
+use Rattle.std.proofs.Common.{ℕ, ◌≡◌, ◌+◌, ◌-◌, ◌*◌, ◌/◌, ◌%◌, ◌^◌, ◌<◌, ◌≤◌, ◌==◌, ◌⊎◌, inl, inr, Bool, true, false, not, List, [], refl, ap, sym, ◌∙◌, length, arith, eqb-true}
 use Rattle.std.proofs.lemmas.Bool.{cases_lt}
 use Rattle.std.proofs.lemmas.List.{get_or_past}
 use Rattle.base.specs.Masks.{has}
 use Rattle.base.specs.ComputedMasks.{least_in}
-use Rattle.base.proofs.CallerLemmas.{has-zero, has_least, least_below, least_lt}
+use Rattle.base.proofs.CallerLemmas.{has-zero, has_least, least_below, least_lt, some_of}
 use Rattle.travelling.specs.Marks.{AreLevels, AreOfBlocks, IsLeastMarked, IsNoneMarked, has_marks, is_marked, mask_at}
 
 pub no_levels : AreLevels [] [] []
@@ -24,14 +24,6 @@ zero_of mask e = eqb-true mask 0 (by_test (mask == 0) e)
     by_test : (b : Bool) → not b ≡ false → b ≡ true
     by_test true e = refl
     by_test false e = absurd (let clash : true ≡ false = e in cc)
-
-pub some_of : (mask : ℕ) → not (mask == 0) ≡ true → 0 < mask
-some_of mask e = by_place (cases_lt 0 mask)
-  where
-    by_place : (0 < mask) ⊎ (mask ≤ 0) → 0 < mask
-    by_place (inl some) = some
-    by_place (inr none) =
-        absurd (let is : (mask == 0) ≡ true = eq-eqb mask 0 (omega (arith, none)) in cc)
 
 module _ (masks blocks : List ℕ) (s from : ℕ) (below : s < 64) (are : AreOfBlocks masks blocks)
     (none : IsNoneMarked masks s from ((from / 64 + 1) * 64)) where

@@ -8,10 +8,10 @@ use Rattle.std.proofs.lemmas.Bool.{cases_lt}
 use Rattle.std.proofs.lemmas.Bool.Decides.{nat_tests}
 use Rattle.std.proofs.lemmas.List.{get_or_past}
 use Rattle.std.proofs.lemmas.Nat.{shr_le, shr-shr}
-use Rattle.std.proofs.lemmas.Nat.Bits.{bit_at_xor, bit_at-lt, bit_at-pow_same, bit_at-pow_other}
+use Rattle.std.proofs.lemmas.Nat.Bits.{bit_at_xor, bit_at-lt, bit_at-pow_same}
 use Rattle.base.specs.Masks.{has}
 use Rattle.base.specs.ComputedMasks.{least_in}
-use Rattle.base.proofs.CallerLemmas.{has-zero, has_above, has_least, least_below}
+use Rattle.base.proofs.CallerLemmas.{has-zero, has_above, has_least, least_below, has-xor_other}
 use Rattle.travelling.specs.Marks.{flipped_if, has_marks, is_marked}
 use Rattle.travelling.specs.Travelling.{AreMarked, Travellers, stands_at, traveller}
 use Rattle.travelling.specs.declared.travelling.Traveller.{Traveller}
@@ -72,18 +72,10 @@ within_and P slots i is = by_place (cases_lt i (length slots))
 odd_more : (a c : ℕ) → a < 2 → c ≡ (a + 1) % 2 → (c == 1) ≡ not (a == 1)
 odd_more a c fits e = grind (arith, nat_tests)
 
-even_more : (a c : ℕ) → a < 2 → c ≡ (a + 0) % 2 → (c == 1) ≡ (a == 1)
-even_more a c fits e = grind (arith, nat_tests)
-
 has-xor_same : (mask k : ℕ) → has (bit_xor mask (2 ^ k)) k ≡ not (has mask k)
 unfolding has
 has-xor_same mask k = odd_more _ _ (bit_at-lt mask k)
     (bit_at_xor mask (2 ^ k) k ∙ ap (λ b. (bit_at mask k + b) % 2) (bit_at-pow_same k))
-
-has-xor_other : (mask k j : ℕ) → j ≢ k → has (bit_xor mask (2 ^ k)) j ≡ has mask j
-unfolding has
-has-xor_other mask k j apart = even_more _ _ (bit_at-lt mask j)
-    (bit_at_xor mask (2 ^ k) j ∙ ap (λ b. (bit_at mask j + b) % 2) (bit_at-pow_other k j apart))
 
 parts_same : (i n : ℕ) → i / 64 ≡ n / 64 → i % 64 ≡ n % 64 → i ≡ n
 parts_same i n high low = omega (arith, high, low)

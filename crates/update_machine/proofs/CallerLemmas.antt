@@ -4,7 +4,7 @@ pub use Rattle.update_machine.proofs.Silent.{fewer, stays}
 pub use Rattle.update_machine.proofs.SilentSwitches.{near_same, near_stays, switch_keeps}
 pub use Rattle.update_machine.proofs.SilentSteps.{calls_stay}
 pub use Rattle.update_machine.proofs.SilentLinks.{known_keeps, links_keep, lookup_stays, policies_keep}
-pub use Rattle.update_machine.proofs.SilentMessages.{message_keeps, messages_keep, packets_keep, step_stays}
+pub use Rattle.update_machine.proofs.SilentMessages.{each_silent, message_keeps, messages_keep, packets_keep, step_stays}
 pub use Rattle.update_machine.proofs.SilentPackets.{packet_keeps}
 pub use Rattle.update_machine.proofs.SilentController.{controller_keeps}
 pub use Rattle.update_machine.proofs.Policies.{first_has_plan, first_plan_stays, first_policy_stays, has_plan_stays, next_has_plan, next_is, numbered_at_first, other_more, part_there, plan_stays, policy_stays, submitted_more, version_kept}
@@ -14,6 +14,7 @@ pub use Rattle.update_machine.proofs.Start.{start_laws}
 pub use Rattle.update_machine.proofs.CauseLemmas.{have_append, have_first, have_in_turn, have_put}
 pub use Rattle.update_machine.proofs.AnswerCauses.{PiecesHave, begun_has, have_take, steps_have}
 pub use Rattle.update_machine.proofs.Existence.{Nears, after_append, loop_ends}
+pub use Rattle.update_machine.proofs.NumberBlocks.{next_rises, next_sent}
 pub use Rattle.update_machine.proofs.NumberPieces.{piece_next}
 pub use Rattle.update_machine.proofs.Enclosed.{ends_within}
 pub use Rattle.update_machine.proofs.KnownLinks.{has_known_link, heard_by_origin, known_link_laws, known_places, unreached}

@@ -1,5 +1,5 @@
 -- What a switch knows of the network's links, by the laws of adverts and routes.
-use Rattle.std.proofs.Common.{ℕ, zero, suc, ◌≡◌, ◌≢◌, ◌<◌, ◌≤◌, Bool, true, false, Option, Some, None, List, [], ◌∷◌, ◌++◌, inl, inr, refl, ap, sym, subst, ◌∙◌, arith, length, set, get_or-set_other, get_or-set_same, length-set}
+use Rattle.std.proofs.Common.{ℕ, ◌≡◌, ◌≢◌, ◌<◌, ◌≤◌, Bool, true, false, Option, Some, None, List, [], ◌∷◌, ◌++◌, inl, inr, refl, ap, sym, subst, ◌∙◌, arith, length, set, get_or-set_other, get_or-set_same, length-set, set-set}
 use Rattle.std.specs.Prelude.{◌↔◌, ◌==◌, IsTrue, if◌then◌else◌, map, option_to_list, slice_index, unwrap_or}
 use Rattle.std.specs.List.{AllByRecursion}
 use Rattle.std.proofs.lemmas.List.{map-set}
@@ -80,11 +80,6 @@ own_known setting journal s small =
 
 -- ---- its own advert says nothing of its own links
 
-set_twice : {X : Type 0} (xs : List X) (i : ℕ) (a b : X) → set (set xs i a) i b ≡ set xs i b
-set_twice [] i a b = refl
-set_twice (x ∷ xs) zero a b = refl
-set_twice (x ∷ xs) (suc i) a b = ap (λ rest. x ∷ rest) (set_twice xs i a b)
-
 links_are : (setting : Setting) (journal : List Item) (s : ℕ) (down : List ℕ)
     → links_known setting journal s down
     ≡ known_links (adverts_known setting journal s) s (near setting journal s) down
@@ -93,7 +88,7 @@ links_are setting journal s down =
     let others : List (Option Advert) = adverts_of_others setting journal s in
     let own : Option Advert = own_if_sent (own_advert setting journal s) in
     ap (λ rows. map (links_at rows down) switches)
-    (sym (set_twice (map neighbours_named others) s (neighbours_named own) (near setting journal s))
+    (sym (set-set (map neighbours_named others) s (neighbours_named own) (near setting journal s))
     ∙ ap (λ rows. set rows s (near setting journal s)) (sym (map-set neighbours_named others s own)))
 
 pub has_known_link : (setting : Setting) (journal : List Item) (s : ℕ) (down : List ℕ)

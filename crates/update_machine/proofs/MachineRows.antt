@@ -2,6 +2,7 @@
 use Rattle.std.proofs.Common.{◌≡◌, ap, sym, ◌∙◌, Some, None, [], ◌∷◌, refl, arith}
 use Rattle.std.specs.Prelude.{◌≤◌}
 use Rattle.std.proofs.lemmas.List.Elements.{All-from_recursion}
+use Rattle.std.proofs.lemmas.Option.{same_Some}
 use Rattle.policy_rules.specs.Policy.{IsFirstMatch}
 use Rattle.policy_rules.specs.declared.policy.Action.{Action}
 use Rattle.policy_rules.specs.declared.policy.Action.TheVariants.{Drop, Out}
@@ -11,7 +12,6 @@ use Rattle.policy_rules.specs.declared.packet.How.TheVariants as how
 use Rattle.journal.specs.declared.item.Item.TheVariants as item
 use Rattle.update_machine.specs.Machine.{Decides, IsRun, Machine, Packet}
 use Rattle.update_machine.proofs.Examples.{all_to, leaving, one, open_net}
-use Rattle.update_machine.proofs.OneAnswer.{some_injective}
 
 first_match_of : (action : Action)
     → IsFirstMatch (all_to action ∷ []) one (record { rule = Some 100; action = action })
@@ -124,7 +124,7 @@ pub retired_decides_nothing :
     → packet.entry_mark ≡ 1
     → Decides old 1 1 (record { rule = Some 100; action = Out 2 }) new → ⊥
 retired_decides_nothing old packet new entered mark decides =
-    let same : decides.packet ≡ packet = some_injective decides.packet packet
+    let same : decides.packet ≡ packet = same_Some decides.packet packet
     (sym decides.entered ∙ entered) in
     let its : decides.packet.entry_mark ≡ 1 = ap (λ (p : Packet). p.entry_mark) same ∙ mark in
     omega (arith, its, decides.not_retired)

@@ -1,5 +1,5 @@
 -- Each block of a piece takes the next numbers.
-use Rattle.std.proofs.Common.{ℕ, ◌≡◌, ◌+◌, Option, Some, None, List, [], ◌∷◌, ◌++◌, refl, ap, sym, ◌∙◌, arith}
+use Rattle.std.proofs.Common.{ℕ, ◌≡◌, ◌+◌, Option, Some, None, List, [], ◌∷◌, ◌++◌, refl, ap, sym, ◌∙◌, arith, ◌≤◌}
 use Rattle.ctrl_msg.specs.declared.message.Message.{Message}
 use Rattle.ctrl_msg.specs.declared.message.Body.{Body}
 use Rattle.ctrl_msg.specs.declared.message.Body.TheVariants as body
@@ -28,7 +28,12 @@ use Rattle.update_machine.proofs.FoldLemmas.{count_of_append}
 abbrev pub Next : List Item → List Item → Type 0
 Next journal items = HaveCauses TakesNext journal items
 
-next_sent : (journal : List Item) (n : ℕ) (message : Message)
+pub next_rises : (before : List Item) (next : Item)
+    → next_message before ≤ next_message (before ++ next ∷ [])
+unfolding next_message
+next_rises before next = omega (arith, count_of_append is_sending before (next ∷ []))
+
+pub next_sent : (journal : List Item) (n : ℕ) (message : Message)
     → next_message (journal ++ item.Sent n message ∷ []) ≡ next_message journal + 1
 unfolding next_message
 next_sent journal n message = rw (count_of_append is_sending journal) (omega arith)

@@ -1,5 +1,6 @@
 -- There is one answer to the events of a schedule.
 use Rattle.std.proofs.Common.{ℕ, ◌≡◌, ◌+◌, Option, Some, None, List, [], ◌∷◌, ◌++◌, refl, ap, sym, subst, ◌∙◌}
+use Rattle.std.proofs.lemmas.Option.{same_Some}
 use Rattle.journal.specs.declared.item.Item.{Item}
 use Rattle.steps.specs.declared.step.Event.{Event}
 use Rattle.steps.specs.declared.step.Event.TheVariants.{One, Flush, Drain}
@@ -8,16 +9,13 @@ use Rattle.update_machine.specs.Answers.{Answers, AreAll, AreSteps, AreStepsOf, 
 use Rattle.update_machine.specs.Pieces.{piece}
 use Rattle.update_machine.specs.Setting.{Setting}
 
-pub some_injective : {X : Type 0} (x y : X) → Some x ≡ Some y → x ≡ y
-some_injective x y e = cc
-
 -- two steps of the row, each of which is the next one
 pub same_next : (next : Option Step) (row : ℕ) (x y : StepOfRow) → x.row ≡ row → y.row ≡ row
     → next ≡ Some x.step → next ≡ Some y.step → x ≡ y
 same_next next row x y mine yours first second =
     ap (λ row. record { row = row; step = x.step }) (mine ∙ sym yours)
     ∙ ap (λ step. record { row = y.row; step = step })
-    (some_injective x.step y.step (sym first ∙ second))
+    (same_Some x.step y.step (sym first ∙ second))
 
 -- and what holds behind the one holds behind the other
 pub same_onward : (setting : Setting) (before : List Item) (Onward : List Item → Type 0)

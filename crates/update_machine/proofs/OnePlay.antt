@@ -1,6 +1,7 @@
 -- There is one play of the events of a schedule.
 use Rattle.std.proofs.Common.{ℕ, ◌≡◌, ◌≤◌, ◌⊎◌, inl, inr, Option, Some, None, List, [], ◌∷◌, ◌++◌, refl, ap, sym, subst, ◌∙◌, arith, append_assoc}
 use Rattle.std.specs.Prelude.{◌↔◌}
+use Rattle.policy_rules.proofs.CallerLemmas.{append_not_nil}
 use Rattle.journal.specs.declared.item.Item.{Item}
 use Rattle.steps.specs.declared.step.Event.{Event}
 use Rattle.update_machine.specs.Answers.{StepOfRow, after_steps}
@@ -50,19 +51,15 @@ pub nil_front : (xs ys : List StepOfRow) → [] ≡ xs ++ ys → xs ≡ []
 nil_front [] ys is = refl
 nil_front (x ∷ xs) ys is = cc is
 
-no_last : (xs : List StepOfRow) (x : StepOfRow) → xs ++ x ∷ [] ≡ [] → ⊥
-no_last [] x is = cc is
-no_last (y ∷ xs) x is = cc is
-
 same_ends : (xs ys : List StepOfRow) (x y : StepOfRow) → xs ++ x ∷ [] ≡ ys ++ y ∷ []
     → (xs ≡ ys) × (x ≡ y)
 same_ends [] [] x y is = (refl, cc is)
 same_ends [] (b ∷ ys) x y is =
     let none : ys ++ y ∷ [] ≡ [] = cc is in
-    absurd (no_last ys y none)
+    absurd (append_not_nil ys y none)
 same_ends (a ∷ xs) [] x y is =
     let none : xs ++ x ∷ [] ≡ [] = cc is in
-    absurd (no_last xs x none)
+    absurd (append_not_nil xs x none)
 same_ends (a ∷ xs) (b ∷ ys) x y is =
     let heads : a ≡ b = cc is in
     let tails : xs ++ x ∷ [] ≡ ys ++ y ∷ [] = cc is in

@@ -3,6 +3,7 @@
 use Rattle.std.proofs.Common.{arith, ℕ, ◌≡◌, Bool, true, false, List, [], ◌∷◌, ◌++◌, refl, ap, ◌∙◌, sym, None, append_assoc}
 use Rattle.std.specs.Prelude.{◌==◌, ◌&&◌, not, IsFalse, Some, option_and_then, unwrap_or, if◌then◌else◌, count_by}
 use Rattle.std.specs.Option.{option_map_or}
+use Rattle.std.proofs.lemmas.Bool.{eq-eqb}
 use Rattle.five_tuple.specs.declared.header.Header.{Header}
 use Rattle.journal.specs.declared.item.Item.{Item}
 use Rattle.journal.specs.declared.item.Item.TheVariants as item
@@ -39,9 +40,6 @@ up_stays : (s : ℕ) → Stays concerns_links (λ js. is_up js s)
 unfolding is_up
 up_stays s = last_or_stays (tells_up s) true concerns_links (up_silent s)
 
-same_number : (n m : ℕ) → n ≡ m → (n == m) ≡ true
-same_number n m e = rw e (grind arith)
-
 abbrev once : Bool → ℕ
 once b = if b then 1 else 0
 
@@ -54,7 +52,7 @@ change_alone : (setting : Setting) (s boot : ℕ) (before : List Item) (item : I
     → near setting (before ++ item ∷ []) s ≡ near setting before s
     → once (has_change setting s boot (record { before = before; items = item ∷ [] })) ≡ 0
 change_alone setting s boot before item same =
-    alone_same (boot_of before s == boot) _ (same_number _ _ (sym same))
+    alone_same (boot_of before s == boot) _ (eq-eqb _ _ (sym same))
 
 change_more : (setting : Setting) (s boot : ℕ) (before : List Item) (item : Item)
     → near setting (before ++ item ∷ []) s ≡ near setting before s

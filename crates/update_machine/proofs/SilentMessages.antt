@@ -1,8 +1,9 @@
 -- Items that don't concern a message, all messages, all packets or the steps leave their facts as
 -- they are.
-use Rattle.std.proofs.Common.{ℕ, ◌+◌, ◌≡◌, Bool, false, None, List, [], ◌∷◌, ◌++◌, refl, ap, ◌∙◌}
+use Rattle.std.proofs.Common.{ℕ, ◌+◌, ◌≡◌, Bool, false, None, List, [], ◌++◌, refl, ap, ◌∙◌}
 use Rattle.std.specs.Prelude.{nat_lt, find, IsFalse}
 use Rattle.std.specs.List.{range_with_len}
+use Rattle.policy_rules.proofs.CallerLemmas.{find_same}
 use Rattle.journal.specs.declared.item.Item.{Item}
 use Rattle.journal.specs.declared.item.Item.TheVariants as item
 use Rattle.update_machine.specs.Concerns.{NoneConcern, concerns_message, concerns_messages, concerns_packets, concerns_steps}
@@ -55,19 +56,12 @@ sendings_silent : Keeps concerns_messages changes_sendings
 sendings_silent before sent (item.Sent number message) apart = cc
 sendings_silent before sent _ apart = refl
 
-each_silent : (n : ℕ) (before : List Item) (item : Item) → IsFalse (concerns_messages before item)
+pub each_silent : (n : ℕ) (before : List Item) (item : Item) → IsFalse (concerns_messages before item)
     → IsFalse (concerns_message n before item)
 each_silent n before (item.Sent number message) apart = cc
 each_silent n before (item.Delivered number) apart = cc
 each_silent n before (item.Forgotten number) apart = cc
 each_silent n before _ apart = refl
-
-find_same : (p q : ℕ → Bool) → ((x : ℕ) → p x ≡ q x) → (xs : List ℕ) → find p xs ≡ find q xs
-find_same p q same [] = refl
-find_same p q same (x ∷ xs) =
-    let here : p x ≡ q x = same x in
-    let rest : find p xs ≡ find q xs = find_same p q same xs in
-    rw (here, rest) refl
 
 sent_count_stays : Stays concerns_messages (count_of is_sending)
 sent_count_stays = count_stays is_sending concerns_messages sending_silent

@@ -1,9 +1,10 @@
 -- What a journal without items says.
 use Rattle.std.proofs.Common.{ℕ, ◌≡◌, ◌<◌, ◌≤◌, Bool, true, false, Some, None, List, [], ◌∷◌, refl, ap, sym, ◌∙◌, ◌==◌, arith, rules}
-use Rattle.std.specs.Prelude.{filter, length, map, nat_lt, slice_index, slice_index_or, slice_set, ◌||◌, ◌&&◌}
+use Rattle.std.specs.Prelude.{filter, length, map, nat_lt, slice_index, slice_index_or, slice_set, ◌&&◌}
 use Rattle.std.proofs.lemmas.Bool.Decides.{nat_tests}
 use Rattle.std.proofs.lemmas.List.{set-get_or}
 use Rattle.std.proofs.lemmas.List.FromFn.{get_or-map-range_with_len}
+use Rattle.std.proofs.Math.Bool.{or-false}
 use Rattle.failover.specs.Adverts.{first_advert, first_adverts, first_of}
 use Rattle.failover.proofs.Adverts.{held-first}
 use Rattle.five_tuple.specs.declared.header.Header.{Header}
@@ -47,13 +48,9 @@ advert_start : (setting : Setting) (s : ℕ) → own_advert setting [] s ≡ fir
 unfolding own_advert own_seq boot_of is_up steps_in
 advert_start setting s = ap (first_advert s) (near_start setting s)
 
-or_false : (b : Bool) → (b || false) ≡ b
-or_false true = refl
-or_false false = refl
-
 acked_start : (s v : ℕ) → has_acked [] s v ≡ (v == 1)
 unfolding has_acked known_boot controller_heard
-acked_start s v = or_false (v == 1)
+acked_start s v = or-false (v == 1)
 
 versions_start : (s v : ℕ) → holds_version [] s v ≡ (v == 1)
 unfolding holds_version heard is_up boot_of

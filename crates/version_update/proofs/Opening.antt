@@ -11,6 +11,7 @@ use Rattle.version_update.specs.Record.{first_record, is_member, is_joining, has
 use Rattle.std.specs.Int.Bits.{bit_or}
 use Rattle.std.proofs.lemmas.Nat.{or_lt}
 use Rattle.std.proofs.Math.Pow.{pow-lt}
+use Rattle.std.proofs.lemmas.Bool.{and_parts}
 use Rattle.version_update.proofs.Stamps.{least_stamp-version}
 use Rattle.version_update.specs.Marks.{MarksValue, first_marks, member_records, all_have_acked, retired_of, AreBounded, AreMarksSettled}
 use Rattle.version_update.specs.Settling.{RisesTo}
@@ -98,10 +99,6 @@ opened-bounded marks bounds =
           (λ k d within. opened_at-sound marks.count marks.current _ bounds.first bounds.last
           (bounds.records k d within));
     }
-
-and_parts : (a b : Bool) → (a && b) ≡ true → (a ≡ true) × (b ≡ true)
-and_parts true b e = (refl, e)
-and_parts false b e = cc
 
 -- what each member acknowledged after the opening, each member did before it
 all_acked-opened : (version current : ℕ) (switches : List SwitchRecord)

@@ -3,6 +3,7 @@ use Rattle.std.proofs.Common.{◌≡◌, ℕ, cond, eqb, List, [], ◌++◌, len
 use Rattle.std.specs.Prelude.{IfOk, IfErr}
 use Rattle.std.proofs.lemmas.Bool.{eqb-true}
 use Rattle.std.proofs.lemmas.List.{append-nil, nil_from_length}
+use Rattle.std.proofs.lemmas.Option.{same_Some}
 use Rattle.ctrl_msg.specs.declared.message.Message.{Message}
 use Rattle.base.specs.Refusals.{IfRefused}
 use Rattle.base.specs.declared.error.Failure.{Failure}
@@ -10,7 +11,7 @@ use Rattle.wire.specs.declared.error.Malformed.{Malformed}
 use Rattle.base.proofs.Refusals.{IfRefused-weaker}
 use Rattle.wire.specs.Messages.{message, whole, IsSpelling}
 use Rattle.wire.specs.Reading.{Gives}
-use Rattle.wire.proofs.Laws.{AreBytes, then_some, passed, some_is}
+use Rattle.wire.proofs.Laws.{AreBytes, then_some, passed}
 use Rattle.wire.proofs.Lawful.{message_lawful}
 
 pub whole_takes : (bytes : List ℕ) (m : Message) (rest : List ℕ) → AreBytes bytes → whole bytes ≡ Some (m, rest) → IsSpelling m bytes
@@ -38,7 +39,7 @@ none_is_not x e = absurd cc
 pub one_message : (bytes : List ℕ) (a b : Message) → IsSpelling a bytes → IsSpelling b bytes → a ≡ b
 one_message bytes a b ha hb =
     ap (λ (p : Message × List ℕ). p.0)
-    (some_is (a, []) (b, []) (sym (whole_again bytes a ha) ∙ whole_again bytes b hb))
+    (same_Some (a, []) (b, []) (sym (whole_again bytes a ha) ∙ whole_again bytes b hb))
 
 pub found : (r : Result Message (Failure Malformed)) (bytes rest : List ℕ) → AreBytes bytes → Gives (λ m. m) (whole bytes) r rest → IfOk r (λ m. IsSpelling m bytes)
 found (Ok m) bytes rest are h = whole_takes bytes m rest are h

@@ -3,6 +3,7 @@ use Rattle.std.proofs.Common.{◌≡◌, ℕ, Bool, true, false, cond, eqb, List
 use Rattle.std.specs.Prelude.{IfOk, IfErr}
 use Rattle.std.proofs.lemmas.Bool.{eqb-true}
 use Rattle.std.proofs.lemmas.List.{append-nil, nil_from_length}
+use Rattle.std.proofs.lemmas.Option.{same_Some}
 use Rattle.ctrl_msg.specs.declared.message.Receiver.{Receiver}
 use Rattle.base.specs.Refusals.{IfRefused}
 use Rattle.base.specs.declared.error.Failure.{Failure}
@@ -11,7 +12,7 @@ use Rattle.base.proofs.Refusals.{IfRefused-weaker}
 use Rattle.wire.specs.Messages.{IsFront, front, read_front, spelled_front}
 use Rattle.wire.specs.Reading.{Gives}
 use Rattle.wire.proofs.Decoding.{none_is_not}
-use Rattle.wire.proofs.Laws.{AreBytes, then_some, passed, some_is}
+use Rattle.wire.proofs.Laws.{AreBytes, then_some, passed}
 use Rattle.wire.proofs.Lawful.{front_lawful}
 
 -- a test passed, and then something was read
@@ -46,7 +47,7 @@ front_again bytes to boot is =
 pub one_front : (bytes : List ℕ) (a b : Receiver) (i j : ℕ) → IsFront a i bytes → IsFront b j bytes → ◌≡◌ {A = Receiver × ℕ} (a, i) (b, j)
 one_front bytes a b i j first second =
     ap (λ (p : (Receiver × ℕ) × List ℕ). p.0)
-    (some_is ((a, i), []) ((b, j), []) (sym (front_again bytes a i first) ∙ front_again bytes b j second))
+    (same_Some ((a, i), []) ((b, j), []) (sym (front_again bytes a i first) ∙ front_again bytes b j second))
 
 pub front_found : (r : Result (Receiver × ℕ) (Failure Malformed)) (bytes rest : List ℕ) → AreBytes bytes
     → Gives (λ f. f) (read_front bytes) r rest → IfOk r (λ f. IsFront f.0 f.1 bytes)

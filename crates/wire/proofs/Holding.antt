@@ -1,9 +1,10 @@
 -- Which frames are held, in the order of their places.
-use Rattle.std.proofs.Common.{◌≡◌, ℕ, suc, ◌+◌, ◌-◌, ◌≤◌, ◌<◌, Bool, true, false, cond, eqb, ltb, leb, not, inl, inr, List, [], ◌∷◌, length, filter, Option, Some, None, Result, Ok, Err, slice_get, refl, sym, ap, subst, ◌∙◌, arith}
+use Rattle.std.proofs.Common.{◌≡◌, ℕ, suc, ◌+◌, ◌-◌, ◌≤◌, ◌<◌, Bool, true, false, eqb, ltb, leb, not, inl, inr, List, [], ◌∷◌, length, filter, Option, Some, None, Result, Ok, Err, slice_get, refl, sym, ap, subst, ◌∙◌, arith}
 use Rattle.std.specs.Prelude.{IsSome, OnOk, OnErr}
 use Rattle.std.specs.List.{insert, position, position_or_len}
-use Rattle.std.proofs.lemmas.Bool.{cases_lt, cases_eq, lt-ltb, le-ltb, ltb-false, eqb-true}
-use Rattle.std.proofs.lemmas.Bool.Decides.{nat_tests, eqb_tells}
+use Rattle.std.proofs.lemmas.Bool.{cases_lt, cases_eq, lt-ltb, le-ltb, ltb-false, eqb-true, ne_eqb, false_from_ne_true, cond-true}
+use Rattle.std.proofs.lemmas.Bool.Decides.{nat_tests}
+use Rattle.std.proofs.lemmas.Option.{same_Some}
 use Rattle.ctrl_msg.specs.declared.message.Message.{Message}
 use Rattle.wire.specs.declared.assembler.Spot.TheVariants.{Held, New}
 use Rattle.base.specs.Refusals.{IfRefused}
@@ -12,7 +13,7 @@ use Rattle.wire.specs.declared.error.Malformed.{Malformed}
 use Rattle.base.proofs.Refusals.{IfRefused-weaker}
 use Rattle.wire.specs.Frames.{place_in_frame, count_in_frame, AreFrames}
 use Rattle.wire.specs.Assembly.{held_at, with_frame, AreAllHeld, AreRising, AreTogether, IsOfCount, IsRefusedFrame, too_short, too_long, past_the_count, another_count, another_frame, no_message, Agree, AreNone, IsAssembled, IsFed, Joins, IsSpot}
-use Rattle.wire.proofs.Laws.{AreBytes, some_is, passed}
+use Rattle.wire.proofs.Laws.{AreBytes, passed}
 use Rattle.wire.proofs.Decoding.{none_is_not}
 use Rattle.wire.proofs.Framing.{frame_again}
 use Rattle.wire.proofs.Assembling.{rising_few}
@@ -30,11 +31,11 @@ on_ok : {T E P : Type 0} (r : Result T E) → P → OnOk r P
 on_ok (Ok x) p = p
 on_ok (Err e) p = tt
 
-on_err : {T E P : Type 0} (r : Result T E) → P → OnErr r P
+pub on_err : {T E P : Type 0} (r : Result T E) → P → OnErr r P
 on_err (Ok x) p = tt
 on_err (Err e) p = p
 
-same_place : (n : ℕ) → eqb n n ≡ true
+pub same_place : (n : ℕ) → eqb n n ≡ true
 same_place n = grind (arith, nat_tests)
 
 other_place : (m n : ℕ) → m < n → eqb m n ≡ false
@@ -42,13 +43,6 @@ other_place m n lt = grind (arith, nat_tests)
 
 later_place : (m n : ℕ) → n < m → eqb m n ≡ false
 later_place m n lt = grind (arith, nat_tests)
-
-differ : (m n : ℕ) → (m ≡ n → ⊥) → eqb m n ≡ false
-differ m n other =
-    elim (eqb_tells m n) [
-      | inl h ↦ absurd (other h.1)
-      | inr h ↦ h.0
-    ]
 
 not_below : (m n : ℕ) → n ≤ m → ltb m n ≡ false
 not_below m n le = le-ltb m n le
@@ -62,7 +56,7 @@ a_bound m n le = grind (arith, nat_tests)
 pub first_is : (g f : List ℕ) (gs : List (List ℕ)) (place : ℕ) → place_in_frame g ≡ place → held_at (g ∷ gs) place ≡ Some f → g ≡ f
 first_is g f gs place same e =
     let is : held_at (g ∷ gs) place ≡ Some g = rw (same, same_place place) refl in
-    some_is g f (sym is ∙ e)
+    same_Some g f (sym is ∙ e)
 
 other_than : (g : List ℕ) (gs : List (List ℕ)) (place : ℕ) → place ≤ place_in_frame g → held_at (g ∷ gs) place ≡ None → place < place_in_frame g
 other_than g gs place le none =
@@ -243,18 +237,18 @@ held_count from count (f ∷ fs) place g rising e =
     elim (cases_eq (place_in_frame f) place) [
       | inl same ↦ subst (λ h. count_in_frame h ≡ count) (first_is f g fs place same e) rising.1.count_is
       | inr other ↦
-          let next : held_at (f ∷ fs) place ≡ held_at fs place = rw (differ (place_in_frame f) place other) refl in
+          let next : held_at (f ∷ fs) place ≡ held_at fs place = rw (ne_eqb (place_in_frame f) place other) refl in
           held_count (place_in_frame f + 1) count fs place g rising.2 (sym next ∙ e)
     ]
 
 pub agree_first : (fs : List (List ℕ)) (g : List ℕ) (count : ℕ) (b : Bool) → AreTogether fs → slice_get fs 0 ≡ Some g → b ≡ eqb (count_in_frame g) count → Agree fs count b
 agree_first [] g count b together e is = absurd (none_is_not g e)
 agree_first (f ∷ fs) g count true together e is =
-    let same : f ≡ g = some_is f g e in
+    let same : f ≡ g = same_Some f g e in
     let one : count_in_frame f ≡ count = ap count_in_frame same ∙ eqb-true _ _ (sym is) in
     subst (λ n. AreRising 0 n (f ∷ fs)) one together
 agree_first (f ∷ fs) g count false together e is =
-    let same : f ≡ g = some_is f g e in
+    let same : f ≡ g = same_Some f g e in
     let at : held_at (f ∷ fs) (place_in_frame f) ≡ Some f = rw (same_place (place_in_frame f)) refl in
     (place_in_frame f, f, at, λ one. absurd (cc (is ∙ ap (λ n. eqb n count) (ap count_in_frame (sym same) ∙ one) ∙ same_place count)))
 
@@ -271,7 +265,7 @@ pub spot_held : (held : List (List ℕ)) (f g : List ℕ) → 9 ≤ length f →
     → held_at held (place_in_frame f) ≡ Some g → g ≡ f → IsSpot held f Held
 spot_held held f g long short below rising at same =
     let is : held_at held (place_in_frame f) ≡ Some f = at ∙ ap (λ h. Some h) same in (
-      record { long = long; short = short; below = below; rising = rising; same = λ h at2. some_is h f (sym at2 ∙ is) },
+      record { long = long; short = short; below = below; rising = rising; same = λ h at2. same_Some h f (sym at2 ∙ is) },
       held_stays 0 (count_in_frame f) held f rising is,
     )
 
@@ -292,13 +286,9 @@ pub index_found : (fs : List (List ℕ)) (place index : ℕ) → Some index ≡ 
 index_found fs place index e =
     sym (passed (ltb (index_of fs place) (length fs)) (index_of fs place) index (sym e)).1
 
-none_passed : {A : Type 0} (b : Bool) (x : A) → cond b (Some x) None ≡ None → b ≡ false
-none_passed true x e = absurd (none_is_not x (sym e))
-none_passed false x e = refl
-
 pub index_past : (fs : List (List ℕ)) (place : ℕ) → None ≡ position (λ g. leb place (place_in_frame g)) fs → length fs ≡ index_of fs place
 index_past fs place e =
-    let past = ltb-false (index_of fs place) (length fs) (none_passed (ltb (index_of fs place) (length fs)) (index_of fs place) (sym e)) in
+    let past = ltb-false (index_of fs place) (length fs) (false_from_ne_true _ (λ t. none_is_not (index_of fs place) (e ∙ cond-true (ltb (index_of fs place) (length fs)) (Some (index_of fs place)) None t))) in
     let within = index_within fs place in
     omega arith
 

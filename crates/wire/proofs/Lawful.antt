@@ -1,8 +1,9 @@
 -- Each format of messages is lawful.
 use Rattle.std.proofs.Common.{◌≡◌, ℕ, ◌+◌, ◌*◌, ◌/◌, ◌%◌, ◌^◌, ◌<◌, Bool, true, false, cond, ltb, eqb, List, ◌++◌, Option, Some, None, refl, sym, ap, subst, ◌∙◌, append_assoc, arith, inl, inr, ◌⊎◌}
-use Rattle.std.proofs.lemmas.Bool.{ltb-true, eqb-true}
+use Rattle.std.proofs.lemmas.Bool.{ltb-true, eqb-true, and_parts}
 use Rattle.std.proofs.lemmas.Bool.Decides.{nat_tests}
 use Rattle.std.proofs.lemmas.Nat.{div-add-mod'}
+use Rattle.std.proofs.lemmas.Option.{same_Some}
 use Rattle.ctrl_msg.specs.declared.message.Receiver.{Receiver}
 use Rattle.ctrl_msg.specs.declared.message.Receiver.TheVariants.{Switch, Controller}
 use Rattle.ctrl_msg.specs.declared.message.Body.{Body}
@@ -12,7 +13,7 @@ use Rattle.policy_rules.specs.declared.policy.Action.TheVariants.{Drop, Out}
 use Rattle.wire.specs.Format.{Format, then_read, ◌⊗◌, optional}
 use Rattle.wire.specs.Fields.{n1, n4, n8, n16, switch, is_word, word, rule_name, action_by_port, port_in_action, action, rule, target_count, targets, region, partition, tables}
 use Rattle.wire.specs.Messages.{receiver_of, receiver, front, install_form, of_version, cache_rule_form, advert, hello, acknowledged, kind_number, spelled_fields, fields_fit, made, cache_rule_of, read_fields, body, suits, message}
-use Rattle.wire.proofs.Laws.{AreBytes, Takes, IsLawful, then_some, some_is, both_true, n8-bits, n32-bits, n64-bits, ◌⊠◌, as_type_lawful, such_that_lawful, optional_lawful, list_lawful}
+use Rattle.wire.proofs.Laws.{AreBytes, Takes, IsLawful, then_some, n8-bits, n32-bits, n64-bits, ◌⊠◌, as_type_lawful, such_that_lawful, optional_lawful, list_lawful}
 
 n1_lawful : IsLawful n1
 unfolding n1
@@ -29,7 +30,7 @@ n8_lawful = n64-bits
 halves_back : (p : ℕ × ℕ) → (n8 ⊗ n8).fits p ≡ true → ((p.0 * 2 ^ 64 + p.1) / 2 ^ 64, (p.0 * 2 ^ 64 + p.1) % 2 ^ 64) ≡ p
 unfolding n8
 halves_back p fits =
-    let both = both_true (n8.fits p.0) (n8.fits p.1) fits in
+    let both = and_parts (n8.fits p.0) (n8.fits p.1) fits in
     let low : p.1 < 2 ^ 64 = ltb-true _ _ both.1 in
     let quotient : (p.0 * 2 ^ 64 + p.1) / 2 ^ 64 ≡ p.0 = omega arith in
     let rest : (p.0 * 2 ^ 64 + p.1) % 2 ^ 64 ≡ p.1 = omega arith in
@@ -108,18 +109,18 @@ receiver_takes bytes to rest are e =
     let P : Receiver → Type 0 = λ r. Takes receiver r bytes b.0.1 in
     let taken : Takes receiver d.0 bytes b.0.1 =
     elim (chosen (eqb b.0.0 255) _ _ _ d.1) [
-      | inl h ↦ subst P (some_is _ _ h.1) (record { fits = refl; parts = t.parts ∙ ap (λ k. n1.spell k ++ b.0.1) (eqb-true _ _ h.0); rest_are = t.rest_are })
+      | inl h ↦ subst P (same_Some _ _ h.1) (record { fits = refl; parts = t.parts ∙ ap (λ k. n1.spell k ++ b.0.1) (eqb-true _ _ h.0); rest_are = t.rest_are })
       | inr h ↦ elim (chosen (ltb b.0.0 64) _ _ _ h.1) [
-        | inl k ↦ subst P (some_is _ _ k.1) (record { fits = rw (t.fits, k.0) refl; parts = t.parts; rest_are = t.rest_are })
+        | inl k ↦ subst P (same_Some _ _ k.1) (record { fits = rw (t.fits, k.0) refl; parts = t.parts; rest_are = t.rest_are })
         | inr k ↦ absurd (cc (k.1))
       ]
     ] in
-    subst (λ (p : Receiver × List ℕ). Takes receiver p.0 bytes p.1) (some_is _ _ d.2) taken
+    subst (λ (p : Receiver × List ℕ). Takes receiver p.0 bytes p.1) (same_Some _ _ d.2) taken
 
 receiver_again : (to : Receiver) (rest : List ℕ) → receiver.fits to ≡ true → receiver.read (receiver.spell to ++ rest) ≡ Some (to, rest)
 unfolding receiver switch n1
 receiver_again (Switch s) rest fits =
-    let both = both_true (n1.fits s) (ltb s 64) fits in
+    let both = and_parts (n1.fits s) (ltb s 64) fits in
     let below : s < 64 = ltb-true _ _ both.1 in
     let other : eqb s 255 ≡ false = grind (arith, nat_tests) in
     rw (n1_lawful.again s rest both.0, other, both.1) refl
@@ -178,7 +179,7 @@ kind_takes make f kind kinds spells fits lf bytes b rest are e =
       parts = t.parts ∙ ap (λ u. u ++ d.0.1) (sym (spells d.0.0));
       rest_are = t.rest_are;
     } in
-    subst (λ (p : Body × List ℕ). TakesFields kind p.0 bytes p.1) (some_is _ _ d.2) taken
+    subst (λ (p : Body × List ℕ). TakesFields kind p.0 bytes p.1) (same_Some _ _ d.2) taken
 
 at_kind : (k kind : ℕ) (b : Body) (bytes rest : List ℕ) → eqb k kind ≡ true → TakesFields kind b bytes rest → TakesFields k b bytes rest
 at_kind k kind b bytes rest e t = subst (λ n. TakesFields n b bytes rest) (sym (eqb-true k kind e)) t

@@ -1,10 +1,11 @@
 -- The two laws of formats: what is read is spelled so, and what is spelled is read again.
-use Rattle.std.proofs.Common.{◌≡◌, ℕ, zero, suc, ◌+◌, ◌%◌, ◌^◌, ◌<◌, ◌≤◌, Bool, true, false, cond, ◌&&◌, ltb, List, [], ◌∷◌, ◌++◌, length, get_or, take, drop, Option, Some, None, refl, sym, ap, subst, ◌∙◌, append_assoc, arith, inl, inr}
+use Rattle.std.proofs.Common.{◌≡◌, ℕ, zero, suc, ◌+◌, ◌%◌, ◌^◌, ◌<◌, ◌≤◌, Bool, true, false, cond, ltb, List, [], ◌∷◌, ◌++◌, length, get_or, take, drop, Option, Some, None, refl, sym, ap, subst, ◌∙◌, append_assoc, arith, inl, inr}
 use Rattle.std.specs.List.{flat_map, list_all}
 use Rattle.std.specs.Int.{Width, w8, w32, w64, byte_len, from_be_bytes, to_be_bytes}
-use Rattle.std.proofs.lemmas.Bool.{cases_lt, ltb-false, ltb-true, le-ltb, lt-ltb}
+use Rattle.std.proofs.lemmas.Bool.{cases_lt, ltb-false, ltb-true, le-ltb, lt-ltb, and_parts}
 use Rattle.std.proofs.lemmas.List.{take_at, drop_at, take-append-drop, length-append, length-take, get_or-drop, get_or-take, get_or_past}
 use Rattle.std.proofs.lemmas.Nat.{be_bytes_4, be_bytes_8, from_be_bytes-to_be_bytes_4, from_be_bytes-to_be_bytes_8}
+use Rattle.std.proofs.lemmas.Option.{same_Some}
 use Rattle.wire.specs.Format.{Format, then_read, spelled_number, read_number, number, ◌⊗◌, as_type, such_that, read_flagged, optional, read_items, list_of}
 
 -- each is a byte
@@ -28,9 +29,6 @@ pub then_some : {A B : Type 0} (o : Option A) (f : A → Option B) (y : B) → t
 then_some None f y e = absurd cc
 then_some (Some x) f y e = (x, refl, e)
 
-pub some_is : {A : Type 0} (x y : A) → Some x ≡ Some y → x ≡ y
-some_is x y e = cc
-
 -- a test passed
 pub passed : {A : Type 0} (b : Bool) (x y : A) → cond b (Some x) None ≡ Some y → (b ≡ true) × (x ≡ y)
 passed true x y e = (refl, cc)
@@ -40,10 +38,6 @@ passed false x y e = absurd cc
 pub not_refused : {A : Type 0} (b : Bool) (x y : A) → cond b None (Some x) ≡ Some y → (b ≡ false) × (x ≡ y)
 not_refused true x y e = absurd cc
 not_refused false x y e = (refl, cc)
-
-pub both_true : (a b : Bool) → (a && b) ≡ true → (a ≡ true) × (b ≡ true)
-both_true true b e = (refl, e)
-both_true false b e = absurd cc
 
 -- ---- bytes
 
@@ -152,9 +146,9 @@ pub ◌⊠◌ : {A B : Type 0} {f : Format A} {g : Format B} → IsLawful f → 
         parts = first.parts ∙ ap (λ t. f.spell b.0.0 ++ t) second.parts ∙ sym (append_assoc (f.spell b.0.0) (g.spell d.0.0) d.0.1);
         rest_are = second.rest_are;
       } in
-      subst (λ (p : (A × B) × List ℕ). Takes (f ⊗ g) p.0 bytes p.1) (some_is _ _ d.2) whole;
+      subst (λ (p : (A × B) × List ℕ). Takes (f ⊗ g) p.0 bytes p.1) (same_Some _ _ d.2) whole;
   again = λ x rest fits.
-      let both = both_true (f.fits x.0) (g.fits x.1) fits in
+      let both = and_parts (f.fits x.0) (g.fits x.1) fits in
       rw (append_assoc (f.spell x.0) (g.spell x.1) rest, lf.again x.0 (g.spell x.1 ++ rest) both.0, lg.again x.1 rest both.1) refl;
 }
 
@@ -171,7 +165,7 @@ as_type_lawful {B = B} to from {f = f} back forth lf = record {
         parts = t.parts ∙ ap (λ x. f.spell x ++ b.0.1) (sym same);
         rest_are = t.rest_are;
       } in
-      subst (λ (p : B × List ℕ). Takes (as_type to from f) p.0 bytes p.1) (some_is _ _ b.2) whole;
+      subst (λ (p : B × List ℕ). Takes (as_type to from f) p.0 bytes p.1) (same_Some _ _ b.2) whole;
   again = λ y rest fits. rw (lf.again (from y) rest fits, forth y fits) refl;
 }
 
@@ -188,7 +182,7 @@ such_that_lawful {A = A} {f = f} test lf = record {
       } in
       subst (λ (p : A × List ℕ). Takes (such_that test f) p.0 bytes p.1) g.1 whole;
   again = λ x rest fits.
-      let both = both_true (f.fits x) (test x) fits in
+      let both = and_parts (f.fits x) (test x) fits in
       rw (lf.again x rest both.0, both.1) refl;
 }
 
@@ -198,7 +192,7 @@ flagged_takes : {A : Type 0} (flag : Format ℕ) (f : Format A) → IsLawful f �
     → whole ≡ flag.spell k ++ bytes → AreBytes bytes → read_flagged f k bytes ≡ Some (o, rest) → Takes (optional flag f) o whole rest
 flagged_takes {A = A} flag f lf zero whole bytes o rest at are e =
     let taken : Takes (optional flag f) None whole bytes = record { fits = refl; parts = at; rest_are = are } in
-    subst (λ (p : Option A × List ℕ). Takes (optional flag f) p.0 whole p.1) (some_is _ _ e) taken
+    subst (λ (p : Option A × List ℕ). Takes (optional flag f) p.0 whole p.1) (same_Some _ _ e) taken
 flagged_takes {A = A} flag f lf (suc zero) whole bytes o rest at are e =
     let b = then_some (f.read bytes) (λ x. Some (Some x.0, x.1)) (o, rest) e in
     let t = lf.takes bytes b.0.0 b.0.1 are b.1 in
@@ -207,7 +201,7 @@ flagged_takes {A = A} flag f lf (suc zero) whole bytes o rest at are e =
       parts = at ∙ ap (λ u. flag.spell 1 ++ u) t.parts ∙ sym (append_assoc (flag.spell 1) (f.spell b.0.0) b.0.1);
       rest_are = t.rest_are;
     } in
-    subst (λ (p : Option A × List ℕ). Takes (optional flag f) p.0 whole p.1) (some_is _ _ b.2) taken
+    subst (λ (p : Option A × List ℕ). Takes (optional flag f) p.0 whole p.1) (same_Some _ _ b.2) taken
 flagged_takes flag f lf (suc (suc k)) whole bytes o rest at are e = absurd cc
 
 optional_again : {A : Type 0} (flag : Format ℕ) (f : Format A) → flag.fits 0 ≡ true → flag.fits 1 ≡ true → IsLawful flag → IsLawful f
@@ -240,7 +234,7 @@ items_take : {A : Type 0} (f : Format A) → IsLawful f → (count : ℕ) (bytes
 unfolding read_items
 items_take {A = A} f lf zero bytes xs rest are e =
     let taken : TakesItems f 0 [] bytes bytes = record { count_is = refl; fit = refl; parts = refl; rest_are = are } in
-    subst (λ (p : List A × List ℕ). TakesItems f 0 p.0 bytes p.1) (some_is _ _ e) taken
+    subst (λ (p : List A × List ℕ). TakesItems f 0 p.0 bytes p.1) (same_Some _ _ e) taken
 items_take {A = A} f lf (suc count) bytes xs rest are e =
     let b = then_some (f.read bytes) (λ x. then_read (read_items f count x.1) (λ ys. Some (x.0 ∷ ys.0, ys.1))) (xs, rest) e in
     let first = lf.takes bytes b.0.0 b.0.1 are b.1 in
@@ -252,14 +246,14 @@ items_take {A = A} f lf (suc count) bytes xs rest are e =
       parts = first.parts ∙ ap (λ t. f.spell b.0.0 ++ t) others.parts ∙ sym (append_assoc (f.spell b.0.0) (flat_map f.spell d.0.0) d.0.1);
       rest_are = others.rest_are;
     } in
-    subst (λ (p : List A × List ℕ). TakesItems f (suc count) p.0 bytes p.1) (some_is _ _ d.2) taken
+    subst (λ (p : List A × List ℕ). TakesItems f (suc count) p.0 bytes p.1) (same_Some _ _ d.2) taken
 
 items_again : {A : Type 0} (f : Format A) → IsLawful f → (xs : List A) (rest : List ℕ)
     → list_all f.fits xs ≡ true → read_items f (length xs) (flat_map f.spell xs ++ rest) ≡ Some (xs, rest)
 unfolding read_items
 items_again f lf [] rest fit = refl
 items_again f lf (x ∷ xs) rest fit =
-    let both = both_true (f.fits x) (list_all f.fits xs) fit in
+    let both = and_parts (f.fits x) (list_all f.fits xs) fit in
     rw (append_assoc (f.spell x) (flat_map f.spell xs) rest, lf.again x (flat_map f.spell xs ++ rest) both.0, items_again f lf xs rest both.1) refl
 
 pub list_lawful : {A : Type 0} {count : Format ℕ} {f : Format A} → IsLawful count → IsLawful f → IsLawful (list_of count f)
@@ -275,6 +269,6 @@ list_lawful {count = count} {f = f} lcount lf = record {
         rest_are = t.rest_are;
       };
   again = λ xs rest fits.
-      let both = both_true (count.fits (length xs)) (list_all f.fits xs) fits in
+      let both = and_parts (count.fits (length xs)) (list_all f.fits xs) fits in
       rw (append_assoc (count.spell (length xs)) (flat_map f.spell xs) rest, lcount.again (length xs) (flat_map f.spell xs ++ rest) both.0, items_again f lf xs rest both.1) refl;
 }

@@ -3,7 +3,7 @@ ghost use Rattle.std.specs.Prelude.{◌<◌, ◌^◌, length};
 
 use five_tuple::{read_address, read_prefix, read_range};
 use policy_rules::{
-    Action, Fields, Header, Partition, Policy, Proto, Row, Rule, Rules, Targets, count_words,
+    Action, Fields, Header, Hit, Partition, Policy, Proto, Row, Rule, Rules, Targets, count_words,
     first_hit, to_rules,
 };
 use std::alloc::Global;
@@ -32,17 +32,61 @@ fn header(dst: &str) -> Result<Header, Fail> {
     }))
 }
 
+fn policy_of(alloc: Global, rows: &[Row]) -> Result<Policy, Fail>
+    requires { length rows.now < 2 ^ 32 }
+{
+    Ok(Policy::new(alloc, Vec::from_slice(alloc, rows)?)?)
+}
+
 fn rules_of(alloc: Global, rows: &[Row]) -> Result<Vec<Rule>, Fail>
     requires { length rows.now < 2 ^ 32 }
 {
-    let policy = Policy::new(alloc, Vec::from_slice(alloc, rows)?)?;
-    Ok(to_rules(alloc, &policy)?)
+    Ok(to_rules(alloc, &policy_of(alloc, rows)?)?)
+}
+
+fn two_rows() -> Result<[Row; 2], Fail> {
+    Ok([
+        row(100, "10.0.0.0/8", ("any", "any"), Action::Out(2))?,
+        row(200, "10.1.0.0/16", ("any", "80"), Action::Drop)?,
+    ])
 }
 
 fn two_rules(alloc: Global) -> Result<Vec<Rule>, Fail> {
-    let low = row(100, "10.0.0.0/8", ("any", "any"), Action::Out(2))?;
-    let high = row(200, "10.1.0.0/16", ("any", "80"), Action::Drop)?;
-    rules_of(alloc, &[low, high])
+    rules_of(alloc, &two_rows()?)
+}
+
+// A destination, and the rule and the action of its first match.
+const SCANNED: [(&str, Hit); 3] = [
+    (
+        "10.1.2.3",
+        Hit {
+            rule: Some(200),
+            action: Action::Drop,
+        },
+    ),
+    (
+        "10.2.0.1",
+        Hit {
+            rule: Some(100),
+            action: Action::Out(2),
+        },
+    ),
+    (
+        "11.0.0.1",
+        Hit {
+            rule: None,
+            action: Action::Drop,
+        },
+    ),
+];
+
+#[test]
+fn scans_for_the_first_match(rt: HostRuntime) -> Result<(), Fail> {
+    let policy = policy_of(rt.alloc(), &two_rows()?)?;
+    for (dst, hit) in &SCANNED {
+        assert_eq!(rt; policy.scan(&header(dst)?), *hit);
+    }
+    Ok(())
 }
 
 // The place, the name and the mask of each rule.

@@ -1,9 +1,10 @@
 use Rattle.std.proofs.Common.{◌||◌, ap, sym, ◌∙◌}
 use Rattle.std.specs.Prelude.{filter_map, nat_eq}
 use Rattle.std.specs.List.{list_any}
+use Rattle.std.proofs.Math.Bool.{or-false}
 use Rattle.net_file.specs.Reading.{port_read}
 use Rattle.net_file.proofs.Masks.{in_mask, mask_of_is}
-use Rattle.net_file.proofs.FreshPorts.{any_next, are_fresh, are_new_is, fresh_next, fresh_stop, or_nothing, ports_less, ports_more}
+use Rattle.net_file.proofs.FreshPorts.{any_next, are_fresh, are_new_is, fresh_next, fresh_stop, ports_less, ports_more}
 use Rattle.net_file.proofs.Values.{values_end, values_more}
 use Rattle.net_file.proofs.switches.new_ports.Goals as goal
 use Rattle.net_file.proofs.switches.new_ports.Goals.{in-Some+else-has, in_default}
@@ -32,7 +33,7 @@ returns-clause-mask c =
     mask_of_is c.loop-value.ports _ inv.small
     (λ k. sym (inv.ports k ∙ ap
     (λ ds. in_mask c.loop-value.ports k || list_any (nat_eq k) (filter_map port_read ds)) ended
-    ∙ or_nothing (in_mask c.loop-value.ports k)))
+    ∙ or-false (in_mask c.loop-value.ports k)))
 
 pub loop-value-preserved : goal.loop-value-preserved
 loop-value-preserved c =

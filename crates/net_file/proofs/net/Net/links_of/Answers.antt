@@ -1,8 +1,8 @@
 use Rattle.std.proofs.Common.{◌||◌, take, take_all, ap, sym, ◌∙◌}
 use Rattle.std.specs.Prelude.{nat_eq}
 use Rattle.std.proofs.lemmas.List.Folds.{list_any_more}
+use Rattle.std.proofs.Math.Bool.{or-false}
 use Rattle.net_file.specs.Joins.{are_linked, joins}
-use Rattle.net_file.proofs.FreshPorts.{or_nothing}
 use Rattle.net_file.proofs.Masks.{in_mask_with, mask_of_is}
 use Rattle.net_file.proofs.net.Net.links_of.Goals as goal
 use Rattle.net_file.proofs.net.Net.links_of.Goals.{in-Some, in_default}
@@ -27,7 +27,7 @@ loop-link-preserved c =
       | in_default w ↦ record {
         items = inv.items;
         small = rw w.mask-is inv.small;
-        bits = λ k. rw w.mask-is (inv.bits k ∙ sym (or_nothing (are_linked (take i links) s k))
+        bits = λ k. rw w.mask-is (inv.bits k ∙ sym (or-false (are_linked (take i links) s k))
             ∙ ap (λ b. are_linked (take i links) s k || b) (sym (w.in_default.ensures.none k))
             ∙ sym (list_any_more (joins s k) links i _ c.loop-link-test.true));
       }

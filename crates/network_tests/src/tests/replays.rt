@@ -1,0 +1,53 @@
+//! A schedule that is read, and replayed by one call.
+ghost use Rattle.std.specs.Prelude.{IfOk};
+ghost use Rattle.net_file.specs.Net.{IsNet};
+
+use journal_text::text;
+use meters::Recorder;
+use net_file::{Net, read_net};
+use policy_rules::Policy;
+use replay::replay;
+use schedule::read_schedule;
+use std::alloc::Global;
+use std::test::Fail;
+
+/// Two switches and the link between them, of which b decides.
+const PAIR: &str = "switch = [{ name = \"a\" }, { name = \"b\", authority = 100 }]\n\
+    link = [{ ends = [\"a\", \"b\"] }]\n";
+
+const SCHEDULE: &str = "event,arguments\n\
+    packet,a,1.2.3.4,10.2.0.1,5000,80,tcp\n\
+    drain\n";
+
+/// The packet is dropped, since the policy has no row.
+const JOURNAL: &str = "row 1: packet a 1.2.3.4 10.2.0.1 5000 80 tcp\n\
+    \x20 entered 1 a\n\
+    \x20 tunnelled 1 v1 part 0 via a b\n\
+    row 2: hop 1\n\
+    \x20 hopped 1 b\n\
+    row 2: hop 1\n\
+    \x20 decided 1 v1 rule default drop authority b part 0\n\
+    \x20 sent 1 a cache version 1 word 00000000000000000000000000/00000000000000000000000000 \
+    rule default drop\n\
+    \x20 dropped 1\n";
+
+fn pair(alloc: Global) -> Result<Net, Fail>
+    ensures { IfOk result IsNet }
+{
+    Ok(read_net(alloc, PAIR.as_bytes())?)
+}
+
+#[test]
+fn replays_a_schedule(rt: HostRuntime) -> Result<(), Fail> {
+    let alloc = rt.alloc();
+    let net = pair(alloc)?;
+    let events = read_schedule(alloc, SCHEDULE.as_bytes(), &net, 1)?;
+    let policy = Policy::new(alloc, Vec::new(alloc))?;
+    let meters: Vec<Recorder> = Vec::new(alloc);
+    let played = replay(alloc, &net, vec![in alloc; policy]?, &events, meters)?;
+    assert_eq!(rt; played.full, None);
+    assert_eq!(rt; played.meters.len(), 0);
+    let text = text(alloc, &played.journal, &net)?;
+    assert_eq!(rt; text.as_slice(), JOURNAL.as_bytes());
+    Ok(())
+}
