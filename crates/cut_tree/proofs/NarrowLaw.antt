@@ -6,7 +6,7 @@ use Rattle.std.proofs.lemmas.Bool.{cases_Bool, both_ways, false_from_ne_true}
 use Rattle.std.proofs.Math.Bool.{and-true}
 use Rattle.ternary.specs.Word.{WordValue, holds}
 use Rattle.ternary.specs.Meets.{meets, joined, meet_of, covers_of}
-use Rattle.ternary.proofs.CallerLemmas.{covers_held, covers_transitive, is_some-meet_of, meet_both, meet_disjoint, meet_greatest, meet_narrowed, meets_comm, meets_cover, met_joined, apart_none}
+use Rattle.ternary.proofs.CallerLemmas.{covers_held, covers_transitive, meet_is_some, meet_both, meet_disjoint, meet_greatest, meet_narrowed, meets_comm, meets_cover, met_joined, apart_none}
 use Rattle.policy_rules.specs.Rules.{is_held}
 use Rattle.policy_rules.specs.declared.rules.Rule.{Rule}
 use Rattle.cut_tree.specs.Narrow.{narrowed, narrow}
@@ -29,8 +29,8 @@ met_inner w outer inner within meet =
 
 meets_inner : (w outer inner : WordValue) → IsTrue (covers_of outer inner) → meets w outer ≡ true
     → meets (joined w outer) inner ≡ meets w inner
-meets_inner w outer inner within meet = sym (is_some-meet_of (joined w outer) inner)
-    ∙ ap is_some (met_inner w outer inner within meet) ∙ is_some-meet_of w inner
+meets_inner w outer inner within meet = sym (meet_is_some (joined w outer) inner)
+    ∙ ap is_some (met_inner w outer inner within meet) ∙ meet_is_some w inner
 
 covers_inner : (w outer inner : WordValue) → IsTrue (covers_of outer inner) → meets w outer ≡ true
     → covers_of (joined w outer) inner ≡ covers_of w inner
@@ -49,7 +49,7 @@ joined_inner w outer inner within meet met =
 apart_inner : (w outer inner : WordValue) → IsTrue (covers_of outer inner) → meets w outer ≡ false
     → meets w inner ≡ false
 apart_inner w outer inner within apart =
-    sym (is_some-meet_of w inner)
+    sym (meet_is_some w inner)
     ∙ ap is_some (sym (meet_narrowed w outer inner within)
     ∙ ap (option_and_then (λ m. meet_of m inner)) (apart_none w outer apart))
 

@@ -15,7 +15,7 @@ use Rattle.ternary.specs.Laws.{HoldsLaws, MeetLaws}
 use Rattle.ternary.specs.Word.{WordValue, holds}
 use Rattle.ternary.specs.WordBits.{IsWord}
 use Rattle.ternary.specs.Meets.{any_word, fix_of, is_fixed_of, meets, meet_of}
-use Rattle.ternary.proofs.CallerLemmas.{any_covers, fix_holds, fix_word, free_bits_shorter, is_some-meet_of, meet_both, meet_word, meets_cover, held_meets}
+use Rattle.ternary.proofs.CallerLemmas.{any_covers, fix_holds, fix_word, free_bits_shorter, meet_is_some, meet_both, meet_word, meets_cover, held_meets}
 use Rattle.switch_table.specs.Tables.{row_has}
 use Rattle.switch_table.specs.declared.tables.PartRow.{PartRow}
 use Rattle.cut_tree.specs.Cuts.{IsFreeBit}
@@ -165,7 +165,7 @@ meeting_shares laws a b a_word b_word meet =
     by_case : (m : Option WordValue) → meet_of a b ≡ m → (number : ℕ) × (number < 2 ^ 104)
         × IsTrue (holds a number) × IsTrue (holds b number)
     by_case None none = absurd (both_ways (meets a b)
-        (sym (is_some-meet_of a b) ∙ ap is_some none) meet)
+        (sym (meet_is_some a b) ∙ ap is_some none) meet)
     by_case (Some m) is =
         let both = and_parts _ _ (sym (meet_both a b m is m.value) ∙ laws.value m) in
         (m.value, laws.bound m (meet_word a b m a_word b_word is), both.0, both.1)

@@ -82,7 +82,7 @@ fn meeting(alloc: Global, spots: &[Spot], region: &Word) -> Result<Vec<Spot>, Al
     Ok(kept)
 }
 
-#[tactic(auto, using(ternary::proofs::CallerLemmas::is_some-meet_of))]
+#[tactic(auto, using(ternary::proofs::CallerLemmas::meet_is_some))]
 fn meets(a: &Word, b: &Word) -> bool
     ensures { result ≡ meets a.now b.now }
 {

@@ -272,8 +272,8 @@ pub apart_none : (a b : WordValue) → meets a b ≡ false → meet_of a b ≡ N
 unfolding meet_of
 apart_none a b f = cond-false (meets a b) _ _ f
 
-pub is_some-meet_of : (a b : WordValue) → is_some (meet_of a b) ≡ meets a b
-is_some-meet_of a b =
+pub meet_is_some : (a b : WordValue) → is_some (meet_of a b) ≡ meets a b
+meet_is_some a b =
     elim (cases_Bool (meets a b)) [
       | inl t ↦ ap is_some (met_joined a b t) ∙ sym t
       | inr f ↦ ap is_some (apart_none a b f)
@@ -282,7 +282,7 @@ is_some-meet_of a b =
 
 -- where the meet is none the words do not agree
 pub meet_none : (a b : WordValue) → meet_of a b ≡ None → meets a b ≡ false
-meet_none a b e = sym (is_some-meet_of a b) ∙ ap is_some e
+meet_none a b e = sym (meet_is_some a b) ∙ ap is_some e
 
 pub meet_both : (a b m : WordValue) → meet_of a b ≡ Some m → IsMeet a b m
 meet_both a b m e h =
@@ -692,8 +692,8 @@ module _ (a b : WordValue) (a_word : IsWord a) (b_word : IsWord b) where
 
   pub disjoint : IsNone (meet_of a b) ↔ AreDisjoint a b
   disjoint = (
-    λ none h fits p q. both_ways _ (sym (is_some-meet_of a b) ∙ none) (held_meets a b h p q),
-    λ no_header. is_some-meet_of a b ∙ false_from_ne_true _ (λ t.
+    λ none h fits p q. both_ways _ (sym (meet_is_some a b) ∙ none) (held_meets a b h p q),
+    λ no_header. meet_is_some a b ∙ false_from_ne_true _ (λ t.
         let joined_value = value_below (joined a b) (joined_word a b a_word b_word) in
         let held = and_parts _ _
         (sym (joined_holds a b ((meets_decides a b).0 t) (joined a b).value)

@@ -17,7 +17,7 @@ use Rattle.refinement.specs.Tied.{AreTied, Control}
 use Rattle.world_log.specs.Writing.{IsPart}
 use Rattle.world.specs.declared.parts.Parts.{Parts}
 use Rattle.refinement.proofs.OneItem.{grown}
-use Rattle.world_log.proofs.Writing.{both_ok, by_error, grown_more, part_none, step_part, step_written}
+use Rattle.world_log.proofs.Writing.{both_ok, grown_more, part_none, step_part, step_written, on_err}
 
 -- nothing was done to the files and the ports
 pub net_stays : {old new : Parts} → new.files ≡ old.files → new.ports ≡ old.ports
@@ -152,7 +152,7 @@ module _ {T E : Type 0} {r : Result T E} {before : List Item} {row : ℕ} {step 
     counted = none_ok _ r failed;
     written = none_ok _ r failed;
     tied = none_ok _ r failed;
-    part = by_error r (record {
+    part = on_err r (record {
       written = item.Row row step ∷ [];
       rest = step_items (setting_in old) before step (before ++ item.Row row step ∷ []);
       split = piece_split (setting_in old) before row step;

@@ -18,7 +18,7 @@ use Rattle.world_log.specs.Writing.{IsPart}
 use Rattle.world_log.specs.declared.log.Log.{Log}
 use Rattle.world.specs.declared.parts.Parts.{Parts}
 use Rattle.world.proofs.Frame.{goes, none_ok}
-use Rattle.world_log.proofs.Writing.{both_ok, by_error, step_part, step_written}
+use Rattle.world_log.proofs.Writing.{both_ok, step_part, step_written, on_err}
 
 -- the journal behind the first item, what is written then, under which number the messages are,
 -- and what they post behind these posts
@@ -118,7 +118,7 @@ first_goes {r} {before} {row} {step} first rest begins keeps is failed pushed = 
   counted = none_ok _ r failed;
   written = none_ok _ r failed;
   tied = none_ok _ r failed;
-  part = by_error r (record {
+  part = on_err r (record {
     written = item.Row row step ∷ first ∷ [];
     rest = rest;
     split = is;

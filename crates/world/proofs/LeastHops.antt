@@ -2,7 +2,8 @@
 use Rattle.std.proofs.Common.{ℕ, zero, suc, ◌≡◌, ◌+◌, ◌<◌, ◌≤◌, inl, inr, Bool, true, false, cond, Option, Some, None, List, refl, ap, sym, subst, ◌∙◌, arith}
 use Rattle.std.specs.Prelude.{find, IsSome}
 use Rattle.std.specs.List.{range_with_len}
-use Rattle.std.proofs.lemmas.Bool.{cases_lt}
+use Rattle.std.proofs.lemmas.Bool.{cases_lt, false_from_ne_true, cond-true}
+use Rattle.std.proofs.lemmas.Option.{none-some}
 use Rattle.journal.specs.declared.item.Item.{Item}
 use Rattle.update_machine.specs.Packets.{next_packet}
 use Rattle.update_machine.specs.Setting.{Setting}
@@ -66,10 +67,6 @@ least_is_found test from (suc count) next over least =
     by_first test from next (find test (range_with_len (from + 1) count)) (test from) refl least
     (least_is_found test (from + 1) count next (λ i behind. over i (omega (arith, behind))))
 
-none_travels : {X : Type 0} (b : Bool) (x : X) → cond b (Some x) None ≡ None → b ≡ false
-none_travels true x is = cc is
-none_travels false x is = refl
-
 some_travels : {X : Type 0} (b : Bool) (x : X) → IsSome (cond b (Some x) None) → b ≡ true
 some_travels true x is = refl
 some_travels false x is = cc is
@@ -86,7 +83,9 @@ least_travels setting journal travelling next tie over least =
     (by next least)
   where
     none : (i : ℕ) → traveller travelling i ≡ None → travels journal i ≡ false
-    none i is = none_travels (travels journal i) (traveller_of setting journal i) (sym (tie i) ∙ is)
+    none i is = false_from_ne_true (travels journal i)
+        (λ yes. none-some (traveller_of setting journal i) (sym is ∙ tie i
+        ∙ cond-true (travels journal i) (Some (traveller_of setting journal i)) None yes))
 
     by : (b : Option ℕ) → IsNextFrom travelling 1 b → IsLeast (travels journal) 1 b
     by None least = λ i behind. none i (least i behind)

@@ -1,9 +1,10 @@
 -- The least message that waits in the bag is the least that the journal says to wait.
-use Rattle.std.proofs.Common.{ℕ, ◌≡◌, ◌+◌, ◌-◌, Bool, true, false, Option, Some, None, List, [], ◌∷◌, length, cond, refl, ap, ◌∙◌, arith}
+use Rattle.std.proofs.Common.{ℕ, ◌≡◌, ◌+◌, ◌-◌, Bool, true, false, Option, Some, None, List, length, refl, ap, ◌∙◌, arith}
 use Rattle.std.specs.Prelude.{find, not, ◌&&◌, is_some, option_map}
 use Rattle.std.specs.List.{range_with_len}
 use Rattle.std.specs.Option.{option_map_or}
 use Rattle.std.proofs.lemmas.List.{length-map}
+use Rattle.policy_rules.proofs.CallerLemmas.{find_same}
 use Rattle.message_bag.specs.Deliveries as statuses
 use Rattle.message_bag.specs.Posts as bag
 use Rattle.message_bag.proofs.Numbered.{numbered_map}
@@ -16,13 +17,6 @@ use Rattle.update_machine.specs.Links.{message_of}
 use Rattle.world.specs.State.{IsTied, WorldValue}
 use Rattle.refinement.specs.Tied.{AreTied}
 use Rattle.refinement.specs.Bags.{IsBagOf, post_in}
-
-find_same : (one other : ℕ → Bool) → ((n : ℕ) → one n ≡ other n) → (numbers : List ℕ)
-    → find one numbers ≡ find other numbers
-find_same one other same [] = refl
-find_same one other same (n ∷ numbers) =
-    ap (λ b. cond b (Some n) (find one numbers)) (same n)
-    ∙ ap (λ rest. cond (other n) (Some n) rest) (find_same one other same numbers)
 
 -- a post waits as the journal says of its message
 post_waits : (sent : Option Message) (delivered forgotten : Bool) →

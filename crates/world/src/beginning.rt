@@ -15,7 +15,7 @@ use switch_core::Switch;
 ///
 /// # Errors
 /// Want of memory alone.
-#[tactic(auto, using(refinement::proofs::Firsts::first_own))]
+#[tactic(auto, using(switch_core::proofs::SwitchLaws::own_first))]
 pub fn switches_of(
     alloc: Global,
     net: &Net,

@@ -8,7 +8,7 @@ use Rattle.travelling.specs.Travelling.{WithOne}
 use Rattle.travelling.specs.declared.travelling.Traveller.{Traveller}
 use Rattle.world_log.specs.Writing.{IsPart, LogAfter}
 use Rattle.world_log.specs.declared.log.Log.{Log}
-use Rattle.world_log.proofs.Writing.{both_written, by_error, part_none, part_of_rest}
+use Rattle.world_log.proofs.Writing.{both_written, on_err, part_none, part_of_rest}
 
 none_ok : {T E : Type 0} (P : Type 0) (r : Result T E) → IsErr r → OnOk r P
 none_ok P (Ok x) failed = absurd cc
@@ -22,7 +22,7 @@ log_failed r items posts packet this old new failed part = record {
   written = none_ok _ r failed;
   posted = none_ok _ r failed;
   travels = none_ok _ r failed;
-  part = by_error r part;
+  part = on_err r part;
 }
 
 -- the first items were written, and the messages of the first part were posted

@@ -2,6 +2,7 @@
 use Rattle.std.proofs.Common.{◌≡◌, List, [], ◌∷◌, ◌++◌, refl, ap, sym, ◌∙◌, append-nil, append_assoc, subst}
 use Rattle.std.specs.Prelude.{OnErr, OnOk, Result, Ok, Err}
 use Rattle.std.proofs.lemmas.Result.{on_ok_weaker}
+pub use Rattle.wire.proofs.Holding.{on_err}
 use Rattle.journal.specs.declared.item.Item.{Item}
 use Rattle.world_log.specs.Writing.{IsPart}
 
@@ -15,10 +16,6 @@ pub part_first : (old new rest : List Item) (first : Item) → new ≡ old ++ fi
     → IsPart old (first ∷ rest) new
 part_first old new rest first is =
     record { written = first ∷ []; rest = rest; split = refl; grown = is }
-
-pub by_error : {T E P : Type 0} (r : Result T E) → P → OnErr r P
-by_error (Ok x) p = tt
-by_error (Err e) p = p
 
 -- the first items were written, and then the rest
 pub both_written : {A : Type 0} (old begun new first rest : List A) → begun ≡ old ++ first

@@ -1,4 +1,4 @@
-use Rattle.ternary.proofs.WordLemmas.{meets_decides, meet_both, meet_disjoint, is_some-meet_of, meet_word, meet_covered, covers_reflexive, meets_comm, meet_comm, meet_assoc, meet_any, meet_exact, meet_within, meet_greatest, meets_cover, meet_monotone, meet_narrowed}
+use Rattle.ternary.proofs.WordLemmas.{meets_decides, meet_both, meet_disjoint, meet_is_some, meet_word, meet_covered, covers_reflexive, meets_comm, meet_comm, meet_assoc, meet_any, meet_exact, meet_within, meet_greatest, meets_cover, meet_monotone, meet_narrowed}
 use Rattle.ternary.proofs.laws.meet_laws.Goals as goal
 
 pub returns : goal.returns
@@ -6,7 +6,7 @@ returns c = record {
   bitwise = meets_decides;
   both = meet_both;
   none = meet_disjoint;
-  some = is_some-meet_of;
+  some = meet_is_some;
   word = meet_word;
   idempotent = λ a a_word. meet_covered a a a_word (covers_reflexive a);
   symmetric = meets_comm;

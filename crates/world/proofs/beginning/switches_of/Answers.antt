@@ -3,11 +3,12 @@ use Rattle.std.specs.List.{range_with_len}
 use Rattle.std.proofs.lemmas.List.FromFn.{map-range_with_len_more}
 use Rattle.failover.specs.Adverts.{first_adverts}
 use Rattle.switch_core.specs.State.{HasOwnUpTo, SwitchValue, begun}
+use Rattle.switch_core.proofs.SwitchLaws.{own_first}
 use Rattle.net_file.specs.Owners.{links_of}
 use Rattle.switch_table.specs.Tables.{tables_of}
 use Rattle.switch_table.specs.declared.tables.Tables.{Tables}
 use Rattle.refinement.specs.Begun.{switch_begun}
-use Rattle.refinement.proofs.Firsts.{first_near, first_own, first_tables}
+use Rattle.refinement.proofs.Firsts.{first_near, first_tables}
 use Rattle.world.proofs.beginning.switches_of.Goals as goal
 
 pub begin-requires-clause-own : goal.begin-requires-clause-own
@@ -17,7 +18,7 @@ begin-requires-clause-own c =
     let below : c.loop-number.number < 64 =
     omega (arith, many, c.requires.net.few_switches) in
     subst (λ base. HasOwnUpTo base c.loop-number.number 1 1) (sym c.begin-base.ensures)
-    (first_own c.args.near.now (length c.items-count.result.now) c.loop-number.number below)
+    (own_first c.args.near.now (length c.items-count.result.now) c.loop-number.number below)
 
 pub begin-requires-clause-version : goal.begin-requires-clause-version
 begin-requires-clause-version c =

@@ -17,7 +17,7 @@ use Rattle.refinement.proofs.Crashed.{crash_may, crash_next, crash_piece, crash_
 use Rattle.world.proofs.Frame.{goes, goes_nothing, net_stays, none_ok, nothing_goes}
 use Rattle.world.proofs.GoesTold.{same_control}
 use Rattle.world.proofs.OverSwitches.{few_in, place_in, switch_in}
-use Rattle.world_log.proofs.Writing.{by_error, part_of_first, part_of_rest, step_part, step_written, three_ok}
+use Rattle.world_log.proofs.Writing.{part_of_first, part_of_rest, step_part, step_written, three_ok, on_err}
 use Rattle.world.proofs.parts.Parts.crash.Goals as goal
 use Rattle.world.proofs.parts.Parts.crash.Goals.{After-index_mut}
 
@@ -73,7 +73,7 @@ returns-in_err-lose_at c = λ before row begins.
     (none_ok _ r failed) (none_ok _ r failed)
     (step_part r self.log.journal c.push-2.new.self c.lose_at.new.self.journal (losses ++ sends)
     (item.Down s ∷ losses ++ sends) (item.Down s) refl c.in_ok-push.ensures.pushed
-    (by_error r (part_of_first c.push-2.new.self losses sends c.lose_at.new.self.journal
+    (on_err r (part_of_first c.push-2.new.self losses sends c.lose_at.new.self.journal
     c.in_err-lose_at.ensures.part)))
     (none_ok _ r failed)
 

@@ -1,7 +1,7 @@
 use Rattle.std.proofs.Common.{refl, arith}
-use Rattle.world_log.proofs.Writing.{by_error}
 use Rattle.world_log.proofs.LosingAt.{lost_all, lost_more, lost_part, lost_within, lost_written, none_lost}
 use Rattle.world_log.proofs.log.Log.lose_at.Goals as goal
+use Rattle.world_log.proofs.Writing.{on_err}
 
 pub loop-packet-init : goal.loop-packet-init
 loop-packet-init c =
@@ -22,7 +22,7 @@ loop-packet-smaller c =
 
 pub returns-in_err-push-clause-part : goal.returns-in_err-push-clause-part
 returns-in_err-push-clause-part c =
-    by_error c.from_residual.result
+    on_err c.from_residual.result
     (rw c.in_err-push.ensures.unchanged (lost_part _ _ _ _ _ _ c.loop-packet.invariant.0))
 
 pub returns-clause-written : goal.returns-clause-written

@@ -2,8 +2,8 @@ use Rattle.std.proofs.Common.{refl, subst, sym, length, ◌+◌, ◌∙◌, arit
 use Rattle.world_log.specs.Sending.{IsSpelled, act_items}
 use Rattle.world_log.specs.Writing.{IsPart}
 use Rattle.world_log.proofs.Sends.{done_begun, done_few, done_more, done_part, spelled_at}
-use Rattle.world_log.proofs.Writing.{by_error}
 use Rattle.world_log.proofs.log.Log.note_acts.Goals as goal
+use Rattle.world_log.proofs.Writing.{on_err}
 
 pub loop-act-init : goal.loop-act-init
 loop-act-init c =
@@ -23,7 +23,7 @@ note_act-requires c = record {
 
 pub returns-in_err-note_act-clause-part : goal.returns-in_err-note_act-clause-part
 returns-in_err-note_act-clause-part c =
-    by_error c.from_residual.result (subst (λ journal. IsPart c.args.self.now.journal
+    on_err c.from_residual.result (subst (λ journal. IsPart c.args.self.now.journal
     (act_items (length c.args.self.now.bag + 1) c.args.acts.now) journal)
     (sym c.in_err-note_act.ensures.unwritten)
     (done_part _ _ _ _ c.args.acts.now c.loop-act.act-index c.loop-act.invariant.0))

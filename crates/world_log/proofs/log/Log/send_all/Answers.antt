@@ -3,8 +3,8 @@ use Rattle.message_bag.specs.Feeding.{HasShortSpelling}
 use Rattle.update_machine.specs.Messages.{sent_from}
 use Rattle.world_log.specs.Writing.{IsPart}
 use Rattle.world_log.proofs.Sends.{spelled_at, sent_begun, sent_few, sent_more, sent_part}
-use Rattle.world_log.proofs.Writing.{by_error}
 use Rattle.world_log.proofs.log.Log.send_all.Goals as goal
+use Rattle.world_log.proofs.Writing.{on_err}
 
 pub loop-message-init : goal.loop-message-init
 loop-message-init c =
@@ -25,12 +25,12 @@ send-requires c = record {
 
 pub returns-in_err-clone-clause-part : goal.returns-in_err-clone-clause-part
 returns-in_err-clone-clause-part c =
-    by_error c.from_residual.result (sent_part _ _ _ _ c.args.messages.now
+    on_err c.from_residual.result (sent_part _ _ _ _ c.args.messages.now
     c.loop-message.message-index c.loop-message.invariant.0)
 
 pub returns-in_err-send-clause-part : goal.returns-in_err-send-clause-part
 returns-in_err-send-clause-part c =
-    by_error c.from_residual-in_err-send.result (subst (λ journal. IsPart c.args.self.now.journal
+    on_err c.from_residual-in_err-send.result (subst (λ journal. IsPart c.args.self.now.journal
     (sent_from (length c.args.self.now.bag + 1) c.args.messages.now) journal)
     (sym c.in_err-send.ensures.unwritten)
     (sent_part _ _ _ _ c.args.messages.now c.loop-message.message-index

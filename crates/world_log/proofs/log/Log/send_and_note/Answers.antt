@@ -8,7 +8,7 @@ use Rattle.ctrl_msg.specs.declared.message.Message.{Message}
 use Rattle.world_log.specs.Sending.{act_posts}
 use Rattle.world_log.specs.Writing.{IsPart}
 use Rattle.world_log.proofs.Sends.{AreDone, done_both, first_part, later_part, later_spelled, messages_spelled, posts_append, posts_as_acts, sent_as_acts, sent_done}
-use Rattle.world_log.proofs.Writing.{both_ok, by_error}
+use Rattle.world_log.proofs.Writing.{both_ok, on_err}
 use Rattle.world_log.proofs.log.Log.send_and_note.Goals as goal
 
 -- the messages are done as acts
@@ -62,7 +62,7 @@ pub returns-in_err-send_all-clause-part : goal.returns-in_err-send_all-clause-pa
 returns-in_err-send_all-clause-part c =
     let self = c.args.self.now in
     let messages = c.args.messages.now in
-    by_error c.from_residual.result (first_part self.journal c.send_all.new.self.journal (length self.bag + 1)
+    on_err c.from_residual.result (first_part self.journal c.send_all.new.self.journal (length self.bag + 1)
     (map Post messages) c.args.acts.now
     (subst (λ items. IsPart self.journal items c.send_all.new.self.journal)
     (sym (sent_as_acts (length self.bag + 1) messages)) c.in_err-send_all.ensures.part))
