@@ -3,13 +3,13 @@ use Rattle.std.specs.Prelude.{ℕ, ◌≡◌, ◌-◌, ◌≤◌, List, ◌++◌
 use Rattle.std.proofs.Common.{arith, length-take, take-append-drop, ap, sym, ◌∙◌}
 
 -- the places that hold this list
-abbrev pub filled : ℕ → List ℕ → List ℕ
-filled most xs = xs ++ replicate (most - length xs) 0
+abbrev pub filled_places : ℕ → List ℕ → List ℕ
+filled_places most xs = xs ++ replicate (most - length xs) 0
 
 -- places that are 0 past so many are those that hold their first so many
 pub filled-take : (most len : ℕ) (places : List ℕ) → length places ≡ most → len ≤ most
     → drop len places ≡ replicate (most - len) 0
-    → (length (take len places) ≡ len) × (filled most (take len places) ≡ places)
+    → (length (take len places) ≡ len) × (filled_places most (take len places) ≡ places)
 filled-take most len places all few rest =
     let held : length (take len places) ≡ len = omega (arith, length-take len places, all, few) in
     (held, rw held (ap (λ r. take len places ++ r) (sym rest) ∙ take-append-drop len places))

@@ -3,7 +3,7 @@
 //!
 //! `Failure` says what a call refuses, by a type of its own with its message, or want of memory;
 //! `?` makes one of a failure of memory. A reader of a text refuses `InRow` of its refusals. A
-//! `Listing` owns its items; the clones of a `SharedList` share its items, and those of a `Shared`
+//! `Items` owns its items; the clones of a `SharedList` share its items, and those of a `Shared`
 //! its value, so that contracts see what is in them and nothing of how it is held. A mask is a set
 //! of numbers below 64, as of switches and of ports, held as the bits of a number.
 //!
@@ -19,14 +19,14 @@
 #![tactic(auto)]
 
 mod error;
-mod listing;
+mod items;
 mod masks;
 mod row;
 mod shared;
 mod shared_list;
 
 pub use error::Failure;
-pub use listing::Listing;
+pub use items::Items;
 pub use masks::{has, mask_laws, only_if, with};
 pub use row::InRow;
 pub use shared::Shared;

@@ -18,33 +18,35 @@ use Rattle.ternary.specs.Laws.{CoversLaws, MeetLaws, ExactLaws, FreeLaws}
 use Rattle.ternary.specs.Meets.{covers_of, meets, meet_of, is_fixed_of, free_of, agrees_at, exact_word}
 use Rattle.ternary.proofs.CallerLemmas.{or_left, or_right}
 use Rattle.policy_rules.specs.declared.rules.Rule.{Rule}
-use Rattle.cache_maker.specs.Independent.{IsIndependent, is_apart, is_independent, widened}
-use Rattle.cache_maker.specs.Differing.{differing, differs_alone, IsHighest, HaveHighest}
+use Rattle.cache_maker.specs.Independent.{IsIndependent, is_apart, is_independent, widening_of}
+use Rattle.cache_maker.specs.Differing.{differing_bits, differs_alone, IsHighest, HaveHighest}
 use Rattle.cache_maker.proofs.Independence.{true_not, is_independent_at}
 use Rattle.cache_maker.proofs.Widening.{widened_wider}
 
 -- ---- the fixed bits of a word that is widened from the lowest bit on
 
 pub still_fixed : ExactLaws → FreeLaws → (h : ℕ) (region : WordValue) (rules : List Rule)
-    (index n j : ℕ) → n ≤ j → j < 104 → IsTrue (is_fixed_of (widened h region rules index n) j)
-unfolding widened
+    (index n j : ℕ) → n ≤ j → j < 104 → IsTrue (is_fixed_of (widening_of h region rules index n) j)
+unfolding widening_of
 still_fixed exact free h region rules index zero j from below = exact.no_free_bit h j below
 still_fixed exact free h region rules index (suc n) j from below =
     let other : j ≢ n = omega arith in
     let before = still_fixed exact free h region rules index n j (omega arith) below in
-    by_test (is_independent region rules index (free_of (widened h region rules index n) n)) other
+    by_test (is_independent region rules index (free_of (widening_of h region rules index n) n))
+    other
     before
   where
-    by_test : (b : Bool) → j ≢ n → IsTrue (is_fixed_of (widened h region rules index n) j)
-        → IsTrue (is_fixed_of (cond b (free_of (widened h region rules index n) n)
-        (widened h region rules index n)) j)
-    by_test true other before = free.other_bit (widened h region rules index n) n j other ∙ before
+    by_test : (b : Bool) → j ≢ n → IsTrue (is_fixed_of (widening_of h region rules index n) j)
+        → IsTrue (is_fixed_of (cond b (free_of (widening_of h region rules index n) n)
+        (widening_of h region rules index n)) j)
+    by_test true other before = free.other_bit (widening_of h region rules index n) n j other
+        ∙ before
     by_test false other before = before
 
 pub as_header : CoversLaws → FreeLaws → (h : ℕ) (region : WordValue) (rules : List Rule)
-    (index n j : ℕ) → IsTrue (is_fixed_of (widened h region rules index n) j)
-    → bit_at (widened h region rules index n).value j ≡ bit_at h j
-unfolding widened is_fixed_of
+    (index n j : ℕ) → IsTrue (is_fixed_of (widening_of h region rules index n) j)
+    → bit_at (widening_of h region rules index n).value j ≡ bit_at h j
+unfolding widening_of is_fixed_of
 as_header covers free h region rules index n j fixed =
     let wider = widened_wider covers free h region rules index 0 n (omega arith) in
     sym (((covers.bitwise _ (exact_word h)).0 wider j (eqb-true _ _ fixed)).1)
@@ -63,7 +65,7 @@ none_of n = omega arith
 digits_agree : (a b m : ℕ) → a < 2 → b < 2 → m < 2 → differ a b m ≡ true → min ((a + b) % 2) m ≡ 0
 digits_agree a b m p q r e = grind (arith, nat_tests)
 
-bit_at_differing : (h : ℕ) (rule : WordValue) (j : ℕ) → bit_at (differing h rule) j ≡ min
+bit_at_differing : (h : ℕ) (rule : WordValue) (j : ℕ) → bit_at (differing_bits h rule) j ≡ min
     ((bit_at h j + bit_at rule.value j) % 2) (bit_at rule.mask j)
 bit_at_differing h rule j = bit_at_and (bit_xor h rule.value) rule.mask j
     ∙ ap (λ n. min n (bit_at rule.mask j)) (bit_at_xor h rule.value j)
@@ -79,7 +81,8 @@ agrees_as word rule h j fixed same =
     ∙ ap (λ v. not (bit_at rule.mask j == 1) || (v == bit_at rule.value j)) same
 
 differs_at : (word rule : WordValue) (h j : ℕ) → IsTrue (is_fixed_of word j)
-    → bit_at word.value j ≡ bit_at h j → agrees_at word rule j ≡ false → bit_at (differing h rule) j
+    → bit_at word.value j ≡ bit_at h j → agrees_at word rule j ≡ false
+    → bit_at (differing_bits h rule) j
     ≡ 1
 differs_at word rule h j fixed same e =
     bit_at_differing h rule j ∙ digits_differ _ _ _ (bit_at-lt h j) (bit_at-lt rule.value j)
@@ -87,12 +90,13 @@ differs_at word rule h j fixed same e =
 
 same_at : (word rule : WordValue) (h j : ℕ) → IsTrue (is_fixed_of word j)
     → bit_at word.value j ≡ bit_at h j → IsTrue (agrees_at word rule j)
-    → bit_at (differing h rule) j ≡ 0
+    → bit_at (differing_bits h rule) j ≡ 0
 same_at word rule h j fixed same e =
     bit_at_differing h rule j ∙ digits_agree _ _ _ (bit_at-lt h j) (bit_at-lt rule.value j)
     (bit_at-lt rule.mask j) (sym (agrees_as word rule h j fixed same) ∙ e)
 
-pub past_header : (h j : ℕ) (rule : WordValue) → IsWord rule → 104 ≤ j → bit_at (differing h rule) j ≡ 0
+pub past_header : (h j : ℕ) (rule : WordValue) → IsWord rule → 104 ≤ j
+    → bit_at (differing_bits h rule) j ≡ 0
 past_header h j rule is past =
     bit_at_differing h rule j ∙ ap (λ m. min ((bit_at h j + bit_at rule.value j) % 2) m)
     (bit_at_above rule.mask 104 j is.bounded past) ∙ none_of _
@@ -104,11 +108,11 @@ right_false a b c e is_false is_true = sym (ap (λ x. x && c) is_true) ∙ sym e
 
 pub last_bit : CoversLaws → ExactLaws → FreeLaws → (h : ℕ) (region : WordValue) (rules : List Rule)
     (index n : ℕ) (rule : WordValue) → n < 104 → IsWord rule
-    → meets (widened h region rules index n) rule ≡ false
-    → IsTrue (meets (free_of (widened h region rules index n) n) rule)
-    → IsHighest (differing h rule) n
+    → meets (widening_of h region rules index n) rule ≡ false
+    → IsTrue (meets (free_of (widening_of h region rules index n) n) rule)
+    → IsHighest (differing_bits h rule) n
 last_bit covers exact free h region rules index n rule bound is apart met =
-    let word = widened h region rules index n in
+    let word = widening_of h region rules index n in
     let here = still_fixed exact free h region rules index n n (omega arith) bound in
     record {
       set = differs_at word rule h n here (as_header covers free h region rules index n n here)
@@ -128,13 +132,13 @@ last_bit covers exact free h region rules index n rule bound is apart met =
 -- alone that the region and the rule leave free
 pub differs_freely : CoversLaws → ExactLaws → FreeLaws → (h : ℕ) (region : WordValue)
     (rules : List Rule) (index n : ℕ) (free_bits : ℕ) (rule : WordValue) → IsWord rule
-    → ((j : ℕ) → j < 104 → j ≢ n → bit_at (widened h region rules index n).mask j ≢ 1
+    → ((j : ℕ) → j < 104 → j ≢ n → bit_at (widening_of h region rules index n).mask j ≢ 1
     → bit_at free_bits j ≡ 1) → bit_at free_bits n ≡ 1
-    → IsTrue (meets (free_of (widened h region rules index n) n) rule)
-    → bit_and (differing h rule) free_bits ≡ differing h rule
+    → IsTrue (meets (free_of (widening_of h region rules index n) n) rule)
+    → bit_and (differing_bits h rule) free_bits ≡ differing_bits h rule
 unfolding is_fixed_of
 differs_freely covers exact free h region rules index n free_bits rule is frees at_n met =
-    same_from_bits _ _ (λ j. bit_at_and (differing h rule) free_bits j ∙ by_place j)
+    same_from_bits _ _ (λ j. bit_at_and (differing_bits h rule) free_bits j ∙ by_place j)
   where
     kept : (a b : ℕ) → a < 2 → b ≡ 1 → min a b ≡ a
     kept a b small one = omega (arith, small, one)
@@ -142,19 +146,20 @@ differs_freely covers exact free h region rules index n free_bits rule is frees 
     gone : (a b : ℕ) → a ≡ 0 → min a b ≡ a
     gone a b none = omega (arith, none)
 
-    by_place : (j : ℕ) → min (bit_at (differing h rule) j) (bit_at free_bits j)
-        ≡ bit_at (differing h rule) j
+    by_place : (j : ℕ) → min (bit_at (differing_bits h rule) j) (bit_at free_bits j)
+        ≡ bit_at (differing_bits h rule) j
     by_place j = elim (cases_eq j n) [
-      | inl here ↦ kept _ _ (bit_at-lt (differing h rule) j)
+      | inl here ↦ kept _ _ (bit_at-lt (differing_bits h rule) j)
           (ap (λ k. bit_at free_bits k) here ∙ at_n)
       | inr other ↦ elim (cases_lt j 104) [
-        | inl within ↦ elim (cases_eq (bit_at (widened h region rules index n).mask j) 1) [
+        | inl within ↦ elim (cases_eq (bit_at (widening_of h region rules index n).mask j) 1) [
           | inl fixed ↦
               let is_fixed = eq-eqb _ _ fixed in
-              gone _ _ (same_at (widened h region rules index n) rule h j is_fixed
+              gone _ _ (same_at (widening_of h region rules index n) rule h j is_fixed
               (as_header covers free h region rules index n j is_fixed)
-              ((free.meets_others (widened h region rules index n) rule n).0 met j other))
-          | inr unfixed ↦ kept _ _ (bit_at-lt (differing h rule) j) (frees j within other unfixed)
+              ((free.meets_others (widening_of h region rules index n) rule n).0 met j other))
+          | inr unfixed ↦ kept _ _ (bit_at-lt (differing_bits h rule) j)
+              (frees j within other unfixed)
         ]
         | inr beyond ↦ gone _ _ (past_header h j rule is beyond)
       ]
@@ -163,32 +168,32 @@ differs_freely covers exact free h region rules index n free_bits rule is frees 
 pub apart_unless : CoversLaws → MeetLaws → ExactLaws → FreeLaws
     → (h : ℕ) (region : WordValue) (rules : List Rule) (index n free_bits highest : ℕ) → n < 104
     → All (λ rule. IsWord rule.word) rules → HaveHighest highest h free_bits (take index rules)
-    → ((j : ℕ) → j < 104 → j ≢ n → bit_at (widened h region rules index n).mask j ≢ 1
+    → ((j : ℕ) → j < 104 → j ≢ n → bit_at (widening_of h region rules index n).mask j ≢ 1
     → bit_at free_bits j ≡ 1)
-    → IsIndependent region rules index (widened h region rules index n) → bit_at free_bits n ≡ 1
+    → IsIndependent region rules index (widening_of h region rules index n) → bit_at free_bits n ≡ 1
     → bit_at highest n ≢ 1
-    → IsTrue (is_apart (free_of (widened h region rules index n) n) (take index rules))
+    → IsTrue (is_apart (free_of (widening_of h region rules index n) n) (take index rules))
 unfolding is_apart
 apart_unless covers meet exact free h region rules index n free_bits highest bound words have frees
     independent at_n unset =
     let words_before = All-take (λ (rule : Rule). IsWord rule.word) index rules words in
     list_all-from_AllPass (λ rule.
-    is_none (meet_of (free_of (widened h region rules index n) n) rule.word)) (take index rules)
+    is_none (meet_of (free_of (widening_of h region rules index n) n) rule.word)) (take index rules)
     (λ k d within.
     true_not _ (by_test (get_or (take index rules) k d) (words_before k d within) (have k d within)
     (independent.earlier k d within)))
   where
     by_test : (rule : Rule) → IsWord rule.word
-        → ((k : ℕ) → IsHighest (differing h rule.word) k
-        → bit_and (differing h rule.word) free_bits ≡ differing h rule.word
+        → ((k : ℕ) → IsHighest (differing_bits h rule.word) k
+        → bit_and (differing_bits h rule.word) free_bits ≡ differing_bits h rule.word
         → bit_at highest k ≡ 1)
-        → is_some (meet_of (widened h region rules index n) rule.word) ≡ false
-        → is_some (meet_of (free_of (widened h region rules index n) n) rule.word) ≡ false
+        → is_some (meet_of (widening_of h region rules index n) rule.word) ≡ false
+        → is_some (meet_of (free_of (widening_of h region rules index n) n) rule.word) ≡ false
     by_test rule is has apart =
-        by_bool (meets (free_of (widened h region rules index n) n) rule.word) refl
+        by_bool (meets (free_of (widening_of h region rules index n) n) rule.word) refl
       where
-        by_bool : (b : Bool) → meets (free_of (widened h region rules index n) n) rule.word ≡ b
-            → is_some (meet_of (free_of (widened h region rules index n) n) rule.word) ≡ false
+        by_bool : (b : Bool) → meets (free_of (widening_of h region rules index n) n) rule.word ≡ b
+            → is_some (meet_of (free_of (widening_of h region rules index n) n) rule.word) ≡ false
         by_bool true met = absurd
             (unset (has n (last_bit covers exact free h region rules index n rule.word bound is
             (sym (meet.some _ _) ∙ apart) met)
@@ -202,12 +207,12 @@ apart_unless covers meet exact free h region rules index n free_bits highest bou
 -- meets it
 differs_in_one : CoversLaws → ExactLaws → FreeLaws → (h : ℕ) (region : WordValue)
     (rules : List Rule) (index n : ℕ) (rule : WordValue) → n < 104 → IsWord rule
-    → meets (widened h region rules index n) rule ≡ false
-    → (bit_and (differing h rule) (widened h region rules index n).mask == 2 ^ n)
-    ≡ meets (free_of (widened h region rules index n) n) rule
+    → meets (widening_of h region rules index n) rule ≡ false
+    → (bit_and (differing_bits h rule) (widening_of h region rules index n).mask == 2 ^ n)
+    ≡ meets (free_of (widening_of h region rules index n) n) rule
 unfolding is_fixed_of agrees_at
 differs_in_one covers exact free h region rules index n rule bound is apart =
-    by_meet (meets (free_of (widened h region rules index n) n) rule) refl
+    by_meet (meets (free_of (widening_of h region rules index n) n) rule) refl
   where
     both_one : (a b : ℕ) → a ≡ 1 → b ≡ 1 → min a b ≡ 1
     both_one a b p q = omega (arith, p, q)
@@ -221,67 +226,81 @@ differs_in_one covers exact free h region rules index n rule bound is apart =
     from_none : (a b : ℕ) → b ≡ 1 → min a b ≡ 0 → a ≡ 0
     from_none a b one none = omega (arith, one, none)
 
-    by_meet : (b : Bool) → meets (free_of (widened h region rules index n) n) rule ≡ b
-        → (bit_and (differing h rule) (widened h region rules index n).mask == 2 ^ n) ≡ b
+    by_meet : (b : Bool) → meets (free_of (widening_of h region rules index n) n) rule ≡ b
+        → (bit_and (differing_bits h rule) (widening_of h region rules index n).mask == 2 ^ n) ≡ b
     by_meet true met = eq-eqb _ _ (same_from_bits _ _ (λ j.
-        bit_at_and (differing h rule) (widened h region rules index n).mask j ∙ by_place j))
+        bit_at_and (differing_bits h rule) (widening_of h region rules index n).mask j
+        ∙ by_place j))
       where
-        here : IsTrue (is_fixed_of (widened h region rules index n) n)
+        here : IsTrue (is_fixed_of (widening_of h region rules index n) n)
         here = still_fixed exact free h region rules index n n (omega arith) bound
 
-        by_place : (j : ℕ) → min (bit_at (differing h rule) j) (bit_at (widened h region rules index n).mask j)
+        by_place : (j : ℕ) → min (bit_at (differing_bits h rule) j)
+            (bit_at (widening_of h region rules index n).mask j)
             ≡ bit_at (2 ^ n) j
         by_place j = elim (cases_eq j n) [
           | inl same ↦
               let highest = last_bit covers exact free h region rules index n rule bound is apart
               met in
-              both_one _ _ (ap (λ k. bit_at (differing h rule) k) same ∙ highest.set)
-              (ap (λ k. bit_at (widened h region rules index n).mask k) same ∙ eqb-true _ _ here)
+              both_one _ _ (ap (λ k. bit_at (differing_bits h rule) k) same ∙ highest.set)
+              (ap (λ k. bit_at (widening_of h region rules index n).mask k) same
+              ∙ eqb-true _ _ here)
               ∙ sym (ap (λ k. bit_at (2 ^ n) k) same ∙ bit_at-pow_same n)
           | inr other ↦ none_at j other ∙ sym (bit_at-pow_other n j other)
         ]
           where
             none_at : (j : ℕ) → j ≢ n
-                → min (bit_at (differing h rule) j) (bit_at (widened h region rules index n).mask j) ≡ 0
-            none_at j other = elim (cases_eq (bit_at (widened h region rules index n).mask j) 1) [
-              | inl fixed ↦
-                  let is_fixed = eq-eqb _ _ fixed in
-                  first_none _ _ (same_at (widened h region rules index n) rule h j is_fixed
-                  (as_header covers free h region rules index n j is_fixed)
-                  ((free.meets_others (widened h region rules index n) rule n).0 met j other))
-              | inr unfixed ↦ second_none _ _ (bit_at-lt (widened h region rules index n).mask j) unfixed
-            ]
-    by_meet false not_met = by_test (bit_and (differing h rule) (widened h region rules index n).mask == 2 ^ n) refl
+                → min (bit_at (differing_bits h rule) j)
+                (bit_at (widening_of h region rules index n).mask j) ≡ 0
+            none_at j other = elim (cases_eq (bit_at (widening_of h region rules index n).mask j)
+                1) [
+                  | inl fixed ↦
+                      let is_fixed = eq-eqb _ _ fixed in
+                      first_none _ _ (same_at (widening_of h region rules index n) rule h j is_fixed
+                      (as_header covers free h region rules index n j is_fixed)
+                      ((free.meets_others (widening_of h region rules index n) rule n).0 met j other))
+                  | inr unfixed ↦ second_none _ _ (bit_at-lt (widening_of h region rules index n).mask
+                      j) unfixed
+                ]
+    by_meet false not_met = by_test (bit_and (differing_bits h rule)
+        (widening_of h region rules index n).mask == 2 ^ n) refl
       where
-        agrees : bit_and (differing h rule) (widened h region rules index n).mask ≡ 2 ^ n → (j : ℕ) → j ≢ n
-            → IsTrue (agrees_at (widened h region rules index n) rule j)
-        agrees same j other = elim (cases_Bool (agrees_at (widened h region rules index n) rule j)) [
-          | inl agree ↦ agree
-          | inr apart_at ↦ elim (cases_Bool (is_fixed_of (widened h region rules index n) j)) [
-            | inl fixed ↦
-                let one = differs_at (widened h region rules index n) rule h j fixed
-                (as_header covers free h region rules index n j fixed) apart_at in
-                let none : min (bit_at (differing h rule) j) (bit_at (widened h region rules index n).mask j) ≡ 0 =
-                sym (bit_at_and (differing h rule) (widened h region rules index n).mask j) ∙ ap (λ m. bit_at m j) same
-                ∙ bit_at-pow_other n j other in
-                absurd (omega (arith, one, from_none _ _ (eqb-true _ _ fixed) none))
-            | inr unfixed ↦
-                absurd (both_ways _ apart_at (ap (λ f. not (f && (bit_at rule.mask j == 1))
-                || (bit_at (widened h region rules index n).value j == bit_at rule.value j)) unfixed))
-          ]
-        ]
+        agrees : bit_and (differing_bits h rule) (widening_of h region rules index n).mask ≡ 2 ^ n
+            → (j : ℕ) → j ≢ n
+            → IsTrue (agrees_at (widening_of h region rules index n) rule j)
+        agrees same j other = elim (cases_Bool
+            (agrees_at (widening_of h region rules index n) rule j)) [
+              | inl agree ↦ agree
+              | inr apart_at ↦ elim (cases_Bool (is_fixed_of (widening_of h region rules index n) j)) [
+                | inl fixed ↦
+                    let one = differs_at (widening_of h region rules index n) rule h j fixed
+                    (as_header covers free h region rules index n j fixed) apart_at in
+                    let none : min (bit_at (differing_bits h rule) j)
+                    (bit_at (widening_of h region rules index n).mask j) ≡ 0 =
+                    sym (bit_at_and (differing_bits h rule) (widening_of h region rules index n).mask j)
+                    ∙ ap (λ m. bit_at m j) same
+                    ∙ bit_at-pow_other n j other in
+                    absurd (omega (arith, one, from_none _ _ (eqb-true _ _ fixed) none))
+                | inr unfixed ↦
+                    absurd (both_ways _ apart_at (ap (λ f. not (f && (bit_at rule.mask j == 1))
+                    || (bit_at (widening_of h region rules index n).value j == bit_at rule.value j))
+                    unfixed))
+              ]
+            ]
 
-        by_test : (b : Bool) → (bit_and (differing h rule) (widened h region rules index n).mask == 2 ^ n) ≡ b → b ≡ false
+        by_test : (b : Bool) → (bit_and (differing_bits h rule)
+            (widening_of h region rules index n).mask == 2 ^ n) ≡ b → b ≡ false
         by_test true equal = absurd (both_ways _ not_met
-            ((free.meets_others (widened h region rules index n) rule n).1 (agrees (eqb-true _ _ equal))))
+            ((free.meets_others (widening_of h region rules index n) rule n).1
+            (agrees (eqb-true _ _ equal))))
         by_test false unequal = refl
 
 -- no rule differs from the word in this bit alone, where the freed word is apart from all
 pub differs_in_none : CoversLaws → MeetLaws → ExactLaws → FreeLaws → (h : ℕ) (region : WordValue)
     (rules : List Rule) (index n : ℕ) → n < 104 → All (λ rule. IsWord rule.word) rules
-    → IsIndependent region rules index (widened h region rules index n)
-    → not (differs_alone h (widened h region rules index n).mask (2 ^ n) (take index rules))
-    ≡ is_apart (free_of (widened h region rules index n) n) (take index rules)
+    → IsIndependent region rules index (widening_of h region rules index n)
+    → not (differs_alone h (widening_of h region rules index n).mask (2 ^ n) (take index rules))
+    ≡ is_apart (free_of (widening_of h region rules index n) n) (take index rules)
 unfolding is_apart
 differs_in_none covers meet exact free h region rules index n bound words independent =
     all_of (take index rules) (All-take (λ (rule : Rule). IsWord rule.word) index rules words)
@@ -292,22 +311,27 @@ differs_in_none covers meet exact free h region rules index n bound words indepe
     neither false b = refl
 
     all_of : (list : List Rule) → All (λ rule. IsWord rule.word) list
-        → All (λ rule. IsNone (meet_of (widened h region rules index n) rule.word)) list
-        → not (differs_alone h (widened h region rules index n).mask (2 ^ n) list)
-        ≡ list_all (λ rule. is_none (meet_of (free_of (widened h region rules index n) n) rule.word)) list
+        → All (λ rule. IsNone (meet_of (widening_of h region rules index n) rule.word)) list
+        → not (differs_alone h (widening_of h region rules index n).mask (2 ^ n) list)
+        ≡ list_all (λ rule. is_none (meet_of (free_of (widening_of h region rules index n) n)
+        rule.word)) list
     all_of [] sound apart = refl
     all_of (rule ∷ list) sound apart =
         let P : Rule → Type 0 = λ r. IsWord r.word in
-        let Q : Rule → Type 0 = λ r. IsNone (meet_of (widened h region rules index n) r.word) in
+        let Q : Rule → Type 0 = λ r. IsNone (meet_of (widening_of h region rules index n) r.word) in
         let here = differs_in_one covers exact free h region rules index n rule.word bound
         (All-head P rule list sound)
-        (sym (meet.some (widened h region rules index n) rule.word) ∙ All-head Q rule list apart) in
+        (sym (meet.some (widening_of h region rules index n) rule.word)
+        ∙ All-head Q rule list apart) in
         let rest = all_of list (All-tail P rule list sound) (All-tail Q rule list apart) in
-        neither (bit_and (differing h rule.word) (widened h region rules index n).mask == 2 ^ n)
-        (differs_alone h (widened h region rules index n).mask (2 ^ n) list)
-        ∙ ap (λ t. not t && not (differs_alone h (widened h region rules index n).mask (2 ^ n) list))
-        (here ∙ sym (meet.some (free_of (widened h region rules index n) n) rule.word))
-        ∙ ap (λ t. is_none (meet_of (free_of (widened h region rules index n) n) rule.word) && t) rest
+        neither (bit_and (differing_bits h rule.word) (widening_of h region rules index n).mask == 2
+        ^ n)
+        (differs_alone h (widening_of h region rules index n).mask (2 ^ n) list)
+        ∙ ap (λ t. not t && not (differs_alone h (widening_of h region rules index n).mask (2 ^ n)
+        list))
+        (here ∙ sym (meet.some (free_of (widening_of h region rules index n) n) rule.word))
+        ∙ ap (λ t. is_none (meet_of (free_of (widening_of h region rules index n) n) rule.word)
+        && t) rest
 
 -- ---- the test
 
@@ -402,24 +426,25 @@ highest_set n bit k low high is = by_order (cases_eq k bit)
 -- one rule more: with its highest bit, or where it differs in other bits too
 pub have_more : (mask bit h free_bits : ℕ) (rules : List Rule) (i : ℕ) (d : Rule)
     → i < length rules → HaveHighest mask h free_bits (take i rules)
-    → ((k : ℕ) → IsHighest (differing h (get_or rules i d).word) k → bit_at bit k ≡ 1)
+    → ((k : ℕ) → IsHighest (differing_bits h (get_or rules i d).word) k → bit_at bit k ≡ 1)
     → HaveHighest (bit_or mask bit) h free_bits (take (i + 1) rules)
 have_more mask bit h free_bits rules i d within have next =
     subst (λ rs. HaveHighest (bit_or mask bit) h free_bits rs) (sym (take_more rules i d within))
-    (All-push (λ (rule : Rule). (k : ℕ) → IsHighest (differing h rule.word) k
-    → bit_and (differing h rule.word) free_bits ≡ differing h rule.word
+    (All-push (λ (rule : Rule). (k : ℕ) → IsHighest (differing_bits h rule.word) k
+    → bit_and (differing_bits h rule.word) free_bits ≡ differing_bits h rule.word
     → bit_at (bit_or mask bit) k ≡ 1) (take i rules) (get_or rules i d)
     (λ j e below k is freely. or_left mask bit k (have j e below k is freely))
     (λ k is freely. or_right mask bit k (next k is)))
 
 pub have_same : (mask h free_bits : ℕ) (rules : List Rule) (i : ℕ) (d : Rule)
     → i < length rules → HaveHighest mask h free_bits (take i rules)
-    → (bit_and (differing h (get_or rules i d).word) free_bits
-    ≡ differing h (get_or rules i d).word → ⊥)
+    → (bit_and (differing_bits h (get_or rules i d).word) free_bits
+    ≡ differing_bits h (get_or rules i d).word → ⊥)
     → HaveHighest mask h free_bits (take (i + 1) rules)
 have_same mask h free_bits rules i d within have not_freely =
     subst (λ rs. HaveHighest mask h free_bits rs) (sym (take_more rules i d within))
-    (All-push (λ (rule : Rule). (k : ℕ) → IsHighest (differing h rule.word) k
-    → bit_and (differing h rule.word) free_bits ≡ differing h rule.word → bit_at mask k ≡ 1)
+    (All-push (λ (rule : Rule). (k : ℕ) → IsHighest (differing_bits h rule.word) k
+    → bit_and (differing_bits h rule.word) free_bits ≡ differing_bits h rule.word → bit_at mask k
+    ≡ 1)
     (take i rules) (get_or rules i d) have
     (λ k is freely. absurd (not_freely freely)))

@@ -17,8 +17,8 @@ use Rattle.ternary.specs.Laws.{CoversLaws, MeetLaws, ExactLaws, FreeLaws}
 use Rattle.ternary.specs.Meets.{covers_of, exact_word, is_fixed_of, free_of}
 use Rattle.ternary.proofs.CallerLemmas.{or_right}
 use Rattle.policy_rules.specs.declared.rules.Rule.{Rule}
-use Rattle.cache_maker.specs.Independent.{IsIndependent, is_apart, is_independent, widened}
-use Rattle.cache_maker.specs.Differing.{differing, differs_alone, IsHighest, HaveHighest}
+use Rattle.cache_maker.specs.Independent.{IsIndependent, is_apart, is_independent, widening_of}
+use Rattle.cache_maker.specs.Differing.{differing_bits, differs_alone, IsHighest, HaveHighest}
 use Rattle.cache_maker.proofs.Widening.{widened_independent, widened_word}
 use Rattle.cache_maker.proofs.Differing.{apart_unless, as_header, free_in_both, past_header, still_fixed, test_parts, differs_in_none}
 
@@ -43,7 +43,7 @@ pub record IsGiven (h : ℕ) (region : WordValue) (rules : List Rule)
 pub record IsLeft (h : ℕ) (region : WordValue) (rules : List Rule)
     (index free_bits last fixed untested : ℕ) : Type 0 where
   pub done : (j : ℕ) → bit_at untested j ≢ 1
-      → (bit_at fixed j == 1) ≡ is_fixed_of (widened h region rules index 104) j
+      → (bit_at fixed j == 1) ≡ is_fixed_of (widening_of h region rules index 104) j
   pub kept : (j : ℕ) → bit_at untested j ≡ 1 → bit_at fixed j ≡ 1
   pub among : (j : ℕ) → bit_at untested j ≡ 1 → (bit_at free_bits j ≡ 1) × (j < 104)
   pub later : (j k : ℕ) → bit_at untested j ≡ 1 → j < k → bit_at free_bits k ≡ 1
@@ -66,52 +66,53 @@ digit_same a b p q e = grind (arith, nat_tests)
 
 -- a turn leaves the bits before it as they are
 kept_after : FreeLaws → (h : ℕ) (region : WordValue) (rules : List Rule) (index n m : ℕ) → n < m
-    → is_fixed_of (widened h region rules index m) n
-    ≡ is_fixed_of (widened h region rules index (suc n)) n
-unfolding widened
+    → is_fixed_of (widening_of h region rules index m) n
+    ≡ is_fixed_of (widening_of h region rules index (suc n)) n
+unfolding widening_of
 kept_after free h region rules index n zero below = absurd (omega arith)
 kept_after free h region rules index n (suc m) below = elim (cases_lt n m) [
   | inl within ↦
       let other : n ≢ m = omega arith in
-      by_test (is_independent region rules index (free_of (widened h region rules index m) m)) other
+      by_test (is_independent region rules index (free_of (widening_of h region rules index m) m))
+      other
       ∙ kept_after free h region rules index n m within
   | inr past ↦
       let same : suc m ≡ suc n = omega arith in
-      ap (λ k. is_fixed_of (widened h region rules index k) n) same
+      ap (λ k. is_fixed_of (widening_of h region rules index k) n) same
 ]
   where
     by_test : (b : Bool) → n ≢ m
-        → is_fixed_of (cond b (free_of (widened h region rules index m) m)
-        (widened h region rules index m)) n ≡ is_fixed_of (widened h region rules index m) n
-    by_test true other = free.other_bit (widened h region rules index m) m n other
+        → is_fixed_of (cond b (free_of (widening_of h region rules index m) m)
+        (widening_of h region rules index m)) n ≡ is_fixed_of (widening_of h region rules index m) n
+    by_test true other = free.other_bit (widening_of h region rules index m) m n other
     by_test false other = refl
 
 -- a bit stays fixed where it can't be freed in its turn
 turn : ExactLaws → FreeLaws → (h : ℕ) (region : WordValue) (rules : List Rule) (index n m : ℕ)
-    → n < m → n < 104 → is_fixed_of (widened h region rules index m) n
-    ≡ not (is_independent region rules index (free_of (widened h region rules index n) n))
-unfolding widened
+    → n < m → n < 104 → is_fixed_of (widening_of h region rules index m) n
+    ≡ not (is_independent region rules index (free_of (widening_of h region rules index n) n))
+unfolding widening_of
 turn exact free h region rules index n m before below =
     kept_after free h region rules index n m before
-    ∙ by_test (is_independent region rules index (free_of (widened h region rules index n) n))
+    ∙ by_test (is_independent region rules index (free_of (widening_of h region rules index n) n))
   where
-    by_test : (b : Bool) → is_fixed_of (cond b (free_of (widened h region rules index n) n)
-        (widened h region rules index n)) n ≡ not b
-    by_test true = free.same_bit (widened h region rules index n) n
+    by_test : (b : Bool) → is_fixed_of (cond b (free_of (widening_of h region rules index n) n)
+        (widening_of h region rules index n)) n ≡ not b
+    by_test true = free.same_bit (widening_of h region rules index n) n
     by_test false = still_fixed exact free h region rules index n n (omega arith) below
 
 pub independent_at : {h : ℕ} {region : WordValue} {rules : List Rule} {index free_bits last : ℕ} → IsGiven h region rules index free_bits last → (n : ℕ)
-    → IsIndependent region rules index (widened h region rules index n)
+    → IsIndependent region rules index (widening_of h region rules index n)
 independent_at {h} {region} {rules} {index} given n =
     widened_independent h region rules index n given.start
 
 -- whether a bit is fixed at last
 at_last : {h : ℕ} {region : WordValue} {rules : List Rule} {index free_bits last : ℕ}
     → IsGiven h region rules index free_bits last → (n : ℕ) → n < 104
-    → is_fixed_of (widened h region rules index 104) n ≡ not ((bit_at free_bits n == 1)
-    && is_apart (free_of (widened h region rules index n) n) (take index rules))
+    → is_fixed_of (widening_of h region rules index 104) n ≡ not ((bit_at free_bits n == 1)
+    && is_apart (free_of (widening_of h region rules index n) n) (take index rules))
 at_last {h} {region} {rules} {index} {free_bits} {last} given n below =
-    let word = widened h region rules index n in
+    let word = widening_of h region rules index n in
     let apart = is_apart (free_of word n) (take index rules) in
     turn given.exact given.free h region rules index n 104 below below
     ∙ ap not (sym (ap (λ b. b && apart) (given.frees n below)
@@ -119,9 +120,9 @@ at_last {h} {region} {rules} {index} {free_bits} {last} given n below =
 
 -- a bit that was freed in some turn is free
 unfixed_free : {h : ℕ} {region : WordValue} {rules : List Rule} {index free_bits last : ℕ} → IsGiven h region rules index free_bits last → (m j : ℕ) → j < 104
-    → bit_at (widened h region rules index m).mask j ≢ 1 → bit_at free_bits j ≡ 1
+    → bit_at (widening_of h region rules index m).mask j ≢ 1 → bit_at free_bits j ≡ 1
 unfixed_free {h} {region} {rules} {index} {free_bits} {last} given m j below unfixed =
-    let word = widened h region rules index m in
+    let word = widening_of h region rules index m in
     let is = independent_at given m in
     let in_rule = subst (λ o. IsSomeAnd o (λ (rule : Rule). IsTrue (covers_of rule.word word)))
     (slice_get-get_or rules index given.d given.within) is.in_rule in
@@ -157,11 +158,12 @@ both_one a b p q = omega arith
 
 -- a bit past the width is fixed in no word
 past_fixed : {h : ℕ} {region : WordValue} {rules : List Rule} {index free_bits last : ℕ} → IsGiven h region rules index free_bits last → (j : ℕ) → 104 ≤ j
-    → is_fixed_of (widened h region rules index 104) j ≡ false
+    → is_fixed_of (widening_of h region rules index 104) j ≡ false
 unfolding is_fixed_of
 past_fixed {h} {region} {rules} {index} given j past =
     let word = widened_word given.free h region rules index 104 (given.exact.word h given.bound) in
-    ap (λ n. n == 1) (bit_at_above (widened h region rules index 104).mask 104 j word.bounded past)
+    ap (λ n. n == 1) (bit_at_above (widening_of h region rules index 104).mask 104 j word.bounded
+    past)
 
 pub left_at_first : {h : ℕ} {region : WordValue} {rules : List Rule} {index free_bits last : ℕ} → IsGiven h region rules index free_bits last
     → IsLeft h region rules index free_bits last
@@ -196,7 +198,7 @@ left_at_first {h} {region} {rules} {index} {free_bits} {last} given = record {
 
     first_done : (j : ℕ) → j < 104 → bit_at (bit_and free_bits last) j ≢ 1
         → (bit_at (bit_or (bit_xor (2 ^ 104 - 1) free_bits) (bit_and free_bits last)) j == 1)
-        ≡ is_fixed_of (widened h region rules index 104) j
+        ≡ is_fixed_of (widening_of h region rules index 104) j
     first_done j below unset =
         ap (λ n. n == 1) (first_bit free_bits last j)
         ∙ ap (λ n. max ((n + bit_at free_bits j) % 2) (min (bit_at free_bits j) (bit_at last j))
@@ -205,7 +207,7 @@ left_at_first {h} {region} {rules} {index} {free_bits} {last} given = record {
         ∙ by_free (cases_Bool (bit_at free_bits j == 1)) ∙ sym (at_last given j below)
       where
         apart : Bool
-        apart = is_apart (free_of (widened h region rules index j) j) (take index rules)
+        apart = is_apart (free_of (widening_of h region rules index j) j) (take index rules)
 
         by_free : ((bit_at free_bits j == 1) ≡ true) ⊎ ((bit_at free_bits j == 1) ≡ false)
             → (not (bit_at free_bits j == 1) || (bit_at last j == 1))
@@ -243,20 +245,21 @@ same_below : {h : ℕ} {region : WordValue} {rules : List Rule}
     → IsGiven h region rules index free_bits last
     → IsLeft h region rules index free_bits last fixed untested → (n : ℕ) → n < 104
     → IsLowest untested n → (i : ℕ) → i < n
-    → bit_at fixed i ≡ bit_at (widened h region rules index n).mask i
+    → bit_at fixed i ≡ bit_at (widening_of h region rules index n).mask i
 unfolding is_fixed_of
 same_below {h} {region} {rules} {index} {free_bits} {last} {fixed} {untested} given left n below lowest i
     before =
     let unset : bit_at untested i ≢ 1 = λ one. absurd (omega (arith, lowest.below i before, one)) in
     let within : i < 104 = omega arith in
-    digit_same _ _ (bit_at-lt fixed i) (bit_at-lt (widened h region rules index n).mask i)
+    digit_same _ _ (bit_at-lt fixed i) (bit_at-lt (widening_of h region rules index n).mask i)
     (left.done i unset ∙ kept_after given.free h region rules index i 104 within
     ∙ sym (kept_after given.free h region rules index i n before))
 
 -- a rule that differs in free bits alone is tested at the highest of them
 abbrev IsTestedLast : ℕ → ℕ → ℕ → Rule → Type 0
-IsTestedLast h free_bits last rule = (k : ℕ) → IsHighest (differing h rule.word) k
-    → bit_and (differing h rule.word) free_bits ≡ differing h rule.word → bit_at last k ≡ 1
+IsTestedLast h free_bits last rule = (k : ℕ) → IsHighest (differing_bits h rule.word) k
+    → bit_and (differing_bits h rule.word) free_bits ≡ differing_bits h rule.word → bit_at last k
+    ≡ 1
 
 -- the highest bit in which such a rule differs would be untested
 differs_no_further : {h : ℕ} {region : WordValue} {rules : List Rule}
@@ -264,14 +267,14 @@ differs_no_further : {h : ℕ} {region : WordValue} {rules : List Rule}
     → IsGiven h region rules index free_bits last
     → IsLeft h region rules index free_bits last fixed untested → (n : ℕ)
     → IsLowest untested n → (rule : Rule) → IsWord rule.word → IsTestedLast h free_bits last rule
-    → bit_and (differing h rule.word) fixed ≡ 2 ^ n → (j : ℕ) → n < j
-    → bit_at (differing h rule.word) j ≡ 0
+    → bit_and (differing_bits h rule.word) fixed ≡ 2 ^ n → (j : ℕ) → n < j
+    → bit_at (differing_bits h rule.word) j ≡ 0
 unfolding is_fixed_of
 differs_no_further {h} {region} {rules} {index} {free_bits} {last} {fixed} {untested} given left n
     lowest rule is has same j past = zero_of _ (bit_at-lt bits j) none
   where
     bits : ℕ
-    bits = differing h rule.word
+    bits = differing_bits h rule.word
 
     at : (i : ℕ) → min (bit_at bits i) (bit_at fixed i) ≡ bit_at (2 ^ n) i
     at i = sym (bit_at_and bits fixed i) ∙ ap (λ x. bit_at x i) same
@@ -319,8 +322,8 @@ differs_alike : {h : ℕ} {region : WordValue} {rules : List Rule}
     → IsGiven h region rules index free_bits last
     → IsLeft h region rules index free_bits last fixed untested → (n : ℕ)
     → IsLowest untested n → (rule : Rule) → IsWord rule.word → IsTestedLast h free_bits last rule
-    → (bit_and (differing h rule.word) fixed == 2 ^ n)
-    ≡ (bit_and (differing h rule.word) (widened h region rules index n).mask == 2 ^ n)
+    → (bit_and (differing_bits h rule.word) fixed == 2 ^ n)
+    ≡ (bit_and (differing_bits h rule.word) (widening_of h region rules index n).mask == 2 ^ n)
 unfolding is_fixed_of
 differs_alike {h} {region} {rules} {index} {free_bits} {last} {fixed} {untested} given left n lowest
     rule is has =
@@ -328,10 +331,10 @@ differs_alike {h} {region} {rules} {index} {free_bits} {last} {fixed} {untested}
     (λ e. eq-eqb _ _ (at_once (eqb-true _ _ e)))
   where
     bits : ℕ
-    bits = differing h rule.word
+    bits = differing_bits h rule.word
 
     mask : ℕ
-    mask = (widened h region rules index n).mask
+    mask = (widening_of h region rules index n).mask
 
     below : n < 104
     below = (left.among n lowest.set).1
@@ -386,7 +389,7 @@ differs_fixed : {h : ℕ} {region : WordValue} {rules : List Rule}
     → IsGiven h region rules index free_bits last
     → IsLeft h region rules index free_bits last fixed untested → (n : ℕ)
     → IsLowest untested n → differs_alone h fixed (2 ^ n) (take index rules)
-    ≡ is_fixed_of (widened h region rules index 104) n
+    ≡ is_fixed_of (widening_of h region rules index 104) n
 differs_fixed {h} {region} {rules} {index} {free_bits} {last} {fixed} {untested} given left n lowest =
     let fits = left.among n lowest.set in
     all_of (take index rules) (All-take (λ (rule : Rule). IsWord rule.word) index rules given.words)
@@ -395,11 +398,12 @@ differs_fixed {h} {region} {rules} {index} {free_bits} {last} {fixed} {untested}
     ∙ ap not (differs_in_none given.covers given.meet given.exact given.free h region rules index n
     fits.1 given.words (independent_at given n))
     ∙ sym (at_last given n fits.1
-    ∙ ap (λ b. not (b && is_apart (free_of (widened h region rules index n) n) (take index rules)))
+    ∙ ap (λ b. not (b && is_apart (free_of (widening_of h region rules index n) n)
+    (take index rules)))
     (eq-eqb _ _ fits.0))
   where
     mask : ℕ
-    mask = (widened h region rules index n).mask
+    mask = (widening_of h region rules index n).mask
 
     twice : (b : Bool) → not (not b) ≡ b
     twice true = refl
@@ -411,12 +415,13 @@ differs_fixed {h} {region} {rules} {index} {free_bits} {last} {fixed} {untested}
     all_of [] sound has = refl
     all_of (rule ∷ list) sound has =
         let P : Rule → Type 0 = λ r. IsWord r.word in
-        let Q : Rule → Type 0 = λ r. (k : ℕ) → IsHighest (differing h r.word) k
-        → bit_and (differing h r.word) free_bits ≡ differing h r.word → bit_at last k ≡ 1 in
+        let Q : Rule → Type 0 = λ r. (k : ℕ) → IsHighest (differing_bits h r.word) k
+        → bit_and (differing_bits h r.word) free_bits ≡ differing_bits h r.word → bit_at last k
+        ≡ 1 in
         ap (λ b. b || differs_alone h fixed (2 ^ n) list)
         (differs_alike given left n lowest rule (All-head P rule list sound)
         (All-head Q rule list has))
-        ∙ ap (λ b. (bit_and (differing h rule.word) mask == 2 ^ n) || b)
+        ∙ ap (λ b. (bit_and (differing_bits h rule.word) mask == 2 ^ n) || b)
         (all_of list (All-tail P rule list sound) (All-tail Q rule list has))
 
 -- ---- after a test
@@ -454,7 +459,7 @@ left_next {h} {region} {rules} {index} {free_bits} {last} {fixed} {untested} giv
       done = λ j unset. elim (cases_eq j n) [
         | inl here ↦ ap (λ k. bit_at after k == 1) here ∙ tested alone made
             ∙ is ∙ differs_fixed given left n lowest
-            ∙ sym (ap (λ k. is_fixed_of (widened h region rules index 104) k) here)
+            ∙ sym (ap (λ k. is_fixed_of (widening_of h region rules index 104) k) here)
         | inr other ↦ ap (λ x. x == 1) (others alone made j other)
             ∙ left.done j (λ one. unset (xor_other untested n j other ∙ one))
       ];
@@ -493,14 +498,14 @@ pub word_at_last : {h : ℕ} {region : WordValue} {rules : List Rule}
     → IsGiven h region rules index free_bits last
     → IsLeft h region rules index free_bits last fixed 0
     → let word : WordValue = record { value = bit_and h fixed; mask = fixed } in
-    word ≡ widened h region rules index 104
+    word ≡ widening_of h region rules index 104
 unfolding is_fixed_of
 word_at_last {h} {region} {rules} {index} {free_bits} {last} {fixed} given left =
     ap (λ (m : ℕ). let w : WordValue = record { value = bit_and h m; mask = m } in w) masks
     ∙ ap (λ (v : ℕ). let w : WordValue = record { value = v; mask = word.mask } in w) values
   where
     word : WordValue
-    word = widened h region rules index 104
+    word = widening_of h region rules index 104
 
     masks : fixed ≡ word.mask
     masks = same_from_bits _ _ (λ j. digit_same _ _ (bit_at-lt fixed j) (bit_at-lt word.mask j)

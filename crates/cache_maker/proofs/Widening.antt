@@ -8,12 +8,12 @@ use Rattle.ternary.specs.WordBits.{IsWord}
 use Rattle.ternary.specs.Laws.{CoversLaws, MeetLaws, ExactLaws, FreeLaws}
 use Rattle.ternary.specs.Meets.{covers_of, exact_word, is_fixed_of, free_of}
 use Rattle.policy_rules.specs.declared.rules.Rule.{Rule}
-use Rattle.cache_maker.specs.Independent.{IsIndependent, is_independent, freed, widened}
+use Rattle.cache_maker.specs.Independent.{IsIndependent, is_independent, with_bit_freed, widening_of}
 use Rattle.cache_maker.proofs.Independence.{test_true, test_of, smaller}
 
 -- a step widens
 freed_wider : CoversLaws → FreeLaws → (region : WordValue) (rules : List Rule) (index bit : ℕ)
-    (word : WordValue) → IsTrue (covers_of (freed region rules index bit word) word)
+    (word : WordValue) → IsTrue (covers_of (with_bit_freed region rules index bit word) word)
 freed_wider covers free region rules index bit word =
     by_test (is_independent region rules index (free_of word bit))
   where
@@ -24,47 +24,47 @@ freed_wider covers free region rules index bit word =
 -- later words are wider
 pub widened_wider : CoversLaws → FreeLaws → (h : ℕ) (region : WordValue) (rules : List Rule)
     (index n m : ℕ) → n ≤ m → IsTrue
-    (covers_of (widened h region rules index m) (widened h region rules index n))
-unfolding widened
+    (covers_of (widening_of h region rules index m) (widening_of h region rules index n))
+unfolding widening_of
 widened_wider covers free h region rules index n zero upto =
     let none : 0 ≡ n = omega arith in
-    subst (λ k. IsTrue (covers_of (exact_word h) (widened h region rules index k))) none
+    subst (λ k. IsTrue (covers_of (exact_word h) (widening_of h region rules index k))) none
     (covers.reflexive (exact_word h))
 widened_wider covers free h region rules index n (suc m) upto = elim (cases_lt m n) [
   | inl past ↦
       let same : suc m ≡ n = omega arith in
-      subst (λ k. IsTrue (covers_of (widened h region rules index (suc m))
-      (widened h region rules index k))) same
-      (covers.reflexive (widened h region rules index (suc m)))
-  | inr within ↦ covers.transitive _ (widened h region rules index m) _
+      subst (λ k. IsTrue (covers_of (widening_of h region rules index (suc m))
+      (widening_of h region rules index k))) same
+      (covers.reflexive (widening_of h region rules index (suc m)))
+  | inr within ↦ covers.transitive _ (widening_of h region rules index m) _
       (freed_wider covers free region rules index m _)
       (widened_wider covers free h region rules index n m within)
 ]
 
 -- a bit that is fixed at last could not be freed in its turn
 unfreed : CoversLaws → FreeLaws → (h : ℕ) (region : WordValue) (rules : List Rule) (index bit m : ℕ)
-    → bit < m → IsTrue (is_fixed_of (widened h region rules index m) bit)
-    → is_independent region rules index (free_of (widened h region rules index bit) bit) ≡ false
-unfolding widened is_fixed_of
+    → bit < m → IsTrue (is_fixed_of (widening_of h region rules index m) bit)
+    → is_independent region rules index (free_of (widening_of h region rules index bit) bit) ≡ false
+unfolding widening_of is_fixed_of
 unfreed covers free h region rules index bit m within fixed =
-    let set : bit_at (widened h region rules index m).mask bit ≡ 1 = eqb-true _ _ fixed in
+    let set : bit_at (widening_of h region rules index m).mask bit ≡ 1 = eqb-true _ _ fixed in
     let wider = widened_wider covers free h region rules index (suc bit) m (omega arith) in
     let still = ((covers.bitwise _ _).0 wider bit set).0 in
-    by_test (is_independent region rules index (free_of (widened h region rules index bit) bit))
+    by_test (is_independent region rules index (free_of (widening_of h region rules index bit) bit))
     refl still
   where
     by_test : (b : Bool) → is_independent region rules index
-        (free_of (widened h region rules index bit) bit) ≡ b
-        → bit_at (cond b (free_of (widened h region rules index bit) bit)
-        (widened h region rules index bit)).mask bit ≡ 1 → b ≡ false
-    by_test true is one = let free_bit = free.same_bit (widened h region rules index bit) bit in
+        (free_of (widening_of h region rules index bit) bit) ≡ b
+        → bit_at (cond b (free_of (widening_of h region rules index bit) bit)
+        (widening_of h region rules index bit)).mask bit ≡ 1 → b ≡ false
+    by_test true is one = let free_bit = free.same_bit (widening_of h region rules index bit) bit in
         let fixed_bit = eq-eqb _ _ one in cc
     by_test false is one = refl
 
 -- and can't be freed at last
 pub widest : CoversLaws → MeetLaws → FreeLaws → (h : ℕ) (region : WordValue) (rules : List Rule)
-    (index bit : ℕ) → bit < 104 → IsTrue (is_fixed_of (widened h region rules index 104) bit)
-    → IsIndependent region rules index (free_of (widened h region rules index 104) bit) → ⊥
+    (index bit : ℕ) → bit < 104 → IsTrue (is_fixed_of (widening_of h region rules index 104) bit)
+    → IsIndependent region rules index (free_of (widening_of h region rules index 104) bit) → ⊥
 widest covers meet free h region rules index bit within fixed is =
     let wider = free.monotone _ _ bit
     (widened_wider covers free h region rules index bit 104 (omega arith)) in
@@ -75,8 +75,8 @@ widest covers meet free h region rules index bit within fixed is =
 -- the header is held all along
 pub widened_holds : CoversLaws → ExactLaws → FreeLaws
     → (h : ℕ) (region : WordValue) (rules : List Rule) (index n : ℕ) → h < 2 ^ 104
-    → IsTrue (holds (widened h region rules index n) h)
-unfolding widened
+    → IsTrue (holds (widening_of h region rules index n) h)
+unfolding widening_of
 widened_holds covers exact free h region rules index n bound =
     covers.held _ (exact_word h) h
     (widened_wider covers free h region rules index 0 n (omega arith))
@@ -104,20 +104,20 @@ turn_word free bit false word after is made = subst (λ (w : WordValue). IsWord 
 
 pub widened_independent : (h : ℕ) (region : WordValue) (rules : List Rule) (index n : ℕ)
     → IsIndependent region rules index (exact_word h) → IsIndependent region rules index
-    (widened h region rules index n)
-unfolding widened
+    (widening_of h region rules index n)
+unfolding widening_of
 widened_independent h region rules index zero start = start
 widened_independent h region rules index (suc n) start =
     turn_independent region rules index n
-    (is_independent region rules index (free_of (widened h region rules index n) n))
-    (widened h region rules index n) (widened h region rules index (suc n))
+    (is_independent region rules index (free_of (widening_of h region rules index n) n))
+    (widening_of h region rules index n) (widening_of h region rules index (suc n))
     (widened_independent h region rules index n start) refl refl
 
 pub widened_word : FreeLaws → (h : ℕ) (region : WordValue) (rules : List Rule) (index n : ℕ)
-    → IsWord (exact_word h) → IsWord (widened h region rules index n)
-unfolding widened
+    → IsWord (exact_word h) → IsWord (widening_of h region rules index n)
+unfolding widening_of
 widened_word free h region rules index zero start = start
 widened_word free h region rules index (suc n) start =
     turn_word free n (is_independent region rules index
-    (free_of (widened h region rules index n) n)) (widened h region rules index n)
-    (widened h region rules index (suc n)) (widened_word free h region rules index n start) refl
+    (free_of (widening_of h region rules index n) n)) (widening_of h region rules index n)
+    (widening_of h region rules index (suc n)) (widened_word free h region rules index n start) refl

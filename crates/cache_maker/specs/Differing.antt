@@ -6,8 +6,8 @@ use Rattle.ternary.specs.Word.{WordValue}
 use Rattle.policy_rules.specs.declared.rules.Rule.{Rule}
 
 -- the bits that the word fixes to another value than that of h
-abbrev pub differing : ℕ → WordValue → ℕ
-differing h word = bit_and (bit_xor h word.value) word.mask
+abbrev pub differing_bits : ℕ → WordValue → ℕ
+differing_bits h word = bit_and (bit_xor h word.value) word.mask
 
 -- of the bits of n, k is the highest
 pub record IsHighest (n k : ℕ) : Type 0 where
@@ -17,10 +17,11 @@ pub record IsHighest (n k : ℕ) : Type 0 where
 -- among the fixed bits, some rule differs from h in these alone
 abbrev pub differs_alone : ℕ → ℕ → ℕ → List Rule → Bool
 differs_alone h fixed alone rules =
-    list_any (λ (rule : Rule). bit_and (differing h rule.word) fixed == alone) rules
+    list_any (λ (rule : Rule). bit_and (differing_bits h rule.word) fixed == alone) rules
 
 -- the mask has the highest bit by which each of the rules differs from h, if it does in open bits
 -- alone
 abbrev pub HaveHighest : ℕ → ℕ → ℕ → List Rule → Type 0
-HaveHighest mask h open_bits rules = All (λ rule. (k : ℕ) → IsHighest (differing h rule.word) k
-    → bit_and (differing h rule.word) open_bits ≡ differing h rule.word → bit_at mask k ≡ 1) rules
+HaveHighest mask h open_bits rules = All (λ rule. (k : ℕ) → IsHighest (differing_bits h rule.word) k
+    → bit_and (differing_bits h rule.word) open_bits ≡ differing_bits h rule.word → bit_at mask k
+    ≡ 1) rules

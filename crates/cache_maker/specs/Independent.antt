@@ -27,15 +27,17 @@ is_independent region rules index word =
     && is_apart word (take index rules)
 
 -- the word with this bit freed, where that is independent
-abbrev pub freed : WordValue → List Rule → ℕ → ℕ → WordValue → WordValue
-freed region rules index bit word = if is_independent region rules index (free_of word bit) then
+abbrev pub with_bit_freed : WordValue → List Rule → ℕ → ℕ → WordValue → WordValue
+with_bit_freed region rules index bit word = if is_independent region rules index (free_of word bit)
+    then
     free_of word bit else word
 
 -- the word of the header h, its bits below n freed in turn
-unfoldable pub widened : ℕ → WordValue → List Rule → ℕ → ℕ → WordValue
-widened h region rules index zero = exact_word h
-widened h region rules index (suc n) = freed region rules index n (widened h region rules index n)
+unfoldable pub widening_of : ℕ → WordValue → List Rule → ℕ → ℕ → WordValue
+widening_of h region rules index zero = exact_word h
+widening_of h region rules index (suc n) = with_bit_freed region rules index n
+    (widening_of h region rules index n)
 
 -- all 104 bits in turn
 unfoldable pub widen : ℕ → WordValue → List Rule → ℕ → WordValue
-widen h region rules index = widened h region rules index 104
+widen h region rules index = widening_of h region rules index 104

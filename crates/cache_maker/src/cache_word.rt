@@ -7,7 +7,7 @@ ghost use Rattle.ternary.specs.Meets.{is_fixed_of, free_of};
 ghost use Rattle.policy_rules.specs.Rules.{is_held};
 ghost use Rattle.policy_rules.specs.declared.rules.Rule.{Rule};
 ghost use Rattle.cache_maker.specs.Independent.{IsIndependent, widen};
-ghost use Rattle.cache_maker.specs.Differing.{HaveHighest, IsHighest, differing, differs_alone};
+ghost use Rattle.cache_maker.specs.Differing.{HaveHighest, IsHighest, differing_bits, differs_alone};
 
 use five_tuple::Header;
 use policy_rules::Rule;
@@ -83,7 +83,7 @@ fn differs_alone(h: u128, fixed: u128, alone: u128, rules: &[Rule]) -> bool
 
 // The bits that the word fixes to another value than that of h.
 fn differing(h: u128, word: &Word) -> u128
-    ensures { result ≡ differing h word.now }
+    ensures { result ≡ differing_bits h word.now }
 {
     (h ^ word.value()) & word.mask()
 }

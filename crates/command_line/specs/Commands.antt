@@ -24,5 +24,5 @@ pub data Command : Type 0 where
   Load : ℕ → Command
 
 -- the bytes of the arguments
-abbrev pub texts : Vec (String Global) Global → List (List ℕ)
-texts args = map string_bytes args.items
+abbrev pub argument_texts : Vec (String Global) Global → List (List ℕ)
+argument_texts args = map string_bytes args.items

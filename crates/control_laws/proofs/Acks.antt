@@ -11,10 +11,10 @@ use Rattle.ctrl_msg.specs.Kinds.{to_controller}
 use Rattle.journal.specs.declared.item.Item.{Item}
 use Rattle.journal.specs.declared.item.Item.TheVariants as item
 use Rattle.update_machine.specs.Boots.{boot_of, heard, is_up}
-use Rattle.update_machine.specs.Marks.{controller_heard, installed_in, said_to_controller, stamped_in}
+use Rattle.update_machine.specs.Marks.{controller_heard, installed_in, body_to_controller, stamped_in}
 use Rattle.update_machine.specs.Quiet.{speaker}
 use Rattle.update_machine.specs.Setting.{Setting}
-use Rattle.update_machine.specs.Versions.{installs, stamp_of}
+use Rattle.update_machine.specs.Versions.{installs_version, stamp_of}
 use Rattle.update_machine.specs.Links.{message_of}
 use Rattle.update_machine.proofs.CallerLemmas.{start_laws}
 use Rattle.control_laws.specs.BootLaws.{BootsAreKnown}
@@ -75,7 +75,7 @@ sent_on kind setting before next s boot version n cause boots true is up own =
 
 -- a told acknowledgement was sent
 ack_sent : (kind : AckKind) (before : List Item) (s boot number version : ℕ)
-    → option_and_then (kind.reads s boot) (said_to_controller before number) ≡ Some version
+    → option_and_then (kind.reads s boot) (body_to_controller before number) ≡ Some version
     → message_of before number ≡ Some (to_controller (kind.writes s boot version))
 ack_sent kind before s boot number version told =
     told_sent (kind.reads s boot) (kind.writes s boot) (kind.is s boot) before number version told
@@ -86,7 +86,7 @@ tells_true : (kind : AckKind) (before : List Item) (next : Item) (s boot : ℕ)
     → AllByRecursion (kind.Holds before s) (tells (kind.reads s boot) before next)
 tells_true kind before (item.Delivered number) s boot true up own =
     each_if (kind.Holds before s)
-    (option_and_then (kind.reads s boot) (said_to_controller before number))
+    (option_and_then (kind.reads s boot) (body_to_controller before number))
     (λ version told. true.sent s boot version number
     (ack_sent kind before s boot number version told) up own)
 tells_true kind before _ s boot true up own = tt
@@ -95,10 +95,10 @@ tells_true kind before _ s boot true up own = tt
 tells_past : (kind : AckKind) (before : List Item) (next : Item) (s boot : ℕ)
     → BootsAreKnown before → boot_of before s < boot → tells (kind.reads s boot) before next ≡ []
 tells_past kind before (item.Delivered number) s boot boots past =
-    by_told (option_and_then (kind.reads s boot) (said_to_controller before number)) refl
+    by_told (option_and_then (kind.reads s boot) (body_to_controller before number)) refl
   where
     by_told : (o : Option ℕ)
-        → option_and_then (kind.reads s boot) (said_to_controller before number) ≡ o
+        → option_and_then (kind.reads s boot) (body_to_controller before number) ≡ o
         → option_to_list o ≡ []
     by_told None e = refl
     by_told (Some version) e =
@@ -197,11 +197,12 @@ abbrev pub of_tables : AckKind
 of_tables = record {
   writes = Installed;
   reads = installed_in;
-  Holds = λ journal s version. IsTrue (list_any (installs version) (heard journal s));
+  Holds = λ journal s version. IsTrue (list_any (installs_version version) (heard journal s));
   is = installed_is;
   speaks = λ s boot version. refl;
   right = λ before s boot version right. (right.present, right.heard);
-  kept = λ before next s version same here. heard_kept (installs version) before next s same here;
+  kept = λ before next s version same here. heard_kept (installs_version version) before next s same
+      here;
 }
 
 -- it stamps at least with this version

@@ -7,7 +7,7 @@ use Rattle.journal.specs.declared.item.Item.{Item}
 use Rattle.update_machine.specs.Boots.{boot_of, heard, is_up}
 use Rattle.update_machine.specs.Marks.{has_acked, installed_in, known_boot}
 use Rattle.update_machine.specs.Setting.{Setting}
-use Rattle.update_machine.specs.Versions.{installs}
+use Rattle.update_machine.specs.Versions.{installs_version}
 use Rattle.control_laws.specs.ItemCauses.{HasItemCause}
 use Rattle.control_laws.proofs.Facts.{AreKept, FromCauses, from_causes}
 use Rattle.control_laws.proofs.Openings.{IsKnown, known_at_first, known_kept}
@@ -49,7 +49,7 @@ acked_is journal s version tables up known acked =
     later : IsTrue (list_any (nat_eq version)
         (told_by (installed_in s (known_boot journal s)) journal))
         → HasTables journal s version
-    later any = inr (each_at (λ v. IsTrue (list_any (installs v) (heard journal s))) version
+    later any = inr (each_at (λ v. IsTrue (list_any (installs_version v) (heard journal s))) version
         (told_by (installed_in s (boot_of journal s)) journal) (tables.told s up)
         (subst (λ b. IsTrue (list_any (nat_eq version) (told_by (installed_in s b) journal))) known
         any))

@@ -11,7 +11,7 @@ use Rattle.std.proofs.lemmas.List.FromFn.{get_or-map-range_with_len}
 use Rattle.ctrl_msg.specs.declared.message.Body.{Body}
 use Rattle.ctrl_msg.specs.declared.message.Body.TheVariants.{Advertise}
 use Rattle.ctrl_msg.specs.declared.message.Message.{Message}
-use Rattle.failover.specs.Adverts.{first_advert, first_adverts, held, no_adverts}
+use Rattle.failover.specs.Adverts.{first_advert, first_adverts, held_advert, no_adverts}
 use Rattle.base.specs.Masks.{has}
 use Rattle.failover.specs.declared.advert.Advert.{Advert}
 use Rattle.failover.specs.Newest.{IsNewest}
@@ -21,7 +21,7 @@ use Rattle.steps.specs.Steps.{HasSwitch}
 use Rattle.journal.specs.declared.item.Item.{Item}
 use Rattle.journal.specs.declared.item.Item.TheVariants as item
 use Rattle.update_machine.specs.Adverts.{advert_known, own_advert, own_if_sent}
-use Rattle.update_machine.specs.Boots.{heard, is_in_first_boot, said_to}
+use Rattle.update_machine.specs.Boots.{heard, is_in_first_boot, body_to_switch}
 use Rattle.update_machine.specs.Causes.{HaveCauses}
 use Rattle.update_machine.specs.Deliveries.{advert_to}
 use Rattle.update_machine.specs.LinkMasks.{near, adverts_begun, adverts_heard, other_advert}
@@ -75,7 +75,7 @@ middle P (x ∷ earlier) advert later all = middle P earlier advert later all.1
 first_such : (setting : Setting) (P : Advert → Type 0)
     → ((origin : ℕ) → HasSwitch setting.net origin → P (begun_with setting origin))
     → (origin : ℕ) → origin < 64
-    → AllByRecursion P (option_to_list (held
+    → AllByRecursion P (option_to_list (held_advert
     (first_adverts (map (links_of setting.net.links) (switches_of setting))
     (length setting.net.switches)) origin))
 first_such setting P such origin small =
@@ -97,15 +97,15 @@ first_such setting P such origin small =
         (subst (λ up. P (first_advert origin up)) (sym links) (such origin there), tt)
     by_test false e = tt
 
-pub none_held : (origin : ℕ) → origin < 64 → held no_adverts origin ≡ None
+pub none_held : (origin : ℕ) → origin < 64 → held_advert no_adverts origin ≡ None
 none_held origin small = get_or-replicate 64 origin None None small
 
 begun_such : (setting : Setting) (P : Advert → Type 0) (journal : List Item) (s origin : ℕ)
     → ((from : ℕ) → HasSwitch setting.net from → P (begun_with setting from)) → origin < 64
-    → AllByRecursion P (option_to_list (held (adverts_begun setting journal s) origin))
+    → AllByRecursion P (option_to_list (held_advert (adverts_begun setting journal s) origin))
 begun_such setting P journal s origin such small = by_test (is_in_first_boot journal s)
   where
-    by_test : (b : Bool) → AllByRecursion P (option_to_list (held (if b
+    by_test : (b : Bool) → AllByRecursion P (option_to_list (held_advert (if b
         then first_adverts (map (links_of setting.net.links) (switches_of setting))
         (length setting.net.switches)
         else no_adverts) origin))
@@ -123,10 +123,10 @@ own_told own advert told = by_test (own.seq == 0) told
 -- an advert of another switch that it knows is the newest that it heard or began with
 pub is_newest : (setting : Setting) (journal : List Item) (s origin : ℕ) (advert : Advert)
     → origin ≢ s → origin < 64 → advert_known setting journal s origin ≡ Some advert
-    → IsNewest origin (option_to_list (held (adverts_begun setting journal s) origin)
+    → IsNewest origin (option_to_list (held_advert (adverts_begun setting journal s) origin)
     ++ adverts_heard journal s) (Some advert)
 is_newest setting journal s origin advert apart small known =
-    subst (IsNewest origin (option_to_list (held (adverts_begun setting journal s) origin)
+    subst (IsNewest origin (option_to_list (held_advert (adverts_begun setting journal s) origin)
     ++ adverts_heard journal s)) known
     (known_link_laws.newest setting journal s origin apart small)
 
@@ -147,7 +147,7 @@ known_such setting P journal such s origin advert small told known =
           middle (P journal) newest.0 advert newest.1
           (subst (AllByRecursion (P journal)) newest.2
           (each_append (P journal)
-          (option_to_list (held (adverts_begun setting journal s) origin))
+          (option_to_list (held_advert (adverts_begun setting journal s) origin))
           (adverts_heard journal s)
           (begun_such setting (P journal) journal s origin such.first small)
           (recursion_from_All (P journal) (adverts_heard journal s) (such.heard s))))
@@ -236,9 +236,9 @@ heard_such Q before (item.Booted t boot) s old sent =
 heard_such Q before (item.Delivered number) s old sent =
     subst (λ bodies. All Q (filter_map (other_advert s) bodies))
     (sym (heard_more before (item.Delivered number) s))
-    (by_said (said_to before s number) refl)
+    (by_said (body_to_switch before s number) refl)
   where
-    by_said : (said : Option Body) → said_to before s number ≡ said
+    by_said : (said : Option Body) → body_to_switch before s number ≡ said
         → All Q (filter_map (other_advert s)
         (option_map_or (λ body. heard before s ++ body ∷ []) said (heard before s)))
     by_said None e = old

@@ -15,7 +15,7 @@ use Rattle.ctrl_msg.specs.declared.message.Receiver.TheVariants as receiver
 use Rattle.journal.specs.declared.item.Item.{Item}
 use Rattle.journal.specs.declared.item.Item.TheVariants as item
 use Rattle.update_machine.specs.Boots.{boot_of}
-use Rattle.update_machine.specs.Marks.{hello_boot, known_boot, raises_known, said_to_controller}
+use Rattle.update_machine.specs.Marks.{hello_boot, known_boot, raises_known, body_to_controller}
 use Rattle.update_machine.specs.Quiet.{speaker}
 use Rattle.update_machine.specs.Setting.{Setting}
 use Rattle.update_machine.specs.Links.{message_of}
@@ -28,13 +28,13 @@ use Rattle.control_laws.proofs.Grown.{boot_more, hello_told, known_more, message
 
 -- what is said to the controller was sent to it
 pub said_sent : (before : List Item) (number : ℕ) (body : Body)
-    → said_to_controller before number ≡ Some body
+    → body_to_controller before number ≡ Some body
     → message_of before number ≡ Some (to_controller body)
 said_sent before number body said = grind arith
 
 -- a hello that was told was sent
 pub hello_sent : (before : List Item) (s number boot : ℕ)
-    → option_and_then (hello_boot s) (said_to_controller before number) ≡ Some boot
+    → option_and_then (hello_boot s) (body_to_controller before number) ≡ Some boot
     → message_of before number ≡ Some (to_controller (Hello s boot))
 hello_sent before s number boot told = grind (arith, nat_tests)
 
@@ -53,7 +53,7 @@ known_rises before item s = rw (known_more before item s)
 pub hello_above : (before : List Item) (s number : ℕ) → IsTrue (raises_known before s number)
     → known_boot before s < known_boot (before ++ item.Delivered number ∷ []) s
 hello_above before s number raises = rw (known_more before (item.Delivered number) s)
-    (by_hello (option_and_then (hello_boot s) (said_to_controller before number)) raises)
+    (by_hello (option_and_then (hello_boot s) (body_to_controller before number)) raises)
   where
     by_hello : (hello : Option ℕ)
         → IsTrue (option_map_or (λ boot. nat_lt (known_boot before s) boot) hello false)
@@ -134,7 +134,7 @@ new_or_old cause Says before next has new old n message is =
 
 -- a hello that is told is of a past boot
 pub told_past : (before : List Item) (s number boot : ℕ) → BootsAreKnown before
-    → option_and_then (hello_boot s) (said_to_controller before number) ≡ Some boot
+    → option_and_then (hello_boot s) (body_to_controller before number) ≡ Some boot
     → boot ≤ boot_of before s
 told_past before s number boot boots told = boots.sent number (to_controller (Hello s boot))
     (hello_sent before s number boot told)
@@ -144,10 +144,10 @@ known_on : (setting : Setting) (before : List Item) (item : Item) (s : ℕ)
     → known_boot (before ++ item ∷ []) s ≤ boot_of (before ++ item ∷ []) s
 known_on setting before (item.Delivered number) s cause boots =
     rw (known_more before (item.Delivered number) s, boot_more before (item.Delivered number) s)
-    (by_told (option_and_then (hello_boot s) (said_to_controller before number)) refl)
+    (by_told (option_and_then (hello_boot s) (body_to_controller before number)) refl)
   where
     by_told : (o : Option ℕ)
-        → option_and_then (hello_boot s) (said_to_controller before number) ≡ o
+        → option_and_then (hello_boot s) (body_to_controller before number) ≡ o
         → raised (known_boot before s) o ≤ boot_of before s
     by_told None e = boots.known s
     by_told (Some boot) e = omega (arith, boots.known s, told_past before s number boot boots e)

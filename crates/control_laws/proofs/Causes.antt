@@ -19,7 +19,7 @@ use Rattle.update_machine.specs.Causes.{HaveCauses}
 use Rattle.update_machine.specs.Deliveries.{advert_to, switch_items, switches_in}
 use Rattle.update_machine.specs.LinkMasks.{near}
 use Rattle.update_machine.specs.Marks.{has_acked, is_over, known_boot, raises_known}
-use Rattle.update_machine.specs.Messages.{sends, sent_from}
+use Rattle.update_machine.specs.Messages.{send_items, sent_from}
 use Rattle.update_machine.specs.Packets.{next_packet}
 use Rattle.update_machine.specs.Pieces.{confirm_items, deliver_items, hello_of, resend_items, resent_by_switch, restart_items, step_items, update_items}
 use Rattle.update_machine.specs.Setting.{Setting}
@@ -142,7 +142,7 @@ own_names setting before to body own = own
 
 sends_name : (setting : Setting) (journal : List Item) (messages : List Message)
     → AllByRecursion (IsOwn setting journal) messages
-    → Name setting journal (sends journal messages)
+    → Name setting journal (send_items journal messages)
 sends_name setting =
     sends_kept (NamesRightly setting) (IsOwn setting)
     (λ before n message own. own_names setting before message.to message.body own)

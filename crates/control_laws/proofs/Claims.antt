@@ -14,11 +14,11 @@ use Rattle.ctrl_msg.specs.declared.message.Body.TheVariants.{Advertise}
 use Rattle.ctrl_msg.specs.declared.message.Message.{Message}
 use Rattle.ctrl_msg.specs.declared.message.Receiver.{Receiver}
 use Rattle.ctrl_msg.specs.declared.message.Receiver.TheVariants as receiver
-use Rattle.failover.specs.Adverts.{after_hearing, after_hearing_all, first_advert, first_adverts, held, is_newer, is_news, no_adverts}
+use Rattle.failover.specs.Adverts.{after_hearing, after_hearing_all, first_advert, first_adverts, held_advert, is_newer, is_news, no_adverts}
 use Rattle.failover.specs.Links.{neighbours_named}
 use Rattle.failover.specs.declared.advert.Advert.{Advert}
 use Rattle.failover.specs.Newest.{AreByOrigin}
-use Rattle.failover.specs.Isolated.{names}
+use Rattle.failover.specs.Isolated.{names_neighbour}
 use Rattle.failover.proofs.Adverts.{after_no_news, held-first, held_heard, held_others}
 use Rattle.base.specs.Masks.{has}
 use Rattle.base.proofs.CallerLemmas.{has_mask}
@@ -92,7 +92,7 @@ newer_same advert old claim same =
     let boot = same.boot in let seq = same.seq in grind (arith, nat_tests)
 
 news_if : (adverts : List (Option Advert)) (advert : Advert) (found : Option Advert) (b : Bool)
-    → advert.origin < 64 → held adverts advert.origin ≡ found
+    → advert.origin < 64 → held_advert adverts advert.origin ≡ found
     → option_map_or (is_newer advert) found true ≡ b → is_news adverts advert ≡ b
 unfolding is_news
 news_if adverts advert found b small e f =
@@ -101,20 +101,21 @@ news_if adverts advert found b small e f =
     ∙ ap (λ c. c && b) (lt-ltb advert.origin 64 small)
 
 own_heard : (adverts : List (Option Advert)) (advert : Advert) (claim : Option Claim)
-    → AreByOrigin adverts → advert.origin < 64 → AreSame (held adverts advert.origin) claim
-    → AreSame (held (after_hearing adverts advert) advert.origin)
+    → AreByOrigin adverts → advert.origin < 64 → AreSame (held_advert adverts advert.origin) claim
+    → AreSame (held_advert (after_hearing adverts advert) advert.origin)
     (newer_of claim (Some (claim_from advert)))
 own_heard adverts advert claim by small same =
-    by_held (held adverts advert.origin) claim refl same
+    by_held (held_advert adverts advert.origin) claim refl same
   where
     is_heard : is_news adverts advert ≡ true
-        → AreSame (held (after_hearing adverts advert) advert.origin) (Some (claim_from advert))
+        → AreSame (held_advert (after_hearing adverts advert) advert.origin)
+        (Some (claim_from advert))
     is_heard news = subst (λ o. AreSame o (Some (claim_from advert)))
         (sym (held_heard adverts advert by news)) (from_advert advert)
 
     by_held : (found : Option Advert) (old : Option Claim)
-        → held adverts advert.origin ≡ found → AreSame found old
-        → AreSame (held (after_hearing adverts advert) advert.origin)
+        → held_advert adverts advert.origin ≡ found → AreSame found old
+        → AreSame (held_advert (after_hearing adverts advert) advert.origin)
         (newer_of old (Some (claim_from advert)))
     by_held None None e so = is_heard (news_if adverts advert None true small e refl)
     by_held None (Some old) e so = absurd so
@@ -126,7 +127,7 @@ own_heard adverts advert claim by small same =
             || (old.boot == advert.boot && nat_lt old.seq advert.seq)
 
         by_test : (b : Bool) → is_newer advert found ≡ b
-            → AreSame (held (after_hearing adverts advert) advert.origin)
+            → AreSame (held_advert (after_hearing adverts advert) advert.origin)
             (if test then Some (claim_from advert) else Some old)
         by_test true f =
             let newer : test ≡ true = sym (newer_same advert found old so) ∙ f in
@@ -136,18 +137,19 @@ own_heard adverts advert claim by small same =
             let stays : after_hearing adverts advert ≡ adverts =
             after_no_news adverts advert (news_if adverts advert (Some found) false small e f) in
             rw newer (subst (λ o. AreSame o (Some old))
-            (sym (ap (λ (all : List (Option Advert)). held all advert.origin) stays ∙ e)) so)
+            (sym (ap (λ (all : List (Option Advert)). held_advert all advert.origin) stays ∙ e)) so)
 
 advert_heard : (adverts : List (Option Advert)) (advert : Advert) (one : ℕ)
-    (claim : Option Claim) → AreByOrigin adverts → one < 64 → AreSame (held adverts one) claim
-    → AreSame (held (after_hearing adverts advert) one)
+    (claim : Option Claim) → AreByOrigin adverts → one < 64
+    → AreSame (held_advert adverts one) claim
+    → AreSame (held_advert (after_hearing adverts advert) one)
     (newer_of claim (if advert.origin == one then Some (claim_from advert) else None))
 advert_heard adverts advert one claim by small same = elim (cases_eq advert.origin one) [
   | inl here ↦ rw (eq-eqb advert.origin one here)
-      (subst (λ n. AreSame (held (after_hearing adverts advert) n)
+      (subst (λ n. AreSame (held_advert (after_hearing adverts advert) n)
       (newer_of claim (Some (claim_from advert)))) here
       (own_heard adverts advert claim by (omega (arith, here, small))
-      (subst (λ n. AreSame (held adverts n) claim) (sym here) same)))
+      (subst (λ n. AreSame (held_advert adverts n) claim) (sym here) same)))
   | inr apart ↦ rw (ne_eqb advert.origin one apart, newer_none claim)
       (subst (λ o. AreSame o claim)
       (sym (held_others adverts advert one (λ e. apart (sym e)))) same)
@@ -169,8 +171,9 @@ body_heard : (adverts : List (Option Advert)) (bodies : List Body) (s one t boot
     (up : Bool) (body : Body) (claim : Option Claim) → IsTrue up
     → AreByOrigin (after_hearing_all adverts (filter_map (other_advert s) bodies))
     → one ≢ s → one < 64
-    → AreSame (held (after_hearing_all adverts (filter_map (other_advert s) bodies)) one) claim
-    → AreSame (held (after_hearing_all adverts (filter_map (other_advert s)
+    → AreSame (held_advert (after_hearing_all adverts (filter_map (other_advert s) bodies)) one)
+    claim
+    → AreSame (held_advert (after_hearing_all adverts (filter_map (other_advert s)
     (option_map_or (λ b. bodies ++ b ∷ [])
     (if (t == s) && up && is_for_boot boot body then Some body else None) bodies))) one)
     (newer_of claim (claim_by s one (receiver.Switch t) body))
@@ -178,7 +181,7 @@ body_heard adverts bodies s one t boot up (Advertise advert) claim is by apart s
     by_tests (t == s) (advert.origin == s) refl refl
   where
     by_tests : (b c : Bool) → (t == s) ≡ b → (advert.origin == s) ≡ c
-        → AreSame (held (after_hearing_all adverts (filter_map (other_advert s)
+        → AreSame (held_advert (after_hearing_all adverts (filter_map (other_advert s)
         (option_map_or (λ b. bodies ++ b ∷ [])
         (if (t == s) && up && true then Some (Advertise advert) else None) bodies))) one)
         (newer_of claim (claim_by s one (receiver.Switch t) (Advertise advert)))
@@ -194,7 +197,7 @@ body_heard adverts bodies s one t boot up body claim is by apart small same =
     rw (newer_none claim) (by_test ((t == s) && up && is_for_boot boot body))
   where
     by_test : (b : Bool)
-        → AreSame (held (after_hearing_all adverts (filter_map (other_advert s)
+        → AreSame (held_advert (after_hearing_all adverts (filter_map (other_advert s)
         (option_map_or (λ b. bodies ++ b ∷ []) (if b then Some body else None) bodies))) one)
         claim
     by_test true = rw (others_more adverts s bodies body) same
@@ -204,11 +207,12 @@ body_heard adverts bodies s one t boot up body claim is by apart small same =
 pub record AreHeld (setting : Setting) (one : ℕ) (journal : List Item) : Type 0 where
   pub boots : (s : ℕ) → 1 ≤ boot_of journal s
   pub same : (s : ℕ) → one ≢ s → IsTrue (is_up journal s) →
-      AreSame (held (adverts_of_others setting journal s) one) (claim_of setting journal s one)
+      AreSame (held_advert (adverts_of_others setting journal s) one)
+      (claim_of setting journal s one)
 
 -- what is held, by the boot and the bodies
 abbrev held_by : Setting → ℕ → ℕ → Bool → List Body → Option Advert
-held_by setting s one first bodies = held (after_hearing_all (if first
+held_by setting s one first bodies = held_advert (after_hearing_all (if first
     then first_adverts (map (links_of setting.net.links) (switches_of setting))
     (length setting.net.switches)
     else no_adverts) (filter_map (other_advert s) bodies)) one
@@ -226,10 +230,10 @@ said_by before s message = elim message [
 unchanged : (setting : Setting) (before now : List Item) (s one : ℕ)
     → is_in_first_boot now s ≡ is_in_first_boot before s → heard now s ≡ heard before s
     → claim_of setting now s one ≡ claim_of setting before s one
-    → AreSame (held (adverts_of_others setting before s) one) (claim_of setting before s one)
-    → AreSame (held (adverts_of_others setting now s) one) (claim_of setting now s one)
+    → AreSame (held_advert (adverts_of_others setting before s) one) (claim_of setting before s one)
+    → AreSame (held_advert (adverts_of_others setting now s) one) (claim_of setting now s one)
 unchanged setting before now s one first bodies claim same =
-    subst (AreSame (held (adverts_of_others setting now s) one)) (sym claim)
+    subst (AreSame (held_advert (adverts_of_others setting now s) one)) (sym claim)
     (subst (λ o. AreSame o (claim_of setting before s one))
     (ap (λ b. held_by setting s one b (heard before s)) (sym first)
     ∙ ap (held_by setting s one (is_in_first_boot now s)) (sym bodies)) same)
@@ -237,7 +241,7 @@ unchanged setting before now s one first bodies claim same =
 same_on : (setting : Setting) (one : ℕ) (before : List Item) (next : Item) → one < 64
     → HasItemCause setting before next → AreHeld setting one before
     → (s : ℕ) → one ≢ s → IsTrue (is_up (before ++ next ∷ []) s)
-    → AreSame (held (adverts_of_others setting (before ++ next ∷ []) s) one)
+    → AreSame (held_advert (adverts_of_others setting (before ++ next ∷ []) s) one)
     (claim_of setting (before ++ next ∷ []) s one)
 same_on setting one before (item.Down t) small cause kept s apart up =
     let other : (t == s) ≡ false = down_apart (t == s) refl in
@@ -261,7 +265,7 @@ same_on setting one before (item.Booted t boot) small cause kept s apart up =
     now = before ++ item.Booted t boot ∷ []
 
     by_test : (b : Bool) → (t == s) ≡ b
-        → AreSame (held (adverts_of_others setting now s) one) (claim_of setting now s one)
+        → AreSame (held_advert (adverts_of_others setting now s) one) (claim_of setting now s one)
     by_test true e =
         let here : t ≡ s = grind (arith, nat_tests) in
         let counted = kept.boots t in
@@ -273,10 +277,10 @@ same_on setting one before (item.Booted t boot) small cause kept s apart up =
         let none : heard now s ≡ [] = rw (heard_more before (item.Booted t boot) s, e) refl in
         let claim : claim_of setting now s one ≡ None =
         rw (claim_more setting before (item.Booted t boot) s one, e) refl in
-        let empty : held (adverts_of_others setting now s) one ≡ None =
+        let empty : held_advert (adverts_of_others setting now s) one ≡ None =
         ap (λ b. held_by setting s one b (heard now s)) first
         ∙ ap (held_by setting s one false) none ∙ none_held one small in
-        subst (AreSame (held (adverts_of_others setting now s) one)) (sym claim)
+        subst (AreSame (held_advert (adverts_of_others setting now s) one)) (sym claim)
         (subst (λ o. AreSame o None) (sym empty) tt)
     by_test false e =
         let was : IsTrue (is_up before s) =
@@ -288,7 +292,7 @@ same_on setting one before (item.Booted t boot) small cause kept s apart up =
         (rw (claim_more setting before (item.Booted t boot) s one, e) refl)
         (kept.same s apart was)
 same_on setting one before (item.Delivered number) small cause kept s apart up =
-    subst (AreSame (held (adverts_of_others setting now s) one))
+    subst (AreSame (held_advert (adverts_of_others setting now s) one))
     (sym (claim_more setting before (item.Delivered number) s one))
     (subst (λ o. AreSame o (changes_claim s one before (claim_of setting before s one)
     (item.Delivered number)))
@@ -310,7 +314,7 @@ same_on setting one before (item.Delivered number) small cause kept s apart up =
       boot_more before (item.Delivered number) s,
     ) refl
 
-    same : AreSame (held (adverts_of_others setting before s) one)
+    same : AreSame (held_advert (adverts_of_others setting before s) one)
         (claim_of setting before s one)
     same = kept.same s apart was
 
@@ -381,7 +385,8 @@ held_at_first setting one small there = record {
 pub claims_held : (setting : Setting) (journal : List Item)
     → HaveCauses (HasItemCause setting) [] journal → (s one : ℕ) → one ≢ s → one < 64
     → HasSwitch setting.net one → IsTrue (is_up journal s)
-    → AreSame (held (adverts_of_others setting journal s) one) (claim_of setting journal s one)
+    → AreSame (held_advert (adverts_of_others setting journal s) one)
+    (claim_of setting journal s one)
 claims_held setting journal have s one apart small there up =
     (fact_on (HasItemCause setting) (AreHeld setting one) (held_kept setting one small) [] journal
     have (held_at_first setting one small there)).same s apart up
@@ -495,8 +500,8 @@ pub names_end : (setting : Setting) (journal : List Item)
     → HaveCauses (HasBothCauses setting) [] journal → IsNet setting.net
     → (s one two : ℕ) → one ≢ s → IsTrue (serves journal s)
     → IsTrue (is_end setting journal s one two)
-    → IsNamed one two (IsTrue (names (adverts_of_others setting journal s) one two))
-unfolding names
+    → IsNamed one two (IsTrue (names_neighbour (adverts_of_others setting journal s) one two))
+unfolding names_neighbour
 names_end setting journal have net s one two apart serving is =
     by_claim (claim_of setting journal s one) refl
     (rw (ne_eqb one s apart) at is)
@@ -509,16 +514,16 @@ names_end setting journal have net s one two apart serving is =
     up = ((caused_known setting journal caused).serving s).up serving
 
     by_held : (claim : Claim) (found : Option Advert)
-        → held (adverts_of_others setting journal s) one ≡ found
+        → held_advert (adverts_of_others setting journal s) one ≡ found
         → two < 64 → IsTrue (claim.links two) → AreSame found (Some claim)
-        → IsTrue (names (adverts_of_others setting journal s) one two)
+        → IsTrue (names_neighbour (adverts_of_others setting journal s) one two)
     by_held claim None e small linked same = absurd same
     by_held claim (Some advert) e small linked same =
         ap (λ o. has (neighbours_named o) two) e ∙ same.links two small ∙ linked
 
     by_claim : (claim : Option Claim) → claim_of setting journal s one ≡ claim
         → IsTrue (option_map_or (λ c. c.links two) claim false)
-        → IsNamed one two (IsTrue (names (adverts_of_others setting journal s) one two))
+        → IsNamed one two (IsTrue (names_neighbour (adverts_of_others setting journal s) one two))
     by_claim None e linked = absurd cc
     by_claim (Some claim) e linked =
         let link : HasLink setting.net one two =
@@ -531,9 +536,10 @@ names_end setting journal have net s one two apart serving is =
         record {
           one_small = one_small;
           two_small = two_small;
-          named = by_held claim (held (adverts_of_others setting journal s) one) refl two_small
+          named = by_held claim (held_advert (adverts_of_others setting journal s) one) refl
+              two_small
               linked
-              (subst (AreSame (held (adverts_of_others setting journal s) one)) e
+              (subst (AreSame (held_advert (adverts_of_others setting journal s) one)) e
               (claims_held setting journal caused s one apart one_small there.0 up));
         }
 

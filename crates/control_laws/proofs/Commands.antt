@@ -10,8 +10,8 @@ use Rattle.journal.specs.declared.item.Item.TheVariants as item
 use Rattle.update_machine.specs.Causes.{HaveCauses}
 use Rattle.update_machine.specs.Deliveries.{after_hello, controller_items}
 use Rattle.update_machine.specs.Marks.{controller_heard, has_acked, is_member, is_over, known_boot, opened_at}
-use Rattle.update_machine.specs.Messages.{sends}
-use Rattle.update_machine.specs.Moves.{put}
+use Rattle.update_machine.specs.Messages.{send_items}
+use Rattle.update_machine.specs.Moves.{items_then}
 use Rattle.update_machine.specs.Pieces.{confirm_items, update_code, update_items}
 use Rattle.update_machine.specs.Setting.{Setting}
 use Rattle.update_machine.specs.Settling.{install_for, installs_to, installs_to_all, settling, submitted_items}
@@ -157,7 +157,7 @@ settling_control setting journal =
     have_weaker IsOfSettling IsControl settling_is journal _ (settling_settles setting journal)
 
 commands_control : (journal : List Item) (messages : List Message) → AreCommands messages
-    → Control journal (sends journal messages)
+    → Control journal (send_items journal messages)
 commands_control =
     sends_each IsControl (λ message. IsCommand message.body) (λ before n message is. is)
 
@@ -190,7 +190,8 @@ update_has cause weaker setting file journal submits = by_code (update_code sett
   where
     by_code : (o : Option ℕ) → HaveCauses cause journal (elim o [
       | Some code ↦ item.Refused file code ∷ []
-      | None ↦ put (item.Submitted file (version_count journal + 1) ∷ []) (submitted_items setting)
+      | None ↦ items_then (item.Submitted file (version_count journal + 1) ∷ [])
+          (submitted_items setting)
           journal
     ])
     by_code (Some code) = (weaker journal (item.Refused file code) tt, tt)

@@ -29,12 +29,12 @@ use Rattle.update_machine.specs.Deliveries.{advert_to, after_hello, controller_i
 use Rattle.update_machine.specs.Folds.{count_of}
 use Rattle.update_machine.specs.LinkMasks.{near}
 use Rattle.update_machine.specs.Marks.{acked_stamp, current_mark, has_acked, is_member, is_over, members, retired_mark}
-use Rattle.update_machine.specs.Messages.{is_sending, next_message, sends, sent_from}
-use Rattle.update_machine.specs.Moves.{AuthorityRule, arrive_items, authority_items, cache_items, end_items, found_items, header_at, in_turn, leg_items, lookup_items, move_items, put, reroute_items}
+use Rattle.update_machine.specs.Messages.{is_sending, next_message, send_items, sent_from}
+use Rattle.update_machine.specs.Moves.{AuthorityRule, arrive_items, authority_items, cache_items, end_items, found_items, header_at, in_turn, leg_items, lookup_items, move_items, items_then, reroute_items}
 use Rattle.update_machine.specs.Pieces.{confirm_items, expire_items, forget_items, hello_of, hop_items, lose_items, nothing, packet_items, resend_items, resent_by_switch, sends_or_nothing, step_items, update_code, update_items}
 use Rattle.update_machine.specs.Setting.{Setting}
 use Rattle.update_machine.specs.SwitchNumbers.{switches_of}
-use Rattle.update_machine.specs.Settling.{collect_for, current_items, install_for, installs_to, installs_to_all, open_items, resent_by_controller, resent_to_member, retired_items, settling, stamp_for, submitted_items, unacked, versions_from_current}
+use Rattle.update_machine.specs.Settling.{collect_for, current_items, install_for, installs_to, installs_to_all, open_items, resent_by_controller, resent_to_member, retired_items, settling, stamp_for, submitted_items, unacked_installs, versions_from_current}
 use Rattle.update_machine.specs.Versions.{version_count}
 use Rattle.update_machine.proofs.CallerLemmas.{count_of_append, policies_keep}
 use Rattle.control_laws.proofs.Commands.{IsOfSettling, settling_settles}
@@ -63,11 +63,11 @@ sent_all (message ∷ messages) n =
     )
 
 pub sends_count : (journal : List Item) (messages : List Message)
-    → sent (sends journal messages) ≡ length messages
+    → sent (send_items journal messages) ≡ length messages
 sends_count journal messages = sent_all messages (next_message journal)
 
 pub put_few : (first : List Item) (rest : List Item → List Item) (journal : List Item)
-    → sent (put first rest journal) ≡ sent first + sent (rest (journal ++ first))
+    → sent (items_then first rest journal) ≡ sent first + sent (rest (journal ++ first))
 put_few first rest journal = count_of_append is_sending first (rest (journal ++ first))
 
 -- ---- packets: a lookup at an authority switch may send one cache rule
@@ -150,7 +150,7 @@ switches_few setting net test =
 
 -- the same message to each of these switches
 each_few : (setting : Setting) → IsNet setting.net → (journal : List Item) (to : ℕ → Message)
-    (test : ℕ → Bool) → sent (sends journal (map to (filter test (switches_of setting)))) ≤ 64
+    (test : ℕ → Bool) → sent (send_items journal (map to (filter test (switches_of setting)))) ≤ 64
 each_few setting net journal to test =
     omega (
       arith,
@@ -163,14 +163,15 @@ each_few setting net journal to test =
 mark_few : (setting : Setting) → IsNet setting.net → (journal : List Item) (next : Item)
     → is_sending next ≡ false → (to : ℕ → Message) (rises : Bool) → sent (elim rises [
       | false ↦ []
-      | true ↦ put (next ∷ []) (λ raised. sends raised (map to (members setting journal))) journal
+      | true ↦ items_then (next ∷ []) (λ raised. send_items raised
+          (map to (members setting journal))) journal
     ]) ≤ 64
 mark_few setting net journal next none to false = omega arith
 mark_few setting net journal next none to true =
     let alone : sent (next ∷ []) ≡ 0 = rw none refl in
     omega (
       arith,
-      put_few (next ∷ []) (λ raised. sends raised (map to (members setting journal))) journal,
+      put_few (next ∷ []) (λ raised. send_items raised (map to (members setting journal))) journal,
       alone,
       each_few setting net (journal ++ next ∷ []) to (is_member journal),
     )
@@ -211,7 +212,7 @@ settling_few setting net journal =
 
 -- there are few versions
 range_few : (journal : List Item) (to : ℕ → Message) (low n : ℕ)
-    → sent (sends journal (map to (range_with_len low n))) ≤ n
+    → sent (send_items journal (map to (range_with_len low n))) ≤ n
 range_few journal to low n =
     omega (
       arith,
@@ -251,7 +252,7 @@ submitted_few setting net journal =
 -- ---- what is sent again
 
 unacked_few : (setting : Setting) (journal : List Item) (s low n : ℕ)
-    → length (unacked setting journal s (range_with_len low n)) ≤ n
+    → length (unacked_installs setting journal s (range_with_len low n)) ≤ n
 unacked_few setting journal s low n =
     let test : ℕ → Bool = λ version. not (has_acked journal s version) in
     omega (
@@ -275,7 +276,7 @@ member_few : (setting : Setting) (journal : List Item) (s : ℕ)
 member_few setting journal s =
     let later : ℕ = version_count journal - current_mark journal in
     let tables : List Message =
-    unacked setting journal s (range_with_len (current_mark journal + 1) later) in
+    unacked_installs setting journal s (range_with_len (current_mark journal + 1) later) in
     let stamp : List Message = if nat_lt (acked_stamp journal s) (current_mark journal)
     then stamp_for journal (current_mark journal) s ∷ [] else [] in
     let mark : List Message = if retired_mark journal == 0
@@ -297,7 +298,7 @@ controller_resent_few setting journal s = by_over (is_over journal s)
   where
     by_member : (member : Bool) → length {A = Message} (elim member [
       | true ↦ resent_to_member setting journal s
-      | false ↦ unacked setting journal s (versions_from_current journal)
+      | false ↦ unacked_installs setting journal s (versions_from_current journal)
     ]) ≤ version_count journal + 3
     by_member true = member_few setting journal s
     by_member false =
@@ -311,7 +312,7 @@ controller_resent_few setting journal s = by_over (is_over journal s)
       | true ↦ []
       | false ↦ elim (is_member journal s) [
         | true ↦ resent_to_member setting journal s
-        | false ↦ unacked setting journal s (versions_from_current journal)
+        | false ↦ unacked_installs setting journal s (versions_from_current journal)
       ]
     ]) ≤ version_count journal + 3
     by_over true = omega arith
@@ -377,7 +378,7 @@ update_few setting net file journal = by_code (update_code setting journal file)
 
     by_code : (code : Option ℕ) → sent (elim code [
       | Some refused ↦ item.Refused file refused ∷ []
-      | None ↦ put (item.Submitted file (version_count journal + 1) ∷ [])
+      | None ↦ items_then (item.Submitted file (version_count journal + 1) ∷ [])
           (submitted_items setting) journal
     ]) ≤ 256
     by_code (Some refused) = omega arith
@@ -395,7 +396,7 @@ confirm_few setting net s journal = by_up (is_up journal s)
   where
     by_up : (up : Bool) → sent (elim up [
       | true ↦ nothing
-      | false ↦ put (item.OverNow s ∷ []) (settling setting) journal
+      | false ↦ items_then (item.OverNow s ∷ []) (settling setting) journal
     ]) ≤ 192
     by_up true = omega arith
     by_up false =

@@ -5,7 +5,7 @@ use Rattle.journal.specs.declared.item.Item.TheVariants as item
 use Rattle.update_machine.specs.Boots.{is_up}
 use Rattle.update_machine.specs.Causes.{HaveCauses}
 use Rattle.update_machine.specs.Deliveries.{link_changes}
-use Rattle.update_machine.specs.Moves.{put}
+use Rattle.update_machine.specs.Moves.{items_then}
 use Rattle.update_machine.specs.Pieces.{crash_items, nothing}
 use Rattle.update_machine.specs.Setting.{Setting}
 use Rattle.update_machine.specs.Travels.{packets_at}
@@ -48,7 +48,7 @@ crash_changes setting cause weaker before s journal downs = by_up (is_up before 
 
     by_up : (b : Bool) → is_up before s ≡ b → HaveCauses cause journal (elim b [
       | false ↦ nothing
-      | true ↦ put (item.Down s ∷ lost) (link_changes setting before) journal
+      | true ↦ items_then (item.Down s ∷ lost) (link_changes setting before) journal
     ])
     by_up false e = (weaker journal item.Nothing tt, tt)
     by_up true e =

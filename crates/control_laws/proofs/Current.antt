@@ -12,8 +12,8 @@ use Rattle.ctrl_msg.specs.Kinds.{to_controller}
 use Rattle.ctrl_msg.specs.declared.message.Receiver.TheVariants as receiver
 use Rattle.journal.specs.declared.item.Item.{Item}
 use Rattle.journal.specs.declared.item.Item.TheVariants as item
-use Rattle.update_machine.specs.Boots.{said_to}
-use Rattle.update_machine.specs.Marks.{acked_stamp, members, next_retired, retired_mark, controller_heard, current_mark, first_number, known_boot, open_sent, said_to_controller, stamped_in}
+use Rattle.update_machine.specs.Boots.{body_to_switch}
+use Rattle.update_machine.specs.Marks.{acked_stamp, members, next_retired, retired_mark, controller_heard, current_mark, first_number, known_boot, open_sent, body_to_controller, stamped_in}
 use Rattle.update_machine.specs.Setting.{Setting}
 use Rattle.update_machine.specs.Settling.{to_switch}
 use Rattle.update_machine.specs.Versions.{stamp_in, stamp_of}
@@ -123,9 +123,9 @@ stamp_current : (before : List Item) (s : ℕ) (body : Body) (version : ℕ)
 stamp_current before s body version is current = grind arith
 
 delivered_current : (before : List Item) (s number : ℕ) → StampsAreCurrent before
-    → raised (stamp_of before s) (option_and_then stamp_in (said_to before s number))
+    → raised (stamp_of before s) (option_and_then stamp_in (body_to_switch before s number))
     ≤ current_mark before
-delivered_current before s number are = by_said (said_to before s number) refl
+delivered_current before s number are = by_said (body_to_switch before s number) refl
   where
     by_stamp : (body : Body) (stamp : Option ℕ) → stamp_in body ≡ stamp
         → IsOfCurrent before (receiver.Switch s) body
@@ -134,7 +134,7 @@ delivered_current before s number are = by_said (said_to before s number) refl
     by_stamp body (Some version) e current =
         omega (arith, are.stamps s, stamp_current before s body version e current)
 
-    by_said : (said : Option Body) → said_to before s number ≡ said
+    by_said : (said : Option Body) → body_to_switch before s number ≡ said
         → raised (stamp_of before s) (option_and_then stamp_in said) ≤ current_mark before
     by_said None e = are.stamps s
     by_said (Some body) e = by_stamp body (stamp_in body) refl
@@ -161,15 +161,15 @@ stamps_on setting before next s cause are =
 
 -- ---- what is told of stamps
 
-tells_current : (before : List Item) (next : Item) (s boot : ℕ) → StampsAreCurrent before
+gives_current : (before : List Item) (next : Item) (s boot : ℕ) → StampsAreCurrent before
     → AllByRecursion (λ version. version ≤ current_mark before)
     (tells (stamped_in s boot) before next)
-tells_current before (item.Delivered number) s boot are =
+gives_current before (item.Delivered number) s boot are =
     each_if (λ version. version ≤ current_mark before)
-    (option_and_then (stamped_in s boot) (said_to_controller before number))
+    (option_and_then (stamped_in s boot) (body_to_controller before number))
     (λ version told. are.sent number (to_controller (Stamped s boot version))
     (told_sent (stamped_in s boot) (Stamped s boot) (stamped_is s boot) before number version told))
-tells_current before _ s boot are = tt
+gives_current before _ s boot are = tt
 
 told_on : (setting : Setting) (before : List Item) (next : Item) (s boot : ℕ)
     → HasItemCause setting before next → StampsAreCurrent before
@@ -184,7 +184,7 @@ told_on setting before next s boot cause are =
     (told_by (stamped_in s boot) before ++ tells (stamped_in s boot) before next)
     (each_append (λ version. version ≤ current_mark before) (told_by (stamped_in s boot) before)
     (tells (stamped_in s boot) before next) (are.told s boot)
-    (tells_current before next s boot are)))
+    (gives_current before next s boot are)))
 
 -- ---- retired versions
 

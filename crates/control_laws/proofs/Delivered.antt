@@ -11,11 +11,11 @@ use Rattle.ctrl_msg.specs.declared.message.Receiver.TheVariants as receiver
 use Rattle.journal.specs.declared.item.Item.{Item}
 use Rattle.journal.specs.declared.item.Item.TheVariants as item
 use Rattle.steps.specs.declared.step.Step.{Step}
-use Rattle.update_machine.specs.Boots.{said_to}
+use Rattle.update_machine.specs.Boots.{body_to_switch}
 use Rattle.update_machine.specs.Causes.{HaveCauses}
 use Rattle.update_machine.specs.Deliveries.{after_hello, controller_items, delivery_items, is_new_boot, received_items, switch_items}
 use Rattle.update_machine.specs.Links.{message_of}
-use Rattle.update_machine.specs.Marks.{raises_known, said_to_controller}
+use Rattle.update_machine.specs.Marks.{raises_known, body_to_controller}
 use Rattle.update_machine.specs.Moves.{in_turn}
 use Rattle.update_machine.specs.Pieces.{deliver_items}
 use Rattle.update_machine.specs.Setting.{Setting}
@@ -27,14 +27,14 @@ pub delivery_has : (Have : List Item → Type 0) (setting : Setting) (before : L
     (number : ℕ) (now : List Item) → Have []
     → ((body : Body) → message_of before number ≡ Some (to_controller body)
     → Have (controller_items setting before body now))
-    → ((s : ℕ) (body : Body) → said_to before s number ≡ Some body
+    → ((s : ℕ) (body : Body) → body_to_switch before s number ≡ Some body
     → Have (switch_items setting before s body now))
     → Have (delivery_items setting before number now)
 unfolding delivery_items
 delivery_has Have setting before number now none at_controller at_switch =
     by_message (message_of before number) refl
   where
-    by_said : (s : ℕ) (o : Option Body) → said_to before s number ≡ o → Have (elim o [
+    by_said : (s : ℕ) (o : Option Body) → body_to_switch before s number ≡ o → Have (elim o [
       | None ↦ []
       | Some body ↦ switch_items setting before s body now
     ])
@@ -45,7 +45,7 @@ delivery_has Have setting before number now none at_controller at_switch =
         → message_of before number ≡ Some (record { to = to; body = body })
         → Have (received_items setting before number (record { to = to; body = body }) now)
     by_receiver receiver.Controller body e = at_controller body e
-    by_receiver (receiver.Switch s) body e = by_said s (said_to before s number) refl
+    by_receiver (receiver.Switch s) body e = by_said s (body_to_switch before s number) refl
 
     by_message : (o : Option Message) → message_of before number ≡ o → Have (elim o [
       | None ↦ []
@@ -61,7 +61,7 @@ pub deliver_has : (cause : List Item → Item → Type 0) (setting : Setting) (b
     let now = here ++ item.Delivered number ∷ [] in
     ((body : Body) → message_of before number ≡ Some (to_controller body)
     → HaveCauses cause now (controller_items setting before body now))
-    → ((s : ℕ) (body : Body) → said_to before s number ≡ Some body
+    → ((s : ℕ) (body : Body) → body_to_switch before s number ≡ Some body
     → HaveCauses cause now (switch_items setting before s body now))
     → HaveCauses cause here (deliver_items setting before number here)
 unfolding deliver_items
@@ -111,7 +111,7 @@ hello_raises before row number s boot step body sent hello new =
     ≡ Some (to_controller (Hello s boot)) =
     message_more before (item.Row row step) number ∙ sent
     ∙ ap (λ of. Some (to_controller of)) hello in
-    rw (known, still, said_to_controller, own) new
+    rw (known, still, body_to_controller, own) new
 
 -- so behind its row a delivery has what settling has, tables to a switch whose known boot is
 -- raised, and what a switch writes to which something is said
@@ -122,7 +122,7 @@ pub row_delivers : (cause : List Item → Item → Type 0) (setting : Setting) (
     → HaveCauses cause now (settling setting now)
     → ((s : ℕ) → IsTrue (raises_known here s number)
     → HaveCauses cause settled (installs_to setting s settled))
-    → ((s : ℕ) (body : Body) → said_to before s number ≡ Some body
+    → ((s : ℕ) (body : Body) → body_to_switch before s number ≡ Some body
     → HaveCauses cause now (switch_items setting before s body now))
     → HaveCauses cause here (deliver_items setting before number here)
 row_delivers cause setting before row number step nothing delivered settles raised at_switch =

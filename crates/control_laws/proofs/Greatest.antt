@@ -4,7 +4,7 @@ use Rattle.std.specs.Prelude.{fold, max, unwrap_or}
 use Rattle.std.specs.List.{AllByRecursion}
 use Rattle.std.proofs.lemmas.List.Sums.{fold-append}
 use Rattle.journal.specs.declared.item.Item.{Item}
-use Rattle.update_machine.specs.Marks.{acked_stamp, hello_boot, known_boot, least, open_version, opened_at, stamped_in}
+use Rattle.update_machine.specs.Marks.{acked_stamp, hello_boot, known_boot, least_number, open_version, opened_at, stamped_in}
 use Rattle.control_laws.proofs.Told.{tells, told_by, told_by_more}
 
 -- the greatest of numbers that a bound holds of is within it
@@ -78,13 +78,13 @@ fold_min first (x ∷ xs) =
 
 -- the least of numbers is at most each of them
 pub least_below : (xs : List ℕ) (other : ℕ)
-    → AllByRecursion (λ x. unwrap_or (least xs) other ≤ x) xs
+    → AllByRecursion (λ x. unwrap_or (least_number xs) other ≤ x) xs
 least_below [] other = tt
 least_below (x ∷ xs) other = fold_min x xs
 
 -- and it is within a bound on each of them
 pub least_within : (xs : List ℕ) (bound : ℕ) → AllByRecursion (λ x. x ≤ bound) xs
-    → unwrap_or (least xs) bound ≤ bound
+    → unwrap_or (least_number xs) bound ≤ bound
 least_within [] bound all = omega arith
 least_within (x ∷ xs) bound all =
     let below = (fold_min x xs).0 in

@@ -9,21 +9,21 @@ use Rattle.ctrl_msg.specs.declared.message.Body.{Body}
 use Rattle.ctrl_msg.specs.declared.message.Body.TheVariants.{OpenAt}
 use Rattle.journal.specs.declared.item.Item.{Item}
 use Rattle.journal.specs.declared.item.Item.TheVariants as item
-use Rattle.update_machine.specs.Boots.{boot_of, changes_heard, heard, is_up, said_to, tells_boot, tells_up}
-use Rattle.update_machine.specs.Folds.{all_given, count_of, last_told}
-use Rattle.update_machine.specs.Marks.{first_number, said_to_controller, changes_over, changes_told, controller_heard, current_mark, hello_boot, is_over, known_boot, open_sent, opened_at, retired_mark, tells_current, tells_retired}
+use Rattle.update_machine.specs.Boots.{boot_of, changes_heard, heard, is_up, body_to_switch, gives_boot, gives_up}
+use Rattle.update_machine.specs.Folds.{all_given, count_of, last_given}
+use Rattle.update_machine.specs.Marks.{first_number, body_to_controller, changes_over, changes_controller_heard, controller_heard, current_mark, hello_boot, is_over, known_boot, open_sent, opened_at, retired_mark, gives_current, gives_retired}
 use Rattle.update_machine.specs.Settling.{to_switch}
-use Rattle.update_machine.specs.Versions.{first_stamp, greatest, stamp_in, stamp_of, is_submission, version_count}
-use Rattle.update_machine.specs.Links.{serves, tells_serving, message_of, tells_message}
-use Rattle.update_machine.proofs.CallerLemmas.{all_given_append, count_of_append, folded_append, last_told_append}
+use Rattle.update_machine.specs.Versions.{first_stamp, greatest_number, stamp_in, stamp_of, is_submission, version_count}
+use Rattle.update_machine.specs.Links.{serves, gives_serving, message_of, gives_message}
+use Rattle.update_machine.proofs.CallerLemmas.{all_given_append, count_of_append, folded_append, last_given_append}
 
 -- the last item tells, or else those before it
 pub last_more : {X : Type 0} (tells : Item → Option X) (before : List Item) (item : Item)
-    (other : X) → unwrap_or (last_told tells (before ++ item ∷ [])) other
-    ≡ unwrap_or (tells item) (unwrap_or (last_told tells before) other)
+    (other : X) → unwrap_or (last_given tells (before ++ item ∷ [])) other
+    ≡ unwrap_or (tells item) (unwrap_or (last_given tells before) other)
 last_more {X = X} tells before item other =
-    ap (λ o. unwrap_or o other) (last_told_append tells before (item ∷ []))
-    ∙ by_told (tells item) (last_told tells before)
+    ap (λ o. unwrap_or o other) (last_given_append tells before (item ∷ []))
+    ∙ by_told (tells item) (last_given tells before)
   where
     by_told : (now earlier : Option X) → unwrap_or (option_or now earlier) other
         ≡ unwrap_or now (unwrap_or earlier other)
@@ -31,29 +31,29 @@ last_more {X = X} tells before item other =
     by_told (Some x) earlier = refl
 
 pub boot_more : (before : List Item) (item : Item) (s : ℕ)
-    → boot_of (before ++ item ∷ []) s ≡ unwrap_or (tells_boot s item) (boot_of before s)
+    → boot_of (before ++ item ∷ []) s ≡ unwrap_or (gives_boot s item) (boot_of before s)
 unfolding boot_of
-boot_more before item s = last_more (tells_boot s) before item 1
+boot_more before item s = last_more (gives_boot s) before item 1
 
 pub up_more : (before : List Item) (item : Item) (s : ℕ)
-    → is_up (before ++ item ∷ []) s ≡ unwrap_or (tells_up s item) (is_up before s)
+    → is_up (before ++ item ∷ []) s ≡ unwrap_or (gives_up s item) (is_up before s)
 unfolding is_up
-up_more before item s = last_more (tells_up s) before item true
+up_more before item s = last_more (gives_up s) before item true
 
 pub serving_more : (before : List Item) (item : Item) (s : ℕ)
-    → serves (before ++ item ∷ []) s ≡ unwrap_or (tells_serving s item) (serves before s)
+    → serves (before ++ item ∷ []) s ≡ unwrap_or (gives_serving s item) (serves before s)
 unfolding serves
-serving_more before item s = last_more (tells_serving s) before item true
+serving_more before item s = last_more (gives_serving s) before item true
 
 pub current_more : (before : List Item) (item : Item)
-    → current_mark (before ++ item ∷ []) ≡ unwrap_or (tells_current item) (current_mark before)
+    → current_mark (before ++ item ∷ []) ≡ unwrap_or (gives_current item) (current_mark before)
 unfolding current_mark
-current_more before item = last_more tells_current before item 1
+current_more before item = last_more gives_current before item 1
 
 pub retired_more : (before : List Item) (item : Item)
-    → retired_mark (before ++ item ∷ []) ≡ unwrap_or (tells_retired item) (retired_mark before)
+    → retired_mark (before ++ item ∷ []) ≡ unwrap_or (gives_retired item) (retired_mark before)
 unfolding retired_mark
-retired_more before item = last_more tells_retired before item 0
+retired_more before item = last_more gives_retired before item 0
 
 -- a count from one, with one more item
 pub counted_more : (test : Item → Bool) (before : List Item) (item : Item)
@@ -76,9 +76,9 @@ unfolding version_count
 count_more before item = counted_more is_submission before item
 
 pub message_more : (before : List Item) (item : Item) (n : ℕ)
-    → message_of (before ++ item ∷ []) n ≡ option_or (tells_message n item) (message_of before n)
+    → message_of (before ++ item ∷ []) n ≡ option_or (gives_message n item) (message_of before n)
 unfolding message_of
-message_more before item n = last_told_append (tells_message n) before (item ∷ [])
+message_more before item n = last_given_append (gives_message n) before (item ∷ [])
 
 pub heard_more : (before : List Item) (item : Item) (s : ℕ)
     → heard (before ++ item ∷ []) s ≡ changes_heard s before (heard before s) item
@@ -86,9 +86,10 @@ unfolding heard
 heard_more before item s = folded_append (changes_heard s) [] before (item ∷ [])
 
 pub told_more : (before : List Item) (item : Item)
-    → controller_heard (before ++ item ∷ []) ≡ changes_told before (controller_heard before) item
+    → controller_heard (before ++ item ∷ []) ≡ changes_controller_heard before
+    (controller_heard before) item
 unfolding controller_heard
-told_more before item = folded_append changes_told [] before (item ∷ [])
+told_more before item = folded_append changes_controller_heard [] before (item ∷ [])
 
 pub over_more : (before : List Item) (item : Item) (s : ℕ)
     → is_over (before ++ item ∷ []) s ≡ changes_over s before (is_over before s) item
@@ -106,7 +107,7 @@ sent_more before item s boot = all_given_append (open_sent s boot) before (item 
 -- the boot of a hello of the switch that an item delivers
 abbrev pub hello_told : ℕ → List Item → Item → Option ℕ
 hello_told s before (item.Delivered number) =
-    option_and_then (hello_boot s) (said_to_controller before number)
+    option_and_then (hello_boot s) (body_to_controller before number)
 hello_told s before _ = None
 
 abbrev pub raised : ℕ → Option ℕ → ℕ
@@ -119,7 +120,7 @@ unfolding known_boot
 known_more before (item.Delivered number) s =
     ap (λ bodies. fold max 1 (filter_map (hello_boot s) bodies))
     (told_more before (item.Delivered number))
-    ∙ by_said (said_to_controller before number)
+    ∙ by_said (body_to_controller before number)
   where
     by_said : (said : Option Body)
         → fold max 1 (filter_map (hello_boot s) (controller_heard before ++ option_to_list said))
@@ -146,7 +147,7 @@ known_more before item s = ap (λ bodies. fold max 1 (filter_map (hello_boot s) 
 
 -- a body that is heard raises the stamp to its version, if it has one
 pub stamp_told : (before : List Item) (n s : ℕ) → stamp_of (before ++ item.Delivered n ∷ []) s
-    ≡ raised (stamp_of before s) (option_and_then stamp_in (said_to before s n))
+    ≡ raised (stamp_of before s) (option_and_then stamp_in (body_to_switch before s n))
 unfolding stamp_of
 stamp_told before n s =
     let boot : boot_of (before ++ item.Delivered n ∷ []) s ≡ boot_of before s =
@@ -154,28 +155,31 @@ stamp_told before n s =
     let up : is_up (before ++ item.Delivered n ∷ []) s ≡ is_up before s =
     up_more before (item.Delivered n) s in
     let bodies : heard (before ++ item.Delivered n ∷ []) s
-    ≡ option_map_or (λ body. heard before s ++ body ∷ []) (said_to before s n) (heard before s) =
+    ≡ option_map_or (λ body. heard before s ++ body ∷ []) (body_to_switch before s n)
+    (heard before s) =
     heard_more before (item.Delivered n) s in
-    rw (boot, up, bodies) (by_said (said_to before s n))
+    rw (boot, up, bodies) (by_said (body_to_switch before s n))
   where
     by_said : (said : Option Body)
-        → greatest (first_stamp before s ++ filter_map stamp_in
+        → greatest_number (first_stamp before s ++ filter_map stamp_in
         (option_map_or (λ body. heard before s ++ body ∷ []) said (heard before s)))
-        ≡ raised (greatest (first_stamp before s ++ filter_map stamp_in (heard before s)))
+        ≡ raised (greatest_number (first_stamp before s ++ filter_map stamp_in (heard before s)))
         (option_and_then stamp_in said)
     by_said None = refl
-    by_said (Some body) = ap (λ xs. greatest (first_stamp before s ++ xs))
+    by_said (Some body) = ap (λ xs. greatest_number (first_stamp before s ++ xs))
         (filter_map-append stamp_in (heard before s) (body ∷ []))
-        ∙ ap greatest (sym (append_assoc (first_stamp before s)
+        ∙ ap greatest_number (sym (append_assoc (first_stamp before s)
         (filter_map stamp_in (heard before s)) (filter_map stamp_in (body ∷ []))))
         ∙ fold-append max 0 (first_stamp before s ++ filter_map stamp_in (heard before s))
         (filter_map stamp_in (body ∷ []))
         ∙ by_stamp (stamp_in body) refl
       where
         by_stamp : (stamp : Option ℕ) → stamp_in body ≡ stamp →
-            fold max (greatest (first_stamp before s ++ filter_map stamp_in (heard before s)))
+            fold max (greatest_number (first_stamp before s
+            ++ filter_map stamp_in (heard before s)))
             (filter_map stamp_in (body ∷ []))
-            ≡ raised (greatest (first_stamp before s ++ filter_map stamp_in (heard before s))) stamp
+            ≡ raised (greatest_number (first_stamp before s
+            ++ filter_map stamp_in (heard before s))) stamp
         by_stamp None e = rw e refl
         by_stamp (Some version) e = rw e refl
 

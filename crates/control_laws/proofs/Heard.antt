@@ -5,7 +5,7 @@ use Rattle.std.specs.Option.{option_map_or}
 use Rattle.ctrl_msg.specs.declared.message.Body.{Body}
 use Rattle.journal.specs.declared.item.Item.{Item}
 use Rattle.journal.specs.declared.item.Item.TheVariants as item
-use Rattle.update_machine.specs.Boots.{heard, said_to}
+use Rattle.update_machine.specs.Boots.{heard, body_to_switch}
 use Rattle.update_machine.specs.Settling.{to_switch}
 use Rattle.update_machine.specs.Links.{message_of}
 use Rattle.control_laws.proofs.Grown.{heard_more}
@@ -32,9 +32,9 @@ heard_on P Q before (item.Booted t boot) s on sent all =
     by_test false = each_weaker P Q on (heard before s) all
 heard_on P Q before (item.Delivered number) s on sent all =
     subst (AllByRecursion Q) (sym (heard_more before (item.Delivered number) s))
-    (by_said (said_to before s number) refl)
+    (by_said (body_to_switch before s number) refl)
   where
-    by_said : (said : Option Body) → said_to before s number ≡ said → AllByRecursion Q
+    by_said : (said : Option Body) → body_to_switch before s number ≡ said → AllByRecursion Q
         (option_map_or (λ body. heard before s ++ body ∷ []) said (heard before s))
     by_said None e = each_weaker P Q on (heard before s) all
     by_said (Some body) e =

@@ -9,22 +9,23 @@ use Rattle.ctrl_msg.specs.declared.message.Body.{Body}
 use Rattle.ctrl_msg.specs.declared.message.Body.TheVariants.{Install}
 use Rattle.journal.specs.declared.item.Item.{Item}
 use Rattle.journal.specs.declared.item.Item.TheVariants as item
-use Rattle.update_machine.specs.Boots.{boot_of, heard, said_to}
+use Rattle.update_machine.specs.Boots.{boot_of, heard, body_to_switch}
 use Rattle.update_machine.specs.Marks.{known_boot}
 use Rattle.update_machine.specs.Settling.{to_switch}
-use Rattle.update_machine.specs.Versions.{installs}
+use Rattle.update_machine.specs.Versions.{installs_version}
 use Rattle.control_laws.specs.BootLaws.{BootsAreKnown}
 use Rattle.control_laws.proofs.Boots.{known_rises}
 use Rattle.control_laws.proofs.Grown.{boot_more, heard_more}
 use Rattle.control_laws.proofs.SwitchBlocks.{said_parts}
 
 abbrev pub HeardAreKnown : List Item → Type 0
-HeardAreKnown journal = (s version : ℕ) → IsTrue (list_any (installs version) (heard journal s))
+HeardAreKnown journal = (s version : ℕ) → IsTrue
+    (list_any (installs_version version) (heard journal s))
     → boot_of journal s ≤ known_boot journal s
 
 -- a body that is heard
 heard_now : (before : List Item) (s number v : ℕ) (body : Body) → BootsAreKnown before
-    → said_to before s number ≡ Some body → IsTrue (installs v body)
+    → body_to_switch before s number ≡ Some body → IsTrue (installs_version v body)
     → boot_of before s ≤ known_boot before s
 heard_now before s number v (Install boot tables) boots said is =
     let parts = said_parts before s number (Install boot tables) said in
@@ -40,7 +41,7 @@ heard_known before (item.Down t) boots known s v is =
     rw (boot_more before (item.Down t) s)
     (by_test (t == s) (rw (heard_more before (item.Down t) s) at is))
   where
-    by_test : (b : Bool) → IsTrue (list_any (installs v) (if b then [] else heard before s))
+    by_test : (b : Bool) → IsTrue (list_any (installs_version v) (if b then [] else heard before s))
         → boot_of before s ≤ known_boot (before ++ item.Down t ∷ []) s
     by_test true none = absurd cc
     by_test false is =
@@ -49,7 +50,7 @@ heard_known before (item.Booted t boot) boots known s v is =
     rw (boot_more before (item.Booted t boot) s)
     (by_test (t == s) (rw (heard_more before (item.Booted t boot) s) at is))
   where
-    by_test : (b : Bool) → IsTrue (list_any (installs v) (if b then [] else heard before s))
+    by_test : (b : Bool) → IsTrue (list_any (installs_version v) (if b then [] else heard before s))
         → unwrap_or (if b then Some boot else None) (boot_of before s)
         ≤ known_boot (before ++ item.Booted t boot ∷ []) s
     by_test true none = absurd cc
@@ -57,7 +58,7 @@ heard_known before (item.Booted t boot) boots known s v is =
         omega (arith, known s v is, known_rises before (item.Booted t boot) s)
 heard_known before (item.Delivered number) boots known s v is =
     rw (boot_more before (item.Delivered number) s)
-    (by_said (said_to before s number) refl
+    (by_said (body_to_switch before s number) refl
     (rw (heard_more before (item.Delivered number) s) at is))
   where
     rises : known_boot before s ≤ known_boot (before ++ item.Delivered number ∷ []) s
@@ -71,19 +72,19 @@ heard_known before (item.Delivered number) boots known s v is =
     by_parts false true is one other = other refl
     by_parts false false is one other = absurd cc
 
-    by_said : (said : Option Body) → said_to before s number ≡ said
-        → IsTrue (list_any (installs v)
+    by_said : (said : Option Body) → body_to_switch before s number ≡ said
+        → IsTrue (list_any (installs_version v)
         (option_map_or (λ body. heard before s ++ body ∷ []) said (heard before s)))
         → boot_of before s ≤ known_boot (before ++ item.Delivered number ∷ []) s
     by_said None e is = omega (arith, known s v is, rises)
     by_said (Some body) e is =
         let here : boot_of before s ≤ known_boot before s =
-        by_parts (list_any (installs v) (heard before s)) (installs v body)
-        (rw (list_any-append (installs v) (heard before s) (body ∷ [])) at is)
+        by_parts (list_any (installs_version v) (heard before s)) (installs_version v body)
+        (rw (list_any-append (installs_version v) (heard before s) (body ∷ [])) at is)
         (known s v) (heard_now before s number v body boots e) in
         omega (arith, here, rises)
 heard_known before next boots known s v is =
-    let same : IsTrue (list_any (installs v) (heard before s)) =
+    let same : IsTrue (list_any (installs_version v) (heard before s)) =
     rw (heard_more before next s) at is in
     rw (boot_more before next s)
     (omega (arith, known s v same, known_rises before next s))

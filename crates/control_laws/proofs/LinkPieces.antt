@@ -11,12 +11,12 @@ use Rattle.update_machine.specs.Adverts.{own_advert}
 use Rattle.update_machine.specs.Boots.{boot_of, is_up}
 use Rattle.update_machine.specs.Concerns.{NoneConcern, concerns_links}
 use Rattle.update_machine.specs.Deliveries.{link_changes}
-use Rattle.update_machine.specs.Folds.{last_told}
+use Rattle.update_machine.specs.Folds.{last_given}
 use Rattle.update_machine.specs.Laws.{LinksKeep}
-use Rattle.update_machine.specs.Links.{is_link_up, is_usable, tells_link, serves, tells_serving}
+use Rattle.update_machine.specs.Links.{is_link_up, is_usable, gives_link, serves, gives_serving}
 use Rattle.update_machine.specs.Setting.{Setting}
 use Rattle.update_machine.specs.LinkMasks.{near}
-use Rattle.update_machine.proofs.CallerLemmas.{last_told_append, links_keep, stays}
+use Rattle.update_machine.proofs.CallerLemmas.{last_given_append, links_keep, stays}
 use Rattle.control_laws.proofs.Grown.{boot_more, serving_more, up_more}
 use Rattle.control_laws.proofs.LinkCauses.{ChangedNoLinks, HasLinkCause}
 use Rattle.control_laws.proofs.OwnAdverts.{AdvertGoesOn, advert_on, same_boot, same_near, same_seq}
@@ -26,22 +26,22 @@ use Rattle.control_laws.proofs.LinkSends.{ChangesAt}
 -- ---- what items do to links
 
 link_same : (before : List Item) (next : Item) (a b : ℕ)
-    → tells_link (min a b) (max a b) next ≡ None
+    → gives_link (min a b) (max a b) next ≡ None
     → is_link_up (before ++ next ∷ []) a b ≡ is_link_up before a b
 unfolding is_link_up
 link_same before next a b none =
     ap (λ o. unwrap_or o true)
-    (last_told_append (tells_link (min a b) (max a b)) before (next ∷ [])
-    ∙ ap (λ o. option_or o (last_told (tells_link (min a b) (max a b)) before)) none)
+    (last_given_append (gives_link (min a b) (max a b)) before (next ∷ [])
+    ∙ ap (λ o. option_or o (last_given (gives_link (min a b) (max a b)) before)) none)
 
-serving_same : (before : List Item) (next : Item) (s : ℕ) → tells_serving s next ≡ None
+serving_same : (before : List Item) (next : Item) (s : ℕ) → gives_serving s next ≡ None
     → serves (before ++ next ∷ []) s ≡ serves before s
 serving_same before next s none =
     serving_more before next s ∙ ap (λ o. unwrap_or o (serves before s)) none
 
 usable_same : (before : List Item) (next : Item) (link : LinkRow)
-    → tells_link (min link.one link.two) (max link.one link.two) next ≡ None
-    → tells_serving link.one next ≡ None → tells_serving link.two next ≡ None
+    → gives_link (min link.one link.two) (max link.one link.two) next ≡ None
+    → gives_serving link.one next ≡ None → gives_serving link.two next ≡ None
     → is_usable (before ++ next ∷ []) link ≡ is_usable before link
 usable_same before next link up one two =
     ap (λ b. b && serves (before ++ next ∷ []) link.one && serves (before ++ next ∷ []) link.two)
@@ -52,12 +52,12 @@ usable_same before next link up one two =
     (serving_same before next link.two two)
 
 silent_link : (next : Item) (a b : ℕ) (before : List Item) → IsFalse (concerns_links before next)
-    → tells_link a b next ≡ None
+    → gives_link a b next ≡ None
 silent_link (item.LinkIs one two up) a b before apart = cc
 silent_link _ a b before apart = refl
 
 silent_serving : (next : Item) (s : ℕ) (before : List Item)
-    → IsFalse (concerns_links before next) → tells_serving s next ≡ None
+    → IsFalse (concerns_links before next) → gives_serving s next ≡ None
 silent_serving (item.Down t) s before apart = cc
 silent_serving (item.Booted t boot) s before apart = cc
 silent_serving (item.Opened t version) s before apart = cc

@@ -9,7 +9,7 @@ use Rattle.std.proofs.lemmas.List.Concat.{length-flat_map}
 use Rattle.std.proofs.lemmas.List.FromFn.{length-range_with_len}
 use Rattle.std.proofs.lemmas.List.Sums.{sum_by-le-sum_by}
 use Rattle.ctrl_msg.specs.declared.message.Message.{Message}
-use Rattle.failover.specs.Adverts.{held}
+use Rattle.failover.specs.Adverts.{held_advert}
 use Rattle.base.specs.Masks.{has, switches}
 use Rattle.base.proofs.CallerLemmas.{mask_of_lt}
 use Rattle.net_file.specs.Net.{IsNet}
@@ -154,7 +154,7 @@ unfolding held_adverts switches
 held_few setting journal s =
     omega (
       arith,
-      length_given_less (held (adverts_known setting journal s)) (range_with_len 0 64),
+      length_given_less (held_advert (adverts_known setting journal s)) (range_with_len 0 64),
       length-range_with_len 0 64,
     )
 
@@ -219,8 +219,8 @@ by_few setting before now t s net changes =
 -- ---- what all tell
 
 -- what the switches tell whose links changed
-abbrev pub all_told : Setting → List Item → List Item → List Message
-all_told setting before now =
+abbrev pub all_adverts_sent : Setting → List Item → List Item → List Message
+all_adverts_sent setting before now =
     flat_map (messages_of setting before now)
     (filter (has_changed setting before now) (switches_of setting))
 
@@ -250,7 +250,7 @@ pairs_near setting now net =
 
 pub changes_few : (setting : Setting) (before now : List Item) (t : ℕ) → IsNet setting.net
     → ChangesAt before now t
-    → length (all_told setting before now) ≤ 8576
+    → length (all_adverts_sent setting before now) ≤ 8576
 changes_few setting before now t net changes =
     let all : List ℕ = switches_of setting in
     let row : ℕ → ℕ = λ s. sum_by (λ k. once (has (near setting now s) k)) all in

@@ -7,7 +7,7 @@ use Rattle.std.proofs.lemmas.Bool.Decides.{nat_tests}
 use Rattle.ctrl_msg.specs.declared.message.Message.{Message}
 use Rattle.journal.specs.declared.item.Item.{Item}
 use Rattle.journal.specs.declared.item.Item.TheVariants as item
-use Rattle.update_machine.specs.Marks.{MayRise, current_mark, first_number, hello_boot, is_member, is_over, known_boot, open_sent, open_version, opened_at, raises_known, retired_mark, said_to_controller}
+use Rattle.update_machine.specs.Marks.{MayRise, current_mark, first_number, hello_boot, is_member, is_over, known_boot, open_sent, open_version, opened_at, raises_known, retired_mark, body_to_controller}
 use Rattle.update_machine.specs.Setting.{Setting}
 use Rattle.control_laws.specs.ItemCauses.{HasItemCause, IsFirstOpening, IsRightOpening, RetiresRightly}
 use Rattle.control_laws.proofs.Grown.{opened_at_more, opens_by, current_more, known_more, opened_in, opened_is, opened_more, over_more, raised, retired_more}
@@ -34,7 +34,7 @@ pub raised_above : (before : List Item) (number s : ℕ) → raises_known before
     → known_boot before s < known_boot (before ++ item.Delivered number ∷ []) s
 raised_above before number s raises =
     rw (known_more before (item.Delivered number) s)
-    (rises (option_and_then (hello_boot s) (said_to_controller before number)) raises)
+    (rises (option_and_then (hello_boot s) (body_to_controller before number)) raises)
   where
     rises : (hello : Option ℕ)
         → option_map_or (λ boot. nat_lt (known_boot before s) boot) hello false ≡ true
@@ -69,7 +69,7 @@ pub unraised_same : (before : List Item) (number s : ℕ) → raises_known befor
     → known_boot (before ++ item.Delivered number ∷ []) s ≡ known_boot before s
 unraised_same before number s none =
     known_more before (item.Delivered number) s
-    ∙ same (option_and_then (hello_boot s) (said_to_controller before number)) none
+    ∙ same (option_and_then (hello_boot s) (body_to_controller before number)) none
   where
     same : (hello : Option ℕ)
         → option_map_or (λ boot. nat_lt (known_boot before s) boot) hello false ≡ false

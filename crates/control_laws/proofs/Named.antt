@@ -16,13 +16,13 @@ use Rattle.journal.specs.declared.item.Item.{Item}
 use Rattle.journal.specs.declared.item.Item.TheVariants as item
 use Rattle.update_machine.specs.Boots.{heard}
 use Rattle.update_machine.specs.Causes.{HaveCauses}
-use Rattle.update_machine.specs.Marks.{controller_heard, first_number, hello_boot, known_boot, open_sent, said_to_controller}
-use Rattle.update_machine.specs.Travels.{ingress_of, tells_ingress}
+use Rattle.update_machine.specs.Marks.{controller_heard, first_number, hello_boot, known_boot, open_sent, body_to_controller}
+use Rattle.update_machine.specs.Travels.{ingress_of, gives_ingress}
 use Rattle.update_machine.specs.Setting.{Setting}
 use Rattle.update_machine.specs.Settling.{to_switch}
 use Rattle.update_machine.specs.Versions.{version_count}
 use Rattle.update_machine.specs.Links.{message_of}
-use Rattle.update_machine.proofs.CallerLemmas.{last_told_append, start_laws}
+use Rattle.update_machine.proofs.CallerLemmas.{last_given_append, start_laws}
 use Rattle.control_laws.specs.Always.{HoldsReached}
 use Rattle.control_laws.specs.ItemCauses.{HasItemCause, IsRightMessage, IsRightOpening}
 use Rattle.control_laws.proofs.Boots.{by_number, hello_sent, said_sent}
@@ -196,9 +196,9 @@ opened_named setting before next s boot version cause are opened =
         opening_above setting before s boot version are right
 
 ingress_more : (before : List Item) (next : Item) (i : ℕ) → ingress_of (before ++ next ∷ []) i
-    ≡ option_or (tells_ingress i next) (ingress_of before i)
+    ≡ option_or (gives_ingress i next) (ingress_of before i)
 unfolding ingress_of
-ingress_more before next i = last_told_append (tells_ingress i) before (next ∷ [])
+ingress_more before next i = last_given_append (gives_ingress i) before (next ∷ [])
 
 ingress_named : (setting : Setting) (before : List Item) (next : Item) (i s : ℕ)
     → NamesRightly setting before next → AreNamed setting before
@@ -217,11 +217,11 @@ known_named : (setting : Setting) (before : List Item) (next : Item) (s : ℕ)
     → AreNamed setting before → 1 < known_boot (before ++ next ∷ []) s
     → s < length setting.net.switches
 known_named setting before (item.Delivered number) s are above =
-    by_hello (option_and_then (hello_boot s) (said_to_controller before number)) refl
+    by_hello (option_and_then (hello_boot s) (body_to_controller before number)) refl
     (subst (λ boot. 1 < boot) (known_more before (item.Delivered number) s) above)
   where
     by_hello : (o : Option ℕ)
-        → option_and_then (hello_boot s) (said_to_controller before number) ≡ o
+        → option_and_then (hello_boot s) (body_to_controller before number) ≡ o
         → 1 < raised (known_boot before s) o → s < length setting.net.switches
     by_hello None e above = are.known s above
     by_hello (Some boot) e above =
@@ -243,10 +243,10 @@ told_named setting before (item.Delivered number) are =
     let next : Item = item.Delivered number in
     subst (AllByRecursion (IsTold setting (before ++ next ∷ []))) (sym (told_more before next))
     (told_on setting before next
-    (controller_heard before ++ option_to_list (said_to_controller before number))
+    (controller_heard before ++ option_to_list (body_to_controller before number))
     (each_append (IsTold setting before) (controller_heard before)
-    (option_to_list (said_to_controller before number)) are.told
-    (each_if (IsTold setting before) (said_to_controller before number)
+    (option_to_list (body_to_controller before number)) are.told
+    (each_if (IsTold setting before) (body_to_controller before number)
     (λ body said. are.sent number (to_controller body) (said_sent before number body said)))))
 told_named setting before next are =
     subst (AllByRecursion (IsTold setting (before ++ next ∷ []))) (sym (told_more before next))

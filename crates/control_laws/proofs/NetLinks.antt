@@ -5,7 +5,7 @@ use Rattle.std.specs.List.{list_any}
 use Rattle.std.proofs.lemmas.Bool.{cases_eq, cases_lt}
 use Rattle.std.proofs.lemmas.Bool.Decides.{nat_tests}
 use Rattle.std.proofs.lemmas.List.{get_or-map, get_or_past, length-map}
-use Rattle.failover.specs.Adverts.{held}
+use Rattle.failover.specs.Adverts.{held_advert}
 use Rattle.failover.specs.Links.{is_link, neighbours_named, named_links, AreJoined, IsPath, LinksLead}
 use Rattle.base.specs.Masks.{has}
 use Rattle.failover.specs.Paths.{IsRoute}
@@ -145,7 +145,7 @@ no_link_in_none k is = let none : has 0 k ≡ false = has-zero k in absurd cc
 
 -- what a switch is told of another one's links
 pub claimed_mask : (adverts : List (Option Advert)) (one : ℕ)
-    → get_or (map neighbours_named adverts) one 0 ≡ neighbours_named (held adverts one)
+    → get_or (map neighbours_named adverts) one 0 ≡ neighbours_named (held_advert adverts one)
 claimed_mask adverts one = elim (cases_lt one (length adverts)) [
   | inl within ↦ get_or-map neighbours_named adverts one None 0 within
   | inr past ↦
@@ -166,7 +166,7 @@ claims_linked net (Some advert) one other names is =
 -- a row of the links that are told: the switch's own, or one of an advert
 linked_row : (net : Net) (adverts : List (Option Advert)) (at own one other : ℕ)
     → (IsTrue (has own other) → HasLink net at other)
-    → ((advert : Advert) → held adverts one ≡ Some advert
+    → ((advert : Advert) → held_advert adverts one ≡ Some advert
     → NamesLinks net advert × (advert.origin ≡ one))
     → IsTrue (has (get_or (set (map neighbours_named adverts) at own) one 0) other)
     → HasLink net one other
@@ -174,9 +174,9 @@ linked_row net adverts at own one other sees names is =
     elim (cases_eq one at) [
       | inl same ↦ by_place same (cases_lt at (length rows))
       | inr apart ↦
-          let row : get_or (set rows at own) one 0 ≡ neighbours_named (held adverts one) =
+          let row : get_or (set rows at own) one 0 ≡ neighbours_named (held_advert adverts one) =
           get_or-set_other rows at one own 0 apart ∙ claimed_mask adverts one in
-          claims_linked net (held adverts one) one other names
+          claims_linked net (held_advert adverts one) one other names
           (subst (λ mask. IsTrue (has mask other)) row is)
     ]
   where

@@ -9,7 +9,7 @@ use Rattle.std.proofs.lemmas.List.Elements.{All-cons, All-head, All-nil, All-tai
 use Rattle.std.proofs.lemmas.List.FromFn.{get_or-range_with_len, length-range_with_len}
 use Rattle.std.proofs.lemmas.List.Sums.{get_or-le-sum_by, sum_by-cons}
 use Rattle.ctrl_msg.specs.declared.message.Message.{Message}
-use Rattle.failover.specs.Adverts.{held}
+use Rattle.failover.specs.Adverts.{held_advert}
 use Rattle.base.specs.Masks.{has, switches}
 use Rattle.base.specs.ComputedMasks.{least_in}
 use Rattle.base.proofs.CallerLemmas.{has_least, mask_of_lt}
@@ -44,7 +44,7 @@ use Rattle.control_laws.proofs.Plain.{sends_silent}
 use Rattle.control_laws.proofs.Stepping.{row_first}
 use Rattle.control_laws.proofs.Counts.{sent}
 use Rattle.control_laws.proofs.LinkPieces.{IsLinkPiece, OwnAfter}
-use Rattle.control_laws.proofs.LinkSends.{all_told}
+use Rattle.control_laws.proofs.LinkSends.{all_adverts_sent}
 use Rattle.control_laws.proofs.PieceKinds.{IsBootPiece, IsQuietPiece, PieceKind, link_changes_few, piece_kind}
 use Rattle.control_laws.proofs.Sums.{once, sum_filter}
 
@@ -202,7 +202,7 @@ holds_own : (setting : Setting) (now : List Item) (s : ℕ) → s < 64
     → 1 ≤ own_seq setting now s → 1 ≤ length (held_adverts setting now s)
 unfolding held_adverts switches own_advert
 holds_own setting now s small told =
-    given_some (held (adverts_known setting now s)) 0 64 s (own_advert setting now s)
+    given_some (held_advert (adverts_known setting now s)) 0 64 s (own_advert setting now s)
     (omega arith) small
     (known_link_laws.own setting now s small ∙ by_seq (own_seq setting now s == 0) refl)
   where
@@ -250,7 +250,7 @@ tells_some : (setting : Setting) (before now : List Item) (s : ℕ) → IsNet se
     → s < length setting.net.switches → is_up now s ≡ true
     → (near setting before s == near setting now s) ≡ false → 1 ≤ own_seq setting now s
     → (near setting now s == 0) ≡ false
-    → 1 ≤ length (all_told setting before now)
+    → 1 ≤ length (all_adverts_sent setting before now)
 tells_some setting before now s net there up changed told some =
     let neighbour = has_neighbour setting now s net some in
     let k : ℕ = neighbour.0 in
@@ -283,7 +283,7 @@ changed_few : (setting : Setting) (before now : List Item) (s told : ℕ) → Is
     → s < length setting.net.switches → OwnAfter setting before now s
     → own_seq setting before s ≤ 2 * told + 1 + once (near setting before s == 0)
     → own_seq setting now s
-    ≤ 2 * (told + length (all_told setting before now)) + 1
+    ≤ 2 * (told + length (all_adverts_sent setting before now)) + 1
     + once (near setting now s == 0)
 changed_few setting before now s told net there after few =
     by_up (is_up now s) refl
@@ -291,7 +291,7 @@ changed_few setting before now s told net there after few =
     by_mask : is_up now s ≡ true → IsNextAdvert setting before now s → (none : Bool)
         → (near setting now s == 0) ≡ none
         → own_seq setting now s
-        ≤ 2 * (told + length (all_told setting before now)) + 1 + once none
+        ≤ 2 * (told + length (all_adverts_sent setting before now)) + 1 + once none
     by_mask up next true e =
         let zero_now : near setting now s ≡ 0 = eqb-true (near setting now s) 0 e in
         let some : once (near setting before s == 0) ≡ 0 =
@@ -309,7 +309,7 @@ changed_few setting before now s told net there after few =
 
     by_own : is_up now s ≡ true → AdvertGoesOn setting before now s
         → own_seq setting now s
-        ≤ 2 * (told + length (all_told setting before now)) + 1
+        ≤ 2 * (told + length (all_adverts_sent setting before now)) + 1
         + once (near setting now s == 0)
     by_own up (inl same) =
         omega (
@@ -322,7 +322,7 @@ changed_few setting before now s told net there after few =
 
     by_up : (up : Bool) → is_up now s ≡ up
         → own_seq setting now s
-        ≤ 2 * (told + length (all_told setting before now)) + 1
+        ≤ 2 * (told + length (all_adverts_sent setting before now)) + 1
         + once (near setting now s == 0)
     by_up true e = by_own e (after.own e)
     by_up false e = omega (arith, down_none setting now s e)

@@ -8,7 +8,7 @@ use Rattle.ctrl_msg.specs.declared.message.Body.TheVariants.{OpenAt}
 use Rattle.journal.specs.declared.item.Item.{Item}
 use Rattle.journal.specs.declared.item.Item.TheVariants as item
 use Rattle.update_machine.specs.Boots.{boot_of, is_up}
-use Rattle.update_machine.specs.Marks.{controller_heard, first_number, hello_boot, is_member, is_over, known_boot, open_sent, opened_at, said_to_controller}
+use Rattle.update_machine.specs.Marks.{controller_heard, first_number, hello_boot, is_member, is_over, known_boot, open_sent, opened_at, body_to_controller}
 use Rattle.update_machine.specs.Setting.{Setting}
 use Rattle.update_machine.specs.Settling.{to_switch}
 use Rattle.update_machine.specs.Links.{serves, message_of}
@@ -138,7 +138,7 @@ pub delivery_known : (before : List Item) (s number : ℕ) → BootsAreKnown bef
 delivery_known before s number boots same =
     known_more before (item.Delivered number) s
     ∙ not_raised (known_boot before s)
-    (option_and_then (hello_boot s) (said_to_controller before number)) (boot_of before s) same
+    (option_and_then (hello_boot s) (body_to_controller before number)) (boot_of before s) same
     (λ of told. told_past before s number of boots told)
 
 known_on : (setting : Setting) (before : List Item) (next : Item) (s : ℕ)
@@ -258,7 +258,7 @@ not_over_on setting before (item.Delivered number) s cause boots kept up same =
     same ∙ boot_more before next s in
     rw (over_more before next s)
     (by_raise (known_boot before s)
-    (option_and_then (hello_boot s) (said_to_controller before number)) (is_over before s)
+    (option_and_then (hello_boot s) (body_to_controller before number)) (is_over before s)
     (λ stays. kept.not_over here (sym stays ∙ sym (known_more before next s) ∙ now)))
 not_over_on setting before next s cause boots kept up same =
     rw (over_more before next s)

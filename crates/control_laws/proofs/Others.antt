@@ -19,11 +19,11 @@ use Rattle.update_machine.specs.Deliveries.{advert_to, link_changes, switch_item
 use Rattle.update_machine.specs.Laws.{ControllerKeeps}
 use Rattle.update_machine.specs.LinkMasks.{near}
 use Rattle.update_machine.specs.Marks.{has_acked}
-use Rattle.update_machine.specs.Messages.{next_message, sends, sent_from}
+use Rattle.update_machine.specs.Messages.{next_message, send_items, sent_from}
 use Rattle.update_machine.specs.Packets.{next_packet}
 use Rattle.update_machine.specs.Pieces.{deliver_items, piece, resend_items, restart_items, step_items}
 use Rattle.update_machine.specs.Setting.{Setting}
-use Rattle.update_machine.specs.Settling.{install_for, unacked, versions_from_current}
+use Rattle.update_machine.specs.Settling.{install_for, unacked_installs, versions_from_current}
 use Rattle.control_laws.proofs.Crashes.{crash_has}
 use Rattle.control_laws.proofs.Delivered.{deliver_has}
 use Rattle.control_laws.proofs.Facts.{have_weaker, piece_has}
@@ -65,7 +65,7 @@ links_leave setting before journal =
     traffic_leave setting journal _ (links_traffic setting before journal)
 
 passed_leave : (setting : Setting) (journal : List Item) (s : ℕ) (advert : Advert)
-    → Leave journal (sends journal (passed_on setting journal s advert))
+    → Leave journal (send_items journal (passed_on setting journal s advert))
 passed_leave setting journal s advert =
     traffic_leave setting journal _ (passed_traffic setting journal s advert)
 
@@ -101,7 +101,7 @@ sent_leave (message ∷ messages) journal n all = (
 )
 
 pub sends_leave : (journal : List Item) (messages : List Message)
-    → AllByRecursion (ReopensAlone journal) messages → Leave journal (sends journal messages)
+    → AllByRecursion (ReopensAlone journal) messages → Leave journal (send_items journal messages)
 sends_leave journal messages all = sent_leave messages journal (next_message journal) all
 
 -- ---- at a switch
@@ -142,7 +142,7 @@ installs_reopen setting journal s versions =
     versions)
 
 unacked_reopen : (setting : Setting) (journal : List Item) (s : ℕ) (versions : List ℕ)
-    → AllByRecursion (ReopensAlone journal) (unacked setting journal s versions)
+    → AllByRecursion (ReopensAlone journal) (unacked_installs setting journal s versions)
 unacked_reopen setting journal s versions =
     installs_reopen setting journal s
     (filter (λ version. not (has_acked journal s version)) versions)

@@ -13,12 +13,12 @@ use Rattle.journal.specs.declared.item.Item.{Item}
 use Rattle.journal.specs.declared.item.Item.TheVariants as item
 use Rattle.steps.specs.declared.step.Step.{Step}
 use Rattle.steps.specs.declared.step.Step.TheVariants.{Packet, Deliver, Update, LinkDown, LinkUp, Crash, Restart, Confirm, Resend}
-use Rattle.update_machine.specs.Boots.{boot_of, is_up, said_to}
+use Rattle.update_machine.specs.Boots.{boot_of, is_up, body_to_switch}
 use Rattle.update_machine.specs.Concerns.{NoneConcern, concerns_links}
 use Rattle.update_machine.specs.Deliveries.{controller_items, delivery_items, is_news_to, link_changes, passed_on, received_items, switch_items}
 use Rattle.update_machine.specs.Links.{is_link_up, serves, message_of}
-use Rattle.update_machine.specs.Messages.{is_deliverable, sends}
-use Rattle.update_machine.specs.Moves.{put}
+use Rattle.update_machine.specs.Messages.{is_deliverable, send_items}
+use Rattle.update_machine.specs.Moves.{items_then}
 use Rattle.update_machine.specs.Packets.{next_packet}
 use Rattle.update_machine.specs.Pieces.{crash_items, deliver_items, hello_of, link_items, nothing, piece, resend_items, restart_items, step_items}
 use Rattle.update_machine.specs.Setting.{Setting}
@@ -32,7 +32,7 @@ use Rattle.control_laws.proofs.LinkCauses.{ChangedNoLinks}
 use Rattle.control_laws.proofs.Plain.{IsPlain, control_is_plain, control_plain, packet_plain, step_plain, plain_keeps_links, sends_silent}
 use Rattle.control_laws.proofs.Stepping.{delivered_first, row_first}
 use Rattle.control_laws.proofs.Counts.{confirm_few, controller_few, packet_few, passed_few, put_few, resend_few, sends_count, sent, sent_more, step_few, update_few}
-use Rattle.control_laws.proofs.LinkSends.{all_told, changes_few}
+use Rattle.control_laws.proofs.LinkSends.{all_adverts_sent, changes_few}
 use Rattle.control_laws.proofs.LinkPieces.{IsLinkPiece, link_piece}
 
 -- ---- pieces that begin a boot
@@ -103,7 +103,7 @@ nothing_caused setting before row number step =
     behind_delivered setting before row number step [] tt (λ net versions. omega arith)
 
 sends_few : (journal : List Item) (messages : List Message) (most : ℕ) → length messages ≤ most
-    → sent (sends journal messages) ≤ most
+    → sent (send_items journal messages) ≤ most
 sends_few journal messages most few = omega (arith, few, sends_count journal messages)
 
 link_kind : (setting : Setting) (before : List Item) (row : ℕ) (step : Step) (one two : ℕ)
@@ -117,7 +117,7 @@ link_kind setting before row step one two up = by_test (beq (is_link_up before o
 
     by_test : (same : Bool) → PieceKind setting before (item.Row row step ∷ elim same [
       | true ↦ nothing
-      | false ↦ put (item.LinkIs (min one two) (max one two) up ∷ [])
+      | false ↦ items_then (item.LinkIs (min one two) (max one two) up ∷ [])
           (link_changes setting before) (before ++ item.Row row step ∷ [])
     ])
     by_test true = nothing_happens setting before row step
@@ -142,7 +142,7 @@ crash_kind setting before row step s = by_up (is_up before s)
   where
     by_up : (up : Bool) → PieceKind setting before (item.Row row step ∷ elim up [
       | false ↦ nothing
-      | true ↦ put (item.Down s ∷ map item.Lost (packets_at before s))
+      | true ↦ items_then (item.Down s ∷ map item.Lost (packets_at before s))
           (link_changes setting before) (before ++ item.Row row step ∷ [])
     ])
     by_up false = nothing_happens setting before row step
@@ -169,9 +169,9 @@ restart_kind setting before row step s = by_up (is_up (before ++ item.Row row st
   where
     by_up : (up : Bool) → PieceKind setting before (item.Row row step ∷ elim up [
       | true ↦ nothing
-      | false ↦ put
+      | false ↦ items_then
           (item.Booted s (boot_of (before ++ item.Row row step ∷ []) s + 1) ∷ [])
-          (λ booted. sends booted (hello_of booted s ∷ [])) (before ++ item.Row row step ∷ [])
+          (λ booted. send_items booted (hello_of booted s ∷ [])) (before ++ item.Row row step ∷ [])
     ])
     by_up true = nothing_happens setting before row step
     by_up false = inr (inr (record {
@@ -179,7 +179,7 @@ restart_kind setting before row step s = by_up (is_up (before ++ item.Row row st
       step = step;
       switch = s;
       boot = boot_of (before ++ item.Row row step ∷ []) s + 1;
-      hello = sends booted (hello_of booted s ∷ []);
+      hello = send_items booted (hello_of booted s ∷ []);
       next = refl;
       told = sends_count booted (hello_of booted s ∷ []);
       silent = sends_silent booted (hello_of booted s ∷ []);
@@ -215,7 +215,8 @@ switch_kind setting before row number step s (OpenAt boot version) = by_serving 
     by_serving : (serving : Bool) → PieceKind setting before (item.Row row step
         ∷ item.Delivered number ∷ elim serving [
           | true ↦ []
-          | false ↦ put (item.Opened s (stamp_of now s) ∷ []) (link_changes setting before) now
+          | false ↦ items_then (item.Opened s (stamp_of now s) ∷ []) (link_changes setting before)
+              now
         ])
     by_serving true = nothing_caused setting before row number step
     by_serving false =
@@ -238,12 +239,12 @@ switch_kind setting before row number step s (Advertise advert) =
 
     by_news : (news : Bool) → PieceKind setting before (item.Row row step
         ∷ item.Delivered number ∷ elim news [
-          | true ↦ sends now (passed_on setting now s advert)
+          | true ↦ send_items now (passed_on setting now s advert)
           | false ↦ []
         ])
     by_news true =
         behind_delivered setting before row number step
-        (sends now (passed_on setting now s advert))
+        (send_items now (passed_on setting now s advert))
         (sends_silent now (passed_on setting now s advert))
         (λ net versions. sends_few now (passed_on setting now s advert) 5000
         (omega (arith, passed_few setting net now s advert)))
@@ -272,7 +273,7 @@ received_kind setting before row number step message = by_receiver message.to
     by_receiver : (to : Receiver)
         → PieceKind setting before (item.Row row step ∷ item.Delivered number ∷ elim to [
           | receiver.Controller ↦ controller_items setting before message.body now
-          | receiver.Switch s ↦ elim (said_to before s number) [
+          | receiver.Switch s ↦ elim (body_to_switch before s number) [
             | None ↦ []
             | Some body ↦ switch_items setting before s body now
           ]
@@ -287,7 +288,7 @@ received_kind setting before row number step message = by_receiver message.to
           versions,
           controller_few setting net before message.body now,
         ))
-    by_receiver (receiver.Switch s) = by_said s (said_to before s number)
+    by_receiver (receiver.Switch s) = by_said s (body_to_switch before s number)
 
 deliver_kind : (setting : Setting) (before : List Item) (row number : ℕ) (step : Step)
     → let here = before ++ item.Row row step ∷ [] in
@@ -376,7 +377,7 @@ piece_kind setting before row step = step_kind setting before row step
 
 pub link_changes_few : (setting : Setting) (before now : List Item)
     → sent (link_changes setting before now)
-    ≡ length (all_told setting before now)
+    ≡ length (all_adverts_sent setting before now)
 unfolding link_changes
 link_changes_few setting before now = sends_count now _
 

@@ -7,7 +7,7 @@ use Rattle.journal.specs.declared.item.Item.TheVariants as item
 use Rattle.steps.specs.declared.step.Step.{Step}
 use Rattle.steps.specs.declared.step.Step.TheVariants.{Packet, Deliver, Update, Crash, Restart, Confirm, Resend}
 use Rattle.update_machine.specs.Boots.{is_up}
-use Rattle.update_machine.specs.Messages.{sends}
+use Rattle.update_machine.specs.Messages.{send_items}
 use Rattle.update_machine.specs.Packets.{next_packet}
 use Rattle.update_machine.specs.Pieces.{confirm_items, hello_of, marks_code, restart_items, step_items, update_code, update_items}
 use Rattle.update_machine.specs.Setting.{Setting}
@@ -48,7 +48,7 @@ update_have setting file journal = grind (arith, submitted_have, may_submit)
 -- a switch that began a boot is up, and says hello of it
 says_hello : (setting : Setting) (s boot : ℕ) (journal : List Item)
     → let booted = journal ++ item.Booted s boot ∷ [] in
-    Has setting booted (sends booted (hello_of booted s ∷ []))
+    Has setting booted (send_items booted (hello_of booted s ∷ []))
 says_hello setting s boot journal =
     let own : (s == s) ≡ true = eq-eqb s s refl in
     let booted : List Item = journal ++ item.Booted s boot ∷ [] in

@@ -10,7 +10,7 @@ use Rattle.journal.specs.declared.item.Item.TheVariants as item
 use Rattle.steps.specs.declared.step.Step.{Step}
 use Rattle.update_machine.specs.Causes.{HaveCauses}
 use Rattle.update_machine.specs.Concerns.{NoneConcern, concerns_links}
-use Rattle.update_machine.specs.Messages.{sends}
+use Rattle.update_machine.specs.Messages.{send_items}
 use Rattle.update_machine.specs.Pieces.{packet_items, step_items}
 use Rattle.update_machine.specs.Quiet.{is_advert}
 use Rattle.update_machine.specs.Setting.{Setting}
@@ -49,7 +49,7 @@ plain_keeps_links before items plain =
 
 -- what is sent changes no links
 pub sends_silent : (journal : List Item) (messages : List Message)
-    → NoneConcern concerns_links journal (sends journal messages)
+    → NoneConcern concerns_links journal (send_items journal messages)
 sends_silent =
     sends_any (λ before next. IsFalse (concerns_links before next)) (λ before n message. refl)
 

@@ -15,7 +15,7 @@ use Rattle.update_machine.specs.Marks.{most_live, most_versions, retired_mark}
 use Rattle.update_machine.specs.Numbers.{VersionsAreNumbered}
 use Rattle.update_machine.specs.Setting.{Setting}
 use Rattle.update_machine.specs.Settling.{to_switch}
-use Rattle.update_machine.specs.Versions.{HasPlan, collects, holds_version, installs, tables_at, version_count}
+use Rattle.update_machine.specs.Versions.{HasPlan, collects_version, holds_version, installs_version, tables_at, version_count}
 use Rattle.update_machine.specs.Links.{message_of}
 use Rattle.update_machine.proofs.CallerLemmas.{first_has_plan, has_plan_stays, next_has_plan, plan_stays, start_laws}
 use Rattle.control_laws.specs.ItemCauses.{HasItemCause}
@@ -189,22 +189,24 @@ versions_planned setting journal have =
 
 brought : (setting : Setting) (journal : List Item) (s version : ℕ) (bodies : List Body)
     → AllByRecursion (BringsTables setting journal s) bodies
-    → IsTrue (list_any (installs version) bodies)
+    → IsTrue (list_any (installs_version version) bodies)
     → (1 ≤ version) × (version ≤ version_count journal)
 brought setting journal s version [] all any = absurd cc
 brought setting journal s version (body ∷ bodies) all any =
-    by_test (installs version body) refl any (brought setting journal s version bodies all.1)
+    by_test (installs_version version body) refl any
+    (brought setting journal s version bodies all.1)
   where
-    here : (body : Body) → BringsTables setting journal s body → IsTrue (installs version body)
+    here : (body : Body) → BringsTables setting journal s body
+        → IsTrue (installs_version version body)
         → (1 ≤ version) × (version ≤ version_count journal)
     here (Install boot installed) brings is =
         let own : installed.version ≡ version = eqb-true installed.version version is in
         (omega (arith, own, brings.first), omega (arith, own, brings.last))
     here _ brings is = absurd cc
 
-    by_test : (b : Bool) → installs version body ≡ b
-        → IsTrue (b || list_any (installs version) bodies)
-        → (IsTrue (list_any (installs version) bodies)
+    by_test : (b : Bool) → installs_version version body ≡ b
+        → IsTrue (b || list_any (installs_version version) bodies)
+        → (IsTrue (list_any (installs_version version) bodies)
         → (1 ≤ version) × (version ≤ version_count journal))
         → (1 ≤ version) × (version ≤ version_count journal)
     by_test true e any rest = here body all.0 e
@@ -215,10 +217,10 @@ held_there : (setting : Setting) (journal : List Item) (s version : ℕ)
     → (1 ≤ version) × (version ≤ version_count journal)
 unfolding holds_version
 held_there setting journal s version is holds =
-    by_heard (list_any (installs version) (heard journal s)) refl
-    (left (list_any (installs version) (heard journal s)
+    by_heard (list_any (installs_version version) (heard journal s)) refl
+    (left (list_any (installs_version version) (heard journal s)
     || (version == 1 && is_in_first_boot journal s))
-    (not (list_any (collects version) (heard journal s))) holds)
+    (not (list_any (collects_version version) (heard journal s))) holds)
   where
     left : (b c : Bool) → IsTrue (b && c) → IsTrue b
     left true c both = refl
@@ -229,7 +231,7 @@ held_there setting journal s version is holds =
         let marks = is.so_far.marks in
         (omega (arith, own), omega (arith, own, marks.first, marks.there))
 
-    by_heard : (b : Bool) → list_any (installs version) (heard journal s) ≡ b
+    by_heard : (b : Bool) → list_any (installs_version version) (heard journal s) ≡ b
         → IsTrue (b || (version == 1 && is_in_first_boot journal s))
         → (1 ≤ version) × (version ≤ version_count journal)
     by_heard true e has = brought setting journal s version (heard journal s) (is.heard s) e

@@ -11,7 +11,7 @@ use Rattle.update_machine.specs.LinkMasks.{near}
 use Rattle.update_machine.specs.Marks.{current_mark, has_acked, is_member, is_over, known_boot, open_version, opened_at}
 use Rattle.update_machine.specs.Pieces.{hello_of, resend_items, resent_by_switch}
 use Rattle.update_machine.specs.Setting.{Setting}
-use Rattle.update_machine.specs.Settling.{install_for, resent_by_controller, resent_to_member, unacked, versions_from_current}
+use Rattle.update_machine.specs.Settling.{install_for, resent_by_controller, resent_to_member, unacked_installs, versions_from_current}
 use Rattle.update_machine.specs.Versions.{version_count}
 use Rattle.control_laws.specs.ItemCauses.{HasItemCause, IsForKnown}
 use Rattle.control_laws.proofs.Facts.{Has}
@@ -49,7 +49,7 @@ resend_by_switch setting journal s = by_up (is_up journal s) refl
 unacked_right : (setting : Setting) (journal : List Item) (s : ℕ) (versions : List ℕ)
     → AllByRecursion (λ version. IsRight setting journal (install_for setting journal version s))
     versions
-    → AllByRecursion (IsRight setting journal) (unacked setting journal s versions)
+    → AllByRecursion (IsRight setting journal) (unacked_installs setting journal s versions)
 unacked_right setting journal s versions all =
     each_map (IsRight setting journal) (λ version. install_for setting journal version s)
     (filter (λ version. not (has_acked journal s version)) versions)

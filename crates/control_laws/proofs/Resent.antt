@@ -7,10 +7,10 @@ use Rattle.journal.specs.declared.item.Item.{Item}
 use Rattle.journal.specs.declared.item.Item.TheVariants as item
 use Rattle.update_machine.specs.Causes.{HaveCauses}
 use Rattle.update_machine.specs.Marks.{acked_stamp, current_mark, is_member, is_over, open_version, retired_mark}
-use Rattle.update_machine.specs.Messages.{sends}
+use Rattle.update_machine.specs.Messages.{send_items}
 use Rattle.update_machine.specs.Pieces.{resend_items, resent_by_switch, sends_or_nothing}
 use Rattle.update_machine.specs.Setting.{Setting}
-use Rattle.update_machine.specs.Settling.{collect_for, open_for, resent_by_controller, resent_to_member, stamp_for, unacked, versions_from_current}
+use Rattle.update_machine.specs.Settling.{collect_for, open_for, resent_by_controller, resent_to_member, stamp_for, unacked_installs, versions_from_current}
 use Rattle.update_machine.specs.Versions.{version_count}
 use Rattle.control_laws.proofs.Sends.{each_append}
 
@@ -21,14 +21,14 @@ later_versions journal =
 
 pub each_to_member : (P : Message → Type 0) (setting : Setting) (journal : List Item) (s : ℕ)
     → P (open_for journal (open_version journal s) s)
-    → AllByRecursion P (unacked setting journal s (later_versions journal))
+    → AllByRecursion P (unacked_installs setting journal s (later_versions journal))
     → P (stamp_for journal (current_mark journal) s)
     → ((retired_mark journal == 0) ≡ false → P (collect_for journal (retired_mark journal) s))
     → AllByRecursion P (resent_to_member setting journal s)
 each_to_member P setting journal s opening tables stamp collect = (
   opening,
-  each_append P (unacked setting journal s (later_versions journal) ++ stamps) _
-      (each_append P (unacked setting journal s (later_versions journal)) stamps tables
+  each_append P (unacked_installs setting journal s (later_versions journal) ++ stamps) _
+      (each_append P (unacked_installs setting journal s (later_versions journal)) stamps tables
       (by_stamp (nat_lt (acked_stamp journal s) (current_mark journal))))
       (by_mark (retired_mark journal == 0) refl),
 )
@@ -51,7 +51,7 @@ pub each_by_controller : (P : Message → Type 0) (setting : Setting) (journal :
     → (IsFalse (is_over journal s) → IsTrue (is_member journal s)
     → AllByRecursion P (resent_to_member setting journal s))
     → (IsFalse (is_over journal s)
-    → AllByRecursion P (unacked setting journal s (versions_from_current journal)))
+    → AllByRecursion P (unacked_installs setting journal s (versions_from_current journal)))
     → AllByRecursion P (resent_by_controller setting journal s)
 unfolding resent_by_controller
 each_by_controller P setting journal s to_member to_other = by_over (is_over journal s) refl
@@ -59,7 +59,7 @@ each_by_controller P setting journal s to_member to_other = by_over (is_over jou
     by_member : IsFalse (is_over journal s) → (member : Bool) → is_member journal s ≡ member
         → AllByRecursion P (elim member [
           | true ↦ resent_to_member setting journal s
-          | false ↦ unacked setting journal s (versions_from_current journal)
+          | false ↦ unacked_installs setting journal s (versions_from_current journal)
         ])
     by_member none true e = to_member none e
     by_member none false e = to_other none
@@ -68,7 +68,7 @@ each_by_controller P setting journal s to_member to_other = by_over (is_over jou
       | true ↦ []
       | false ↦ elim (is_member journal s) [
         | true ↦ resent_to_member setting journal s
-        | false ↦ unacked setting journal s (versions_from_current journal)
+        | false ↦ unacked_installs setting journal s (versions_from_current journal)
       ]
     ])
     by_over true e = tt
@@ -77,7 +77,7 @@ each_by_controller P setting journal s to_member to_other = by_over (is_over jou
 pub resent_has : (cause : List Item → Item → Type 0) (P : Message → Type 0) (setting : Setting)
     (s : ℕ) (journal : List Item) → cause journal item.Nothing
     → ((messages : List Message) → AllByRecursion P messages
-    → HaveCauses cause journal (sends journal messages))
+    → HaveCauses cause journal (send_items journal messages))
     → AllByRecursion P (resent_by_switch setting journal s)
     → AllByRecursion P (resent_by_controller setting journal s)
     → HaveCauses cause journal (resend_items setting s journal)

@@ -8,7 +8,7 @@ use Rattle.update_machine.specs.Deliveries.{advert_to}
 use Rattle.update_machine.specs.Marks.{has_acked}
 use Rattle.update_machine.specs.Pieces.{resend_items}
 use Rattle.update_machine.specs.Setting.{Setting}
-use Rattle.update_machine.specs.Settling.{install_for, unacked, versions_from_current}
+use Rattle.update_machine.specs.Settling.{install_for, unacked_installs, versions_from_current}
 use Rattle.control_laws.proofs.Resent.{each_by_controller, each_to_member, later_versions, resent_has}
 use Rattle.control_laws.proofs.Sends.{each, each_map}
 use Rattle.control_laws.proofs.Sent.{each_by_switch}
@@ -16,7 +16,7 @@ use Rattle.control_laws.proofs.LinkCauses.{HasLinkCause, HaveLinkCauses}
 use Rattle.control_laws.proofs.Telling.{Tells, each_neighbour, held_told, sends_told}
 
 unacked_told : (setting : Setting) (journal : List Item) (s : ℕ) (versions : List ℕ)
-    → AllByRecursion (Tells setting journal) (unacked setting journal s versions)
+    → AllByRecursion (Tells setting journal) (unacked_installs setting journal s versions)
 unacked_told setting journal s versions =
     each_map (Tells setting journal) (λ version. install_for setting journal version s)
     (filter (λ version. not (has_acked journal s version)) versions)

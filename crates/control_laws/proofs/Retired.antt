@@ -5,7 +5,7 @@ use Rattle.ctrl_msg.specs.declared.message.Body.TheVariants.{Collect}
 use Rattle.ctrl_msg.specs.declared.message.Message.{Message}
 use Rattle.journal.specs.declared.item.Item.{Item}
 use Rattle.journal.specs.declared.item.Item.TheVariants as item
-use Rattle.update_machine.specs.Marks.{acked_stamp, current_mark, is_member, least, members, next_retired, open_version, opened_at, retired_mark}
+use Rattle.update_machine.specs.Marks.{acked_stamp, current_mark, is_member, least_number, members, next_retired, open_version, opened_at, retired_mark}
 use Rattle.update_machine.specs.Links.{message_of}
 use Rattle.update_machine.specs.Setting.{Setting}
 use Rattle.update_machine.specs.Settling.{to_switch}
@@ -65,7 +65,7 @@ least_member : (setting : Setting) (journal : List Item) (s : ℕ)
 unfolding next_retired
 least_member setting journal s there member =
     let stamps : List ℕ = map (acked_stamp journal) (members setting journal) in
-    let lowest : ℕ = unwrap_or (least stamps) (current_mark journal) in
+    let lowest : ℕ = unwrap_or (least_number stamps) (current_mark journal) in
     let below : lowest ≤ acked_stamp journal s =
     each_in_range (λ t. lowest ≤ acked_stamp journal t) (is_member journal) 0
     (length setting.net.switches) s

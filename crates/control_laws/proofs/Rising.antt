@@ -6,7 +6,7 @@ use Rattle.std.specs.List.{AllByRecursion}
 use Rattle.journal.specs.declared.item.Item.{Item}
 use Rattle.journal.specs.declared.item.Item.TheVariants as item
 use Rattle.update_machine.specs.Causes.{HaveCauses}
-use Rattle.update_machine.specs.Marks.{acked_stamp, current_mark, is_member, least, members, next_retired, retired_mark}
+use Rattle.update_machine.specs.Marks.{acked_stamp, current_mark, is_member, least_number, members, next_retired, retired_mark}
 use Rattle.update_machine.specs.Setting.{Setting}
 use Rattle.control_laws.specs.ItemCauses.{HasItemCause}
 use Rattle.control_laws.proofs.Facts.{FromCauses, have_weaker}
@@ -22,7 +22,7 @@ fold_above bound first (x ∷ xs) above all =
 
 -- what is at most each of some numbers is at most the least of them
 least_above : (bound other : ℕ) (xs : List ℕ) → bound ≤ other
-    → AllByRecursion (λ x. bound ≤ x) xs → bound ≤ unwrap_or (least xs) other
+    → AllByRecursion (λ x. bound ≤ x) xs → bound ≤ unwrap_or (least_number xs) other
 least_above bound other [] above all = above
 least_above bound other (x ∷ xs) above all = fold_above bound x xs all.0 all.1
 

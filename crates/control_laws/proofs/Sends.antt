@@ -15,7 +15,7 @@ use Rattle.journal.specs.declared.item.Item.TheVariants as item
 use Rattle.update_machine.specs.Causes.{HaveCauses}
 use Rattle.update_machine.specs.Laws.{SwitchKeeps}
 use Rattle.update_machine.specs.Marks.{controller_heard, has_acked, is_member, known_boot, first_number, open_sent, opened_at}
-use Rattle.update_machine.specs.Messages.{next_message, sends, sent_from}
+use Rattle.update_machine.specs.Messages.{next_message, send_items, sent_from}
 use Rattle.update_machine.specs.Setting.{Setting}
 use Rattle.update_machine.specs.SwitchNumbers.{switches_of}
 use Rattle.update_machine.specs.Versions.{tables_at}
@@ -115,7 +115,7 @@ pub sends_kept : (cause : List Item → Item → Type 0) (Tells : List Item → 
     → ((before : List Item) (n : ℕ) (message other : Message) → Tells before message
     → Tells before other → Tells (before ++ item.Sent n message ∷ []) other)
     → (journal : List Item) (messages : List Message) → AllByRecursion (Tells journal) messages
-    → HaveCauses cause journal (sends journal messages)
+    → HaveCauses cause journal (send_items journal messages)
 sends_kept cause Tells causes stays journal messages all =
     sent_kept cause Tells causes stays messages journal (next_message journal) all
 
@@ -270,7 +270,7 @@ right_sent setting before n message receiver.Controller body new right =
 -- messages that are right as the first of them is sent
 pub sends_have : (setting : Setting) (journal : List Item) (messages : List Message)
     → AllByRecursion (IsRight setting journal) messages
-    → HaveCauses (HasItemCause setting) journal (sends journal messages)
+    → HaveCauses (HasItemCause setting) journal (send_items journal messages)
 sends_have setting =
     sends_kept (HasItemCause setting) (IsRight setting) (λ before n message right. right)
     (λ before n message other new right.

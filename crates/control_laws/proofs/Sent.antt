@@ -10,7 +10,7 @@ use Rattle.update_machine.specs.Boots.{is_up}
 use Rattle.update_machine.specs.Causes.{HaveCauses}
 use Rattle.update_machine.specs.Deliveries.{advert_to, switches_in}
 use Rattle.update_machine.specs.LinkMasks.{near}
-use Rattle.update_machine.specs.Messages.{sends}
+use Rattle.update_machine.specs.Messages.{send_items}
 use Rattle.update_machine.specs.Pieces.{hello_of, resend_items, resent_by_switch, sends_or_nothing}
 use Rattle.update_machine.specs.Setting.{Setting}
 use Rattle.control_laws.proofs.Sends.{each, sends_kept}
@@ -20,7 +20,7 @@ pub sends_each : (cause : List Item → Item → Type 0) (P : Message → Type 0
     ((before : List Item) (n : ℕ) (message : Message) → P message
     → cause before (item.Sent n message)) →
     (journal : List Item) (messages : List Message) → AllByRecursion P messages
-    → HaveCauses cause journal (sends journal messages)
+    → HaveCauses cause journal (send_items journal messages)
 sends_each cause P has =
     sends_kept cause (λ before. P) has (λ before n message other new is. is)
 
@@ -28,7 +28,7 @@ sends_each cause P has =
 pub sends_any : (cause : List Item → Item → Type 0) →
     ((before : List Item) (n : ℕ) (message : Message) → cause before (item.Sent n message)) →
     (journal : List Item) (messages : List Message)
-    → HaveCauses cause journal (sends journal messages)
+    → HaveCauses cause journal (send_items journal messages)
 sends_any cause has journal messages =
     sends_each cause (λ message. ⊤) (λ before n message any. has before n message) journal messages
     (each (λ message. ⊤) (λ message. tt) messages)

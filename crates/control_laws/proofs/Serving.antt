@@ -12,7 +12,7 @@ use Rattle.update_machine.specs.Boots.{boot_of, heard, is_in_first_boot, is_up}
 use Rattle.update_machine.specs.Marks.{acked_stamp, current_mark, retired_mark}
 use Rattle.update_machine.specs.Setting.{Setting}
 use Rattle.update_machine.specs.Settling.{to_switch}
-use Rattle.update_machine.specs.Versions.{collects, holds_version, installs, stamp_of}
+use Rattle.update_machine.specs.Versions.{collects_version, holds_version, installs_version, stamp_of}
 use Rattle.update_machine.specs.Links.{message_of}
 use Rattle.update_machine.proofs.CallerLemmas.{start_laws}
 use Rattle.control_laws.specs.BootLaws.{ServingIsKnown}
@@ -73,31 +73,31 @@ caused_drops setting journal have =
 -- ---- what is held
 
 none_dropped : (mark version : ℕ) → mark < version → (bodies : List Body)
-    → AllByRecursion (DropsUpTo mark) bodies → IsFalse (list_any (collects version) bodies)
+    → AllByRecursion (DropsUpTo mark) bodies → IsFalse (list_any (collects_version version) bodies)
 none_dropped mark version above [] all = refl
 none_dropped mark version above (body ∷ bodies) all =
-    neither (collects version body) (one_kept body all.0)
+    neither (collects_version version body) (one_kept body all.0)
     (none_dropped mark version above bodies all.1)
   where
-    one_kept : (body : Body) → DropsUpTo mark body → IsFalse (collects version body)
+    one_kept : (body : Body) → DropsUpTo mark body → IsFalse (collects_version version body)
     one_kept (Collect boot dropped) drops = grind (arith, nat_tests)
     one_kept _ drops = refl
 
-    neither : (b : Bool) → IsFalse b → IsFalse (list_any (collects version) bodies)
-        → IsFalse (b || list_any (collects version) bodies)
+    neither : (b : Bool) → IsFalse b → IsFalse (list_any (collects_version version) bodies)
+        → IsFalse (b || list_any (collects_version version) bodies)
     neither true none rest = none
     neither false none rest = rest
 
 -- tables that it has and didn't drop
 tables_held : (journal : List Item) (s version : ℕ) → IsTrue (is_up journal s)
-    → HasTables journal s version → IsFalse (list_any (collects version) (heard journal s))
+    → HasTables journal s version → IsFalse (list_any (collects_version version) (heard journal s))
     → IsTrue (holds_version journal s version)
 unfolding holds_version
 tables_held journal s version up has kept =
     both
-    (list_any (installs version) (heard journal s)
+    (list_any (installs_version version) (heard journal s)
     || (version == 1 && is_in_first_boot journal s))
-    (list_any (collects version) (heard journal s)) (there has) kept
+    (list_any (collects_version version) (heard journal s)) (there has) kept
   where
     both : (b c : Bool) → IsTrue b → IsFalse c → IsTrue (b && not c)
     both true false is none = refl
@@ -113,16 +113,16 @@ tables_held journal s version up has kept =
     or_right false c is = is
 
     there : HasTables journal s version
-        → IsTrue (list_any (installs version) (heard journal s)
+        → IsTrue (list_any (installs_version version) (heard journal s)
         || (version == 1 && is_in_first_boot journal s))
     there (inl first) =
         let is_up : is_up journal s ≡ true = up in
         let one : (version == 1) ≡ true = eq-eqb version 1 first.0 in
         let boot : (boot_of journal s == 1) ≡ true = eq-eqb (boot_of journal s) 1 first.1 in
-        or_right (list_any (installs version) (heard journal s))
+        or_right (list_any (installs_version version) (heard journal s))
         (version == 1 && is_in_first_boot journal s) (rw (is_up, one, boot) refl)
     there (inr heard_it) =
-        or_left (list_any (installs version) (heard journal s))
+        or_left (list_any (installs_version version) (heard journal s))
         (version == 1 && is_in_first_boot journal s) heard_it
 
 -- ---- switches that serve

@@ -10,12 +10,12 @@ use Rattle.ctrl_msg.specs.declared.message.Message.{Message}
 use Rattle.journal.specs.declared.item.Item.{Item}
 use Rattle.journal.specs.declared.item.Item.TheVariants as item
 use Rattle.update_machine.specs.Laws.{ControllerKeeps}
-use Rattle.update_machine.specs.Marks.{AreSettled, acked_stamp, all_acked, current_mark, first_number, has_acked, is_joining, is_member, is_over, known_boot, least, members, next_current, next_retired, open_sent, opened_at, retired_mark}
-use Rattle.update_machine.specs.Messages.{next_message, sends, sent_from}
+use Rattle.update_machine.specs.Marks.{AreSettled, acked_stamp, all_acked, current_mark, first_number, has_acked, is_joining, is_member, is_over, known_boot, least_number, members, next_current, next_retired, open_sent, opened_at, retired_mark}
+use Rattle.update_machine.specs.Messages.{next_message, send_items, sent_from}
 use Rattle.update_machine.specs.Moves.{in_turn}
 use Rattle.update_machine.specs.Setting.{Setting}
 use Rattle.update_machine.specs.SwitchNumbers.{switches_of}
-use Rattle.update_machine.specs.Settling.{collect_for, current_items, open_for, open_items, opening, retired_items, settling, stamp_for}
+use Rattle.update_machine.specs.Settling.{collect_for, current_items, open_for, open_items, opening_switches, retired_items, settling, stamp_for}
 use Rattle.update_machine.specs.Versions.{version_count}
 use Rattle.control_laws.proofs.Commands.{Grows, IsCommand, IsOfSettling, each_command, grows, parts_settle}
 use Rattle.control_laws.proofs.Grown.{current_more, known_more, opened_at_more, over_more, retired_more, told_more}
@@ -137,10 +137,10 @@ next_same : (setting : Setting) (before after : List Item)
     → next_retired setting after ≡ next_retired setting before
 unfolding next_retired
 next_same setting before after stamps members current =
-    ap (λ xs. unwrap_or (least xs) (current_mark after) - 1)
+    ap (λ xs. unwrap_or (least_number xs) (current_mark after) - 1)
     (stamps_same (acked_stamp before) (acked_stamp after) (is_member before) (is_member after)
     stamps members (switches_of setting))
-    ∙ ap (λ mark. unwrap_or (least (map (acked_stamp before)
+    ∙ ap (λ mark. unwrap_or (least_number (map (acked_stamp before)
     (filter (is_member before) (switches_of setting)))) mark - 1) current
 
 -- ---- where nothing changes
@@ -298,10 +298,10 @@ open_keeps setting journal = marks_sent _ journal (next_message journal)
 
 opened_all : (setting : Setting) (journal : List Item) → AllByRecursion
     (λ s. IsTrue (is_some (opened_at (journal ++ open_items setting journal) s)))
-    (opening setting journal)
+    (opening_switches setting journal)
 unfolding open_items
 opened_all setting journal =
-    all_opened (opening setting journal) journal journal (next_message journal)
+    all_opened (opening_switches setting journal) journal journal (next_message journal)
     (current_mark journal) (λ s. refl)
 
 none_joins : (setting : Setting) (journal : List Item) (s : ℕ)
@@ -366,7 +366,7 @@ collects_reopen journal base version (s ∷ switches) =
 retires : (setting : Setting) (journal : List Item) (version : ℕ)
     → version ≡ next_retired setting journal
     → let retired = journal ++ item.Retired version ∷ [] in
-    let after = retired ++ sends retired
+    let after = retired ++ send_items retired
     (map (collect_for journal version) (members setting journal)) in
     (current_mark after ≡ current_mark journal)
     × (retired_mark after ≡ next_retired setting after)
@@ -374,7 +374,7 @@ retires setting journal version is =
     let next : Item = item.Retired version in
     let retired : List Item = journal ++ next ∷ [] in
     let collects : List Message = map (collect_for journal version) (members setting journal) in
-    let keeps = leaves_keep retired (sends retired collects)
+    let keeps = leaves_keep retired (send_items retired collects)
     (sends_leave retired collects
     (collects_reopen retired journal version (members setting journal))) in
     let opened = λ (s : ℕ). opened_same journal next s (known_more journal next s) refl in
@@ -386,7 +386,7 @@ retires setting journal version is =
       keeps.current ∙ current,
       keeps.retired ∙ retired_more journal next ∙ is
           ∙ sym (next_same setting journal retired stamp member current)
-          ∙ sym (next_same setting retired (retired ++ sends retired collects) keeps.stamp
+          ∙ sym (next_same setting retired (retired ++ send_items retired collects) keeps.stamp
           keeps.member keeps.current),
     )
 

@@ -7,10 +7,10 @@ use Rattle.journal.specs.declared.item.Item.{Item}
 use Rattle.journal.specs.declared.item.Item.TheVariants as item
 use Rattle.update_machine.specs.Causes.{HaveCauses}
 use Rattle.update_machine.specs.Marks.{current_mark, has_acked, is_joining, is_member, is_over, known_boot, members, next_current, next_retired, retired_mark}
-use Rattle.update_machine.specs.Messages.{sends}
-use Rattle.update_machine.specs.Moves.{put}
+use Rattle.update_machine.specs.Messages.{send_items}
+use Rattle.update_machine.specs.Moves.{items_then}
 use Rattle.update_machine.specs.Setting.{Setting}
-use Rattle.update_machine.specs.Settling.{collect_for, current_items, open_for, open_items, opening, retired_items, settling, stamp_for}
+use Rattle.update_machine.specs.Settling.{collect_for, current_items, open_for, open_items, opening_switches, retired_items, settling, stamp_for}
 use Rattle.update_machine.proofs.CallerLemmas.{have_first, have_in_turn}
 use Rattle.control_laws.specs.ItemCauses.{IsForKnown}
 use Rattle.control_laws.proofs.Grown.{known_more, over_more}
@@ -30,7 +30,8 @@ pub record Rises (cause : List Item → Item → Type 0) (Tells : List Item → 
 pub record SettlingHas (cause : List Item → Item → Type 0) (Tells : List Item → Message → Type 0)
     (setting : Setting) : Type 0 where
   pub sends : (journal : List Item) (messages : List Message)
-      → AllByRecursion (Tells journal) messages → HaveCauses cause journal (sends journal messages)
+      → AllByRecursion (Tells journal) messages
+      → HaveCauses cause journal (send_items journal messages)
   pub rises : (journal : List Item) → let version = next_current setting journal in
       IsTrue (nat_lt (current_mark journal) version)
       → Rises cause Tells setting journal (item.Current version) (stamp_for journal version)
@@ -58,7 +59,8 @@ parts_have cause Tells setting has = record {
       (over_more journal (item.Current version)) (has.rises journal);
   opens = λ journal.
       has.sends journal _
-      (each_map (Tells journal) (open_for journal (current_mark journal)) (opening setting journal)
+      (each_map (Tells journal) (open_for journal (current_mark journal))
+      (opening_switches setting journal)
       (each_of_network (λ s. Tells journal (open_for journal (current_mark journal) s)) setting
       (λ s. is_joining journal s && has_acked journal s (current_mark journal))
       (has.opens journal)));
@@ -76,13 +78,14 @@ parts_have cause Tells setting has = record {
         → (IsTrue rises → Rises cause Tells setting journal next message)
         → HaveCauses cause journal (elim rises [
           | false ↦ []
-          | true ↦ put (next ∷ []) (λ raised. sends raised (map message (members setting journal)))
+          | true ↦ items_then (next ∷ []) (λ raised. send_items raised
+              (map message (members setting journal)))
               journal
         ])
     rise_has journal false next message known over may = tt
     rise_has journal true next message known over may =
         let raised : List Item = journal ++ next ∷ [] in
-        have_first cause next (λ raised. sends raised (map message (members setting journal)))
+        have_first cause next (λ raised. send_items raised (map message (members setting journal)))
         journal (may refl).may
         (has.sends raised _
         (each_map (Tells raised) message (members setting journal)

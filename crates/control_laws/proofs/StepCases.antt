@@ -6,8 +6,8 @@ use Rattle.journal.specs.declared.item.Item.TheVariants as item
 use Rattle.update_machine.specs.Boots.{boot_of, is_up}
 use Rattle.update_machine.specs.Deliveries.{delivery_items}
 use Rattle.update_machine.specs.Marks.{members}
-use Rattle.update_machine.specs.Messages.{is_deliverable, sends}
-use Rattle.update_machine.specs.Moves.{in_turn, put}
+use Rattle.update_machine.specs.Messages.{is_deliverable, send_items}
+use Rattle.update_machine.specs.Moves.{in_turn, items_then}
 use Rattle.update_machine.specs.Pieces.{confirm_items, deliver_items, hello_of, nothing, restart_items, update_code, update_items}
 use Rattle.update_machine.specs.Setting.{Setting}
 use Rattle.update_machine.specs.Settling.{installs_to_all, settling, submitted_items}
@@ -25,10 +25,11 @@ in_two a b journal =
 pub rise_cases : (F : List Item → Type 0) (setting : Setting) (journal : List Item) (next : Item)
     (message : ℕ → Message) (rises : Bool) → (rises ≡ false → F journal)
     → (let raised = journal ++ next ∷ [] in
-    F (raised ++ sends raised (map message (members setting journal))))
+    F (raised ++ send_items raised (map message (members setting journal))))
     → F (journal ++ elim rises [
       | false ↦ []
-      | true ↦ put (next ∷ []) (λ raised. sends raised (map message (members setting journal)))
+      | true ↦ items_then (next ∷ []) (λ raised. send_items raised
+          (map message (members setting journal)))
           journal
     ])
 rise_cases F setting journal next message false none risen =
@@ -36,7 +37,7 @@ rise_cases F setting journal next message false none risen =
 rise_cases F setting journal next message true none risen =
     subst F
     (append_assoc journal (next ∷ [])
-    (sends (journal ++ next ∷ []) (map message (members setting journal)))) risen
+    (send_items (journal ++ next ∷ []) (map message (members setting journal)))) risen
 
 -- nothing happens, or the message is delivered
 pub deliver_cases : (F : List Item → Type 0) (setting : Setting) (before : List Item) (number : ℕ)
@@ -53,7 +54,7 @@ deliver_cases F setting before number here none delivered =
 
     by_test : (b : Bool) → F (here ++ elim b [
       | false ↦ nothing
-      | true ↦ put (next ∷ []) (delivery_items setting before number) here
+      | true ↦ items_then (next ∷ []) (delivery_items setting before number) here
     ])
     by_test false = none
     by_test true =
@@ -78,7 +79,7 @@ update_cases F setting file here refused submitted = by_code (update_code settin
 
     by_code : (o : Option ℕ) → F (here ++ elim o [
       | Some code ↦ item.Refused file code ∷ []
-      | None ↦ put (next ∷ []) (submitted_items setting) here
+      | None ↦ items_then (next ∷ []) (submitted_items setting) here
     ])
     by_code (Some code) = refused code
     by_code None =
@@ -98,7 +99,7 @@ confirm_cases F setting s here none confirmed = by_up (is_up here s)
 
     by_up : (b : Bool) → F (here ++ elim b [
       | true ↦ nothing
-      | false ↦ put (next ∷ []) (settling setting) here
+      | false ↦ items_then (next ∷ []) (settling setting) here
     ])
     by_up true = none
     by_up false =
@@ -108,7 +109,7 @@ confirm_cases F setting s here none confirmed = by_up (is_up here s)
 pub restart_cases : (F : List Item → Type 0) (s : ℕ) (here : List Item)
     → F (here ++ nothing) → (is_up here s ≡ false →
     let now = here ++ item.Booted s (boot_of here s + 1) ∷ [] in
-    F (now ++ sends now (hello_of now s ∷ []))) →
+    F (now ++ send_items now (hello_of now s ∷ []))) →
     F (here ++ restart_items s here)
 unfolding restart_items
 restart_cases F s here none booted = by_up (is_up here s) refl
@@ -117,11 +118,11 @@ restart_cases F s here none booted = by_up (is_up here s) refl
     next = item.Booted s (boot_of here s + 1)
 
     hello : List Item → List Item
-    hello now = sends now (hello_of now s ∷ [])
+    hello now = send_items now (hello_of now s ∷ [])
 
     by_up : (b : Bool) → is_up here s ≡ b → F (here ++ elim b [
       | true ↦ nothing
-      | false ↦ put (next ∷ []) hello here
+      | false ↦ items_then (next ∷ []) hello here
     ])
     by_up true e = none
     by_up false e = subst F (append_assoc here (next ∷ []) (hello (here ++ next ∷ []))) (booted e)

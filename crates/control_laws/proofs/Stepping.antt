@@ -9,11 +9,11 @@ use Rattle.journal.specs.declared.item.Item.{Item}
 use Rattle.journal.specs.declared.item.Item.TheVariants as item
 use Rattle.steps.specs.declared.step.Step.{Step}
 use Rattle.steps.specs.declared.step.Step.TheVariants.{Packet, Deliver, Update, LinkDown, LinkUp, Crash, Restart, Confirm, Resend}
-use Rattle.update_machine.specs.Boots.{heard, said_to}
+use Rattle.update_machine.specs.Boots.{heard, body_to_switch}
 use Rattle.update_machine.specs.Concerns.{concerns_links}
 use Rattle.update_machine.specs.Deliveries.{is_news_to, link_changes, passed_on, switch_items}
-use Rattle.update_machine.specs.Messages.{sends, sent_from}
-use Rattle.update_machine.specs.Moves.{put}
+use Rattle.update_machine.specs.Messages.{send_items, sent_from}
+use Rattle.update_machine.specs.Moves.{items_then}
 use Rattle.update_machine.specs.Packets.{next_packet}
 use Rattle.update_machine.specs.Pieces.{crash_items, deliver_items, link_items, restart_items, step_items}
 use Rattle.update_machine.specs.Quiet.{is_advert}
@@ -31,7 +31,7 @@ use Rattle.control_laws.proofs.Grown.{heard_more}
 use Rattle.control_laws.proofs.LinkCauses.{ChangedNoLinks, HasLinkCause, HaveLinkCauses, IsToldIn}
 use Rattle.control_laws.proofs.Plain.{ArePlain, IsPlain, control_is_plain, control_plain, packet_plain, step_plain}
 use Rattle.control_laws.proofs.ResentAdverts.{resend_caused}
-use Rattle.control_laws.proofs.Telling.{changes_told, last_heard, passed_told, sends_told}
+use Rattle.control_laws.proofs.Telling.{changes_controller_heard, last_heard, passed_told, sends_told}
 
 -- ---- plain items have their causes
 
@@ -88,7 +88,7 @@ delivered_first before number is =
 
 -- what is said to a switch it has heard last, once it is delivered
 heard_now : (before : List Item) (row s number : ℕ) (step : Step) (body : Body)
-    → said_to before s number ≡ Some body
+    → body_to_switch before s number ≡ Some body
     → let here = before ++ item.Row row step ∷ [] in
     heard (here ++ item.Delivered number ∷ []) s ≡ heard here s ++ body ∷ []
 heard_now before row s number step body said =
@@ -118,18 +118,18 @@ switch_caused setting before now s bodies (OpenAt boot version) first heard =
   where
     by_serving : (serving : Bool) → HaveLinkCauses setting now (elim serving [
       | true ↦ []
-      | false ↦ put (item.Opened s (stamp_of now s) ∷ []) (link_changes setting before) now
+      | false ↦ items_then (item.Opened s (stamp_of now s) ∷ []) (link_changes setting before) now
     ])
     by_serving true = tt
     by_serving false =
         have_first (HasLinkCause setting) (item.Opened s (stamp_of now s))
-        (link_changes setting before) now first (changes_told setting before _)
+        (link_changes setting before) now first (changes_controller_heard setting before _)
 switch_caused setting before now s bodies (Advertise advert) first heard =
     by_news (is_news_to setting before s advert) refl
   where
     by_news : (news : Bool) → is_news_to setting before s advert ≡ news
         → HaveLinkCauses setting now (elim news [
-          | true ↦ sends now (passed_on setting now s advert)
+          | true ↦ send_items now (passed_on setting now s advert)
           | false ↦ []
         ])
     by_news true is =
@@ -155,16 +155,17 @@ link_caused : (setting : Setting) (before : List Item) (one two : ℕ) (up : Boo
     (journal : List Item) → ChangedNoLinks journal
     → HaveLinkCauses setting journal (link_items setting before one two up journal)
 unfolding link_items
-link_caused setting before one two up journal first = grind (arith, have_first, changes_told)
+link_caused setting before one two up journal first = grind
+    (arith, have_first, changes_controller_heard)
 
 down_caused : (setting : Setting) (before : List Item) (s : ℕ) (packets : List ℕ)
     (journal : List Item) → ChangedNoLinks journal → HaveLinkCauses setting journal
-    (put (item.Down s ∷ map item.Lost packets) (link_changes setting before) journal)
+    (items_then (item.Down s ∷ map item.Lost packets) (link_changes setting before) journal)
 down_caused setting before s packets journal first =
     let down : List Item = item.Down s ∷ map item.Lost packets in
     have_put (HasLinkCause setting) down (link_changes setting before) journal
     (first, losts_have (HasLinkCause setting) (λ now i. tt) packets (journal ++ item.Down s ∷ []))
-    (changes_told setting before (journal ++ down))
+    (changes_controller_heard setting before (journal ++ down))
 
 crash_caused : (setting : Setting) (before : List Item) (s : ℕ) (journal : List Item)
     → ChangedNoLinks journal

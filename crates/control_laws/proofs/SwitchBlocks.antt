@@ -12,13 +12,13 @@ use Rattle.ctrl_msg.specs.Kinds.{to_controller}
 use Rattle.journal.specs.declared.item.Item.{Item}
 use Rattle.journal.specs.declared.item.Item.TheVariants as item
 use Rattle.steps.specs.declared.step.Step.{Step}
-use Rattle.update_machine.specs.Boots.{boot_of, heard, is_for_boot, is_up, said_to}
+use Rattle.update_machine.specs.Boots.{boot_of, heard, is_for_boot, is_up, body_to_switch}
 use Rattle.update_machine.specs.Deliveries.{switch_items}
 use Rattle.update_machine.specs.Marks.{is_over, raises_known}
 use Rattle.update_machine.specs.Pieces.{deliver_items}
 use Rattle.update_machine.specs.Setting.{Setting}
 use Rattle.update_machine.specs.Settling.{settling, to_switch}
-use Rattle.update_machine.specs.Versions.{installs, stamp_in, stamp_of}
+use Rattle.update_machine.specs.Versions.{installs_version, stamp_in, stamp_of}
 use Rattle.update_machine.specs.Links.{message_of}
 use Rattle.control_laws.specs.ItemCauses.{HasItemCause, OpensRightly}
 use Rattle.control_laws.proofs.ControllerBlocks.{installs_have, settling_have}
@@ -38,7 +38,7 @@ pub record IsSaid (before : List Item) (s number : ℕ) (body : Body) : Type 0 w
   pub own : IsTrue (is_for_boot (boot_of before s) body)
 
 pub said_parts : (before : List Item) (s number : ℕ) (body : Body)
-    → said_to before s number ≡ Some body → IsSaid before s number body
+    → body_to_switch before s number ≡ Some body → IsSaid before s number body
 said_parts before s number body said = grind (arith, nat_tests)
 
 -- the body was heard with the last item of the journal
@@ -50,7 +50,7 @@ record IsHeard (now : List Item) (s number : ℕ) (body : Body) : Type 0 where
 
 -- a row changes nothing of what is said
 pub said_row : (before : List Item) (row s number : ℕ) (step : Step)
-    → said_to (before ++ item.Row row step ∷ []) s number ≡ said_to before s number
+    → body_to_switch (before ++ item.Row row step ∷ []) s number ≡ body_to_switch before s number
 said_row before row s number step =
     let sent = message_more before (item.Row row step) number in
     let up = up_more before (item.Row row step) s in
@@ -58,7 +58,7 @@ said_row before row s number step =
     grind arith
 
 delivered_heard : (before : List Item) (s number : ℕ) (body : Body)
-    → said_to before s number ≡ Some body
+    → body_to_switch before s number ≡ Some body
     → IsHeard (before ++ item.Delivered number ∷ []) s number body
 delivered_heard before s number body said =
     let parts = said_parts before s number body said in
@@ -73,7 +73,7 @@ delivered_heard before s number body said =
       heard = heard_more before (item.Delivered number) s
           ∙ ap (λ o. option_map_or (λ b. heard before s ++ b ∷ []) o (heard before s)) said;
       stamps = λ version is.
-          let told : option_and_then stamp_in (said_to before s number) ≡ Some version =
+          let told : option_and_then stamp_in (body_to_switch before s number) ≡ Some version =
           ap (option_and_then stamp_in) said ∙ is in
           let after : stamp_of (before ++ item.Delivered number ∷ []) s
           ≡ raised (stamp_of before s) (Some version) =
@@ -110,14 +110,14 @@ switch_have setting before now s number (Install boot tables) is =
       tt,
     )
   where
-    installed : IsTrue (list_any (installs tables.version) (heard now s))
+    installed : IsTrue (list_any (installs_version tables.version) (heard now s))
     installed =
         let own : (tables.version == tables.version) ≡ true =
         eq-eqb tables.version tables.version refl in
-        ap (list_any (installs tables.version)) is.heard
-        ∙ list_any-append (installs tables.version) is.earlier (Install boot tables ∷ [])
-        ∙ ap (λ b. list_any (installs tables.version) is.earlier || (b || false)) own
-        ∙ or_right (list_any (installs tables.version) is.earlier) true refl
+        ap (list_any (installs_version tables.version)) is.heard
+        ∙ list_any-append (installs_version tables.version) is.earlier (Install boot tables ∷ [])
+        ∙ ap (λ b. list_any (installs_version tables.version) is.earlier || (b || false)) own
+        ∙ or_right (list_any (installs_version tables.version) is.earlier) true refl
 switch_have setting before now s number (Stamp boot version) is =
     sends_have setting now (to_controller (Stamped s boot version) ∷ []) (
       record {
@@ -134,7 +134,7 @@ switch_have setting before now s number _ is = tt
 
 -- what is said to a switch is heard with its delivery
 pub said_have : (setting : Setting) (before here : List Item) (s number : ℕ) (body : Body)
-    → said_to here s number ≡ Some body → let now = here ++ item.Delivered number ∷ [] in
+    → body_to_switch here s number ≡ Some body → let now = here ++ item.Delivered number ∷ [] in
     Has setting now (switch_items setting before s body now)
 said_have setting before here s number body said =
     switch_have setting before _ s number body (delivered_heard here s number body said)

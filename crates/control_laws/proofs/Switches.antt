@@ -7,9 +7,9 @@ use Rattle.std.proofs.lemmas.List.Folds.{list_any-append}
 use Rattle.ctrl_msg.specs.declared.message.Body.{Body}
 use Rattle.journal.specs.declared.item.Item.{Item}
 use Rattle.journal.specs.declared.item.Item.TheVariants as item
-use Rattle.update_machine.specs.Boots.{boot_of, heard, is_up, said_to}
+use Rattle.update_machine.specs.Boots.{boot_of, heard, is_up, body_to_switch}
 use Rattle.update_machine.specs.Setting.{Setting}
-use Rattle.update_machine.specs.Versions.{first_stamp, greatest, stamp_in, stamp_of}
+use Rattle.update_machine.specs.Versions.{first_stamp, greatest_number, stamp_in, stamp_of}
 use Rattle.control_laws.specs.ItemCauses.{HasItemCause}
 use Rattle.control_laws.proofs.Boots.{raised_up}
 use Rattle.control_laws.proofs.Grown.{boot_more, heard_more, stamp_told, up_more}
@@ -66,7 +66,7 @@ heard_kept test before next s same any = rw (heard_more before next s) any
 stamp_delivered : (before : List Item) (number s : ℕ)
     → stamp_of before s ≤ stamp_of (before ++ item.Delivered number ∷ []) s
 stamp_delivered before number s = rw (stamp_told before number s)
-    (raised_up (stamp_of before s) (option_and_then stamp_in (said_to before s number)))
+    (raised_up (stamp_of before s) (option_and_then stamp_in (body_to_switch before s number)))
 
 -- and its stamp never falls
 pub stamp_kept : (before : List Item) (next : Item) (s : ℕ) → IsFalse (turns s next)
@@ -104,10 +104,10 @@ stamp_less before (item.Down t) s none =
       up_more before (item.Down t) s,
     ) (by_test (t == s))
   where
-    by_test : (b : Bool) → greatest
+    by_test : (b : Bool) → greatest_number
         ((if unwrap_or (if b then Some false else None) (is_up before s) && boot_of before s == 1
         then 1 ∷ [] else []) ++ filter_map stamp_in (if b then [] else heard before s))
-        ≤ max 1 (greatest (first_stamp before s ++ filter_map stamp_in (heard before s)))
+        ≤ max 1 (greatest_number (first_stamp before s ++ filter_map stamp_in (heard before s)))
     by_test true = omega arith
     by_test false = omega arith
 stamp_less before (item.Booted t boot) s none =
@@ -117,15 +117,15 @@ stamp_less before (item.Booted t boot) s none =
       up_more before (item.Booted t boot) s,
     ) (by_test (t == s))
   where
-    by_test : (b : Bool) → greatest
+    by_test : (b : Bool) → greatest_number
         ((if unwrap_or (if b then Some true else None) (is_up before s)
         && unwrap_or (if b then Some boot else None) (boot_of before s) == 1
         then 1 ∷ [] else []) ++ filter_map stamp_in (if b then [] else heard before s))
-        ≤ max 1 (greatest (first_stamp before s ++ filter_map stamp_in (heard before s)))
+        ≤ max 1 (greatest_number (first_stamp before s ++ filter_map stamp_in (heard before s)))
     by_test true = by_boot (boot == 1)
       where
-        by_boot : (c : Bool) → greatest ((if c then 1 ∷ [] else []) ++ [])
-            ≤ max 1 (greatest (first_stamp before s ++ filter_map stamp_in (heard before s)))
+        by_boot : (c : Bool) → greatest_number ((if c then 1 ∷ [] else []) ++ [])
+            ≤ max 1 (greatest_number (first_stamp before s ++ filter_map stamp_in (heard before s)))
         by_boot true = omega arith
         by_boot false = omega arith
     by_test false = omega arith

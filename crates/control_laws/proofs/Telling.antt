@@ -6,7 +6,7 @@ use Rattle.std.proofs.lemmas.List.Elements.{filter_map-append}
 use Rattle.ctrl_msg.specs.declared.message.Body.{Body}
 use Rattle.ctrl_msg.specs.declared.message.Body.TheVariants.{Advertise}
 use Rattle.ctrl_msg.specs.declared.message.Message.{Message}
-use Rattle.failover.specs.Adverts.{held}
+use Rattle.failover.specs.Adverts.{held_advert}
 use Rattle.base.specs.Masks.{has, switches}
 use Rattle.failover.specs.declared.advert.Advert.{Advert}
 use Rattle.journal.specs.declared.item.Item.{Item}
@@ -16,7 +16,7 @@ use Rattle.update_machine.specs.Boots.{heard}
 use Rattle.update_machine.specs.Deliveries.{advert_to, has_changed, link_changes, passed_on, messages_of, messages_over, switches_in}
 use Rattle.update_machine.specs.Laws.{KnownKeeps, LinksKeep, SwitchKeeps}
 use Rattle.update_machine.specs.LinkMasks.{near, other_advert}
-use Rattle.update_machine.specs.Messages.{sends}
+use Rattle.update_machine.specs.Messages.{send_items}
 use Rattle.update_machine.specs.Setting.{Setting}
 use Rattle.update_machine.specs.SwitchNumbers.{switches_of}
 use Rattle.update_machine.proofs.CallerLemmas.{known_keeps, links_keep, switch_keeps}
@@ -34,7 +34,7 @@ held_sent setting before n s message advert is =
     record {
       origin = is.origin;
       small = is.small;
-      held = ap (λ adverts. held adverts is.origin) same.known ∙ is.held;
+      held = ap (λ adverts. held_advert adverts is.origin) same.known ∙ is.held;
     }
 
 heard_sent : (setting : Setting) (before : List Item) (n s : ℕ) (message : Message)
@@ -81,7 +81,7 @@ Tells setting before message = IsToldIn setting before message.body
 
 pub sends_told : (setting : Setting) (journal : List Item) (messages : List Message)
     → AllByRecursion (Tells setting journal) messages
-    → HaveLinkCauses setting journal (sends journal messages)
+    → HaveLinkCauses setting journal (send_items journal messages)
 sends_told setting =
     sends_kept (HasLinkCause setting) (Tells setting) (λ before n message told. told)
     (λ before n message other new told. told_in_sent setting before n message other.body told)
@@ -115,7 +115,7 @@ each_held : (setting : Setting) (journal : List Item) (s neighbour : ℕ)
     → AllByRecursion (IsTold setting journal) (held_adverts setting journal s)
 unfolding held_adverts switches
 each_held setting journal s neighbour linked =
-    each_given (IsTold setting journal) (held (adverts_known setting journal s)) 0 64
+    each_given (IsTold setting journal) (held_advert (adverts_known setting journal s)) 0 64
     (λ origin above small advert holds. record {
       switch = s;
       neighbour = neighbour;
@@ -163,10 +163,10 @@ over_told setting before journal s neighbour linked =
     by_link true = (own_told setting journal s neighbour linked, tt)
     by_link false = held_told setting journal s neighbour linked
 
-pub changes_told : (setting : Setting) (before journal : List Item)
+pub changes_controller_heard : (setting : Setting) (before journal : List Item)
     → HaveLinkCauses setting journal (link_changes setting before journal)
 unfolding link_changes
-changes_told setting before journal =
+changes_controller_heard setting before journal =
     sends_told setting journal _
     (each_flat_map (Tells setting journal) (messages_of setting before journal)
     (λ s. each_neighbour setting journal s (messages_over setting before journal s)
@@ -177,7 +177,7 @@ changes_told setting before journal =
 
 pub passed_told : (setting : Setting) (journal : List Item) (s : ℕ) (advert : Advert)
     → IsHeard journal s advert
-    → HaveLinkCauses setting journal (sends journal (passed_on setting journal s advert))
+    → HaveLinkCauses setting journal (send_items journal (passed_on setting journal s advert))
 passed_told setting journal s advert last =
     sends_told setting journal (passed_on setting journal s advert)
     (each_map (Tells setting journal) (λ neighbour. advert_to neighbour advert)

@@ -8,7 +8,7 @@ use Rattle.ctrl_msg.specs.declared.message.Body.{Body}
 use Rattle.ctrl_msg.specs.Kinds.{to_controller}
 use Rattle.journal.specs.declared.item.Item.{Item}
 use Rattle.journal.specs.declared.item.Item.TheVariants as item
-use Rattle.update_machine.specs.Marks.{controller_heard, said_to_controller}
+use Rattle.update_machine.specs.Marks.{controller_heard, body_to_controller}
 use Rattle.update_machine.specs.Links.{message_of}
 use Rattle.control_laws.proofs.Boots.{said_sent}
 use Rattle.control_laws.proofs.Grown.{told_more}
@@ -21,7 +21,7 @@ told_by reads journal = filter_map reads (controller_heard journal)
 -- what an item tells it
 abbrev pub tells : {X : Type 0} → (Body → Option X) → List Item → Item → List X
 tells reads before (item.Delivered number) =
-    option_to_list (option_and_then reads (said_to_controller before number))
+    option_to_list (option_and_then reads (body_to_controller before number))
 tells reads before _ = []
 
 pub told_by_more : {X : Type 0} (reads : Body → Option X) (before : List Item) (next : Item)
@@ -29,8 +29,8 @@ pub told_by_more : {X : Type 0} (reads : Body → Option X) (before : List Item)
 told_by_more {X = X} reads before (item.Delivered number) =
     ap (filter_map reads) (told_more before (item.Delivered number))
     ∙ filter_map-append reads (controller_heard before)
-    (option_to_list (said_to_controller before number))
-    ∙ ap (λ xs. told_by reads before ++ xs) (by_said (said_to_controller before number))
+    (option_to_list (body_to_controller before number))
+    ∙ ap (λ xs. told_by reads before ++ xs) (by_said (body_to_controller before number))
   where
     by_said : (said : Option Body) → filter_map reads (option_to_list said)
         ≡ option_to_list (option_and_then reads said)
@@ -48,11 +48,11 @@ told_by_more reads before next =
 pub told_sent : {X : Type 0} (reads : Body → Option X) (writes : X → Body) →
     ((body : Body) (x : X) → reads body ≡ Some x → body ≡ writes x) →
     (before : List Item) (number : ℕ) (x : X)
-    → option_and_then reads (said_to_controller before number) ≡ Some x
+    → option_and_then reads (body_to_controller before number) ≡ Some x
     → message_of before number ≡ Some (to_controller (writes x))
-told_sent reads writes is before number x told = by_said (said_to_controller before number) refl
+told_sent reads writes is before number x told = by_said (body_to_controller before number) refl
   where
-    by_said : (said : Option Body) → said_to_controller before number ≡ said
+    by_said : (said : Option Body) → body_to_controller before number ≡ said
         → message_of before number ≡ Some (to_controller (writes x))
     by_said None e = let none : None ≡ Some x = rw e at told in absurd cc
     by_said (Some body) e =

@@ -27,8 +27,8 @@ use Rattle.update_machine.specs.Caches.{lookup_at}
 use Rattle.update_machine.specs.Causes.{HaveCauses}
 use Rattle.update_machine.specs.Deliveries.{advert_to, has_changed, link_changes, passed_on, messages_of, messages_over, switches_in}
 use Rattle.update_machine.specs.LinkMasks.{near}
-use Rattle.update_machine.specs.Messages.{sends, sent_from}
-use Rattle.update_machine.specs.Moves.{put, AuthorityRule, arrive_by, arrive_items, authority_items, cache_items, end_items, found_items, go_on, header_at, leg_items, lookup_items, move_items, reroute_by, reroute_items, route_for, stuck_on, takes_route, authority_rule, cache_rule, first_place, in_turn}
+use Rattle.update_machine.specs.Messages.{send_items, sent_from}
+use Rattle.update_machine.specs.Moves.{items_then, AuthorityRule, arrive_by, arrive_items, authority_items, cache_items, end_items, found_items, go_on, header_at, leg_items, lookup_items, move_items, reroute_by, reroute_items, route_for, stuck_on, takes_route, authority_rule, cache_rule, first_place, in_turn}
 use Rattle.update_machine.specs.Travels.{leg_of, ingress_of, is_at}
 use Rattle.update_machine.specs.Pieces.{expire_items, forget_items, hop_items, link_items, lose_items, packet_items, step_items}
 use Rattle.update_machine.specs.Setting.{Setting}
@@ -215,7 +215,7 @@ cache_work setting i s rule journal there = by_test (is_at s (ingress_of journal
   where
     by_test : (b : Bool) → Work setting journal (elim b [
       | true ↦ []
-      | false ↦ sends journal
+      | false ↦ send_items journal
           (cache_rule rule (unwrap_or (ingress_of journal i) 0) (header_at journal i) ∷ [])
     ])
     by_test true = tt
@@ -293,7 +293,7 @@ reroute_by_work setting i s (Some leg) journal =
     by_route : (o : Option (List ℕ)) → route_for setting journal i s leg ≡ o
         → Work setting journal (elim o [
           | None ↦ stuck_on setting journal i s leg ∷ []
-          | Some route ↦ put (item.Rerouted i route ∷ []) (go_on setting i s) journal
+          | Some route ↦ items_then (item.Rerouted i route ∷ []) (go_on setting i s) journal
         ])
     by_route None e = (record { found = refl; none = e }, tt)
     by_route (Some route) e =
@@ -323,7 +323,7 @@ packet_works setting cause weaker i s header journal enters = by_serving (serves
 
     by_serving : (b : Bool) → HaveCauses cause journal (elim b [
       | false ↦ item.Closed i s ∷ []
-      | true ↦ put (entered ∷ []) (lookup_items setting i s) journal
+      | true ↦ items_then (entered ∷ []) (lookup_items setting i s) journal
     ])
     by_serving false = (weaker journal (item.Closed i s) tt, tt)
     by_serving true =
@@ -464,7 +464,7 @@ links_have setting before journal =
     (links_traffic setting before journal)
 
 pub passed_traffic : (setting : Setting) (journal : List Item) (s : ℕ) (advert : Advert)
-    → Traffic setting journal (sends journal (passed_on setting journal s advert))
+    → Traffic setting journal (send_items journal (passed_on setting journal s advert))
 passed_traffic setting journal s advert =
     sends_each (IsTraffic setting) (IsAdvert setting)
     (λ before n message is. advert_between setting before message.to message.body is) journal

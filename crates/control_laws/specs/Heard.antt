@@ -9,14 +9,14 @@ use Rattle.update_machine.specs.Boots.{boot_of, heard, is_up}
 use Rattle.update_machine.specs.Marks.{has_acked, known_boot}
 use Rattle.update_machine.specs.Setting.{Setting}
 use Rattle.update_machine.specs.Settling.{to_switch}
-use Rattle.update_machine.specs.Versions.{installs, stamp_of, tables_at, version_count}
+use Rattle.update_machine.specs.Versions.{installs_version, stamp_of, tables_at, version_count}
 use Rattle.update_machine.specs.Links.{message_of}
 
 -- the switch heard the tables of the version in its boot, or began with them
 abbrev pub HasTables : List Item → ℕ → ℕ → Type 0
 HasTables journal s version =
     ((version ≡ 1) × (boot_of journal s ≡ 1))
-    ⊎ IsTrue (list_any (installs version) (heard journal s))
+    ⊎ IsTrue (list_any (installs_version version) (heard journal s))
 
 -- what a switch acknowledged in its boot it heard in that boot, and stamps with, as long as it is
 -- up
@@ -24,7 +24,7 @@ pub record AcksHold (journal : List Item) (s : ℕ) : Type 0 where
   pub installed : (boot version n : ℕ)
       → message_of journal n ≡ Some (to_controller (Installed s boot version))
       → IsTrue (is_up journal s) → boot ≡ boot_of journal s
-      → IsTrue (list_any (installs version) (heard journal s))
+      → IsTrue (list_any (installs_version version) (heard journal s))
   pub stamped : (boot version n : ℕ)
       → message_of journal n ≡ Some (to_controller (Stamped s boot version))
       → IsTrue (is_up journal s) → boot ≡ boot_of journal s → version ≤ stamp_of journal s

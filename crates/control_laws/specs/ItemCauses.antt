@@ -16,7 +16,7 @@ use Rattle.update_machine.specs.Boots.{boot_of, heard, is_up}
 use Rattle.update_machine.specs.Marks.{MayRise, current_mark, has_acked, is_member, is_over, known_boot, most_live, most_versions, next_retired, opened_at, retired_mark}
 use Rattle.update_machine.specs.Setting.{Setting}
 use Rattle.update_machine.specs.Settling.{to_switch}
-use Rattle.update_machine.specs.Versions.{installs, next_plan, next_policy, stamp_of, tables_at, version_count}
+use Rattle.update_machine.specs.Versions.{installs_version, next_plan, next_policy, stamp_of, tables_at, version_count}
 use Rattle.update_machine.specs.Links.{message_of}
 
 -- ---- what is sent to a switch
@@ -79,7 +79,7 @@ pub record IsPresentIn (before : List Item) (s boot : ℕ) : Type 0 where
 -- it acknowledges tables that it heard in its boot
 pub record IsRightInstalled (before : List Item) (s boot version : ℕ) : Type 0 where
   pub present : IsPresentIn before s boot
-  pub heard : IsTrue (list_any (installs version) (heard before s))
+  pub heard : IsTrue (list_any (installs_version version) (heard before s))
 
 -- it acknowledges a stamp that isn't above its own
 pub record IsRightStamped (before : List Item) (s boot version : ℕ) : Type 0 where

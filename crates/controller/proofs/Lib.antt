@@ -3,4 +3,4 @@ mod Picking
 mod Telling
 mod Versions
 mod Unheard
-mod Kept
+mod KeptPlans

@@ -11,7 +11,7 @@ use Rattle.policy_rules.proofs.CallerLemmas.{filter_more}
 use Rattle.version_update.specs.declared.record.SwitchRecord.{SwitchRecord}
 use Rattle.version_update.specs.Settling.{Names}
 use Rattle.controller.specs.News.{switches_named}
-use Rattle.controller.specs.Sends.{those}
+use Rattle.controller.specs.Sends.{switches_where}
 
 -- what a test adds to a list
 added : {X : Type 0} (x : X) (b : Bool) (old front whole acts new : List X)
@@ -101,7 +101,8 @@ those_below passes switches n = filter (λ s. option_map_or passes (slice_get sw
 
 -- a mask's bits give those that it names
 pub those_named : (mask n : ℕ) (passes : SwitchRecord → Bool) (switches : List SwitchRecord)
-    → n ≡ length switches → Names mask passes switches → switches_named mask n ≡ those passes switches
+    → n ≡ length switches → Names mask passes switches → switches_named mask n
+    ≡ switches_where passes switches
 those_named mask n passes switches all names =
     ap (switches_named mask) all ∙ picked_same _ _
     (λ s. ap (λ b. eqb b 1) (names s)

@@ -10,7 +10,7 @@ use Rattle.version_update.specs.Record.{is_member, opens_at}
 use Rattle.version_update.specs.Marks.{MarksValue}
 use Rattle.version_update.specs.Settling.{Names, rises_to, Settles}
 use Rattle.controller.specs.News.{switches_named}
-use Rattle.controller.specs.Sends.{tell, those, rising_acts, stamp_acts, opens, collect_acts, settling_acts}
+use Rattle.controller.specs.Sends.{posts_to, switches_where, rising_acts, stamp_acts, open_acts, collect_acts, settling_acts}
 use Rattle.controller.specs.declared.sends.Act.{Act}
 use Rattle.controller.proofs.Picking.{those_named}
 
@@ -51,18 +51,19 @@ pub rising_told : (old new number mask n : ℕ) (answered : Option ℕ) (says : 
     (base mid acts : List Act) → answered ≡ rises_to old new
     → Names mask (λ known. ltb old new && is_member known.phase) switches → n ≡ length switches
     → answered ≡ Some number → mid ≡ base ++ says number ∷ []
-    → acts ≡ mid ++ tell after (λ boot. body boot number) (switches_named mask n)
+    → acts ≡ mid ++ posts_to after (λ boot. body boot number) (switches_named mask n)
     → acts ≡ base ++ rising_acts old new says body after switches
 rising_told old new number mask n answered says body after switches base mid acts is names all risen
     begun made =
     let up = rose old new number (sym is ∙ risen) in
-    let told : List ℕ = those (λ known. is_member known.phase) switches in
+    let told : List ℕ = switches_where (λ known. is_member known.phase) switches in
     let who : switches_named mask n ≡ told = those_named mask n _ switches all
     (and_first _ (λ known. is_member known.phase) mask switches up.1 names) in
     headed (says number) base _ mid acts begun made
-    ∙ ap (λ l. base ++ says number ∷ tell after (λ boot. body boot number) l) who
-    ∙ ap (λ v. base ++ says v ∷ tell after (λ boot. body boot v) told) up.0
-    ∙ ap (λ b. base ++ cond b (says new ∷ tell after (λ boot. body boot new) told) []) (sym up.1)
+    ∙ ap (λ l. base ++ says number ∷ posts_to after (λ boot. body boot number) l) who
+    ∙ ap (λ v. base ++ says v ∷ posts_to after (λ boot. body boot v) told) up.0
+    ∙ ap (λ b. base ++ cond b (says new ∷ posts_to after (λ boot. body boot new) told) [])
+    (sym up.1)
 
 pub rising_none : (old new : ℕ) (answered : Option ℕ) (says : ℕ → Act) (body : ℕ → ℕ → Body)
     (after : MarksValue) (switches : List SwitchRecord) (base : List Act)
@@ -70,28 +71,30 @@ pub rising_none : (old new : ℕ) (answered : Option ℕ) (says : ℕ → Act) (
     → base ≡ base ++ rising_acts old new says body after switches
 rising_none old new answered says body after switches base is none =
     sym (append-nil base)
-    ∙ ap (λ b. base ++ cond b (says new ∷ tell after (λ boot. body boot new)
-    (those (λ known. is_member known.phase) switches)) []) (sym (stays old new (sym is ∙ none)))
+    ∙ ap (λ b. base ++ cond b (says new ∷ posts_to after (λ boot. body boot new)
+    (switches_where (λ known. is_member known.phase) switches)) [])
+    (sym (stays old new (sym is ∙ none)))
 
 pub opens_told : (before after : MarksValue) (answer : Settled) (n current : ℕ)
     (old acts : List Act) → n ≡ length after.switches → current ≡ after.current
-    → acts ≡ old ++ tell after (λ boot. OpenAt boot current) (switches_named answer.opens n)
-    → Settles before after answer → acts ≡ old ++ opens before after
+    → acts ≡ old ++ posts_to after (λ boot. OpenAt boot current) (switches_named answer.opens n)
+    → Settles before after answer → acts ≡ old ++ open_acts before after
 opens_told before after answer n current old acts all is_current made is =
-    let who : switches_named answer.opens n ≡ those (opens_at after.current) before.switches =
+    let who : switches_named answer.opens n ≡ switches_where (opens_at after.current)
+    before.switches =
     those_named answer.opens n _ before.switches (all ∙ same_number before after answer is)
     is.tells.opens in
-    made ∙ ap (λ l. old ++ tell after (λ boot. OpenAt boot current) l) who
-    ∙ ap (λ v. old ++ tell after (λ boot. OpenAt boot v)
-    (those (opens_at after.current) before.switches)) is_current
+    made ∙ ap (λ l. old ++ posts_to after (λ boot. OpenAt boot current) l) who
+    ∙ ap (λ v. old ++ posts_to after (λ boot. OpenAt boot v)
+    (switches_where (opens_at after.current) before.switches)) is_current
 
 -- the three parts, one after another
 pub settling_told : (before after : MarksValue) (old one two three : List Act)
-    → one ≡ old ++ stamp_acts before after → two ≡ one ++ opens before after
+    → one ≡ old ++ stamp_acts before after → two ≡ one ++ open_acts before after
     → three ≡ two ++ collect_acts before after → three ≡ old ++ settling_acts before after
 settling_told before after old one two three a b c =
     let first = stamp_acts before after in
-    let second = opens before after in
+    let second = open_acts before after in
     let third = collect_acts before after in
     c ∙ ap (λ l. l ++ third) (b ∙ ap (λ l. l ++ second) a ∙ append_assoc old first second)
     ∙ append_assoc old (first ++ second) third

@@ -11,7 +11,7 @@ use Rattle.version_update.specs.declared.record.SwitchRecord.{SwitchRecord}
 use Rattle.version_update.specs.Record.{unknown_switch, is_member, opens_at}
 use Rattle.version_update.specs.Marks.{MarksValue, AreMarksSettled}
 use Rattle.controller.specs.Controller.{KeptPlan, ControllerValue, plans_from}
-use Rattle.controller.specs.Sends.{tell, those, stamp_acts, opens, collect_acts, settling_acts, marks_after, hearing}
+use Rattle.controller.specs.Sends.{posts_to, switches_where, stamp_acts, open_acts, collect_acts, settling_acts, marks_after, hear_acts}
 use Rattle.controller.specs.declared.sends.Act.TheVariants.{Current, Retired}
 use Rattle.ctrl_msg.specs.declared.message.Body.TheVariants as body
 use Rattle.controller.proofs.Picking.{picked_same, passes_there}
@@ -25,7 +25,7 @@ none_picked (x ∷ xs) = none_picked xs
 
 -- where no switch passes, there are none that do
 those_none : (passes : SwitchRecord → Bool) (switches : List SwitchRecord)
-    → All (λ known. IsFalse (passes known)) switches → those passes switches ≡ []
+    → All (λ known. IsFalse (passes known)) switches → switches_where passes switches ≡ []
 those_none passes switches fail = picked_same _ (λ _. false) fails
     (range_with_len 0 (length switches)) ∙ none_picked (range_with_len 0 (length switches))
   where
@@ -45,15 +45,18 @@ those_none passes switches fail = picked_same _ (λ _. false) fails
 pub nothing_sent : (marks : MarksValue) → AreMarksSettled marks → settling_acts marks marks ≡ []
 nothing_sent marks is =
     let one : stamp_acts marks marks ≡ [] =
-    ap (λ b. cond b (Current marks.current ∷ tell marks (λ boot. body.Stamp boot marks.current)
-    (those (λ known. is_member known.phase) marks.switches)) []) (not_below marks.current) in
-    let two : opens marks marks ≡ [] = ap (tell marks (λ boot. body.OpenAt boot marks.current))
+    ap (λ b. cond b (Current marks.current ∷ posts_to marks (λ boot. body.Stamp boot marks.current)
+    (switches_where (λ known. is_member known.phase) marks.switches)) []) (not_below marks.current)
+    in
+    let two : open_acts marks marks ≡ [] = ap (posts_to marks
+    (λ boot. body.OpenAt boot marks.current))
     (those_none (opens_at marks.current) marks.switches is.opened) in
     let three : collect_acts marks marks ≡ [] =
-    ap (λ b. cond b (Retired marks.retired ∷ tell marks
+    ap (λ b. cond b (Retired marks.retired ∷ posts_to marks
     (λ boot. body.Collect boot marks.retired)
-    (those (λ known. is_member known.phase) marks.switches)) []) (not_below marks.retired) in
-    ap (λ l. l ++ opens marks marks ++ collect_acts marks marks) one
+    (switches_where (λ known. is_member known.phase) marks.switches)) []) (not_below marks.retired)
+    in
+    ap (λ l. l ++ open_acts marks marks ++ collect_acts marks marks) one
     ∙ ap (λ l. l ++ collect_acts marks marks) two ∙ three
 
 -- the plans from the current version on are all
@@ -71,7 +74,7 @@ all_kept to from (suc n) (kept ∷ plans) low versions =
 -- a body that isn't for the controller
 pub record IsUnheard (body : Body) (controller : ControllerValue) : Type 0 where
   pub same : marks_after body controller.marks ≡ controller.marks
-  pub sent : hearing body controller.marks controller ≡ settling_acts controller.marks
+  pub sent : hear_acts body controller.marks controller ≡ settling_acts controller.marks
       controller.marks ++ []
 
 pub is_unheard : (body : Body) (controller : ControllerValue)

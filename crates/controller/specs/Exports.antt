@@ -4,5 +4,5 @@ pub use Rattle.controller.specs.Controller.{ControllerValue, IsController, Settl
 pub use Rattle.controller.specs.News.{body_of, switches_named}
 pub use Rattle.controller.specs.Plan.{PlanValue}
 pub use Rattle.controller.specs.Replies.{after_reply}
-pub use Rattle.controller.specs.Sends.{NamesBoth, NamesThere, boot_recorded, hearing, install_act, marks_after, resending, resending_to, settling_acts, submitting, tell, those}
+pub use Rattle.controller.specs.Sends.{NamesBoth, NamesThere, boot_recorded, hear_acts, install_act, marks_after, resend_acts, resend_acts_to, settling_acts, submit_acts, posts_to, switches_where}
 pub use Rattle.controller.specs.Submit.{IsLeft, SubmitsPlan}

@@ -21,26 +21,26 @@ use Rattle.controller.specs.declared.sends.Act.TheVariants.{Current, Retired, Po
 -- ---- messages
 
 -- a message to a switch
-abbrev pub post : ℕ → Body → Act
-post s body = Post (record { to = Switch s; body = body })
+abbrev pub post_act : ℕ → Body → Act
+post_act s body = Post (record { to = Switch s; body = body })
 
 -- the tables that the version's plan gives to the switch
 abbrev pub install_act : ℕ → ℕ → KeptPlan → Act
-install_act s boot kept = post s (Install boot (tables_of kept.plan.hosted kept.version s))
+install_act s boot kept = post_act s (Install boot (tables_of kept.plan.hosted kept.version s))
 
 -- the boot that is known of a switch
 abbrev pub boot_recorded : MarksValue → ℕ → ℕ
 boot_recorded marks s = (record_of marks s).boot
 
 -- the switches that pass, by ascending number
-abbrev pub those : (SwitchRecord → Bool) → List SwitchRecord → List ℕ
-those passes switches =
+abbrev pub switches_where : (SwitchRecord → Bool) → List SwitchRecord → List ℕ
+switches_where passes switches =
     filter (λ s. option_map_or passes (slice_get switches s) false)
     (range_with_len 0 (length switches))
 
 -- to each of these switches the message for the boot that is known of it
-abbrev pub tell : MarksValue → (ℕ → Body) → List ℕ → List Act
-tell marks body switches = map (λ s. post s (body (boot_recorded marks s))) switches
+abbrev pub posts_to : MarksValue → (ℕ → Body) → List ℕ → List Act
+posts_to marks body switches = map (λ s. post_act s (body (boot_recorded marks s))) switches
 
 -- ---- settling
 
@@ -48,8 +48,8 @@ tell marks body switches = map (λ s. post s (body (boot_recorded marks s))) swi
 abbrev pub rising_acts : ℕ → ℕ → (ℕ → Act) → (ℕ → ℕ → Body) → MarksValue → List SwitchRecord
     → List Act
 rising_acts old new says body marks switches = if nat_lt old new
-    then says new ∷ tell marks (λ boot. body boot new)
-    (those (λ known. is_member known.phase) switches)
+    then says new ∷ posts_to marks (λ boot. body boot new)
+    (switches_where (λ known. is_member known.phase) switches)
     else []
 
 -- a new current version, and its stamps to the members from before: they have its tables, and
@@ -59,9 +59,9 @@ stamp_acts before after =
     rising_acts before.current after.current Current Stamp after before.switches
 
 -- the new members open at the current version, which they acknowledged
-abbrev pub opens : MarksValue → MarksValue → List Act
-opens before after = tell after (λ boot. OpenAt boot after.current)
-    (those (opens_at after.current) before.switches)
+abbrev pub open_acts : MarksValue → MarksValue → List Act
+open_acts before after = posts_to after (λ boot. OpenAt boot after.current)
+    (switches_where (opens_at after.current) before.switches)
 
 -- a newly retired version, and to all members that they drop the tables up to it: no member stamps
 -- with it any more
@@ -71,15 +71,16 @@ collect_acts before after =
 
 -- what is sent as marks settle
 abbrev pub settling_acts : MarksValue → MarksValue → List Act
-settling_acts before after = stamp_acts before after ++ opens before after ++ collect_acts before after
+settling_acts before after = stamp_acts before after ++ open_acts before after
+    ++ collect_acts before after
 
 -- ---- the calls
 
 -- the new version to each switch that isn't over; then settling
-abbrev pub submitting : MarksValue → PlanValue → MarksValue → List Act
-submitting old plan new =
+abbrev pub submit_acts : MarksValue → PlanValue → MarksValue → List Act
+submit_acts old plan new =
     map (λ s. install_act s (boot_recorded old s) (record { version = old.count + 1; plan = plan }))
-    (those (λ known. not (is_over known.phase)) old.switches)
+    (switches_where (λ known. not (is_over known.phase)) old.switches)
     ++ settling_acts (with_version old) new
 
 -- what a message changes of what is known
@@ -99,8 +100,9 @@ installs_after (Hello switch boot) old new = if takes_hello boot (record_of old 
 installs_after _ old new = []
 
 -- settling, and then what a new boot lacks
-abbrev pub hearing : Body → MarksValue → ControllerValue → List Act
-hearing body old new = settling_acts (marks_after body old) new.marks ++ installs_after body old new
+abbrev pub hear_acts : Body → MarksValue → ControllerValue → List Act
+hear_acts body old new = settling_acts (marks_after body old) new.marks
+    ++ installs_after body old new
 
 -- the switch is there, and so is the version
 pub record NamesBoth (switch version : ℕ) (marks : MarksValue) : Type 0 where
@@ -131,24 +133,25 @@ missing_installs controller s first =
 -- to a member the current stamp, where it acknowledged a lower one
 abbrev pub stamp_again : MarksValue → ℕ → List Act
 stamp_again marks s = if nat_lt (record_of marks s).acked_stamp marks.current
-    then post s (Stamp (boot_recorded marks s) marks.current) ∷ []
+    then post_act s (Stamp (boot_recorded marks s) marks.current) ∷ []
     else []
 
 -- to a member that it drops the tables of the retired versions, where there are any
 abbrev pub collect_again : MarksValue → ℕ → List Act
 collect_again marks s = if nat_lt 0 marks.retired
-    then post s (Collect (boot_recorded marks s) marks.retired) ∷ []
+    then post_act s (Collect (boot_recorded marks s) marks.retired) ∷ []
     else []
 
 -- what a switch that stands so may lack
-abbrev pub resending_to : Phase → ControllerValue → ℕ → List Act
-resending_to Joining controller s = missing_installs controller s controller.marks.current
-resending_to Member controller s =
-    post s (OpenAt (boot_recorded controller.marks s) (record_of controller.marks s).open_version)
+abbrev pub resend_acts_to : Phase → ControllerValue → ℕ → List Act
+resend_acts_to Joining controller s = missing_installs controller s controller.marks.current
+resend_acts_to Member controller s =
+    post_act s (OpenAt (boot_recorded controller.marks s)
+    (record_of controller.marks s).open_version)
     ∷ missing_installs controller s (controller.marks.current + 1)
     ++ stamp_again controller.marks s ++ collect_again controller.marks s
-resending_to Over controller s = []
+resend_acts_to Over controller s = []
 
 -- by how the switch stands
-abbrev pub resending : ControllerValue → ℕ → List Act
-resending controller s = resending_to (record_of controller.marks s).phase controller s
+abbrev pub resend_acts : ControllerValue → ℕ → List Act
+resend_acts controller s = resend_acts_to (record_of controller.marks s).phase controller s

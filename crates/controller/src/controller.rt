@@ -8,7 +8,7 @@ ghost use Rattle.version_update.specs.Record.{is_member, is_over, after_over};
 ghost use Rattle.version_update.specs.Settling.{Settles};
 ghost use Rattle.version_update.specs.declared.marks.SubmitError.TheVariants.{TooManyLive, TooManyVersions};
 ghost use Rattle.version_update.specs.declared.record.Phase.TheVariants.{Joining, Member};
-ghost use Rattle.controller.specs.Exports.{IsController, IsLeft, NamesBoth, NamesThere, SettlesWith, StaysController, SubmitsPlan, after_reply, boot_recorded, first_controller, hearing, install_act, kept_tables, marks_after, plans_from, resending, resending_to, settling_acts, submitting, those};
+ghost use Rattle.controller.specs.Exports.{IsController, IsLeft, NamesBoth, NamesThere, SettlesWith, StaysController, SubmitsPlan, after_reply, boot_recorded, first_controller, hear_acts, install_act, kept_tables, marks_after, plans_from, resend_acts, resend_acts_to, settling_acts, submit_acts, switches_where};
 ghost use Rattle.base.specs.declared.error.Failure.TheVariants.{Refused, NoMemory};
 
 use crate::plan::Plan;
@@ -112,7 +112,7 @@ impl Controller {
     pub fn submit(&mut self, alloc: Global, plan: Plan) -> Result<Sends, Failure<SubmitError>>
         ensures after { OnOk result (SubmitsPlan self.old plan self.new) }
         ensures sends { IfOk result (λ sends.
-            sends ≡ submitting self.old.marks plan self.new.marks) }
+            sends ≡ submit_acts self.old.marks plan self.new.marks) }
         ensures live { (result ≡ Err (Refused TooManyLive))
             ↔ (self.old.marks.count - self.old.marks.retired ≡ 8) }
         ensures versions { (result ≡ Err (Refused TooManyVersions))
@@ -137,7 +137,7 @@ impl Controller {
         requires { NamesThere body.now self.old.marks }
         ensures after { SettlesWith
             (marks_after body.now self.old.marks) self.old.plans self.new }
-        ensures sends { IfOk result (λ sends. sends ≡ hearing body.now self.old.marks self.new) }
+        ensures sends { IfOk result (λ sends. sends ≡ hear_acts body.now self.old.marks self.new) }
         ensures others { IsFalse (is_for_controller body.now) → self.new ≡ self.old }
         ensures silent { IsFalse (is_for_controller body.now)
             → IfOk result (λ sends. sends ≡ []) }
@@ -181,7 +181,7 @@ impl Controller {
     /// Want of memory alone.
     pub fn resend(&self, alloc: Global, s: u32) -> Result<Sends, AllocError>
         requires { s < length self.now.marks.switches }
-        ensures { IfOk result (λ sends. sends ≡ resending self.now s) }
+        ensures { IfOk result (λ sends. sends ≡ resend_acts self.now s) }
     {
         match self.marks.phase(s) {
             Phase::Joining => self.resend_to_joining(alloc, s),
@@ -192,7 +192,7 @@ impl Controller {
 
     fn resend_to_joining(&self, alloc: Global, s: u32) -> Result<Sends, AllocError>
         requires { s < length self.now.marks.switches }
-        ensures { IfOk result (λ sends. sends ≡ resending_to Joining self.now s) }
+        ensures { IfOk result (λ sends. sends ≡ resend_acts_to Joining self.now s) }
     {
         let mut acts = Vec::new(alloc);
         let current = self.marks.current();
@@ -203,7 +203,7 @@ impl Controller {
     fn resend_to_member(&self, alloc: Global, s: u32) -> Result<Sends, AllocError>
         requires switch { s < length self.now.marks.switches }
         requires member { IsTrue (is_member (record_of self.now.marks s).phase) }
-        ensures { IfOk result (λ sends. sends ≡ resending_to Member self.now s) }
+        ensures { IfOk result (λ sends. sends ≡ resend_acts_to Member self.now s) }
     {
         let mut acts = Vec::new(alloc);
         let next = self.marks.current() + 1;
@@ -222,7 +222,7 @@ impl Controller {
         requires versions { self.old.marks.count ≢ 64 }
         ensures after { OnOk result (SubmitsPlan self.old plan self.new) }
         ensures sends { IfOk result (λ sends.
-            sends ≡ submitting self.old.marks plan self.new.marks) }
+            sends ≡ submit_acts self.old.marks plan self.new.marks) }
         ensures left { OnErr result (IsLeft self.old plan self.new NoMemory) }
         ensures rule { StaysController self.old self.new }
     {
@@ -253,7 +253,7 @@ impl Controller {
         ensures after { SettlesWith
             (marks_after (Hello s boot) self.old.marks) self.old.plans self.new }
         ensures sends { IfOk result (λ sends.
-            sends ≡ hearing (Hello s boot) self.old.marks self.new) }
+            sends ≡ hear_acts (Hello s boot) self.old.marks self.new) }
         ensures rule { StaysController self.old self.new }
     {
         let settled = self.marks.hello(s, boot);
@@ -300,7 +300,7 @@ fn add_version(marks: &mut Marks) -> Settled
 fn install_each(alloc: Global, marks: &Marks, version: &Version) -> Result<Vec<Act>, AllocError>
     ensures { IfOk result (λ acts. acts.items
         ≡ map (λ s. install_act s (boot_recorded marks.now s) version.now)
-        (those (λ known. not (is_over known.phase)) marks.now.switches)) }
+        (switches_where (λ known. not (is_over known.phase)) marks.now.switches)) }
 {
     let mut acts = Vec::new(alloc);
     for s in 0..marks.switches() {

@@ -1,7 +1,7 @@
 ghost use Rattle.std.specs.Prelude.{◌≡◌};
-ghost use Rattle.controller.specs.Sends.{post};
+ghost use Rattle.controller.specs.Sends.{post_act};
 
-use base::Listing;
+use base::Items;
 use ctrl_msg::{Body, Message, Receiver};
 
 /// What a controller does at a call.
@@ -17,7 +17,7 @@ pub enum Act {
 
 impl Act {
     pub(crate) fn post(s: u32, body: Body) -> Act
-        ensures { result ≡ post s body }
+        ensures { result ≡ post_act s body }
     {
         Act::Post(Message {
             to: Receiver::Switch(s),
@@ -27,4 +27,4 @@ impl Act {
 }
 
 /// What a controller does at a call, in order.
-pub type Sends = Listing<Act>;
+pub type Sends = Items<Act>;

@@ -2,7 +2,7 @@
 ghost use Rattle.std.specs.Prelude.{◌≡◌, ◌++◌, ◌<◌, length, IfOk, OnOk};
 ghost use Rattle.version_update.specs.Marks.{MarksValue};
 ghost use Rattle.version_update.specs.Settling.{Settles};
-ghost use Rattle.controller.specs.Exports.{body_of, plans_from, settling_acts, switches_named, tell};
+ghost use Rattle.controller.specs.Exports.{body_of, plans_from, settling_acts, switches_named, posts_to};
 
 use crate::sends::{Act, Sends};
 use crate::version::Version;
@@ -49,13 +49,13 @@ pub fn settle(
     let_go(versions, marks.current());
     if let Some(current) = settled.current {
         acts.push(Act::Current(current))?;
-        tell(acts, marks, settled.stamps, News::Stamp, current)?;
+        send_to_each(acts, marks, settled.stamps, News::Stamp, current)?;
     }
     let current = marks.current();
-    tell(acts, marks, settled.opens, News::OpenAt, current)?;
+    send_to_each(acts, marks, settled.opens, News::OpenAt, current)?;
     if let Some(retired) = settled.retired {
         acts.push(Act::Retired(retired))?;
-        tell(acts, marks, settled.collects, News::Collect, retired)?;
+        send_to_each(acts, marks, settled.collects, News::Collect, retired)?;
     }
     Ok(())
 }
@@ -88,7 +88,7 @@ fn let_go(versions: &mut Vec<Version>, current: u32)
 }
 
 // Tells the switches of the mask, each in the boot that is known of it.
-fn tell(
+fn send_to_each(
     acts: &mut Vec<Act>,
     marks: &Marks,
     mask: u64,
@@ -96,7 +96,8 @@ fn tell(
     version: u32,
 ) -> Result<(), AllocError>
     ensures { OnOk result (acts.new.items
-        ≡ acts.old.items ++ tell marks.now (body_of news version) (switches_named mask (length marks.now.switches))) }
+        ≡ acts.old.items ++ posts_to marks.now (body_of news version)
+        (switches_named mask (length marks.now.switches))) }
 {
     for s in 0..marks.switches() {
         if has(mask, s) {

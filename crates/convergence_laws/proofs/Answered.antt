@@ -12,10 +12,10 @@ use Rattle.journal.specs.declared.item.Item.{Item}
 use Rattle.journal.specs.declared.item.Item.TheVariants as item
 use Rattle.steps.specs.declared.step.Step.{Step}
 use Rattle.steps.specs.declared.step.Step.TheVariants.{Deliver, Restart}
-use Rattle.update_machine.specs.Boots.{boot_of, heard, is_up, said_to}
+use Rattle.update_machine.specs.Boots.{boot_of, heard, is_up, body_to_switch}
 use Rattle.update_machine.specs.Deliveries.{delivery_items, link_changes, received_items, switch_items}
-use Rattle.update_machine.specs.Messages.{sends}
-use Rattle.update_machine.specs.Moves.{put}
+use Rattle.update_machine.specs.Messages.{send_items}
+use Rattle.update_machine.specs.Moves.{items_then}
 use Rattle.update_machine.specs.Pieces.{deliver_items, hello_of, nothing, piece, restart_items, step_items}
 use Rattle.update_machine.specs.Setting.{Setting}
 use Rattle.update_machine.specs.Settling.{to_switch}
@@ -195,10 +195,11 @@ boot_stays journal items plain s =
 
 -- the delivery is owed its answers
 delivered_owed : (here : List Item) (number : ℕ) → AreAnswered (λ s body. ⊥) here
-    → AreAnswered (λ s body. said_to here s number ≡ Some body) (here ++ item.Delivered number ∷ [])
+    → AreAnswered (λ s body. body_to_switch here s number ≡ Some body)
+    (here ++ item.Delivered number ∷ [])
 delivered_owed here number are = record {
   each = λ s body is.
-      by_said s body (said_to here s number) refl
+      by_said s body (body_to_switch here s number) refl
       (rw (heard_more here (item.Delivered number) s) at is);
 }
   where
@@ -206,16 +207,16 @@ delivered_owed here number are = record {
     next = item.Delivered number
 
     old : (s : ℕ) (body : Body) → IsIn body (heard here s)
-        → (said_to here s number ≡ Some body) ⊎ IsAnswered (here ++ next ∷ []) s body
+        → (body_to_switch here s number ≡ Some body) ⊎ IsAnswered (here ++ next ∷ []) s body
     old s body is = elim (are.each s body is) [
       | inl owed ↦ absurd owed
       | inr answered ↦ inr (answered_stays here next s body
           (λ serving. rw (serving_more here next s) serving) answered)
     ]
 
-    by_said : (s : ℕ) (body : Body) (o : Option Body) → said_to here s number ≡ o
+    by_said : (s : ℕ) (body : Body) (o : Option Body) → body_to_switch here s number ≡ o
         → IsIn body (option_map_or (λ b. heard here s ++ b ∷ []) o (heard here s))
-        → (said_to here s number ≡ Some body) ⊎ IsAnswered (here ++ next ∷ []) s body
+        → (body_to_switch here s number ≡ Some body) ⊎ IsAnswered (here ++ next ∷ []) s body
     by_said s body None e is = old s body is
     by_said s body (Some said) e is = elim (in_either body (heard here s) (said ∷ []) is) [
       | inl earlier ↦ old s body earlier
@@ -246,7 +247,7 @@ opens setting before s now same boot version = by_serving (serves before s) refl
 
     by_serving : (b : Bool) → serves before s ≡ b → IsTrue (serves (now ++ elim b [
       | true ↦ []
-      | false ↦ put (next ∷ []) (link_changes setting before) now
+      | false ↦ items_then (next ∷ []) (link_changes setting before) now
     ]) s)
     by_serving true e = ap (λ j. serves j s) (append-nil now) ∙ same ∙ e
     by_serving false e =
@@ -271,7 +272,7 @@ switch_answers setting before s _ now same = tt
 -- what is sent to a switch is answered in the step, if it is said
 pub sent_items : (setting : Setting) (before : List Item) (number s : ℕ) (body : Body)
     (now : List Item) → message_of before number ≡ Some (to_switch s body) → (said : Option Body)
-    → said_to before s number ≡ said → delivery_items setting before number now ≡ elim said [
+    → body_to_switch before s number ≡ said → delivery_items setting before number now ≡ elim said [
       | None ↦ []
       | Some told ↦ switch_items setting before s told now
     ]
@@ -287,14 +288,14 @@ sent_items setting before number s body now sent said is =
     ]) is
 
 pub delivery_is : (setting : Setting) (before : List Item) (number : ℕ) (now : List Item)
-    (s : ℕ) (body : Body) → said_to before s number ≡ Some body
+    (s : ℕ) (body : Body) → body_to_switch before s number ≡ Some body
     → delivery_items setting before number now ≡ switch_items setting before s body now
 delivery_is setting before number now s body said =
     sent_items setting before number s body now (said_parts before s number body said).sent
     (Some body) said
 
 delivery_answers : (setting : Setting) (before : List Item) (number : ℕ) (now : List Item)
-    (s : ℕ) (body : Body) → said_to before s number ≡ Some body
+    (s : ℕ) (body : Body) → body_to_switch before s number ≡ Some body
     → serves now s ≡ serves before s
     → IsAnswered (now ++ delivery_items setting before number now) s body
 delivery_answers setting before number now s body said same =
@@ -321,7 +322,7 @@ deliver_spoken setting before row number spoken =
     answers : AreAnswered (λ s body. ⊥) (now ++ items)
     answers = record {
       each = λ s body is.
-          elim ((answers_stay (λ t b. said_to here t number ≡ Some b) now items
+          elim ((answers_stay (λ t b. body_to_switch here t number ≡ Some b) now items
           (delivery_plain setting before number now)
           (delivered_owed here number spoken.answers)).each s body is) [
             | inl owed ↦ inr (delivery_answers setting before number now s body
@@ -378,7 +379,7 @@ restart_spoken s here spoken =
     next = item.Booted s (boot_of here s + 1)
 
     hello : List Item → List Item
-    hello booted = sends booted (hello_of booted s ∷ [])
+    hello booted = send_items booted (hello_of booted s ∷ [])
 
     now : List Item
     now = here ++ next ∷ []

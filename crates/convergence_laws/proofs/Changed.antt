@@ -5,7 +5,7 @@ use Rattle.std.specs.List.{flat_map}
 use Rattle.std.proofs.lemmas.Bool.{eq-eqb, eqb-true}
 use Rattle.std.proofs.lemmas.Bool.Decides.{nat_tests}
 use Rattle.ctrl_msg.specs.declared.message.Message.{Message}
-use Rattle.failover.specs.Adverts.{held, is_newer}
+use Rattle.failover.specs.Adverts.{held_advert, is_newer}
 use Rattle.failover.specs.declared.advert.Advert.{Advert}
 use Rattle.failover.specs.Newest.{IsNewest}
 use Rattle.base.specs.Masks.{has, switches}
@@ -20,7 +20,7 @@ use Rattle.update_machine.specs.Causes.{HaveCauses}
 use Rattle.update_machine.specs.Concerns.{concerns_links}
 use Rattle.update_machine.specs.Deliveries.{advert_to, has_changed, link_changes, messages_of, messages_over, switches_in}
 use Rattle.update_machine.specs.LinkMasks.{near, adverts_begun, adverts_heard}
-use Rattle.update_machine.specs.Messages.{sends}
+use Rattle.update_machine.specs.Messages.{send_items}
 use Rattle.update_machine.specs.Setting.{Setting}
 use Rattle.update_machine.specs.SwitchNumbers.{switches_of}
 use Rattle.update_machine.specs.Links.{serves}
@@ -55,7 +55,7 @@ newest_held setting journal s a of =
     (known_link_laws.newest setting journal s a.origin of.other of.small)
   where
     begun : List Advert
-    begun = option_to_list (held (adverts_begun setting journal s) a.origin)
+    begun = option_to_list (held_advert (adverts_begun setting journal s) a.origin)
 
     there : IsIn a (begun ++ adverts_heard journal s)
     there = elim of.given [
@@ -95,7 +95,7 @@ held_in : (setting : Setting) (journal : List Item) (s origin : ℕ) (advert : A
     → IsIn advert (held_adverts setting journal s)
 unfolding held_adverts switches
 held_in setting journal s origin advert small known =
-    in_filter_map (held (adverts_known setting journal s)) origin advert switches
+    in_filter_map (held_advert (adverts_known setting journal s)) origin advert switches
     (in_range origin 0 64 (omega arith) (omega (arith, small))) known
 
 pub own_held : (setting : Setting) (journal : List Item) (s : ℕ) → s < 64
@@ -278,13 +278,13 @@ link_news setting before here next links_same both none known have =
 -- ---- the debt is paid
 
 pub sends_still : (journal : List Item) (messages : List Message)
-    → HaveCauses IsStill journal (sends journal messages)
+    → HaveCauses IsStill journal (send_items journal messages)
 sends_still = sends_any IsStill (λ before n message. tt)
 
 pub sends_near : (setting : Setting) (journal : List Item) (messages : List Message) (s : ℕ)
-    → near setting (journal ++ sends journal messages) s ≡ near setting journal s
+    → near setting (journal ++ send_items journal messages) s ≡ near setting journal s
 sends_near setting journal messages s =
-    near_stays setting s journal (sends journal messages)
+    near_stays setting s journal (send_items journal messages)
     (sends_any (λ before next. IsFalse (concerns_links before next)) (λ before n message. refl)
     journal messages)
 
@@ -363,10 +363,10 @@ pay_links setting before now net have = record {
         (filter (has_changed setting before now) (switches_of setting))
 
     after : List Item
-    after = now ++ sends now messages
+    after = now ++ send_items now messages
 
     kept : HaveNews setting (IsOwed setting before now) after
-    kept = stills_news setting (IsOwed setting before now) now (sends now messages)
+    kept = stills_news setting (IsOwed setting before now) now (send_items now messages)
         (sends_still now messages) have
 
     paid : (s neighbour : ℕ) (a : Advert) → IsTrue (has (near setting now s) neighbour)

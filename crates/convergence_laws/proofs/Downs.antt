@@ -13,11 +13,11 @@ use Rattle.journal.specs.declared.item.Item.{Item}
 use Rattle.journal.specs.declared.item.Item.TheVariants as item
 use Rattle.update_machine.specs.Boots.{boot_of, heard, is_up}
 use Rattle.update_machine.specs.Folds.{all_given}
-use Rattle.update_machine.specs.Marks.{controller_heard, first_number, has_acked, installed_in, is_over, known_boot, open_sent, opened_at, raises_known, said_to_controller}
-use Rattle.update_machine.specs.Quiet.{Sending, is_waited_for, sendings, tells_waited_for}
+use Rattle.update_machine.specs.Marks.{controller_heard, first_number, has_acked, installed_in, is_over, known_boot, open_sent, opened_at, raises_known, body_to_controller}
+use Rattle.update_machine.specs.Quiet.{Sending, is_waited_for, sendings, gives_waited_for}
 use Rattle.update_machine.specs.Setting.{Setting}
 use Rattle.update_machine.specs.Settling.{to_switch}
-use Rattle.update_machine.specs.Versions.{installs}
+use Rattle.update_machine.specs.Versions.{installs_version}
 use Rattle.update_machine.specs.Links.{serves, message_of}
 use Rattle.update_machine.proofs.CallerLemmas.{start_laws}
 use Rattle.control_laws.specs.ItemCauses.{HasItemCause, IsRightInstalled, IsRightOpening}
@@ -75,7 +75,7 @@ pub record AreRecorded (journal : List Item) : Type 0 where
   pub openings : (s boot version : ℕ) → opened_in journal s boot ≡ Some version
       → (boot ≡ 1) ⊎ IsSent journal (to_switch s (OpenAt boot version))
   -- it heard tables, and acknowledges them, in a boot that is known
-  pub heard : (s version : ℕ) → IsTrue (list_any (installs version) (heard journal s))
+  pub heard : (s version : ℕ) → IsTrue (list_any (installs_version version) (heard journal s))
       → boot_of journal s ≤ known_boot journal s
   pub acks : (s boot version : ℕ) → IsSent journal (to_controller (Installed s boot version))
       → boot ≤ known_boot journal s
@@ -102,7 +102,7 @@ told_on : (setting : Setting) (before : List Item) (next : Item) → AreRecorded
     → (body : Body) → IsIn body (controller_heard (before ++ next ∷ []))
     → IsSent (before ++ next ∷ []) (to_controller body)
 told_on setting before (item.Delivered number) are body is =
-    by_said (said_to_controller before number) refl
+    by_said (body_to_controller before number) refl
     (rw (told_more before (item.Delivered number)) at is)
   where
     next : Item
@@ -111,7 +111,7 @@ told_on setting before (item.Delivered number) are body is =
     old : IsIn body (controller_heard before) → IsSent (before ++ next ∷ []) (to_controller body)
     old is = sent_stays before next (to_controller body) (are.told body is)
 
-    by_said : (o : Option Body) → said_to_controller before number ≡ o
+    by_said : (o : Option Body) → body_to_controller before number ≡ o
         → IsIn body (controller_heard before ++ option_to_list o)
         → IsSent (before ++ next ∷ []) (to_controller body)
     by_said o e is = elim (in_either body (controller_heard before) (option_to_list o) is) [
@@ -119,7 +119,7 @@ told_on setting before (item.Delivered number) are body is =
       | inr now ↦ by_now o e now
     ]
       where
-        by_now : (o : Option Body) → said_to_controller before number ≡ o
+        by_now : (o : Option Body) → body_to_controller before number ≡ o
             → IsIn body (option_to_list o) → IsSent (before ++ next ∷ []) (to_controller body)
         by_now None e is = absurd is
         by_now (Some said) e is = elim is [
@@ -231,8 +231,8 @@ first_on setting before next cause are s up first =
 -- ---- idle switches
 
 pub waited_more : (before : List Item) (next : Item) (s : ℕ) → is_waited_for (before ++ next ∷ []) s
-    ≡ unwrap_or (tells_waited_for s next) (is_waited_for before s)
-waited_more before next s = last_more (tells_waited_for s) before next false
+    ≡ unwrap_or (gives_waited_for s next) (is_waited_for before s)
+waited_more before next s = last_more (gives_waited_for s) before next false
 
 idle_was : (before : List Item) (next : Item) (s : ℕ) → IsFalse (is_delivered next)
     → IsIdle (before ++ next ∷ []) s → IsIdle before s
@@ -444,7 +444,8 @@ recorded_at_first = record {
   openings = λ s boot version is. by_first s boot (boot == 1) refl version is;
   heard = λ s version any.
       let none : false ≡ true =
-      subst (λ bodies. IsTrue (list_any (installs version) bodies)) (start_laws.heard s) any in
+      subst (λ bodies. IsTrue (list_any (installs_version version) bodies)) (start_laws.heard s) any
+      in
       absurd cc;
   acks = λ s boot version sent. absurd (none_sent _ sent);
   first = λ s up boot. start_laws.serving s;

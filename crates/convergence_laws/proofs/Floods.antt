@@ -11,7 +11,7 @@ use Rattle.ctrl_msg.specs.declared.message.Message.{Message}
 use Rattle.ctrl_msg.specs.declared.message.Receiver.{Receiver}
 use Rattle.ctrl_msg.specs.Kinds.{to_controller}
 use Rattle.ctrl_msg.specs.declared.message.Receiver.TheVariants as receiver
-use Rattle.failover.specs.Adverts.{first_advert, first_adverts, held, is_news, is_newer}
+use Rattle.failover.specs.Adverts.{first_advert, first_adverts, held_advert, is_news, is_newer}
 use Rattle.failover.specs.declared.advert.Advert.{Advert}
 use Rattle.failover.specs.Newest.{IsNewest}
 use Rattle.failover.proofs.Adverts.{held-first}
@@ -24,12 +24,12 @@ use Rattle.steps.specs.declared.step.Step.{Step}
 use Rattle.steps.specs.declared.step.Step.TheVariants.{Packet, Deliver, Update, LinkDown, LinkUp, Crash, Restart, Confirm, Resend}
 use Rattle.update_machine.specs.Adverts.{advert_known, adverts_known, own_advert}
 use Rattle.update_machine.specs.Answers.{StepOfRow, after_steps}
-use Rattle.update_machine.specs.Boots.{said_to}
+use Rattle.update_machine.specs.Boots.{body_to_switch}
 use Rattle.update_machine.specs.Causes.{HaveCauses}
 use Rattle.update_machine.specs.Deliveries.{advert_to, delivery_items, is_news_to, link_changes, passed_on, received_items, switch_items, switches_in}
 use Rattle.update_machine.specs.LinkMasks.{near, adverts_begun, adverts_heard, other_advert}
-use Rattle.update_machine.specs.Messages.{is_to_controller, sends}
-use Rattle.update_machine.specs.Moves.{put}
+use Rattle.update_machine.specs.Messages.{is_to_controller, send_items}
+use Rattle.update_machine.specs.Moves.{items_then}
 use Rattle.update_machine.specs.Packets.{next_packet}
 use Rattle.update_machine.specs.Pieces.{deliver_items, nothing, piece, step_items}
 use Rattle.update_machine.specs.Setting.{Setting}
@@ -77,7 +77,7 @@ known_given setting journal s origin advert other small known =
     }
   where
     begun : List Advert
-    begun = option_to_list (held (adverts_begun setting journal s) origin)
+    begun = option_to_list (held_advert (adverts_begun setting journal s) origin)
 
     newest : IsNewest origin (begun ++ adverts_heard journal s) (Some advert)
     newest = is_newest setting journal s origin advert other small known
@@ -93,15 +93,15 @@ known_given setting journal s origin advert other small known =
 
     by_place : IsIn advert begun ⊎ IsIn advert (adverts_heard journal s)
         → IsGiven setting journal s advert
-    by_place (inl first) = inl (ap (held (adverts_begun setting journal s)) newest.3
-        ∙ by_option (held (adverts_begun setting journal s) origin) first)
+    by_place (inl first) = inl (ap (held_advert (adverts_begun setting journal s)) newest.3
+        ∙ by_option (held_advert (adverts_begun setting journal s) origin) first)
     by_place (inr told) = inr told
 
 -- ---- a delivery
 
 -- nothing is owed where no advert of another switch is delivered
 unowed : (setting : Setting) (here : List Item) (number : ℕ) (journal : List Item)
-    → ((s : ℕ) (advert : Advert) → said_to here s number ≡ Some (Advertise advert) → ⊥)
+    → ((s : ℕ) (advert : Advert) → body_to_switch here s number ≡ Some (Advertise advert) → ⊥)
     → HaveNews setting (λ s neighbour advert. IsDelivered here number s advert) journal
     → Spread setting journal
 unowed setting here number journal none have =
@@ -114,9 +114,9 @@ held_as_new : (setting : Setting) (before : List Item) (s : ℕ) (a : Advert) �
     → (c : Advert) × (advert_known setting before s a.origin ≡ Some c) × IsFalse (is_newer a c)
 unfolding is_news
 held_as_new setting before s a small none =
-    by_held (held (adverts_known setting before s) a.origin) refl none
+    by_held (held_advert (adverts_known setting before s) a.origin) refl none
   where
-    by_held : (o : Option Advert) → held (adverts_known setting before s) a.origin ≡ o
+    by_held : (o : Option Advert) → held_advert (adverts_known setting before s) a.origin ≡ o
         → (nat_lt a.origin 64 && option_map_or (is_newer a) o true) ≡ false
         → (c : Advert) × (advert_known setting before s a.origin ≡ Some c)
         × IsFalse (is_newer a c)
@@ -132,8 +132,8 @@ held_as_new setting before s a small none =
 advert_spread : (setting : Setting) (before : List Item) (row number : ℕ) (step : Step) (t : ℕ)
     (advert : Advert) → IsNet setting.net → let here = before ++ item.Row row step ∷ [] in
     let now = here ++ item.Delivered number ∷ [] in
-    said_to here t number ≡ Some (Advertise advert)
-    → ((s : ℕ) (a : Advert) → said_to here s number ≡ Some (Advertise a)
+    body_to_switch here t number ≡ Some (Advertise advert)
+    → ((s : ℕ) (a : Advert) → body_to_switch here s number ≡ Some (Advertise a)
     → (s ≡ t) × (a ≡ advert)) → Spread setting here
     → HaveNews setting (λ s neighbour a. IsDelivered here number s a) now
     → Spread setting (now ++ switch_items setting before t (Advertise advert) now)
@@ -151,9 +151,9 @@ advert_spread setting before row number step t advert net said alone spread have
     messages = passed_on setting now t advert
 
     passed : (s neighbour : ℕ) (a : Advert)
-        → IsTrue (has (near setting (now ++ sends now messages) s) neighbour)
+        → IsTrue (has (near setting (now ++ send_items now messages) s) neighbour)
         → IsDelivered here number s a
-        → HasNews setting (now ++ sends now messages) neighbour a
+        → HasNews setting (now ++ send_items now messages) neighbour a
     passed s neighbour a linked owed =
         let is = alone s a owed.said in
         let near_now : IsTrue (has (near setting now t) neighbour) =
@@ -213,13 +213,13 @@ advert_spread setting before row number step t advert net said alone spread have
 
     by_news : (b : Bool) → is_news_to setting before t advert ≡ b
         → Spread setting (now ++ elim b [
-          | true ↦ sends now (passed_on setting now t advert)
+          | true ↦ send_items now (passed_on setting now t advert)
           | false ↦ []
         ])
     by_news true e = record {
       each = λ s neighbour a linked had other.
           elim ((stills_news setting (λ u k b. IsDelivered here number u b) now
-          (sends now messages) (sends_still now messages) have).each s neighbour a linked had
+          (send_items now messages) (sends_still now messages) have).each s neighbour a linked had
           other) [
             | inl owed ↦ inr (passed s neighbour a linked owed)
             | inr has ↦ inr has
@@ -261,10 +261,10 @@ open_spread setting before row number step t boot version net =
 
     by_serving : (b : Bool) → Has setting now (elim b [
       | true ↦ []
-      | false ↦ put (next ∷ []) (link_changes setting before) now
+      | false ↦ items_then (next ∷ []) (link_changes setting before) now
     ]) → IsKnown now → Spread setting now → Spread setting (now ++ elim b [
       | true ↦ []
-      | false ↦ put (next ∷ []) (link_changes setting before) now
+      | false ↦ items_then (next ∷ []) (link_changes setting before) now
     ])
     by_serving true causes known have = subst (Spread setting) (sym (append-nil now)) have
     by_serving false causes known have =
@@ -291,8 +291,9 @@ other_still setting before s _ now none = tt
 said_spread : (setting : Setting) (before : List Item) (row number : ℕ) (step : Step) (t : ℕ)
     (body : Body) → IsNet setting.net → let here = before ++ item.Row row step ∷ [] in
     let now = here ++ item.Delivered number ∷ [] in
-    said_to here t number ≡ Some body
-    → ((s : ℕ) (other : Body) → said_to here s number ≡ Some other → (s ≡ t) × (other ≡ body))
+    body_to_switch here t number ≡ Some body
+    → ((s : ℕ) (other : Body) → body_to_switch here s number ≡ Some other → (s ≡ t)
+    × (other ≡ body))
     → Has setting now (switch_items setting before t body now) → IsKnown now
     → Spread setting here
     → HaveNews setting (λ s neighbour a. IsDelivered here number s a) now
@@ -352,20 +353,20 @@ deliver_spread setting before row number step net known spread =
     have = delivered_news setting here number spread
 
     -- what is said was sent to the switch
-    sent_of : (s : ℕ) (body : Body) → said_to here s number ≡ Some body
+    sent_of : (s : ℕ) (body : Body) → body_to_switch here s number ≡ Some body
         → message_of before number ≡ Some (to_switch s body)
     sent_of s body said = (said_parts before s number body
         (sym (said_row before row s number step) ∙ said)).sent
 
     -- where nothing is said to a switch the rest is still
     silent : Still now (delivery_items setting before number now)
-        → ((s : ℕ) (body : Body) → said_to here s number ≡ Some body → ⊥)
+        → ((s : ℕ) (body : Body) → body_to_switch here s number ≡ Some body → ⊥)
         → Spread setting (now ++ delivery_items setting before number now)
     silent still none = still_spread setting now _ still
         (unowed setting here number now (λ s advert said. none s (Advertise advert) said) have)
 
-    to_switch_alone : (t : ℕ) (body : Body) → said_to here t number ≡ Some body → (s : ℕ)
-        (other : Body) → said_to here s number ≡ Some other → (s ≡ t) × (other ≡ body)
+    to_switch_alone : (t : ℕ) (body : Body) → body_to_switch here t number ≡ Some body → (s : ℕ)
+        (other : Body) → body_to_switch here s number ≡ Some other → (s ≡ t) × (other ≡ body)
     to_switch_alone t body said s other told =
         let same : Some (to_switch s other) ≡ Some (to_switch t body) =
         sym (sent_of s other told) ∙ sent_of t body said in (
@@ -386,9 +387,9 @@ deliver_spread setting before row number step net known spread =
         let clash : false ≡ true =
         ap (λ (o : Option Message). option_map_or (λ m. is_to_controller m.to) o false) same in
         absurd cc)
-    by_receiver (receiver.Switch t) body e = by_said (said_to here t number) refl
+    by_receiver (receiver.Switch t) body e = by_said (body_to_switch here t number) refl
       where
-        by_said : (o : Option Body) → said_to here t number ≡ o
+        by_said : (o : Option Body) → body_to_switch here t number ≡ o
             → Spread setting (now ++ delivery_items setting before number now)
         by_said None f =
             silent
@@ -399,10 +400,10 @@ deliver_spread setting before row number step net known spread =
             let at : s ≡ t =
             ap (λ (o : Option Message). option_map_or (λ m. receiver_or m.to) o 0) same in
             let clash : None ≡ Some other =
-            sym f ∙ ap (λ u. said_to here u number) (sym at) ∙ said in
+            sym f ∙ ap (λ u. body_to_switch here u number) (sym at) ∙ said in
             absurd cc)
           where
-            nothing_said : said_to here t number ≡ None
+            nothing_said : body_to_switch here t number ≡ None
                 → delivery_items setting before number now ≡ []
             nothing_said f = sent_items setting before number t body now e None
                 (sym (said_row before row t number step) ∙ f)
@@ -481,14 +482,14 @@ begun_first setting s = rw (start_laws.up s, start_laws.boot s) refl
 
 -- each switch begins with the first advert of each one
 has_first : (setting : Setting) (s neighbour : ℕ) → s < length setting.net.switches → s < 64
-    → held (adverts_begun setting [] neighbour) s ≡ Some (own_advert setting [] s)
+    → held_advert (adverts_begun setting [] neighbour) s ≡ Some (own_advert setting [] s)
 has_first setting s neighbour there small =
     let near : List ℕ = map (links_of setting.net.links) (switches_of setting) in
     let below : nat_lt s (length setting.net.switches) ≡ true = grind (arith, nat_tests) in
     let row : slice_index near s ≡ links_of setting.net.links s =
     get_or-map-range_with_len (links_of setting.net.links) 0 (length setting.net.switches)
     s s 0 there (omega arith) in
-    ap (λ adverts. held adverts s) (begun_first setting neighbour)
+    ap (λ adverts. held_advert adverts s) (begun_first setting neighbour)
     ∙ held-first near (length setting.net.switches) s small
     ∙ ap (λ b. if b then Some (first_advert s (slice_index near s)) else None) below
     ∙ ap (λ up. Some (first_advert s up)) row
@@ -509,15 +510,15 @@ first_spread setting net = record {
         → IsHad setting [] s a → HasNews setting [] neighbour a
     by_had s neighbour a there (inl own) =
         given_news neighbour a (inl (
-        ap (λ (b : Advert). held (adverts_begun setting [] neighbour) b.origin) own
-        ∙ ap (held (adverts_begun setting [] neighbour)) (own_origin setting [] s)
+        ap (λ (b : Advert). held_advert (adverts_begun setting [] neighbour) b.origin) own
+        ∙ ap (held_advert (adverts_begun setting [] neighbour)) (own_origin setting [] s)
         ∙ has_first setting s neighbour there (omega (arith, there, net.few_switches))
         ∙ ap Some (sym own)))
     by_had s neighbour a there (inr of) = by_given of.given
       where
         by_given : IsGiven setting [] s a → HasNews setting [] neighbour a
         by_given (inl begun) = given_news neighbour a (inl (
-            ap (λ adverts. held adverts a.origin)
+            ap (λ adverts. held_advert adverts a.origin)
             (begun_first setting neighbour ∙ sym (begun_first setting s)) ∙ begun))
         by_given (inr told) =
             let none : IsIn a [] =

@@ -7,19 +7,19 @@ use Rattle.std.proofs.lemmas.Bool.Decides.{nat_tests}
 use Rattle.ctrl_msg.specs.declared.message.Body.{Body}
 use Rattle.ctrl_msg.specs.declared.message.Body.TheVariants.{Advertise}
 use Rattle.ctrl_msg.specs.declared.message.Message.{Message}
-use Rattle.failover.specs.Adverts.{held, is_newer}
+use Rattle.failover.specs.Adverts.{held_advert, is_newer}
 use Rattle.failover.specs.declared.advert.Advert.{Advert}
 use Rattle.failover.proofs.Newest.{not_newer}
 use Rattle.base.specs.Masks.{has}
 use Rattle.journal.specs.declared.item.Item.{Item}
 use Rattle.journal.specs.declared.item.Item.TheVariants as item
 use Rattle.update_machine.specs.Adverts.{own_advert}
-use Rattle.update_machine.specs.Boots.{boot_of, heard, is_up, said_to}
+use Rattle.update_machine.specs.Boots.{boot_of, heard, is_up, body_to_switch}
 use Rattle.update_machine.specs.Causes.{HaveCauses}
 use Rattle.update_machine.specs.Deliveries.{advert_to}
 use Rattle.update_machine.specs.Laws.{LinksKeep}
 use Rattle.update_machine.specs.LinkMasks.{near, adverts_begun, adverts_heard, other_advert}
-use Rattle.update_machine.specs.Messages.{next_message, sends, sent_from}
+use Rattle.update_machine.specs.Messages.{next_message, send_items, sent_from}
 use Rattle.update_machine.specs.Quiet.{boot_at, sendings}
 use Rattle.update_machine.specs.Setting.{Setting}
 use Rattle.update_machine.proofs.CallerLemmas.{links_keep}
@@ -48,7 +48,7 @@ as_new_through c b a later first = record {
 
 abbrev pub IsGiven : Setting → List Item → ℕ → Advert → Type 0
 IsGiven setting journal s advert =
-    (held (adverts_begun setting journal s) advert.origin ≡ Some advert)
+    (held_advert (adverts_begun setting journal s) advert.origin ≡ Some advert)
     ⊎ IsIn advert (adverts_heard journal s)
 
 pub record IsToldTo (journal : List Item) (s : ℕ) (advert : Advert) : Type 0 where
@@ -97,7 +97,8 @@ pub given_grows : (setting : Setting) (before after : List Item) (s : ℕ) (adve
     → ((body : Body) → IsIn body (heard before s) → IsIn body (heard after s))
     → IsGiven setting before s advert → IsGiven setting after s advert
 given_grows setting before after s advert up boot grows (inl begun) =
-    inl (ap (λ adverts. held adverts advert.origin) (begun_same setting before after s up boot)
+    inl (ap (λ adverts. held_advert adverts advert.origin)
+    (begun_same setting before after s up boot)
     ∙ begun)
 given_grows setting before after s advert up boot grows (inr told) =
     let found = of_filter_map (other_advert s) advert (heard before s) told in
@@ -210,7 +211,7 @@ stills_news setting Owed journal items still have =
 
 -- an advert of another switch that is delivered to this one
 pub record IsDelivered (here : List Item) (number s : ℕ) (advert : Advert) : Type 0 where
-  pub said : said_to here s number ≡ Some (Advertise advert)
+  pub said : body_to_switch here s number ≡ Some (Advertise advert)
   pub other : advert.origin ≢ s
   pub small : advert.origin < 64
 
@@ -257,7 +258,7 @@ delivered_news setting here number have = record {
     by_said : (s neighbour : ℕ) (advert : Advert) → IsTrue (has (near setting here s) neighbour)
         → advert.origin ≢ neighbour → advert.origin ≢ s → advert.origin < 64
         → (body : Body) → other_advert s body ≡ Some advert
-        → (o : Option Body) → said_to here s number ≡ o
+        → (o : Option Body) → body_to_switch here s number ≡ o
         → IsIn body (option_map_or (λ b. heard here s ++ b ∷ []) o (heard here s))
         → IsDelivered here number s advert ⊎ HasNews setting now neighbour advert
     by_said s neighbour advert linked other apart small body is None e was =
@@ -295,14 +296,14 @@ delivered_news setting here number have = record {
         by_given (inl begun) = old s neighbour advert linked other (inr (record {
           other = of.other;
           small = of.small;
-          given = inl (ap (λ adverts. held adverts advert.origin)
+          given = inl (ap (λ adverts. held_advert adverts advert.origin)
               (sym (begun_same setting here now s (up_more here next s) (boot_more here next s)))
               ∙ begun);
         }))
         by_given (inr told) =
             let found = of_filter_map (other_advert s) advert (heard now s) told in
             by_said s neighbour advert linked other of.other of.small found.0 found.2
-            (said_to here s number) refl
+            (body_to_switch here s number) refl
             (subst (λ bodies. IsIn found.0 bodies) (heard_more here next s) found.1)
 
 -- ---- what is sent now is of the present boot
@@ -349,6 +350,7 @@ told_now journal n (message ∷ messages) s advert is =
     ])
 
 pub sends_tell : (journal : List Item) (messages : List Message) (s : ℕ) (advert : Advert)
-    → IsIn (advert_to s advert) messages → IsToldTo (journal ++ sends journal messages) s advert
+    → IsIn (advert_to s advert) messages → IsToldTo (journal ++ send_items journal messages) s
+    advert
 sends_tell journal messages s advert is =
     told_now journal (next_message journal) messages s advert is

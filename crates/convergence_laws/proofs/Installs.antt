@@ -16,8 +16,8 @@ use Rattle.steps.specs.declared.step.Step.TheVariants.{Deliver, Update, Confirm}
 use Rattle.update_machine.specs.Concerns.{is_message_to_controller}
 use Rattle.update_machine.specs.Deliveries.{after_hello, controller_items, delivery_items, is_new_boot, received_items}
 use Rattle.update_machine.specs.Laws.{ControllerKeeps}
-use Rattle.update_machine.specs.Marks.{current_mark, hello_boot, is_over, known_boot, raises_known, said_to_controller}
-use Rattle.update_machine.specs.Messages.{sends}
+use Rattle.update_machine.specs.Marks.{current_mark, hello_boot, is_over, known_boot, raises_known, body_to_controller}
+use Rattle.update_machine.specs.Messages.{send_items}
 use Rattle.update_machine.specs.Pieces.{confirm_items, deliver_items, piece, step_items, update_items}
 use Rattle.update_machine.specs.Setting.{Setting}
 use Rattle.update_machine.specs.SwitchNumbers.{switches_of}
@@ -137,9 +137,9 @@ IsSending before _ = ⊥
 
 sends_installs : (setting : Setting) (Owed : ℕ → Type 0) (last : ℕ) (now : List Item)
     (messages : List Message) → HaveInstalls setting Owed last now
-    → HaveInstalls setting Owed last (now ++ sends now messages)
+    → HaveInstalls setting Owed last (now ++ send_items now messages)
 sends_installs setting Owed last now messages have =
-    fact_on IsSending (HaveInstalls setting Owed last) kept now (sends now messages)
+    fact_on IsSending (HaveInstalls setting Owed last) kept now (send_items now messages)
     (sends_any IsSending (λ before n message. tt) now messages) have
   where
     kept : AreKept IsSending (HaveInstalls setting Owed last)
@@ -197,10 +197,10 @@ record IsHello (before : List Item) (number s : ℕ) : Type 0 where
 raises_by : (before : List Item) (number s : ℕ) → raises_known before s number ≡ true
     → IsHello before number s
 raises_by before number s raises =
-    by_hello (option_and_then (hello_boot s) (said_to_controller before number)) refl raises
+    by_hello (option_and_then (hello_boot s) (body_to_controller before number)) refl raises
   where
     by_hello : (o : Option ℕ)
-        → option_and_then (hello_boot s) (said_to_controller before number) ≡ o
+        → option_and_then (hello_boot s) (body_to_controller before number) ≡ o
         → option_map_or (λ boot. nat_lt (known_boot before s) boot) o false ≡ true
         → IsHello before number s
     by_hello None e raises = absurd cc

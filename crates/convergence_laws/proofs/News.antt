@@ -15,13 +15,13 @@ use Rattle.update_machine.specs.Causes.{HaveCauses}
 use Rattle.update_machine.specs.Concerns.{concerns_links}
 use Rattle.update_machine.specs.Deliveries.{has_changed, link_changes}
 use Rattle.update_machine.specs.Laws.{LinksKeep}
-use Rattle.update_machine.specs.Links.{is_link_up, tells_link, serves}
-use Rattle.update_machine.specs.Moves.{put}
+use Rattle.update_machine.specs.Links.{is_link_up, gives_link, serves}
+use Rattle.update_machine.specs.Moves.{items_then}
 use Rattle.update_machine.specs.Travels.{packets_at}
 use Rattle.update_machine.specs.Pieces.{crash_items, hello_of, link_items, nothing, restart_items}
 use Rattle.update_machine.specs.Setting.{Setting}
 use Rattle.update_machine.specs.LinkMasks.{near}
-use Rattle.update_machine.proofs.CallerLemmas.{last_told_append, links_keep, near_same, near_stays}
+use Rattle.update_machine.proofs.CallerLemmas.{last_given_append, links_keep, near_same, near_stays}
 use Rattle.control_laws.proofs.Commands.{Control, IsControl}
 use Rattle.control_laws.proofs.Crashes.{losts_have, losts_keep}
 use Rattle.control_laws.proofs.Facts.{have_weaker}
@@ -99,7 +99,7 @@ link_spread setting before row step one two up net known have =
 
     by_test : (b : Bool) → Spread setting (here ++ elim b [
       | true ↦ nothing
-      | false ↦ put (next ∷ []) (link_changes setting before) here
+      | false ↦ items_then (next ∷ []) (link_changes setting before) here
     ])
     by_test true = still_spread setting here nothing (tt, tt) have
     by_test false =
@@ -212,7 +212,7 @@ crash_spread setting before row step s net known have = by_up (is_up before s) r
 
     by_up : (b : Bool) → is_up before s ≡ b → Spread setting (here ++ elim b [
       | false ↦ nothing
-      | true ↦ put (next ∷ losts) (link_changes setting before) here
+      | true ↦ items_then (next ∷ losts) (link_changes setting before) here
     ])
     by_up false e = still_spread setting here nothing (tt, tt) have
     by_up true e =
@@ -225,7 +225,7 @@ booted_link : (here : List Item) (s boot one other : ℕ)
 unfolding is_link_up
 booted_link here s boot one other =
     ap (λ o. unwrap_or o true)
-    (last_told_append (tells_link (min one other) (max one other)) here (item.Booted s boot ∷ []))
+    (last_given_append (gives_link (min one other) (max one other)) here (item.Booted s boot ∷ []))
 
 -- a switch that began a boot has no links yet, and had none
 pub restart_spread : (setting : Setting) (before : List Item) (row : ℕ) (step : Step) (s : ℕ)

@@ -12,8 +12,8 @@ use Rattle.steps.specs.declared.step.Step.TheVariants.{Packet, Hop, Lose, Delive
 use Rattle.update_machine.specs.Boots.{boot_of, is_up}
 use Rattle.update_machine.specs.Causes.{HaveCauses}
 use Rattle.update_machine.specs.Deliveries.{delivery_items, link_changes, switch_items}
-use Rattle.update_machine.specs.Messages.{is_deliverable, sends}
-use Rattle.update_machine.specs.Moves.{put}
+use Rattle.update_machine.specs.Messages.{is_deliverable, send_items}
+use Rattle.update_machine.specs.Moves.{items_then}
 use Rattle.update_machine.specs.Packets.{next_packet}
 use Rattle.update_machine.specs.Pieces.{deliver_items, expire_items, forget_items, hello_of, lose_items, nothing, restart_items, step_items}
 use Rattle.update_machine.specs.Setting.{Setting}
@@ -52,11 +52,11 @@ aside_plain = have_weaker IsAside IsPlain aside_is
 -- ---- blocks
 
 sends_aside : (journal : List Item) (messages : List Message)
-    → Aside journal (sends journal messages)
+    → Aside journal (send_items journal messages)
 sends_aside = sends_any IsAside (λ before n message. tt)
 
 pub sends_plain : (journal : List Item) (messages : List Message)
-    → Plain journal (sends journal messages)
+    → Plain journal (send_items journal messages)
 sends_plain = sends_any IsPlain (λ before n message. tt)
 
 control_is : (before : List Item) (next : Item) → IsControl before next → IsAside before next
@@ -207,7 +207,7 @@ deliver_have cause others setting before row number step =
 
     by_test : (b : Bool) → is_deliverable before number ≡ b → HaveCauses cause here (elim b [
       | false ↦ nothing
-      | true ↦ put (next ∷ []) (delivery_items setting before number) here
+      | true ↦ items_then (next ∷ []) (delivery_items setting before number) here
     ])
     by_test false e = (others.aside here item.Nothing tt, tt)
     by_test true e = have_first cause next (delivery_items setting before number) here
@@ -225,11 +225,11 @@ restart_have cause others s journal = by_up (is_up journal s) refl
     next = item.Booted s (boot_of journal s + 1)
 
     hello : List Item → List Item
-    hello booted = sends booted (hello_of booted s ∷ [])
+    hello booted = send_items booted (hello_of booted s ∷ [])
 
     by_up : (b : Bool) → is_up journal s ≡ b → HaveCauses cause journal (elim b [
       | true ↦ nothing
-      | false ↦ put (next ∷ []) hello journal
+      | false ↦ items_then (next ∷ []) hello journal
     ])
     by_up true e = (others.aside journal item.Nothing tt, tt)
     by_up false e = have_first cause next hello journal (others.booted journal s e)

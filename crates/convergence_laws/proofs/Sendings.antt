@@ -15,11 +15,11 @@ use Rattle.ctrl_msg.specs.Kinds.{to_controller}
 use Rattle.ctrl_msg.specs.declared.message.Receiver.TheVariants as receiver
 use Rattle.journal.specs.declared.item.Item.{Item}
 use Rattle.journal.specs.declared.item.Item.TheVariants as item
-use Rattle.update_machine.specs.Boots.{boot_of, heard, is_for_boot, is_up, said_to}
+use Rattle.update_machine.specs.Boots.{boot_of, heard, is_for_boot, is_up, body_to_switch}
 use Rattle.update_machine.specs.Causes.{HaveCauses}
 use Rattle.update_machine.specs.Folds.{count_of}
-use Rattle.update_machine.specs.Marks.{controller_heard, said_to_controller}
-use Rattle.update_machine.specs.Messages.{is_deliverable, is_delivery, is_forgotten, is_sending, next_message, sends, sent_from, was_delivered}
+use Rattle.update_machine.specs.Marks.{controller_heard, body_to_controller}
+use Rattle.update_machine.specs.Messages.{is_deliverable, is_delivery, is_forgotten, is_sending, next_message, send_items, sent_from, was_delivered}
 use Rattle.update_machine.specs.Numbers.{TakesNext}
 use Rattle.update_machine.specs.Quiet.{Sending, boot_at, changes_sendings, sendings}
 use Rattle.update_machine.specs.Setting.{Setting}
@@ -106,7 +106,7 @@ all_sent journal n (first ∷ messages) message is =
     ])
 
 pub sends_all : (journal : List Item) (messages : List Message) (message : Message)
-    → IsIn message messages → IsSent (journal ++ sends journal messages) message
+    → IsIn message messages → IsSent (journal ++ send_items journal messages) message
 sends_all journal messages message is =
     all_sent journal (next_message journal) messages message is
 
@@ -230,7 +230,7 @@ message_on before next x takes below is = rw (message_more before next x.number)
 pub delivered_grows : (before : List Item) (number s : ℕ) (body : Body)
     → IsIn body (heard before s) → IsIn body (heard (before ++ item.Delivered number ∷ []) s)
 delivered_grows before number s body is =
-    rw (heard_more before (item.Delivered number) s) (by_said (said_to before s number))
+    rw (heard_more before (item.Delivered number) s) (by_said (body_to_switch before s number))
   where
     by_said : (o : Option Body)
         → IsIn body (option_map_or (λ b. heard before s ++ b ∷ []) o (heard before s))
@@ -255,8 +255,8 @@ delivery_heard before s number body sent up own =
     let here : (s == s) ≡ true = eq-eqb s s refl in
     let is_up_here : is_up before s ≡ true = up in
     let for_it : is_for_boot (boot_of before s) body ≡ true = own in
-    let said : said_to before s number ≡ Some body =
-    rw (sent, here, is_up_here, for_it, said_to) refl in
+    let said : body_to_switch before s number ≡ Some body =
+    rw (sent, here, is_up_here, for_it, body_to_switch) refl in
     rw (heard_more before (item.Delivered number) s, said)
     (in_right body (heard before s) (body ∷ []) (inl refl))
 
@@ -264,7 +264,7 @@ delivery_told : (before : List Item) (number : ℕ) (body : Body)
     → message_of before number ≡ Some (to_controller body)
     → IsIn body (controller_heard (before ++ item.Delivered number ∷ []))
 delivery_told before number body sent =
-    let said : said_to_controller before number ≡ Some body = rw (sent, said_to_controller) refl in
+    let said : body_to_controller before number ≡ Some body = rw (sent, body_to_controller) refl in
     rw (told_more before (item.Delivered number), said)
     (in_right body (controller_heard before) (body ∷ []) (inl refl))
 

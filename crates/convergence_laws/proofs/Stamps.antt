@@ -14,8 +14,8 @@ use Rattle.update_machine.specs.Concerns.{is_message_to_controller}
 use Rattle.update_machine.specs.Deliveries.{after_hello, controller_items, is_new_boot}
 use Rattle.update_machine.specs.Laws.{ControllerKeeps}
 use Rattle.update_machine.specs.Marks.{controller_heard, current_mark, is_member, is_over, known_boot, members, next_current, open_sent, opened_at}
-use Rattle.update_machine.specs.Messages.{sends}
-use Rattle.update_machine.specs.Moves.{in_turn, put}
+use Rattle.update_machine.specs.Messages.{send_items}
+use Rattle.update_machine.specs.Moves.{in_turn, items_then}
 use Rattle.update_machine.specs.Pieces.{confirm_items, deliver_items, nothing, piece, step_items, update_items}
 use Rattle.update_machine.specs.Setting.{Setting}
 use Rattle.update_machine.specs.SwitchNumbers.{switches_of}
@@ -146,7 +146,7 @@ stamps_later setting before (item.Retired version) both have =
 stamps_later setting before _ both have = absurd both.second
 
 later_sends : (journal : List Item) (messages : List Message)
-    → HaveCauses IsLater journal (sends journal messages)
+    → HaveCauses IsLater journal (send_items journal messages)
 later_sends = sends_any IsLater (λ before n message. tt)
 
 open_later : (setting : Setting) (journal : List Item)
@@ -162,7 +162,7 @@ retired_later setting journal = grind (arith, have_first, later_sends)
 -- the members are told of the version to which current rises
 raised_stamps : (setting : Setting) (now : List Item) (version : ℕ)
     → let raised = now ++ item.Current version ∷ [] in HaveStamps setting
-    (raised ++ sends raised (map (stamp_for now version) (members setting now)))
+    (raised ++ send_items raised (map (stamp_for now version) (members setting now)))
 raised_stamps setting now version = record {
   each = λ s there member. inr (by_member s there (was_member s member));
 }
@@ -177,7 +177,7 @@ raised_stamps setting now version = record {
     stamps = map (stamp_for now version) (members setting now)
 
     after : List Item
-    after = raised ++ sends raised stamps
+    after = raised ++ send_items raised stamps
 
     keeps : ControllerKeeps raised after
     keeps = leaves_keep raised _ (sends_leave raised stamps
@@ -219,13 +219,13 @@ current_stamps setting now have = by_test (nat_lt (current_mark now) (next_curre
 
     by_test : (b : Bool) → HaveStamps setting (now ++ elim b [
       | false ↦ []
-      | true ↦ put (item.Current version ∷ []) (λ raised. sends raised stamps) now
+      | true ↦ items_then (item.Current version ∷ []) (λ raised. send_items raised stamps) now
     ])
     by_test false = subst (HaveStamps setting) (sym (append-nil now)) have
     by_test true =
         subst (HaveStamps setting)
         (append_assoc now (item.Current version ∷ [])
-        (sends (now ++ item.Current version ∷ []) stamps))
+        (send_items (now ++ item.Current version ∷ []) stamps))
         (raised_stamps setting now version)
 
 -- the causes of the second part are those behind the first

@@ -21,7 +21,7 @@ use Rattle.update_machine.specs.Causes.{HaveCauses}
 use Rattle.update_machine.specs.Concerns.{concerns_links, concerns_policies}
 use Rattle.update_machine.specs.Laws.{LinksKeep}
 use Rattle.update_machine.specs.LinkMasks.{near}
-use Rattle.update_machine.specs.Moves.{put}
+use Rattle.update_machine.specs.Moves.{items_then}
 use Rattle.update_machine.specs.Packets.{next_packet}
 use Rattle.update_machine.specs.Pieces.{piece, step_items}
 use Rattle.update_machine.specs.Setting.{Setting}
@@ -297,11 +297,13 @@ unfolding piece
 stuck_reaches_none setting journal are row step front rest i s cause leg down is none there =
     elim (step_kinds setting journal row step) [
       | inl walk ↦ walk_apart setting journal are
-          (put (next ∷ []) (step_items setting journal step) journal) front rest i s cause leg down
+          (items_then (next ∷ []) (step_items setting journal step) journal) front rest i s cause
+          leg down
           (have_first (Walks setting) next (step_items setting journal step) journal tt walk) is
           none there
       | inr ends ↦ absurd (end_apart setting journal
-          (put (next ∷ []) (step_items setting journal step) journal) front rest i s cause leg down
+          (items_then (next ∷ []) (step_items setting journal step) journal) front rest i s cause
+          leg down
           (have_first IsNoEnd next (step_items setting journal step) journal tt ends) is)
     ]
   where

@@ -13,7 +13,7 @@ use Rattle.journal.specs.declared.item.Item.{Item}
 use Rattle.update_machine.specs.Answers.{StepOfRow, after_steps}
 use Rattle.update_machine.specs.Boots.{boot_of, heard, is_up}
 use Rattle.update_machine.specs.Causes.{HaveCauses}
-use Rattle.update_machine.specs.Marks.{AreSettled, acked_stamp, all_acked, controller_heard, current_mark, has_acked, hello_boot, installed_in, is_joining, is_member, is_over, known_boot, least, members, next_retired, open_version, opened_at, retired_mark, stamped_in}
+use Rattle.update_machine.specs.Marks.{AreSettled, acked_stamp, all_acked, controller_heard, current_mark, has_acked, hello_boot, installed_in, is_joining, is_member, is_over, known_boot, least_number, members, next_retired, open_version, opened_at, retired_mark, stamped_in}
 use Rattle.update_machine.specs.Pieces.{piece}
 use Rattle.update_machine.specs.Quiet.{IsQuiet, is_later_body, is_waited_for}
 use Rattle.update_machine.specs.Setting.{Setting}
@@ -58,7 +58,7 @@ fold_least c first (x ∷ xs) is all =
     fold_least c (min first x) xs (omega (arith, is, all.0)) all.1
 
 least_same : (c : ℕ) (xs : List ℕ) → AllByRecursion (λ x. x ≡ c) xs
-    → unwrap_or (least xs) c ≡ c
+    → unwrap_or (least_number xs) c ≡ c
 least_same c [] all = refl
 least_same c (x ∷ xs) all = fold_least c x xs all.0 all.1
 

@@ -15,8 +15,8 @@ TakesRecord before true fields after = before ≡ fields ∷ after
 TakesRecord before false fields after = (before ≡ []) × (after ≡ [])
 
 -- the field at this place, or an empty one where the record ends before it
-abbrev pub field : List (List ℕ) → ℕ → List ℕ
-field fields place = unwrap_or (field_at fields place) []
+abbrev pub field_or_empty : List (List ℕ) → ℕ → List ℕ
+field_or_empty fields place = unwrap_or (field_at fields place) []
 
 -- the record has these fields and no others, as a heading has
 abbrev pub is_heading : List (List ℕ) → List (List ℕ) → Bool

@@ -55,7 +55,7 @@ impl SharedTables {
     pub fn with_trees(self, alloc: Global) -> Result<SharedTables, AllocError>
         ensures { IfOk result (λ tables. tables ≡ self) }
     {
-        if self.trees.is_some() || !are_few(&self.shared) {
+        if self.trees.is_some() || !can_grow_trees(&self.shared) {
             return Ok(self);
         }
         let trees = Trees::grow(alloc, self.shared.parts.items(), self.shared.auth.items())?;
@@ -70,7 +70,7 @@ impl SharedTables {
     ///
     /// # Errors
     /// Want of memory alone.
-    pub fn of_version(&self, alloc: Global, version: u32) -> Result<SharedTables, AllocError>
+    pub fn with_version(&self, alloc: Global, version: u32) -> Result<SharedTables, AllocError>
         ensures { IfOk result (λ tables. tables ≡ record self.now { version = version }) }
     {
         let tables = Tables {
@@ -117,7 +117,7 @@ impl Clone for SharedTables {
 }
 
 // Whether trees can be grown for the tables: no list has too many entries.
-fn are_few(tables: &Tables) -> bool
+fn can_grow_trees(tables: &Tables) -> bool
     ensures parts { IsTrue result → length tables.now.parts < 2 ^ 32 }
     ensures auth { IsTrue result → All (λ part. length part.rules < 2 ^ 32) tables.now.auth }
 {

@@ -5,7 +5,7 @@ use Rattle.std.proofs.lemmas.Bool.{cases_Bool, cases_eq, both_ways, cond-true, c
 use Rattle.ternary.specs.Word.{WordValue}
 use Rattle.ternary.specs.Meets.{is_fixed_of}
 use Rattle.policy_rules.specs.declared.rules.Rule.{Rule}
-use Rattle.cut_tree.specs.Cuts.{IsLeastCut, CostsAtMost, cheaper, is_cheaper, cost_of, least_below}
+use Rattle.cut_tree.specs.Cuts.{IsLeastCut, CostsAtMost, cheaper_cost, is_cheaper, cost_of, least_below}
 use Rattle.cut_tree.specs.declared.choice.Cost.{Cost}
 
 pub least_none : (rules : List Rule) (region : WordValue) → least_below 0 rules region ≡ None
@@ -19,7 +19,7 @@ at_fixed n rules region fixed = rw fixed
 
 at_free : (n : ℕ) (rules : List Rule) (region : WordValue) → is_fixed_of region n ≡ false
     → least_below (suc n) rules region ≡ Some
-    (cheaper (cost_of rules region n) (least_below n rules region))
+    (cheaper_cost (cost_of rules region n) (least_below n rules region))
 unfolding least_below
 at_free n rules region free = rw free
 
@@ -107,7 +107,7 @@ least_after : (n : ℕ) (rules : List Rule) (region : WordValue) (before : Optio
     → least_below n rules region ≡ before
     → ((cost : Cost) → before ≡ Some cost → IsLeastBelow n rules region cost)
     → is_fixed_of region n ≡ false → IsLeastBelow (suc n) rules region
-    (cheaper (cost_of rules region n) before)
+    (cheaper_cost (cost_of rules region n) before)
 least_after n rules region None is known free = newest n rules region free
     (λ other within freed. absurd
     (both_ways _ freed (least_missing n rules region is other within)))
@@ -116,12 +116,12 @@ least_after n rules region (Some best) is known free =
     let below = known best refl in
     elim (cases_Bool (is_cheaper cost best)) [
       | inl less ↦
-          let same : cheaper cost (Some best) ≡ cost = cond-true _ cost best less in
+          let same : cheaper_cost cost (Some best) ≡ cost = cond-true _ cost best less in
           rw same (newest n rules region free
           (λ other within freed. at_most_trans cost best _ (cheaper_less cost best less)
           (below.least other within freed)))
       | inr more ↦
-          let same : cheaper cost (Some best) ≡ best = cond-false _ cost best more in
+          let same : cheaper_cost cost (Some best) ≡ best = cond-false _ cost best more in
           rw same (further n rules region best below (λ _. not_cheaper cost best below.bound more))
     ]
 
@@ -137,7 +137,7 @@ least_some (suc n) rules region cost is = elim (cases_Bool (is_fixed_of region n
       (least_some n rules region cost (sym (at_fixed n rules region fixed) ∙ is))
       (λ free. absurd (both_ways _ free fixed))
   | inr free ↦
-      let same : cheaper (cost_of rules region n) (least_below n rules region) ≡ cost =
+      let same : cheaper_cost (cost_of rules region n) (least_below n rules region) ≡ cost =
       some_same _ _ (sym (at_free n rules region free) ∙ is) in
       subst (IsLeastBelow (suc n) rules region) same
       (least_after n rules region (least_below n rules region) refl

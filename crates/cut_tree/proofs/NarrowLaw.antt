@@ -5,11 +5,11 @@ use Rattle.std.specs.Option.{option_and_then, is_some}
 use Rattle.std.proofs.lemmas.Bool.{cases_Bool, both_ways, false_from_ne_true}
 use Rattle.std.proofs.Math.Bool.{and-true}
 use Rattle.ternary.specs.Word.{WordValue, holds}
-use Rattle.ternary.specs.Meets.{meets, joined, meet_of, covers_of}
+use Rattle.ternary.specs.Meets.{meets, meeting_word, meet_of, covers_of}
 use Rattle.ternary.proofs.CallerLemmas.{covers_held, covers_transitive, meet_is_some, meet_both, meet_disjoint, meet_greatest, meet_narrowed, meets_comm, meets_cover, met_joined, apart_none}
 use Rattle.policy_rules.specs.Rules.{is_held}
 use Rattle.policy_rules.specs.declared.rules.Rule.{Rule}
-use Rattle.cut_tree.specs.Narrow.{narrowed, narrow}
+use Rattle.cut_tree.specs.Narrow.{narrowed_rule, narrow}
 use Rattle.cut_tree.proofs.NarrowLemmas.{narrow_none, narrow_apart, narrow_covered, narrow_more}
 
 abbrev with_word : Rule → WordValue → Rule
@@ -22,26 +22,26 @@ some_word a b e = cc
 
 -- the word that both share, met with what one of them covers
 met_inner : (w outer inner : WordValue) → IsTrue (covers_of outer inner) → meets w outer ≡ true
-    → meet_of (joined w outer) inner ≡ meet_of w inner
+    → meet_of (meeting_word w outer) inner ≡ meet_of w inner
 met_inner w outer inner within meet =
     sym (ap (option_and_then (λ m. meet_of m inner)) (met_joined w outer meet))
     ∙ meet_narrowed w outer inner within
 
 meets_inner : (w outer inner : WordValue) → IsTrue (covers_of outer inner) → meets w outer ≡ true
-    → meets (joined w outer) inner ≡ meets w inner
-meets_inner w outer inner within meet = sym (meet_is_some (joined w outer) inner)
+    → meets (meeting_word w outer) inner ≡ meets w inner
+meets_inner w outer inner within meet = sym (meet_is_some (meeting_word w outer) inner)
     ∙ ap is_some (met_inner w outer inner within meet) ∙ meet_is_some w inner
 
 covers_inner : (w outer inner : WordValue) → IsTrue (covers_of outer inner) → meets w outer ≡ true
-    → covers_of (joined w outer) inner ≡ covers_of w inner
+    → covers_of (meeting_word w outer) inner ≡ covers_of w inner
 covers_inner w outer inner within meet =
     meet_greatest w outer _ inner (met_joined w outer meet) ∙ ap (λ t. covers_of w inner && t)
     within ∙ and-true (covers_of w inner)
 
 joined_inner : (w outer inner : WordValue) → IsTrue (covers_of outer inner) → meets w outer ≡ true
-    → meets w inner ≡ true → joined (joined w outer) inner ≡ joined w inner
+    → meets w inner ≡ true → meeting_word (meeting_word w outer) inner ≡ meeting_word w inner
 joined_inner w outer inner within meet met =
-    some_word _ _ (sym (met_joined (joined w outer) inner
+    some_word _ _ (sym (met_joined (meeting_word w outer) inner
     (meets_inner w outer inner within meet ∙ met)) ∙ met_inner w outer inner within meet
     ∙ met_joined w inner met)
 
@@ -55,8 +55,8 @@ apart_inner w outer inner within apart =
 
 narrowed_inner : (rule : Rule) (outer inner : WordValue) → IsTrue (covers_of outer inner)
     → meets rule.word outer ≡ true → meets rule.word inner ≡ true
-    → narrowed inner (narrowed outer rule) ≡ narrowed inner rule
-unfolding narrowed
+    → narrowed_rule inner (narrowed_rule outer rule) ≡ narrowed_rule inner rule
+unfolding narrowed_rule
 narrowed_inner rule outer inner within meet met = ap (λ w. with_word rule w)
     (joined_inner rule.word outer inner within meet met)
 
@@ -66,11 +66,12 @@ covered_meets a b covers = meets_comm a b ∙ meets_cover a b covers
 -- one rule, where narrowing the rest is known
 one_rule : (rule : Rule) (kept rest : List Rule) (outer inner : WordValue)
     → IsTrue (covers_of outer inner) → meets rule.word outer ≡ true
-    → narrow kept inner ≡ narrow rest inner → narrow (narrowed outer rule ∷ kept) inner ≡ narrow
+    → narrow kept inner ≡ narrow rest inner → narrow (narrowed_rule outer rule ∷ kept) inner
+    ≡ narrow
     (rule ∷ rest) inner
-unfolding narrowed
+unfolding narrowed_rule
 one_rule rule kept rest outer inner within meet same =
-    let word = joined rule.word outer in
+    let word = meeting_word rule.word outer in
     let met = meets_inner rule.word outer inner within meet in
     let covered = covers_inner rule.word outer inner within meet in
     elim (cases_Bool (meets rule.word inner)) [
@@ -84,18 +85,18 @@ one_rule rule kept rest outer inner within meet same =
                 ∙ sym (narrow_covered inner rule rest meeting covers)
             | inr past ↦ narrow_more inner (with_word rule word) kept (met ∙ meeting)
                 (covered ∙ past) ∙ ap (λ r. r ∷ narrow kept inner) head
-                ∙ ap (λ rs. narrowed inner rule ∷ rs) same
+                ∙ ap (λ rs. narrowed_rule inner rule ∷ rs) same
                 ∙ sym (narrow_more inner rule rest meeting past)
           ]
     ]
 
 covered_alone : (rule : Rule) (rest : List Rule) (outer inner : WordValue)
     → IsTrue (covers_of outer inner) → meets rule.word outer ≡ true
-    → IsTrue (covers_of rule.word inner) → narrow (narrowed outer rule ∷ []) inner ≡ narrow
+    → IsTrue (covers_of rule.word inner) → narrow (narrowed_rule outer rule ∷ []) inner ≡ narrow
     (rule ∷ rest) inner
-unfolding narrowed
+unfolding narrowed_rule
 covered_alone rule rest outer inner within meet covers =
-    let word = joined rule.word outer in
+    let word = meeting_word rule.word outer in
     let meeting = meets_inner rule.word outer inner within meet in
     let hit = covered_meets rule.word inner covers in
     let covered = covers_inner rule.word outer inner within meet in
@@ -140,16 +141,17 @@ not_held rule region header here apart =
 
 -- a narrowed rule holds the headers of the region that the rule holds
 same_held : (rule : Rule) (region : WordValue) (header : ℕ) → IsTrue (holds region header)
-    → meets rule.word region ≡ true → holds (narrowed region rule).word header ≡ holds rule.word
+    → meets rule.word region ≡ true → holds (narrowed_rule region rule).word header
+    ≡ holds rule.word
     header
-unfolding narrowed
+unfolding narrowed_rule
 same_held rule region header here meet =
     meet_both rule.word region _ (met_joined rule.word region meet) header
     ∙ ap (λ t. holds rule.word header && t) here ∙ and-true (holds rule.word header)
 
 pub narrow_first : (rules : List Rule) (region : WordValue) (header : ℕ)
     → IsTrue (holds region header) → find (is_held header) (narrow rules region) ≡ option_map
-    (narrowed region) (find (is_held header) rules)
+    (narrowed_rule region) (find (is_held header) rules)
 narrow_first [] region header here = ap (find (is_held header)) (narrow_none region)
 narrow_first (rule ∷ rules) region header here =
     let rest = narrow_first rules region header here in
@@ -158,18 +160,19 @@ narrow_first (rule ∷ rules) region header here =
       | inr apart ↦
           let lost = not_held rule region header here apart in
           ap P (narrow_apart region rule rules apart) ∙ rest
-          ∙ sym (ap (option_map (narrowed region)) (find_more header rule rules lost))
+          ∙ sym (ap (option_map (narrowed_rule region)) (find_more header rule rules lost))
       | inl meet ↦
           let held = same_held rule region header here meet in
           elim (cases_Bool (holds rule.word header)) [
             | inl hit ↦
-                let found = sym (ap (option_map (narrowed region))
+                let found = sym (ap (option_map (narrowed_rule region))
                 (find_here header rule rules hit)) in
                 elim (cases_Bool (covers_of rule.word region)) [
                   | inl covers ↦ ap P (narrow_covered region rule rules meet covers)
-                      ∙ find_here header (narrowed region rule) [] (held ∙ hit) ∙ found
+                      ∙ find_here header (narrowed_rule region rule) [] (held ∙ hit) ∙ found
                   | inr past ↦ ap P (narrow_more region rule rules meet past)
-                      ∙ find_here header (narrowed region rule) (narrow rules region) (held ∙ hit)
+                      ∙ find_here header (narrowed_rule region rule) (narrow rules region)
+                      (held ∙ hit)
                       ∙ found
                 ]
             | inr miss ↦
@@ -177,8 +180,8 @@ narrow_first (rule ∷ rules) region header here =
                 (λ covers. both_ways _ miss (covers_held rule.word region header covers here))
                 in
                 ap P (narrow_more region rule rules meet past)
-                ∙ find_more header (narrowed region rule) (narrow rules region) (held ∙ miss)
-                ∙ rest ∙ sym (ap (option_map (narrowed region))
+                ∙ find_more header (narrowed_rule region rule) (narrow rules region) (held ∙ miss)
+                ∙ rest ∙ sym (ap (option_map (narrowed_rule region))
                 (find_more header rule rules miss))
           ]
     ]

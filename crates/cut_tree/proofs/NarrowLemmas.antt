@@ -11,7 +11,7 @@ use Rattle.ternary.specs.Meets.{meets, meet_of, covers_of}
 use Rattle.ternary.proofs.CallerLemmas.{covers_full, meet_within, meet_word, meet_none, meet_some, met_joined}
 use Rattle.policy_rules.specs.declared.rules.Rule.{Rule}
 use Rattle.policy_rules.proofs.CallerLemmas.{at_item}
-use Rattle.cut_tree.specs.Narrow.{narrowed, narrow}
+use Rattle.cut_tree.specs.Narrow.{narrowed_rule, narrow}
 use Rattle.cut_tree.specs.Nodes.{AreNodeRules, AreWords, IsOneHeader, LiesIn}
 
 -- ---- meets of words
@@ -25,13 +25,13 @@ narrow_apart region rule rules apart = rw apart
 
 pub narrow_covered : (region : WordValue) (rule : Rule) (rules : List Rule)
     → meets rule.word region ≡ true → covers_of rule.word region ≡ true
-    → narrow (rule ∷ rules) region ≡ narrowed region rule ∷ []
+    → narrow (rule ∷ rules) region ≡ narrowed_rule region rule ∷ []
 unfolding narrow
 narrow_covered region rule rules meet covers = rw (meet, covers)
 
 pub narrow_more : (region : WordValue) (rule : Rule) (rules : List Rule)
     → meets rule.word region ≡ true → covers_of rule.word region ≡ false
-    → narrow (rule ∷ rules) region ≡ narrowed region rule ∷ narrow rules region
+    → narrow (rule ∷ rules) region ≡ narrowed_rule region rule ∷ narrow rules region
 unfolding narrow
 narrow_more region rule rules meet past = rw (meet, past)
 
@@ -56,7 +56,7 @@ pub narrow_last : (rules : List Rule) (index : ℕ) (rule : Rule) (region word :
     → index < length rules → rule ≡ get_or rules index rule → meet_of rule.word region ≡ Some word
     → covers_of rule.word region ≡ true → narrow (drop index rules) region ≡ with_word rule
     word ∷ []
-unfolding narrowed
+unfolding narrowed_rule
 narrow_last rules index rule region word within is some covers =
     let met = meet_some _ _ _ some in
     at_item (λ rs. narrow rs region) rules index rule within is
@@ -67,7 +67,7 @@ pub narrow_step : (rules : List Rule) (index : ℕ) (rule : Rule) (region word :
     → index < length rules → rule ≡ get_or rules index rule → meet_of rule.word region ≡ Some word
     → covers_of rule.word region ≡ false → narrow (drop index rules) region ≡ with_word rule
     word ∷ narrow (drop (index + 1) rules) region
-unfolding narrowed
+unfolding narrowed_rule
 narrow_step rules index rule region word within is some past =
     let rest : List Rule = drop (index + 1) rules in
     let met = meet_some _ _ _ some in
@@ -84,7 +84,7 @@ narrow_end rules index region past = at_drop_all (λ rs. narrow rs region) rules
 
 -- narrowing keeps a fact of each narrowed rule
 all_narrowed : (P : Rule → Type 0) (rules : List Rule) (region : WordValue)
-    → ((rule : Rule) → meets rule.word region ≡ true → P (narrowed region rule))
+    → ((rule : Rule) → meets rule.word region ≡ true → P (narrowed_rule region rule))
     → All P (narrow rules region)
 all_narrowed P [] region each = All-same P _ _ (narrow_none region) (All-nil P)
 all_narrowed P (rule ∷ rules) region each =
@@ -92,16 +92,16 @@ all_narrowed P (rule ∷ rules) region each =
     elim (cases_Bool (meets rule.word region)) [
       | inl meet ↦ elim (cases_Bool (covers_of rule.word region)) [
         | inl covers ↦ All-same P _ _ (narrow_covered region rule rules meet covers)
-            (All-cons P (narrowed region rule) [] (each rule meet) (All-nil P))
+            (All-cons P (narrowed_rule region rule) [] (each rule meet) (All-nil P))
         | inr past ↦ All-same P _ _ (narrow_more region rule rules meet past)
-            (All-cons P (narrowed region rule) (narrow rules region) (each rule meet) rest)
+            (All-cons P (narrowed_rule region rule) (narrow rules region) (each rule meet) rest)
       ]
       | inr apart ↦ All-same P _ _ (narrow_apart region rule rules apart) rest
     ]
 
 pub narrow_within : (rules : List Rule) (region : WordValue)
     → All (LiesIn region) (narrow rules region)
-unfolding narrowed
+unfolding narrowed_rule
 narrow_within rules region = all_narrowed (LiesIn region) rules region
     (λ rule meet. (meet_within rule.word region _ (met_joined rule.word region meet)).1)
 
@@ -120,21 +120,21 @@ narrow_few (rule ∷ rules) region =
 
 pub narrow_words : (rules : List Rule) (region : WordValue) → IsWord region → AreWords rules
     → AreWords (narrow rules region)
-unfolding narrowed
+unfolding narrowed_rule
 narrow_words [] region whole words = All-same (λ rule. IsWord rule.word) _ _ (narrow_none region)
     (All-nil (λ (rule : Rule). IsWord rule.word))
 narrow_words (rule ∷ rules) region whole words =
     let P : Rule → Type 0 = λ rule. IsWord rule.word in
     let rest = narrow_words rules region whole (All-tail P rule rules words) in
-    let word : meets rule.word region ≡ true → P (narrowed region rule) = λ meet.
+    let word : meets rule.word region ≡ true → P (narrowed_rule region rule) = λ meet.
     meet_word rule.word region _ (All-head P rule rules words) whole
     (met_joined rule.word region meet) in
     elim (cases_Bool (meets rule.word region)) [
       | inl meet ↦ elim (cases_Bool (covers_of rule.word region)) [
         | inl covers ↦ All-same P _ _ (narrow_covered region rule rules meet covers)
-            (All-cons P (narrowed region rule) [] (word meet) (All-nil P))
+            (All-cons P (narrowed_rule region rule) [] (word meet) (All-nil P))
         | inr past ↦ All-same P _ _ (narrow_more region rule rules meet past)
-            (All-cons P (narrowed region rule) (narrow rules region) (word meet) rest)
+            (All-cons P (narrowed_rule region rule) (narrow rules region) (word meet) rest)
       ]
       | inr apart ↦ All-same P _ _ (narrow_apart region rule rules apart) rest
     ]

@@ -36,8 +36,8 @@ abbrev pub count_on_side : Side → ℕ → ℕ
 count_on_side side bit = count_at side.counts.planes bit
 
 -- what will be counted for a bit in the end, where these rules are still to come
-abbrev pub expected : Side → WordValue → ℕ → List Rule → ℕ
-expected side region bit rules =
+abbrev pub expected_count : Side → WordValue → ℕ → List Rule → ℕ
+expected_count side region bit rules =
     count_on_side side bit + bit_at side.open bit * length (side_of rules region bit side.one)
 
 -- the side has counted the rules before this place
@@ -46,7 +46,7 @@ pub record IsCounting (side : Side) (upper : Bool) (rules : List Rule)
   pub one : side.one ≡ upper
   pub few : (bit : ℕ) → count_on_side side bit ≤ place
   pub rest : (bit : ℕ) → IsFreeBit region bit →
-      expected side region bit (drop place rules) ≡ length (side_of rules region bit upper)
+      expected_count side region bit (drop place rules) ≡ length (side_of rules region bit upper)
 
 -- the side has counted the rules of each half
 abbrev pub HasCounted : Side → Bool → List Rule → WordValue → Type 0

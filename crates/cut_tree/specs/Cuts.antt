@@ -44,13 +44,13 @@ abbrev pub is_cheaper : Cost → Cost → Bool
 is_cheaper a b = nat_lt a.larger b.larger || ((a.larger == b.larger) && nat_lt a.sum b.sum)
 
 -- of a cut and the least before it, the one that costs less
-abbrev pub cheaper : Cost → Option Cost → Cost
-cheaper cost None = cost
-cheaper cost (Some best) = if is_cheaper cost best then cost else best
+abbrev pub cheaper_cost : Cost → Option Cost → Cost
+cheaper_cost cost None = cost
+cheaper_cost cost (Some best) = if is_cheaper cost best then cost else best
 
 -- what the least cut at a bit below this number costs
 unfoldable pub least_below : ℕ → List Rule → WordValue → Option Cost
 least_below zero rules region = None
 least_below (suc bit) rules region =
     if is_fixed_of region bit then least_below bit rules region
-    else Some (cheaper (cost_of rules region bit) (least_below bit rules region))
+    else Some (cheaper_cost (cost_of rules region bit) (least_below bit rules region))

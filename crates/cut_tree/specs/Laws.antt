@@ -5,7 +5,7 @@ use Rattle.ternary.specs.Meets.{covers_of}
 use Rattle.policy_rules.specs.Rules.{is_held}
 use Rattle.policy_rules.specs.declared.rules.Rule.{Rule}
 use Rattle.cut_tree.specs.DefinedTree.{IsDefinedTree, tree_of}
-use Rattle.cut_tree.specs.Narrow.{narrow, narrowed}
+use Rattle.cut_tree.specs.Narrow.{narrow, narrowed_rule}
 use Rattle.cut_tree.specs.Nodes.{AreWords}
 use Rattle.cut_tree.specs.Shape.{Shape}
 
@@ -16,7 +16,7 @@ pub record NarrowLaws : Type 0 where
   -- the first rule that holds a header of the region is that of the whole list, narrowed
   pub first : (rules : List Rule) (region : WordValue) (header : ℕ) → IsTrue (holds region header) →
       find (is_held header) (narrow rules region)
-      ≡ option_map (narrowed region) (find (is_held header) rules)
+      ≡ option_map (narrowed_rule region) (find (is_held header) rules)
 
 pub record TreeLaws : Type 0 where
   -- a list of rules has a tree for each cap of one or more

@@ -2,7 +2,7 @@
 -- "Scalable Flow-Based Networking with DIFANE", SIGCOMM 2010, cut the rules for their switches.
 use Rattle.std.specs.Prelude.{if◌then◌else◌, Bool, List, [], ◌∷◌, map, filter}
 use Rattle.ternary.specs.Word.{WordValue}
-use Rattle.ternary.specs.Meets.{joined, meets, covers_of}
+use Rattle.ternary.specs.Meets.{meeting_word, meets, covers_of}
 use Rattle.policy_rules.specs.declared.rules.Rule.{Rule}
 
 -- the list up to and including the first that passes
@@ -17,11 +17,12 @@ abbrev pub covers_region : WordValue → Rule → Bool
 covers_region region rule = covers_of rule.word region
 
 -- the rule for those of its headers alone that lie in the region
-unfoldable pub narrowed : WordValue → Rule → Rule
-narrowed region rule = record rule { word = joined rule.word region }
+unfoldable pub narrowed_rule : WordValue → Rule → Rule
+narrowed_rule region rule = record rule { word = meeting_word rule.word region }
 
 -- the rules that meet the region, up to and including the first that covers it, each for its
 -- headers there
 unfoldable pub narrow : List Rule → WordValue → List Rule
 narrow rules region =
-    map (narrowed region) (up_to_first (covers_region region) (filter (meets_region region) rules))
+    map (narrowed_rule region) (up_to_first (covers_region region)
+    (filter (meets_region region) rules))

@@ -3,7 +3,7 @@ ghost use Rattle.std.specs.Int.{bit_at, from_bool};
 ghost use Rattle.ternary.specs.Word.{WordValue};
 ghost use Rattle.ternary.specs.Meets.{admits, covers_of, fix_of};
 ghost use Rattle.policy_rules.specs.declared.rules.Rule.{Rule};
-ghost use Rattle.cut_tree.specs.Counts.{count_on_side, counted_cost, expected, HasCounted};
+ghost use Rattle.cut_tree.specs.Counts.{count_on_side, counted_cost, expected_count, HasCounted};
 ghost use Rattle.cut_tree.specs.Cuts.{CostsAtMost, IsFreeBit, cost_from, least_below, side_of};
 ghost use Rattle.cut_tree.specs.Nodes.{LiesIn};
 
@@ -104,7 +104,7 @@ impl Side {
         ensures one { result.one ≡ one }
         ensures none { (bit : ℕ) → count_on_side result bit ≡ 0 }
         ensures expected { (region : WordValue) (bit : ℕ) (rules : List Rule) → bit < 104 →
-            expected result region bit rules ≡ length (side_of rules region bit one) }
+            expected_count result region bit rules ≡ length (side_of rules region bit one) }
     {
         Side {
             one,
@@ -120,8 +120,8 @@ impl Side {
         ensures one { self.new.one ≡ self.old.one }
         ensures few { (bit : ℕ) → count_on_side self.new bit ≤ count_on_side self.old bit + 1 }
         ensures expected { (bit : ℕ) (rules : List Rule) → IsFreeBit region.now bit →
-            expected self.new region.now bit rules
-            ≡ expected self.old region.now bit (rule.now ∷ rules) }
+            expected_count self.new region.now bit rules
+            ≡ expected_count self.old region.now bit (rule.now ∷ rules) }
     {
         let open = self.open;
         let met = halves_met(&rule.word, self.one);

@@ -4,7 +4,7 @@
 //! error. At each port, from 0 to 63, a recorder notes the packets that leave.
 #![tactic(auto)]
 
-use difane_cli::{Meter, Recorder, Status, run, tell};
+use difane_cli::{Meter, Recorder, Status, run, write_status};
 use shelf::{DiskShelf, StdSink};
 use std::alloc::AllocError;
 use std::io::ErrorKind;
@@ -51,7 +51,7 @@ fn main(rt: HostRuntime) -> ExitCode {
                 _ => Status::Usage,
             };
             if let Status::Usage = status {
-                tell(&status, &mut errs);
+                write_status(&status, &mut errs);
             }
             ExitCode::from(status.number())
         }

@@ -17,8 +17,8 @@ use Rattle.steps.specs.Steps.{IsEvent}
 use Rattle.steps.specs.declared.step.Event.{Event}
 use Rattle.update_machine.specs.Setting.{Setting, setting_of, IsSetting, NamesOwnPort}
 use Rattle.update_machine.proofs.CallerLemmas.{first_planned}
-use Rattle.world.specs.State.{IsTied, WorldValue, setting_at}
-use Rattle.refinement.specs.Tied.{AreTied}
+use Rattle.world.specs.State.{RefinesJournal, WorldValue, setting_at}
+use Rattle.refinement.specs.Refinement.{RefineJournal}
 use Rattle.shelf.specs.Shelf.{Files}
 use Rattle.difane_cli.specs.Inputs.{and_then, first_plan, inputs_of, plan_from, read_net, read_policies, read_schedule}
 use Rattle.difane_cli.specs.Run.{IsReplayOf}
@@ -64,9 +64,9 @@ has_plan names net policies is =
     by name (Err why) is = cc is
 
 pub sound_by_tie : (world : WorldValue) → world.is_spent ≡ false
-    → (world.is_spent ≡ false → IsTied world) → IsSetting (setting_at world)
-unfolding AreTied
-sound_by_tie world able tied = (tied able).sound
+    → (world.is_spent ≡ false → RefinesJournal world) → IsSetting (setting_at world)
+unfolding RefineJournal
+sound_by_tie world able refines = (refines able).sound
 
 pub planned_by : (net : Net) (policies : List (List Row)) (setting : Setting)
     → setting ≡ setting_of net policies → IsSetting setting

@@ -4,21 +4,22 @@ use Rattle.std.specs.List.{flat_map}
 use Rattle.std.proofs.Math.Seq.{take-add, take-append-add}
 use Rattle.std.proofs.lemmas.Grind.{flat_map-append}
 use Rattle.std.proofs.lemmas.List.{take-append-drop, take-append-le}
-use Rattle.shelf.specs.Sink.{gained, GainedPart, SinkState}
+use Rattle.shelf.specs.Sink.{with_gained, GainedPart, SinkState}
 use Rattle.shelf.specs.SinkWrites.{gained-gained}
 use Rattle.difane_cli.specs.Writes.{WrotePart}
 
 -- a part of the next bytes, behind what was written, is a part of the whole
 pub GainedPart-behind : (before middle now : Option (List ℕ)) (front piece rest : List ℕ)
-    → middle ≡ gained before front → GainedPart middle piece now
+    → middle ≡ with_gained before front → GainedPart middle piece now
     → GainedPart before (front ++ (piece ++ rest)) now
 GainedPart-behind before middle now front piece rest written part =
     let n = part.0 in
     let shorter = part.1 in (
       length front + n,
       rw (length-append, length-append) (omega (arith, shorter)),
-      part.2 ∙ ap (λ b. gained b (take n piece)) written ∙ gained-gained before front (take n piece)
-          ∙ ap (gained before) (ap (λ ys. front ++ ys)
+      part.2 ∙ ap (λ b. with_gained b (take n piece)) written
+          ∙ gained-gained before front (take n piece)
+          ∙ ap (with_gained before) (ap (λ ys. front ++ ys)
           (sym (take-append-le n piece rest (omega (arith, shorter))))
           ∙ sym (take-append-add front (piece ++ rest) n)),
     )

@@ -7,7 +7,7 @@ use Rattle.journal_text.specs.Lines.{journal_text}
 use Rattle.meters.specs.Seen.{Seen}
 use Rattle.net_file.specs.declared.net.Net.{Net}
 use Rattle.policy_rules.specs.declared.packet.Leaving.{Leaving}
-use Rattle.shelf.specs.Sink.{gained, GainedPart, SinkState}
+use Rattle.shelf.specs.Sink.{with_gained, GainedPart, SinkState}
 use Rattle.shelf.specs.declared.output.SinkError.{SinkError}
 use Rattle.shelf.specs.SinkWrites.{gained-gained, IsAfterWrite}
 use Rattle.difane_cli.specs.Texts.{last_lines, line_by, meter_line, meter_lines, notes_line, replay_text}
@@ -33,12 +33,12 @@ lines_of seen (x ∷ xs) = ap (λ lines. meter_line (seen x) ++ lines) (lines_of
 
 -- ---- some bytes
 
-pub gained_nothing : (before : Option (List ℕ)) → before ≡ gained before []
+pub gained_nothing : (before : Option (List ℕ)) → before ≡ with_gained before []
 gained_nothing None = refl
 gained_nothing (Some bytes) = ap Some (sym (append-nil bytes))
 
 pub part_last : (before middle now : Option (List ℕ)) (front piece : List ℕ)
-    → middle ≡ gained before front → GainedPart middle piece now
+    → middle ≡ with_gained before front → GainedPart middle piece now
     → GainedPart before (front ++ piece) now
 part_last before middle now front piece written part =
     subst (λ (bytes : List ℕ). GainedPart before (front ++ bytes) now) (append-nil piece)
@@ -54,11 +54,11 @@ none_right (x ∷ xs) ys is = absurd (cc is)
 
 -- two texts, one after the other
 pub both_written : (before middle now : SinkState) (text lines : List ℕ) (takes_memory : Bool)
-    (result : Result (⊤) SinkError) → middle.bytes ≡ gained before.bytes text
+    (result : Result (⊤) SinkError) → middle.bytes ≡ with_gained before.bytes text
     → middle.faults ≡ before.faults → IsAfterWrite lines takes_memory middle now result
     → IsAfterWrite (text ++ lines) takes_memory before now result
 both_written before middle now text lines takes_memory (Ok done) written same after = record {
-  whole = after.whole ∙ ap (λ bytes. gained bytes lines) written
+  whole = after.whole ∙ ap (λ bytes. with_gained bytes lines) written
       ∙ gained-gained before.bytes text lines;
   part = tt;
   faults = omega (arith, same, after.faults);
@@ -91,7 +91,7 @@ first_part before now text lines takes_memory why after = record {
 
 -- a piece that was cut short, behind what was written and before the rest
 pub piece_cut : (before middle now : SinkState) (front piece rest whole : List ℕ)
-    (takes_memory : Bool) (why : SinkError) → middle.bytes ≡ gained before.bytes front
+    (takes_memory : Bool) (why : SinkError) → middle.bytes ≡ with_gained before.bytes front
     → middle.faults ≡ before.faults → IsAfterWrite piece takes_memory middle now (Err why)
     → front ++ (piece ++ rest) ≡ whole → IsAfterWrite whole takes_memory before now (Err why)
 piece_cut before middle now front piece rest whole takes_memory why written same after is =

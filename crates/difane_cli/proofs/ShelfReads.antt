@@ -4,7 +4,7 @@ use Rattle.std.specs.Option.{ForSome}
 use Rattle.net_file.specs.Owners.{port_mask}
 use Rattle.net_file.specs.declared.net.Net.{Net}
 use Rattle.steps.specs.declared.step.Event.{Event}
-use Rattle.shelf.specs.Sink.{counted}
+use Rattle.shelf.specs.Sink.{next_count}
 use Rattle.shelf.specs.Shelf.{Files, ShelfState, IsAfterReads}
 use Rattle.shelf.specs.Scripts.{counted_up}
 use Rattle.difane_cli.specs.Inputs.{most_reads, net_reads, policy_reads, read_net, read_schedule, switch_on, up_to_refusal}
@@ -14,7 +14,7 @@ counted_up-counted_up : (n m x : ℕ) → counted_up n (counted_up m x) ≡ coun
 counted_up-counted_up zero m x = ap (λ k. counted_up k x) (omega arith)
 counted_up-counted_up (suc n) m x =
     let sum : suc (n + m) ≡ suc n + m = omega arith in
-    ap counted (counted_up-counted_up n m x) ∙ ap (λ k. counted_up k x) sum
+    ap next_count (counted_up-counted_up n m x) ∙ ap (λ k. counted_up k x) sum
 
 -- some reads, and then others
 pub reads_then : (a b most : ℕ) (old middle new : ShelfState) → a + b ≤ most

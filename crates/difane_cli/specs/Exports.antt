@@ -9,4 +9,4 @@ pub use Rattle.difane_cli.specs.Run.{IsPlayOf, IsReplayOf, Outcome, PlayOutcome,
 pub use Rattle.difane_cli.specs.Tasks.{IsNetOf, Play, Print, Task}
 pub use Rattle.difane_cli.specs.Texts.{full_line, input_line, last_lines, play_text, quiet_line, replay_text, status_line}
 pub use Rattle.difane_cli.specs.Verdict.{IsWhetherQuiet, is_asked}
-pub use Rattle.difane_cli.specs.Writes.{TellsLine}
+pub use Rattle.difane_cli.specs.Writes.{WritesLine}

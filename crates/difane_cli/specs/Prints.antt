@@ -9,7 +9,7 @@ use Rattle.policy_rules.specs.Policy.{IsPolicy}
 use Rattle.show_text.specs.Text.{compile_text, table_text}
 use Rattle.switch_table.specs.Tables.{tables_of}
 use Rattle.shelf.specs.Shelf.{Files}
-use Rattle.shelf.specs.Sink.{GainedPart, SinkState, gained, Rose}
+use Rattle.shelf.specs.Sink.{GainedPart, SinkState, with_gained, Rose}
 use Rattle.shelf.specs.declared.output.SinkError.{SinkError}
 use Rattle.shelf.specs.declared.output.SinkError.TheVariants.{Failed, NoMemory}
 use Rattle.journal.specs.declared.item.Item.{Item}
@@ -71,7 +71,7 @@ PrintOutcome command files _ journal before now = Unplayed journal before now
 -- output's own writes, if they take any; or before them, where the text is made in memory
 pub record IsAfterText (text : List ℕ) (in_memory takes_memory : Bool) (before now : SinkState)
     (result : Result (⊤) SinkError) : Type 0 where
-  pub whole : OnOk result (now.bytes ≡ gained before.bytes text)
+  pub whole : OnOk result (now.bytes ≡ with_gained before.bytes text)
   pub part : IsErrOf result Failed → GainedPart before.bytes text now.bytes
   pub some : OnErr result (WrotePart text before now)
   pub untouched : text ≡ [] → now ≡ before

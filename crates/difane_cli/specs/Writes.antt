@@ -1,12 +1,12 @@
 -- First tier. What a command left of its journal and of its outputs, whatever it did.
 use Rattle.std.specs.Prelude.{ℕ, ◌≡◌, ◌⊎◌, List, [], ◌≤◌, Bool, IsTrue}
-use Rattle.shelf.specs.Sink.{gained, GainedPart, SinkState, Rose}
+use Rattle.shelf.specs.Sink.{with_gained, GainedPart, SinkState, Rose}
 use Rattle.journal.specs.declared.item.Item.{Item}
 
 -- the output gained this text; where it is empty, it wasn't touched: no write was made, not even of
 -- nothing
 pub record Wrote (text : List ℕ) (before now : SinkState) : Type 0 where
-  pub whole : now.bytes ≡ gained before.bytes text
+  pub whole : now.bytes ≡ with_gained before.bytes text
   pub untouched : text ≡ [] → now ≡ before
 
 -- the output wasn't touched, or gained a part of the text, and not all
@@ -20,8 +20,8 @@ pub record Unplayed (journal : List Item) (before now : SinkState) : Type 0 wher
 
 -- a sink gained the line, and counted no fault; or it gained a proper part of it, where it failed
 -- or where its writes take memory
-pub record TellsLine (whole : List ℕ) (takes_memory : Bool) (old new : SinkState) : Type 0 where
+pub record WritesLine (whole : List ℕ) (takes_memory : Bool) (old new : SinkState) : Type 0 where
   pub faults : old.faults ≤ new.faults
-  pub line : ((new.bytes ≡ gained old.bytes whole) × (new.faults ≡ old.faults))
+  pub line : ((new.bytes ≡ with_gained old.bytes whole) × (new.faults ≡ old.faults))
       ⊎ (GainedPart old.bytes whole new.bytes
       × (Rose old.faults new.faults ⊎ IsTrue takes_memory))

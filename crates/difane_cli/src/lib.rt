@@ -29,5 +29,5 @@ mod verdict;
 
 pub use laws::one_switch_laws;
 pub use meters::{Meter, Recorder};
-pub use status::{Ended, FileName, Finished, Refusal, Status, Stop, tell};
+pub use status::{Ended, FileName, Finished, Refusal, Status, Stop, write_status};
 pub use top_call::run;

@@ -102,7 +102,7 @@ pub fn begin_world(
     port_laws();
     match World::begin(alloc, net, policies) {
         Ok(world) => {
-            world.tied();
+            world.refines();
             Ok(world)
         }
         Err(error) => Err(no_plan(alloc, names[0], error)),

@@ -4,7 +4,7 @@ ghost use Rattle.std.specs.List.{flat_map};
 ghost use Rattle.shelf.specs.SinkWrites.{IsAfterWrite};
 ghost use Rattle.difane_cli.specs.declared.status.Status.TheVariants.{Ok as DoneStatus};
 ghost use Rattle.difane_cli.specs.declared.status.Stop.TheVariants.{NoMemory};
-ghost use Rattle.difane_cli.specs.Exports.{TellsLine, full_line, input_line, status_after, status_line, status_number, status_of};
+ghost use Rattle.difane_cli.specs.Exports.{WritesLine, full_line, input_line, status_after, status_line, status_number, status_of};
 
 use itoa::Buffer;
 use journal::Journal;
@@ -153,8 +153,8 @@ impl Status {
 /// not even by an empty write.
 ///
 /// A fault of the sink changes nothing but the sink, which then has a part of the line.
-pub fn tell<E: Sink>(status: &Status, errs: &mut E)
-    ensures line { TellsLine (status_line status.now) E.takes_memory
+pub fn write_status<E: Sink>(status: &Status, errs: &mut E)
+    ensures line { WritesLine (status_line status.now) E.takes_memory
         (E.state errs.old) (E.state errs.new) }
     ensures silent { status.now ≡ DoneStatus → errs.new ≡ errs.old }
 {

@@ -3,13 +3,13 @@ ghost use Rattle.std.specs.Prelude.{◌≡◌, ◌≢◌, ◌≤◌, ◌⊎◌, 
 ghost use Rattle.std.specs.Option.{ForSome};
 ghost use Rattle.shelf.specs.Sink.{Rose};
 ghost use Rattle.shelf.specs.Shelf.{IsAfterReads};
-ghost use Rattle.difane_cli.specs.Exports.{Accounts, IsAccepted, NeedsReadFault, Outcome, PlaysNothing, RanOut, TellsLine, known_task, most_reads, status_line};
+ghost use Rattle.difane_cli.specs.Exports.{Accounts, IsAccepted, NeedsReadFault, Outcome, PlaysNothing, RanOut, WritesLine, known_task, most_reads, status_line};
 ghost use Rattle.command_line.specs.Grammar.{command_of};
-ghost use Rattle.command_line.specs.Commands.{texts};
+ghost use Rattle.command_line.specs.Commands.{argument_texts};
 ghost use Rattle.difane_cli.specs.declared.status.Status.TheVariants as status;
 ghost use Rattle.difane_cli.specs.declared.status.Status.TheVariants.{Ok as DoneStatus};
 
-use crate::status::{Ended, Finished, Status, tell};
+use crate::status::{Ended, Finished, Status, write_status};
 use crate::task::{read_task, unplayed, work};
 use command_line::read_command;
 use journal::Journal;
@@ -39,19 +39,19 @@ pub fn run<F: Shelf, K: Sink, E: Sink>(
     // By its status: what was played, that it is what the known files state, that the journal
     // answers it and is a run of the abstract machine whose ends and items have their causes, which
     // meters stayed, and what the output gained.
-    ensures outcome { Outcome (command_of (texts args.now)) (F.state shelf.old).files
+    ensures outcome { Outcome (command_of (argument_texts args.now)) (F.state shelf.old).files
         K.takes_memory result.status result.journal
         (map ⟦<Box<dyn Meter> as Meter>⟧.seen meters.items)
         (map ⟦<Box<dyn Meter> as Meter>⟧.seen result.meters.items)
         (K.state out.old) (K.state out.new) }
 
     // A command that plays nothing gives the meters back as it took them.
-    ensures meters { PlaysNothing (command_of (texts args.now)) → result.meters ≡ meters }
+    ensures meters { PlaysNothing (command_of (argument_texts args.now)) → result.meters ≡ meters }
 
     // Each status has its cause.
-    ensures usage { (result.status ≡ status.Usage) ↔ (command_of (texts args.now) ≡ None) }
+    ensures usage { (result.status ≡ status.Usage) ↔ (command_of (argument_texts args.now) ≡ None) }
     ensures accounts { ForSome
-        (known_task (F.state shelf.old).files (command_of (texts args.now)))
+        (known_task (F.state shelf.old).files (command_of (argument_texts args.now)))
         (λ read. Accounts read result.status) }
     ensures read_fault { NeedsReadFault (F.state shelf.old).files result.status
         → Rose (F.state shelf.old).faults (F.state shelf.new).faults }
@@ -65,13 +65,13 @@ pub fn run<F: Shelf, K: Sink, E: Sink>(
     // Where memory runs out nothing was written, unless the output's own writes take memory. And
     // nothing was played, unless more than the lines of the play is asked for.
     ensures no_memory { result.status ≡ status.NoMemory
-        → RanOut (command_of (texts args.now)) K.takes_memory result.journal
+        → RanOut (command_of (argument_texts args.now)) K.takes_memory result.journal
         (K.state out.old) (K.state out.new) }
 
     // Where the inputs are accepted and nothing fails, the work is done, to its end or as far as
     // there was room, or memory ran out.
     ensures complete { IsAccepted
-        (known_task (F.state shelf.old).files (command_of (texts args.now)))
+        (known_task (F.state shelf.old).files (command_of (argument_texts args.now)))
         → Rose (F.state shelf.old).faults (F.state shelf.new).faults
         ⊎ Rose (K.state out.old).faults (K.state out.new).faults
         ⊎ (result.status ≡ status.Ok) ⊎ ((row : ℕ) × (result.status ≡ status.Full row))
@@ -79,13 +79,13 @@ pub fn run<F: Shelf, K: Sink, E: Sink>(
 
     // The line of the status is written, whole unless the sink of errors fails; of work that was
     // done nothing is.
-    ensures line { TellsLine (status_line result.status) E.takes_memory
+    ensures line { WritesLine (status_line result.status) E.takes_memory
         (E.state errs.old) (E.state errs.new) }
     ensures silent { result.status ≡ status.Ok → errs.new ≡ errs.old }
 
     // Files are read in order, none behind the first that is refused, and stay as they are.
     ensures shelf { IsAfterReads
-        (most_reads (F.state shelf.old).files (command_of (texts args.now)))
+        (most_reads (F.state shelf.old).files (command_of (argument_texts args.now)))
         (F.state shelf.old) (F.state shelf.new) }
     ensures faults { (K.state out.old).faults ≤ (K.state out.new).faults }
 {
@@ -115,11 +115,11 @@ fn end<M: Meter, E: Sink>(
     ensures status { result.status ≡ status }
     ensures journal { result.journal ≡ journal }
     ensures meters { result.meters ≡ meters }
-    ensures line { TellsLine (status_line status) E.takes_memory
+    ensures line { WritesLine (status_line status) E.takes_memory
         (E.state errs.old) (E.state errs.new) }
     ensures silent { status ≡ DoneStatus → errs.new ≡ errs.old }
 {
-    tell(&status, errs);
+    write_status(&status, errs);
     Ended {
         status,
         journal,

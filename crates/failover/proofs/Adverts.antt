@@ -6,16 +6,17 @@ use Rattle.std.proofs.lemmas.List.{get_or-replicate, length-replicate, get_or_pa
 use Rattle.std.proofs.lemmas.List.FromFn.{get_or-map-range_with_len, length-map-range_with_len}
 use Rattle.failover.specs.declared.advert.Advert.{Advert}
 use Rattle.base.specs.Masks.{switches}
-use Rattle.failover.specs.Adverts.{held, is_news, after_hearing, no_adverts, first_of, first_adverts}
+use Rattle.failover.specs.Adverts.{held_advert, is_news, after_hearing, no_adverts, first_of, first_adverts}
 use Rattle.failover.specs.Newest.{AreByOrigin}
 
 -- an advert at the place of its origin
 set_by_origin : (adverts : List (Option Advert)) (advert : Advert) → AreByOrigin adverts →
     advert.origin < 64 → (origin : ℕ) (found : Advert) →
-    held (set adverts advert.origin (Some advert)) origin ≡ Some found → found.origin ≡ origin
+    held_advert (set adverts advert.origin (Some advert)) origin ≡ Some found → found.origin
+    ≡ origin
 set_by_origin adverts advert by fits origin found e = elim (cases_eq origin advert.origin) [
   | inl same ↦ (let there : advert.origin < length adverts = omega (arith, by.places) in
-      let put : held (set adverts advert.origin (Some advert)) origin ≡ Some advert =
+      let put : held_advert (set adverts advert.origin (Some advert)) origin ≡ Some advert =
       rw (same, get_or-set_same _ _ _ _ there) refl in
       let it : Some advert ≡ Some found = sym put ∙ e in cc)
   | inr apart ↦ by.origins origin found
@@ -33,9 +34,9 @@ pub by_origin-none : AreByOrigin no_adverts
 by_origin-none = record {
   places = length-replicate {A = Option Advert} 64 None;
   origins = λ origin found e. elim (cases_lt origin 64) [
-    | inl below ↦ (let none : held no_adverts origin ≡ None =
+    | inl below ↦ (let none : held_advert no_adverts origin ≡ None =
         get_or-replicate 64 origin None None below in cc)
-    | inr past ↦ (let none : held no_adverts origin ≡ None =
+    | inr past ↦ (let none : held_advert no_adverts origin ≡ None =
         get_or_past no_adverts origin None past in cc)
   ];
 }
@@ -46,7 +47,7 @@ first_of_origin true first found e = cc
 first_of_origin false first found e = cc
 
 pub held-first : (near : List ℕ) (count origin : ℕ) → origin < 64 →
-    held (first_adverts near count) origin ≡ first_of near count origin
+    held_advert (first_adverts near count) origin ≡ first_of near count origin
 unfolding first_adverts switches
 held-first near count origin below =
     get_or-map-range_with_len (first_of near count) 0 64 origin origin None below (omega arith)
@@ -59,7 +60,7 @@ by_origin-first near count = record {
     | inl below ↦ ap (λ (a : Advert). a.origin)
         (first_of_origin (nat_lt origin count) _ found
         (sym (held-first near count origin below) ∙ e))
-    | inr past ↦ (let none : held (map (first_of near count) switches) origin ≡ None =
+    | inr past ↦ (let none : held_advert (map (first_of near count) switches) origin ≡ None =
         get_or_past (map (first_of near count) switches) origin None
         (omega (arith, length-map-range_with_len (first_of near count) 0 64)) in cc)
   ];
@@ -112,16 +113,19 @@ by_origin-hearing adverts advert by = elim (hearing adverts advert) [
 ]
 
 pub held_heard : (adverts : List (Option Advert)) (advert : Advert) → AreByOrigin adverts →
-    is_news adverts advert ≡ true → held (after_hearing adverts advert) advert.origin ≡ Some advert
+    is_news adverts advert ≡ true → held_advert (after_hearing adverts advert) advert.origin
+    ≡ Some advert
 held_heard adverts advert by news =
-    ap (λ (all : List (Option Advert)). held all advert.origin) (after_news adverts advert news)
+    ap (λ (all : List (Option Advert)). held_advert all advert.origin)
+    (after_news adverts advert news)
     ∙ get_or-set_same adverts advert.origin (Some advert) None
     (omega (arith, by.places, news_below adverts advert news))
 
 pub held_others : (adverts : List (Option Advert)) (advert : Advert) (origin : ℕ) →
-    origin ≢ advert.origin → held (after_hearing adverts advert) origin ≡ held adverts origin
+    origin ≢ advert.origin → held_advert (after_hearing adverts advert) origin
+    ≡ held_advert adverts origin
 held_others adverts advert origin apart = elim (hearing adverts advert) [
-  | inl news ↦ ap (λ (all : List (Option Advert)). held all origin) news.1
+  | inl news ↦ ap (λ (all : List (Option Advert)). held_advert all origin) news.1
       ∙ get_or-set_other adverts advert.origin origin (Some advert) None apart
-  | inr old ↦ ap (λ (all : List (Option Advert)). held all origin) old.1
+  | inr old ↦ ap (λ (all : List (Option Advert)). held_advert all origin) old.1
 ]

@@ -6,7 +6,7 @@ use Rattle.std.proofs.lemmas.Bool.Decides.{nat_tests}
 use Rattle.std.proofs.lemmas.Nat.{pow_below, or_lt, and_le_r}
 use Rattle.base.specs.Masks.{has}
 use Rattle.base.specs.ComputedMasks.{least_in}
-use Rattle.failover.specs.Routes.{wider, ball, nearer}
+use Rattle.failover.specs.Routes.{grown_ball, ball, least_neighbour_in}
 use Rattle.failover.specs.Search.{IsAway}
 use Rattle.base.proofs.CallerLemmas.{has-or, has-and, has-zero, has-pow_same, has-pow_other, mask_where_at, mask_where_lt, least_lt, has_least, least_below, some_of}
 
@@ -53,13 +53,14 @@ positive zero k h = apart_tests _ h (has-zero k)
 positive (suc m) k h = omega arith
 
 pub wider_lt : (links : List ℕ) (within : ℕ) → length links ≤ 64 → within < 2 ^ 64 →
-    wider links within < 2 ^ 64
-unfolding wider
+    grown_ball links within < 2 ^ 64
+unfolding grown_ball
 wider_lt links within rows fits = or_lt 64 _ _ fits (mask_where_lt _ 0 links 64 (omega arith))
 
 has_wider : (links : List ℕ) (within at : ℕ) → at < length links →
-    has (wider links within) at ≡ (has within at || not (bit_and (get_or links at 0) within == 0))
-unfolding wider
+    has (grown_ball links within) at ≡ (has within at
+    || not (bit_and (get_or links at 0) within == 0))
+unfolding grown_ball
 has_wider links within at below =
     rw (
       has-or,
@@ -69,19 +70,19 @@ has_wider links within at below =
     refl
 
 pub wider_keeps : (links : List ℕ) (within at : ℕ) → at < length links → has within at ≡ true →
-    has (wider links within) at ≡ true
+    has (grown_ball links within) at ≡ true
 wider_keeps links within at below h = has_wider links within at below ∙ or_left _ _ h
 
 -- one of those that have a link into the set
 pub wider_meets : (links : List ℕ) (within at : ℕ) → at < length links →
-    0 < bit_and (get_or links at 0) within → has (wider links within) at ≡ true
+    0 < bit_and (get_or links at 0) within → has (grown_ball links within) at ≡ true
 wider_meets links within at below some =
     has_wider links within at below ∙ or_right _ _ (meets_of _ some)
 
 -- a link into the set
 pub wider_gains : (links : List ℕ) (within at next : ℕ) → at < length links →
     has (get_or links at 0) next ≡ true → has within next ≡ true →
-    has (wider links within) at ≡ true
+    has (grown_ball links within) at ≡ true
 wider_gains links within at next below link h =
     let both : has (bit_and (get_or links at 0) within) next ≡ true = rw (has-and, link, h) refl in
     wider_meets links within at below (positive _ next both)
@@ -95,8 +96,9 @@ pub record IsNearer (links : List ℕ) (within at next : ℕ) : Type 0 where
       next ≤ other
 
 least_of : (links : List ℕ) (within at : ℕ) → within < 2 ^ 64 →
-    0 < bit_and (get_or links at 0) within → IsNearer links within at (nearer links within at)
-unfolding nearer
+    0 < bit_and (get_or links at 0) within → IsNearer links within at
+    (least_neighbour_in links within at)
+unfolding least_neighbour_in
 least_of links within at fits some =
     let row = get_or links at 0 in
     let small : bit_and row within < 2 ^ 64 = omega (arith, and_le_r row within) in
@@ -116,8 +118,8 @@ least_of links within at fits some =
 
 -- a switch that the widening adds has a link into the set
 pub added_is_nearer : (links : List ℕ) (within at : ℕ) → at < length links → within < 2 ^ 64 →
-    has (wider links within) at ≡ true → has within at ≡ false →
-    IsNearer links within at (nearer links within at)
+    has (grown_ball links within) at ≡ true → has within at ≡ false →
+    IsNearer links within at (least_neighbour_in links within at)
 added_is_nearer links within at below fits added absent =
     elim (or_cases _ _ (sym (has_wider links within at below) ∙ added)) [
       | inl member ↦ apart_tests _ member absent
@@ -184,7 +186,7 @@ step_from links target k at next below away near = record {
 
 pub next_step : (links : List ℕ) (target k at : ℕ) → length links ≡ 64 → target < 64 → at < 64 →
     IsAway links target (suc k) at →
-    IsStep links target k at (nearer links (ball links target k) at)
+    IsStep links target k at (least_neighbour_in links (ball links target k) at)
 unfolding ball
 next_step links target k at rows target_fits at_fits away =
     step_from links target k at _ (omega arith) away

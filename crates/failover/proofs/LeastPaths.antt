@@ -4,21 +4,21 @@ use Rattle.std.specs.List.{IsDistinct, AllByRecursion}
 use Rattle.std.proofs.lemmas.Bool.{cases_lt, eqb-true}
 use Rattle.base.specs.Masks.{has}
 use Rattle.failover.specs.Paths.{IsAtMost}
-use Rattle.failover.specs.Routes.{ball, onward}
+use Rattle.failover.specs.Routes.{ball, path_after}
 use Rattle.failover.specs.Search.{IsAway}
 use Rattle.failover.specs.Links.{LinksLead}
 use Rattle.failover.proofs.Balls.{false_of, apart_tests, ball_grows, ball_gains, at_target, has_target, next_step}
 
 -- ---- the route leads to the target
 
-pub length-onward : (links : List ℕ) (target k at : ℕ) → length (onward links target k at) ≡ k
-unfolding onward
+pub length-onward : (links : List ℕ) (target k at : ℕ) → length (path_after links target k at) ≡ k
+unfolding path_after
 length-onward links target zero at = refl
 length-onward links target (suc k) at = ap suc (length-onward links target k _)
 
 pub onward_leads : (links : List ℕ) (target k at : ℕ) → length links ≡ 64 → target < 64 → at < 64 →
-    IsAway links target k at → LinksLead links target at (onward links target k at)
-unfolding onward
+    IsAway links target k at → LinksLead links target at (path_after links target k at)
+unfolding path_after
 onward_leads links target zero at rows target_fits at_fits away =
     at_target links target at away.here
 onward_leads links target (suc k) at rows target_fits at_fits away =
@@ -33,8 +33,8 @@ differ x y mask absent member =
 
 onward_apart : (links : List ℕ) (target k at x : ℕ) → length links ≡ 64 → target < 64 → at < 64 →
     IsAway links target k at → ((j : ℕ) → j < k → has (ball links target j) x ≡ false) →
-    AllByRecursion (λ y. nat_eq x y ≡ false) (onward links target k at)
-unfolding onward
+    AllByRecursion (λ y. nat_eq x y ≡ false) (path_after links target k at)
+unfolding path_after
 onward_apart links target zero at x rows target_fits at_fits away absent = tt
 onward_apart links target (suc k) at x rows target_fits at_fits away absent =
     let step = next_step links target k at rows target_fits at_fits away in (
@@ -44,8 +44,8 @@ onward_apart links target (suc k) at x rows target_fits at_fits away absent =
     )
 
 pub onward_distinct : (links : List ℕ) (target k at : ℕ) → length links ≡ 64 → target < 64 →
-    at < 64 → IsAway links target k at → IsDistinct nat_eq (at ∷ onward links target k at)
-unfolding onward IsDistinct
+    at < 64 → IsAway links target k at → IsDistinct nat_eq (at ∷ path_after links target k at)
+unfolding path_after IsDistinct
 onward_distinct links target zero at rows target_fits at_fits away = (tt, tt)
 onward_distinct links target (suc k) at rows target_fits at_fits away =
     let step = next_step links target k at rows target_fits at_fits away in (
@@ -78,8 +78,8 @@ at_most_next x y xs ys less rest =
 
 pub onward_least : (links : List ℕ) (target k at : ℕ) (rest : List ℕ) → length links ≡ 64 →
     target < 64 → at < 64 → IsAway links target k at → LinksLead links target at rest →
-    length rest ≡ k → IsAtMost (onward links target k at) rest
-unfolding onward
+    length rest ≡ k → IsAtMost (path_after links target k at) rest
+unfolding path_after
 onward_least links target zero at rest rows target_fits at_fits away leads long = tt
 onward_least links target (suc k) at [] rows target_fits at_fits away leads long =
     absurd (omega arith)

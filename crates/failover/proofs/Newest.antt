@@ -5,7 +5,7 @@ use Rattle.std.proofs.lemmas.Bool.{cases_eq}
 use Rattle.std.proofs.lemmas.Bool.Decides.{nat_tests}
 use Rattle.std.proofs.lemmas.List.Elements.{All-cons, All-nil, All-append, All-push, All-weaker, All-same}
 use Rattle.failover.specs.declared.advert.Advert.{Advert}
-use Rattle.failover.specs.Adverts.{held, is_newer, is_news, after_hearing, after_hearing_all}
+use Rattle.failover.specs.Adverts.{held_advert, is_newer, is_news, after_hearing, after_hearing_all}
 use Rattle.failover.specs.Newest.{AreByOrigin, IsNewest}
 use Rattle.failover.proofs.Balls.{apart_tests}
 use Rattle.failover.proofs.Adverts.{hearing, held_heard, held_others, by_origin-hearing}
@@ -98,47 +98,51 @@ within : (origin : ℕ) (rest : Bool) → origin < 64 → (nat_lt origin 64 && r
 within origin rest below = grind (arith, nat_tests)
 
 news_test : (adverts : List (Option Advert)) (advert : Advert) → advert.origin < 64 →
-    is_news adverts advert ≡ option_map_or (is_newer advert) (held adverts advert.origin) true
+    is_news adverts advert ≡ option_map_or (is_newer advert) (held_advert adverts advert.origin)
+    true
 unfolding is_news
 news_test adverts advert below = within advert.origin _ below
 
 newest_same : (adverts : List (Option Advert)) (seen : List Advert) (advert : Advert) →
     AreByOrigin adverts → advert.origin < 64 →
-    IsNewest advert.origin seen (held adverts advert.origin) →
-    IsNewest advert.origin (seen ++ advert ∷ []) (held (after_hearing adverts advert) advert.origin)
+    IsNewest advert.origin seen (held_advert adverts advert.origin) →
+    IsNewest advert.origin (seen ++ advert ∷ [])
+    (held_advert (after_hearing adverts advert) advert.origin)
 newest_same adverts seen advert by below newest = elim (hearing adverts advert) [
   | inl news ↦ subst (IsNewest advert.origin (seen ++ advert ∷ []))
       (sym (held_heard adverts advert by news.0))
-      (push_news advert.origin seen advert (held adverts advert.origin) refl
+      (push_news advert.origin seen advert (held_advert adverts advert.origin) refl
       (sym (news_test adverts advert below) ∙ news.0) newest)
   | inr old ↦ subst (IsNewest advert.origin (seen ++ advert ∷ []))
-      (sym (ap (λ (all : List (Option Advert)). held all advert.origin) old.1))
-      (push_old advert.origin seen advert (held adverts advert.origin)
+      (sym (ap (λ (all : List (Option Advert)). held_advert all advert.origin) old.1))
+      (push_old advert.origin seen advert (held_advert adverts advert.origin)
       (sym (news_test adverts advert below) ∙ old.0) newest)
 ]
 
 newest_hearing : (adverts : List (Option Advert)) (seen : List Advert) (advert : Advert)
-    (origin : ℕ) → AreByOrigin adverts → origin < 64 → IsNewest origin seen (held adverts origin) →
-    IsNewest origin (seen ++ advert ∷ []) (held (after_hearing adverts advert) origin)
+    (origin : ℕ) → AreByOrigin adverts → origin < 64
+    → IsNewest origin seen (held_advert adverts origin) →
+    IsNewest origin (seen ++ advert ∷ []) (held_advert (after_hearing adverts advert) origin)
 newest_hearing adverts seen advert origin by below newest = elim (cases_eq origin advert.origin) [
   | inl same ↦ (let here = newest_same adverts seen advert by (omega arith)
-      (subst (λ (o : ℕ). IsNewest o seen (held adverts o)) same newest) in
-      subst (λ (o : ℕ). IsNewest o (seen ++ advert ∷ []) (held (after_hearing adverts advert) o))
+      (subst (λ (o : ℕ). IsNewest o seen (held_advert adverts o)) same newest) in
+      subst (λ (o : ℕ). IsNewest o (seen ++ advert ∷ [])
+      (held_advert (after_hearing adverts advert) o))
       (sym same) here)
   | inr apart ↦ subst (IsNewest origin (seen ++ advert ∷ []))
       (sym (held_others adverts advert origin apart))
-      (push_other origin seen advert (held adverts origin) (λ e. apart (sym e)) newest)
+      (push_other origin seen advert (held_advert adverts origin) (λ e. apart (sym e)) newest)
 ]
 
 newest_after : (adverts : List (Option Advert)) (seen heard : List Advert) (origin : ℕ) →
-    AreByOrigin adverts → origin < 64 → IsNewest origin seen (held adverts origin) →
-    IsNewest origin (seen ++ heard) (held (after_hearing_all adverts heard) origin)
+    AreByOrigin adverts → origin < 64 → IsNewest origin seen (held_advert adverts origin) →
+    IsNewest origin (seen ++ heard) (held_advert (after_hearing_all adverts heard) origin)
 newest_after adverts seen [] origin by below newest =
-    subst (λ (s : List Advert). IsNewest origin s (held adverts origin))
+    subst (λ (s : List Advert). IsNewest origin s (held_advert adverts origin))
     (sym (append-nil seen)) newest
 newest_after adverts seen (advert ∷ heard) origin by below newest =
     subst (λ (s : List Advert). IsNewest origin s
-    (held (after_hearing_all adverts (advert ∷ heard)) origin))
+    (held_advert (after_hearing_all adverts (advert ∷ heard)) origin))
     (append_assoc seen (advert ∷ []) heard)
     (newest_after (after_hearing adverts advert) (seen ++ advert ∷ []) heard origin
     (by_origin-hearing adverts advert by) below
@@ -161,8 +165,8 @@ newest_held origin (Some advert) by = (
 
 pub held_newest : (adverts : List (Option Advert)) (heard : List Advert) (origin : ℕ) →
     AreByOrigin adverts → origin < 64 →
-    IsNewest origin (option_to_list (held adverts origin) ++ heard)
-    (held (after_hearing_all adverts heard) origin)
+    IsNewest origin (option_to_list (held_advert adverts origin) ++ heard)
+    (held_advert (after_hearing_all adverts heard) origin)
 held_newest adverts heard origin by below =
-    newest_after adverts (option_to_list (held adverts origin)) heard origin by below
-    (newest_held origin (held adverts origin) (by.origins origin))
+    newest_after adverts (option_to_list (held_advert adverts origin)) heard origin by below
+    (newest_held origin (held_advert adverts origin) (by.origins origin))

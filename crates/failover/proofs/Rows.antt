@@ -8,7 +8,7 @@ use Rattle.base.specs.Masks.{has, switches}
 use Rattle.base.specs.ComputedMasks.{mask_where, mask_of}
 use Rattle.failover.specs.Links.{named_links, is_link, links_at, known_links, neighbours_named, has_link}
 use Rattle.failover.specs.Paths.{IsIsolated}
-use Rattle.failover.specs.Isolated.{is_isolated, names, IsDatabase, links_of_each}
+use Rattle.failover.specs.Isolated.{is_isolated, names_neighbour, IsDatabase, links_of_each}
 use Rattle.base.proofs.CallerLemmas.{has-zero, same_sets, length-switches, get_or-switches, has_mask, has_mask_past}
 use Rattle.failover.proofs.Balls.{and_both, apart_tests, false_of}
 use Rattle.failover.proofs.LinkSets.{has_link-turned}
@@ -228,8 +228,8 @@ told_own adverts at near rows fits =
 
 told_other : (adverts : List (Option Advert)) (at near origin other : ℕ) → length adverts ≡ 64 →
     origin < 64 → origin ≢ at → has (get_or (named_links adverts at near) origin 0) other ≡
-    names adverts origin other
-unfolding named_links names
+    names_neighbour adverts origin other
+unfolding named_links names_neighbour
 told_other adverts at near origin other rows fits apart =
     ap (λ row. has row other) (get_or-set_other (map neighbours_named adverts) at origin near 0 apart
     ∙ get_or-map neighbours_named adverts origin None 0 (omega (arith, rows)))
@@ -243,21 +243,22 @@ link_test neighbours down one other a b apart p q = rw (not_test one other apart
 pub own_link : (adverts : List (Option Advert)) (at near : ℕ) (down : List ℕ) (other : ℕ) →
     length adverts ≡ 64 → at < 64 → other < 64 → at ≢ other →
     has (get_or (known_links adverts at near down) at 0) other ≡
-    (has near other && names adverts other at && not (has_link down at other))
+    (has near other && names_neighbour adverts other at && not (has_link down at other))
 own_link adverts at near down other rows fits other_fits apart =
     has_known adverts at near down at other fits other_fits
     ∙ link_test (named_links adverts at near) down at other (has near other)
-    (names adverts other at) apart
+    (names_neighbour adverts other at) apart
     (ap (λ row. has row other) (told_own adverts at near rows fits))
     (told_other adverts at near other at rows other_fits (λ e. apart (sym e)))
 
 pub link_elsewhere : (adverts : List (Option Advert)) (at near : ℕ) (down : List ℕ)
     (one other : ℕ) → length adverts ≡ 64 → one < 64 → other < 64 → one ≢ other → one ≢ at →
     other ≢ at → has (get_or (known_links adverts at near down) one 0) other ≡
-    (names adverts one other && names adverts other one && not (has_link down one other))
+    (names_neighbour adverts one other && names_neighbour adverts other one
+    && not (has_link down one other))
 link_elsewhere adverts at near down one other rows one_fits other_fits apart one_apart other_apart =
     has_known adverts at near down one other one_fits other_fits
-    ∙ link_test (named_links adverts at near) down one other (names adverts one other)
-    (names adverts other one) apart
+    ∙ link_test (named_links adverts at near) down one other (names_neighbour adverts one other)
+    (names_neighbour adverts other one) apart
     (told_other adverts at near one other rows one_fits one_apart)
     (told_other adverts at near other one rows other_fits other_apart)

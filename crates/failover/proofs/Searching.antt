@@ -9,7 +9,7 @@ use Rattle.failover.specs.declared.advert.Advert.{Advert}
 use Rattle.base.specs.Masks.{has, switches}
 use Rattle.failover.specs.Links.{known_links, LinksLead, IsPath, IsReachable}
 use Rattle.failover.specs.Paths.{IsAtMost, IsLeastPath, IsRoute}
-use Rattle.failover.specs.Routes.{wider, ball, onward, links_away, route_to, first_route, route_of}
+use Rattle.failover.specs.Routes.{grown_ball, ball, path_after, links_away, route_to, first_route, route_of}
 use Rattle.failover.specs.RouteList.{IsRouteList}
 use Rattle.failover.specs.Search.{IsAway, IsOutOfReach}
 use Rattle.failover.proofs.Balls.{false_of, apart_tests, or_cases}
@@ -81,7 +81,7 @@ fewest_of links target k from rows fits away (first ∷ rest) path =
 
 least_of_all : (links : List ℕ) (target k from : ℕ) → length links ≡ 64 → target < 64 → from < 64 →
     IsAway links target k from → (other : List ℕ) → IsPath links from target other →
-    length other ≡ suc k → IsAtMost (from ∷ onward links target k from) other
+    length other ≡ suc k → IsAtMost (from ∷ path_after links target k from) other
 unfolding IsPath
 least_of_all links target k from rows target_fits fits away [] path long = absurd path
 least_of_all links target k from rows target_fits fits away (first ∷ rest) path long =
@@ -94,7 +94,7 @@ least_of_all links target k from rows target_fits fits away (first ∷ rest) pat
     )
 
 found_path : (links : List ℕ) (target k from : ℕ) → length links ≡ 64 → target < 64 → from < 64 →
-    IsAway links target k from → IsPath links from target (from ∷ onward links target k from)
+    IsAway links target k from → IsPath links from target (from ∷ path_after links target k from)
 unfolding IsPath
 found_path links target k from rows target_fits fits away = (
   refl,
@@ -106,7 +106,7 @@ found_path links target k from rows target_fits fits away = (
 
 pub found_is_least : (links : List ℕ) (target k from : ℕ) → length links ≡ 64 → target < 64 →
     from < 64 → IsAway links target k from →
-    IsLeastPath links from target (from ∷ onward links target k from)
+    IsLeastPath links from target (from ∷ path_after links target k from)
 found_is_least links target k from rows target_fits fits away =
     let long = length-onward links target k from in
     record {
@@ -148,7 +148,7 @@ unfolding ball
 stands_still links target j zero same = ap (ball links target) (omega arith)
 stands_still links target j (suc i) same =
     let next : j + suc i ≡ suc (j + i) = omega arith in
-    ap (ball links target) next ∙ ap (wider links) (stands_still links target j i same) ∙ same
+    ap (ball links target) next ∙ ap (grown_ball links) (stands_still links target j i same) ∙ same
 
 -- where the balls stand still without the switch, none ever has it
 pub still_out : (links : List ℕ) (target j from : ℕ) →
@@ -164,7 +164,7 @@ still_out links target j from same before = λ k fits. elim (cases_lt k (suc j))
 
 -- the balls grow until they have the switch
 grows : (links : List ℕ) (target j k from : ℕ) → IsAway links target (j + suc k) from →
-    (wider links (ball links target j) == ball links target j) ≡ false
+    (grown_ball links (ball links target j) == ball links target j) ≡ false
 unfolding ball
 grows links target j k from away = false_of _ (λ still.
     let same : ball links target (suc j) ≡ ball links target j = eqb-true _ _ still in
@@ -179,8 +179,8 @@ turn here still rest = elim here
 
 links_away-turn : (most : ℕ) (links : List ℕ) (from within : ℕ) →
     links_away (suc most) links from within ≡
-    turn (has within from) (wider links within == within)
-    (links_away most links from (wider links within))
+    turn (has within from) (grown_ball links within == within)
+    (links_away most links from (grown_ball links within))
 unfolding links_away
 links_away-turn most links from within = refl
 
@@ -234,7 +234,7 @@ guarded test route = elim test [ true ↦ route | false ↦ None ]
 
 route_to-guarded : (links : List ℕ) (from target : ℕ) →
     route_to links from target ≡ guarded (nat_lt from 64 && nat_lt target 64)
-    (option_map (λ k. from ∷ onward links target k from)
+    (option_map (λ k. from ∷ path_after links target k from)
     (links_away 64 links from (ball links target 0)))
 unfolding route_to guarded ball
 route_to-guarded links from target = refl
@@ -252,11 +252,11 @@ guarded_false false route h = refl
 
 pub route_to-away : (links : List ℕ) (from target k : ℕ) → from < 64 → target < 64 → k < 64 →
     IsAway links target k from → route_to links from target ≡
-    Some (from ∷ onward links target k from)
+    Some (from ∷ path_after links target k from)
 route_to-away links from target k from_fits target_fits fits away =
     route_to-guarded links from target
     ∙ guarded_true _ _ (both_below from target from_fits target_fits)
-    ∙ ap (option_map (λ k. from ∷ onward links target k from))
+    ∙ ap (option_map (λ k. from ∷ path_after links target k from))
     (away_found 64 links target 0 k from fits
     (subst (λ (n : ℕ). IsAway links target n from) (omega arith) away))
 
@@ -265,7 +265,7 @@ pub route_to-out : (links : List ℕ) (from target : ℕ) → from < 64 → targ
 route_to-out links from target from_fits target_fits out =
     route_to-guarded links from target
     ∙ guarded_true _ _ (both_below from target from_fits target_fits)
-    ∙ ap (option_map (λ k. from ∷ onward links target k from))
+    ∙ ap (option_map (λ k. from ∷ path_after links target k from))
     (none_found 64 links target 0 from (omega arith) out)
 
 above : (a b : ℕ) → (a < 64 → b < 64 → ⊥) → (nat_lt a 64 && nat_lt b 64) ≡ true → ⊥
@@ -314,7 +314,7 @@ unfolding IsReachable
 straight_path links from target rest rows fits leads =
     elim (search_up_to links target from (suc (length rest))) [
       | inl found ↦ (
-        from ∷ onward links target found.0 from,
+        from ∷ path_after links target found.0 from,
         found_path links target found.0 from
             rows (target_below links target from rest fits leads) fits found.2,
       )

@@ -6,13 +6,13 @@ use Rattle.std.proofs.Math.Seq.{set-append_seam}
 use Rattle.std.specs.Int.Bits.{bit_and}
 use Rattle.base.specs.Masks.{has}
 use Rattle.failover.specs.RouteList.{IsRouteList}
-use Rattle.failover.specs.Routes.{wider, ball, nearer, onward, route_to}
-use Rattle.failover.specs.Search.{IsAway, IsOutOfReach, AreBalls, along}
+use Rattle.failover.specs.Routes.{grown_ball, ball, least_neighbour_in, path_after, route_to}
+use Rattle.failover.specs.Search.{IsAway, IsOutOfReach, AreBalls, path_by_balls}
 use Rattle.failover.proofs.Balls.{wider_meets}
 use Rattle.failover.proofs.Searching.{still_out, found_is_least, path_is_route_list, route_to-away}
 
-pub length-along : (links balls : List ℕ) (k at : ℕ) → length (along links balls k at) ≡ k
-unfolding along
+pub length-along : (links balls : List ℕ) (k at : ℕ) → length (path_by_balls links balls k at) ≡ k
+unfolding path_by_balls
 length-along links balls zero at = refl
 length-along links balls (suc k) at = ap suc (length-along links balls k _)
 
@@ -33,19 +33,19 @@ unfolding AreBalls
 last_ball links target balls k kept = kept k (omega arith)
 
 pub along-onward : (links balls : List ℕ) (target k at : ℕ) → AreBalls links target balls k →
-    along links balls k at ≡ onward links target k at
-unfolding along onward
+    path_by_balls links balls k at ≡ path_after links target k at
+unfolding path_by_balls path_after
 along-onward links balls target zero at kept = refl
 along-onward links balls target (suc k) at kept =
     rw (last_ball links target balls k kept)
-    (ap (λ rest. nearer links (ball links target k) at ∷ rest)
+    (ap (λ rest. least_neighbour_in links (ball links target k) at ∷ rest)
     (along-onward links balls target k _ (fewer_balls links target balls k kept)))
 
 -- ---- what was found may be written down
 
 pub is_route_list : (links balls : List ℕ) (target k from : ℕ) → length links ≡ 64 → target < 64 →
     from < 64 → IsAway links target k from → AreBalls links target balls k →
-    IsRouteList (from ∷ along links balls k from)
+    IsRouteList (from ∷ path_by_balls links balls k from)
 is_route_list links balls target k from rows target_fits from_fits away kept =
     rw (along-onward links balls target k from kept)
     (path_is_route_list links from target _
@@ -53,7 +53,7 @@ is_route_list links balls target k from rows target_fits from_fits away kept =
 
 pub route_to-along : (links balls : List ℕ) (target k from : ℕ) → length links ≡ 64 → target < 64 →
     from < 64 → IsAway links target k from → AreBalls links target balls k →
-    route_to links from target ≡ Some (from ∷ along links balls k from)
+    route_to links from target ≡ Some (from ∷ path_by_balls links balls k from)
 route_to-along links balls target k from rows target_fits from_fits away kept =
     let few = (is_route_list links balls target k from rows target_fits from_fits away kept).few in
     let long = length-along links balls k from in
@@ -79,9 +79,10 @@ below_in route k y ys list e = let here =
     left_at route k y ys e in subst (λ (x : ℕ). x < 64) here.1 (list.switches k 0 here.0)
 
 pub along-next : (links balls : List ℕ) (left at m : ℕ) → left ≡ suc m →
-    along links balls left at ≡ nearer links (get_or balls m 0) at ∷ along links balls m
-    (nearer links (get_or balls m 0) at)
-unfolding along
+    path_by_balls links balls left at ≡ least_neighbour_in links (get_or balls m 0) at
+    ∷ path_by_balls links balls m
+    (least_neighbour_in links (get_or balls m 0) at)
+unfolding path_by_balls
 along-next links balls left at m e = rw e refl
 
 pub written_more : (route switches : List ℕ) (k next : ℕ) → length route ≤ 64 →
@@ -135,7 +136,7 @@ unfolding ball
 first_ball links target = refl
 
 pub next_ball : (links : List ℕ) (target k within wide : ℕ) → within ≡ ball links target k →
-    wide ≡ wider links within → wide ≡ ball links target (k + 1)
+    wide ≡ grown_ball links within → wide ≡ ball links target (k + 1)
 unfolding ball
 next_ball links target k within wide here e = rw (e, here, add-one) refl
 
@@ -160,9 +161,9 @@ next_away links target k within from below here meets absent before = record {
 }
 
 pub no_more : (links : List ℕ) (target k within wide from : ℕ) → within ≡ ball links target k →
-    wide ≡ wider links within → wide ≡ within → has within from ≡ false →
+    wide ≡ grown_ball links within → wide ≡ within → has within from ≡ false →
     ((j : ℕ) → j < k → has (ball links target j) from ≡ false) → IsOutOfReach links target from
 unfolding ball
 no_more links target k within wide from here e still absent before =
-    still_out links target k from (ap (wider links) (sym here) ∙ sym e ∙ still ∙ here)
+    still_out links target k from (ap (grown_ball links) (sym here) ∙ sym e ∙ still ∙ here)
     (λ j less. before_more links target k within from here absent before j (omega arith))

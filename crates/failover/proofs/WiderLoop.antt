@@ -5,7 +5,7 @@ use Rattle.std.proofs.lemmas.Bool.{cases_eq}
 use Rattle.std.proofs.lemmas.Nat.{pow_below}
 use Rattle.std.proofs.lemmas.Bool.Decides.{same_from_decides}
 use Rattle.base.specs.Masks.{has}
-use Rattle.failover.specs.Routes.{wider, nearer}
+use Rattle.failover.specs.Routes.{grown_ball, least_neighbour_in}
 use Rattle.failover.specs.Search.{IsEdge}
 use Rattle.base.proofs.CallerLemmas.{has-or, has-zero, same_masks, has-xor_other}
 use Rattle.failover.proofs.Balls.{added_is_nearer, apart_tests, or_cases, or_left, or_right, true_of, wider_gains, wider_keeps, wider_lt}
@@ -21,8 +21,8 @@ pub record IsWideSoFar (links : List ℕ) (ball wide rest : ℕ) : Type 0 where
   pub wide_fits : wide < 2 ^ 64
   pub rest_fits : rest < 2 ^ 64
   pub inside : (k : ℕ) → k < 64 → has rest k ≡ true → has ball k ≡ true
-  pub sound : (j : ℕ) → j < 64 → has wide j ≡ true → has (wider links ball) j ≡ true
-  pub left : (j : ℕ) → j < 64 → has (wider links ball) j ≡ true → (has wide j ≡ true)
+  pub sound : (j : ℕ) → j < 64 → has wide j ≡ true → has (grown_ball links ball) j ≡ true
+  pub left : (j : ℕ) → j < 64 → has (grown_ball links ball) j ≡ true → (has wide j ≡ true)
       ⊎ ((k : ℕ) × (has (get_or links j 0) k ≡ true) × (has rest k ≡ true))
 
 holds_or_not : (b : Bool) → (b ≡ true) ⊎ (b ≡ false)
@@ -40,7 +40,7 @@ wide_begins links ball edge rows both fits edge_fits is_edge = record {
     | inl there ↦ inl there
     | inr absent ↦ (let near = added_is_nearer links ball j (omega arith) fits h absent in
         inr (
-          nearer links ball j,
+          least_neighbour_in links ball j,
           near.joined,
           true_of _ (λ out. apart_tests _
               (is_edge.inner _ j near.below below near.inside out (both _ j ∙ near.joined)) absent),
@@ -75,10 +75,10 @@ wide_goes_on links ball wide rest at gone rows both so_far here fits row_fits go
 })
 
 pub wide_ends : (links : List ℕ) (ball wide rest : ℕ) → length links ≡ 64 → ball < 2 ^ 64
-    → IsWideSoFar links ball wide rest → rest ≡ 0 → wide ≡ wider links ball
+    → IsWideSoFar links ball wide rest → rest ≡ 0 → wide ≡ grown_ball links ball
 wide_ends links ball wide rest rows fits so_far none =
     same_masks wide _ so_far.wide_fits (wider_lt links ball (omega arith) fits)
-    (λ j below. same_from_decides {P = has (wider links ball) j ≡ true} _ _ (
+    (λ j below. same_from_decides {P = has (grown_ball links ball) j ≡ true} _ _ (
       so_far.sound j below,
       λ h. elim (so_far.left j below h) [
         | inl there ↦ there
@@ -96,7 +96,7 @@ edge_first links ball = record {
 
 -- what a widening adds is the edge of the wider ball
 pub edge_next : (links : List ℕ) (ball wide : ℕ) → length links ≡ 64 → AreBothWays links →
-    wide ≡ wider links ball → IsEdge links wide (bit_xor ball wide)
+    wide ≡ grown_ball links ball → IsEdge links wide (bit_xor ball wide)
 edge_next links ball wide rows both e = record {
   inside = λ one below h. elim (holds_or_not (has wide one)) [
     | inl there ↦ there

@@ -11,13 +11,13 @@ is_newer one other = nat_lt other.boot one.boot ||
     ((other.boot == one.boot) && nat_lt other.seq one.seq)
 
 -- what is held of an origin, where adverts stand at the places of their origins
-abbrev pub held : List (Option Advert) → ℕ → Option Advert
-held adverts origin = slice_index_or adverts origin None
+abbrev pub held_advert : List (Option Advert) → ℕ → Option Advert
+held_advert adverts origin = slice_index_or adverts origin None
 
 -- none of its origin is held, or this one is newer
 unfoldable pub is_news : List (Option Advert) → Advert → Bool
 is_news adverts advert = nat_lt advert.origin 64 && option_map_or (is_newer advert)
-    (held adverts advert.origin) true
+    (held_advert adverts advert.origin) true
 
 -- what is held once the advert was heard
 unfoldable pub after_hearing : List (Option Advert) → Advert → List (Option Advert)

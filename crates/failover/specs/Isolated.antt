@@ -1,14 +1,14 @@
 -- What a database of adverts holds, whom adverts name, and at which switches no known link ends.
 use Rattle.std.specs.Prelude.{ℕ, Bool, not, ◌&&◌, ◌==◌, Option, List, ◌≡◌, map}
 use Rattle.failover.specs.declared.advert.Advert.{Advert}
-use Rattle.failover.specs.Adverts.{held}
+use Rattle.failover.specs.Adverts.{held_advert}
 use Rattle.failover.specs.Links.{neighbours_named, named_links, links_at}
 use Rattle.failover.specs.Newest.{AreByOrigin}
 use Rattle.base.specs.Masks.{has, switches}
 
 -- the origin is held to name this neighbour
-unfoldable pub names : List (Option Advert) → ℕ → ℕ → Bool
-names adverts origin other = has (neighbours_named (held adverts origin)) other
+unfoldable pub names_neighbour : List (Option Advert) → ℕ → ℕ → Bool
+names_neighbour adverts origin other = has (neighbours_named (held_advert adverts origin)) other
 
 -- no link that `at` knows ends at another switch
 unfoldable pub is_isolated : List (Option Advert) → ℕ → ℕ → ℕ → List ℕ → Bool

@@ -3,35 +3,36 @@
 use Rattle.std.specs.Prelude.{ℕ, ◌≡◌, ◌≢◌, ◌<◌, ◌↔◌, not, ◌&&◌, ◌||◌, false, Option, Some, List, ◌++◌, length, option_to_list, slice_index, IsTrue}
 use Rattle.failover.specs.declared.advert.Advert.{Advert}
 use Rattle.base.specs.Masks.{has}
-use Rattle.failover.specs.Adverts.{held, is_news, after_hearing, after_hearing_all, no_adverts, first_of, first_adverts}
+use Rattle.failover.specs.Adverts.{held_advert, is_news, after_hearing, after_hearing_all, no_adverts, first_of, first_adverts}
 use Rattle.failover.specs.DownSet.{is_link_of, IsLinkSet}
 use Rattle.failover.specs.Links.{named_links, is_link, known_links, has_link, no_links, with_link, LinksLead, IsPath, IsReachable}
 use Rattle.failover.specs.Paths.{IsIsolated, IsRoute}
 use Rattle.failover.specs.RouteList.{IsRouteList}
 use Rattle.failover.specs.Routes.{route_of}
 use Rattle.failover.specs.Newest.{AreByOrigin, IsNewest}
-use Rattle.failover.specs.Isolated.{names, is_isolated}
+use Rattle.failover.specs.Isolated.{names_neighbour, is_isolated}
 
 pub record AdvertLaws : Type 0 where
   pub none : AreByOrigin no_adverts
   pub first : (near : List ℕ) (count : ℕ) → AreByOrigin (first_adverts near count)
   -- at first the advert of each switch is held, and no other
   pub begun : (near : List ℕ) (count origin : ℕ) → origin < 64 →
-      held (first_adverts near count) origin ≡ first_of near count origin
+      held_advert (first_adverts near count) origin ≡ first_of near count origin
   pub kept : (adverts : List (Option Advert)) (advert : Advert) → AreByOrigin adverts →
       AreByOrigin (after_hearing adverts advert)
   -- an advert that is news is held, and those of other origins stay
   pub heard : (adverts : List (Option Advert)) (advert : Advert) → AreByOrigin adverts →
       IsTrue (is_news adverts advert) →
-      held (after_hearing adverts advert) advert.origin ≡ Some advert
+      held_advert (after_hearing adverts advert) advert.origin ≡ Some advert
   pub others : (adverts : List (Option Advert)) (advert : Advert) (origin : ℕ) →
-      origin ≢ advert.origin → held (after_hearing adverts advert) origin ≡ held adverts origin
+      origin ≢ advert.origin → held_advert (after_hearing adverts advert) origin
+      ≡ held_advert adverts origin
   -- after any adverts the newest of each origin is held, where the one that was held at first
   -- counts before them
   pub newest : (adverts : List (Option Advert)) (heard : List Advert) (origin : ℕ) →
       AreByOrigin adverts → origin < 64 →
-      IsNewest origin (option_to_list (held adverts origin) ++ heard)
-      (held (after_hearing_all adverts heard) origin)
+      IsNewest origin (option_to_list (held_advert adverts origin) ++ heard)
+      (held_advert (after_hearing_all adverts heard) origin)
 
 pub record LinkSetLaws : Type 0 where
   pub none : IsLinkSet no_links
@@ -55,12 +56,13 @@ pub record LinksAtLaws : Type 0 where
   pub own : (adverts : List (Option Advert)) (at near : ℕ) (down : List ℕ) (other : ℕ) →
       length adverts ≡ 64 → at < 64 → other < 64 → at ≢ other →
       has (slice_index (known_links adverts at near down) at) other ≡
-      (has near other && names adverts other at && not (has_link down at other))
+      (has near other && names_neighbour adverts other at && not (has_link down at other))
   -- a link elsewhere, by both adverts
   pub elsewhere : (adverts : List (Option Advert)) (at near : ℕ) (down : List ℕ) (one other : ℕ) →
       length adverts ≡ 64 → one < 64 → other < 64 → one ≢ other → one ≢ at → other ≢ at →
       has (slice_index (known_links adverts at near down) one) other ≡
-      (names adverts one other && names adverts other one && not (has_link down one other))
+      (names_neighbour adverts one other && names_neighbour adverts other one
+      && not (has_link down one other))
   pub either_end : (adverts : List (Option Advert)) (at near : ℕ) (down : List ℕ) (one other : ℕ) →
       has (slice_index (known_links adverts at near down) one) other ≡
       has (slice_index (known_links adverts at near down) other) one

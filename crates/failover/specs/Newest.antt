@@ -1,12 +1,12 @@
 -- The newest advert of an origin (OSPF, RFC 2328, section 13.1).
 use Rattle.std.specs.Prelude.{ℕ, ◌≡◌, ◌≢◌, Option, Some, None, List, ◌∷◌, ◌++◌, length, All, IsTrue, IsFalse}
 use Rattle.failover.specs.declared.advert.Advert.{Advert}
-use Rattle.failover.specs.Adverts.{is_newer, held}
+use Rattle.failover.specs.Adverts.{is_newer, held_advert}
 
 -- each advert stands at the place of its origin, of 64
 pub record AreByOrigin (adverts : List (Option Advert)) : Type 0 where
   pub places : length adverts ≡ 64
-  pub origins : (origin : ℕ) (advert : Advert) → held adverts origin ≡ Some advert →
+  pub origins : (origin : ℕ) (advert : Advert) → held_advert adverts origin ≡ Some advert →
       advert.origin ≡ origin
 
 -- of these adverts the newest of an origin, and of equally new ones the first; none where none is

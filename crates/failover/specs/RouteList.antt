@@ -1,7 +1,7 @@
 -- One to 64 distinct switches, held in 64 places.
 use Rattle.std.specs.Prelude.{ℕ, ◌≡◌, ◌-◌, ◌<◌, ◌≤◌, nat_eq, List, length, take, drop, replicate, All}
 use Rattle.std.specs.List.{IsDistinct}
-use Rattle.base.specs.Filled.{filled, filled-take}
+use Rattle.base.specs.Filled.{filled_places, filled-take}
 use Rattle.failover.specs.declared.path.Route.TheInside.{Inside}
 
 -- one or more distinct switches
@@ -24,7 +24,7 @@ pub record IsFilledRoute (r : Inside) : Type 0 where
 
 -- the 64 places that hold this list
 abbrev pub filled_route : List ℕ → Inside
-filled_route xs = record { switches = filled 64 xs; len = length xs }
+filled_route xs = record { switches = filled_places 64 xs; len = length xs }
 
 -- the 64 places are those of the list that they hold
 pub filled-first_switches : (r : Inside) → IsFilledRoute r → filled_route (first_switches r) ≡ r

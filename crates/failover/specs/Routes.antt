@@ -8,23 +8,23 @@ use Rattle.base.specs.ComputedMasks.{mask_where, least_in}
 use Rattle.failover.specs.Links.{known_links}
 
 -- a set of switches, and those that have a link into it
-unfoldable pub wider : List ℕ → ℕ → ℕ
-wider links ball = bit_or ball (mask_where (λ mask. not (bit_and mask ball == 0)) 0 links)
+unfoldable pub grown_ball : List ℕ → ℕ → ℕ
+grown_ball links ball = bit_or ball (mask_where (λ mask. not (bit_and mask ball == 0)) 0 links)
 
 -- the switches that are at most k links away from the target
 unfoldable pub ball : List ℕ → ℕ → ℕ → ℕ
 ball links target zero = 2 ^ target
-ball links target (suc k) = wider links (ball links target k)
+ball links target (suc k) = grown_ball links (ball links target k)
 
 -- the least switch of a set to which this one has a link
-unfoldable pub nearer : List ℕ → ℕ → ℕ → ℕ
-nearer links within at = least_in (bit_and (slice_index links at) within)
+unfoldable pub least_neighbour_in : List ℕ → ℕ → ℕ → ℕ
+least_neighbour_in links within at = least_in (bit_and (slice_index links at) within)
 
 -- the switches after one that is k links away from the target
-unfoldable pub onward : List ℕ → ℕ → ℕ → ℕ → List ℕ
-onward links target zero at = []
-onward links target (suc k) at = let next =
-    nearer links (ball links target k) at in next ∷ onward links target k next
+unfoldable pub path_after : List ℕ → ℕ → ℕ → ℕ → List ℕ
+path_after links target zero at = []
+path_after links target (suc k) at = let next =
+    least_neighbour_in links (ball links target k) at in next ∷ path_after links target k next
 
 -- how many links farther than this ball the first is that has the switch; none where balls no
 -- longer grow
@@ -32,13 +32,13 @@ unfoldable pub links_away : ℕ → List ℕ → ℕ → ℕ → Option ℕ
 links_away zero links from within = None
 links_away (suc most) links from within = elim (has within from) [
   | true ↦ Some 0
-  | false ↦ let wide = wider links within in elim
+  | false ↦ let wide = grown_ball links within in elim
       (wide == within) [ true ↦ None | false ↦ option_map suc (links_away most links from wide) ]
 ]
 
 unfoldable pub route_to : List ℕ → ℕ → ℕ → Option (List ℕ)
 route_to links from target = elim (nat_lt from 64 && nat_lt target 64) [
-  | true ↦ option_map (λ k. from ∷ onward links target k from)
+  | true ↦ option_map (λ k. from ∷ path_after links target k from)
       (links_away 64 links from (2 ^ target))
   | false ↦ None
 ]

@@ -1,7 +1,7 @@
 -- What a breadth-first search has found, before its route is written down.
 use Rattle.std.specs.Prelude.{ℕ, zero, suc, ◌≡◌, ◌<◌, true, false, List, [], ◌∷◌, slice_index}
 use Rattle.base.specs.Masks.{has}
-use Rattle.failover.specs.Routes.{ball, nearer}
+use Rattle.failover.specs.Routes.{ball, least_neighbour_in}
 
 -- the switch is k links away from the target, and no fewer
 pub record IsAway (links : List ℕ) (target k at : ℕ) : Type 0 where
@@ -17,10 +17,10 @@ unfoldable pub AreBalls : List ℕ → ℕ → List ℕ → ℕ → Type 0
 AreBalls links target balls k = (j : ℕ) → j < k → slice_index balls j ≡ ball links target j
 
 -- the switches after one that is k links away, where these are the balls
-unfoldable pub along : List ℕ → List ℕ → ℕ → ℕ → List ℕ
-along links balls zero at = []
-along links balls (suc k) at = let next =
-    nearer links (slice_index balls k) at in next ∷ along links balls k next
+unfoldable pub path_by_balls : List ℕ → List ℕ → ℕ → ℕ → List ℕ
+path_by_balls links balls zero at = []
+path_by_balls links balls (suc k) at = let next =
+    least_neighbour_in links (slice_index balls k) at in next ∷ path_by_balls links balls k next
 
 -- a part of the ball, and the links of all others in it stay within the ball
 pub record IsEdge (links : List ℕ) (ball edge : ℕ) : Type 0 where

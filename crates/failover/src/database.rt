@@ -1,6 +1,6 @@
 ghost use Rattle.std.specs.Prelude.{◌≡◌, ◌<◌, map, ◌↔◌, slice_set, IfSome, IsTrue};
 ghost use Rattle.std.specs.Bool.{OnTrue};
-ghost use Rattle.failover.specs.Exports.{IsIsolated, IsRoute, IsRouteList, after_hearing, first_adverts, first_of, held, is_isolated, is_news, known_links, neighbours_named, no_adverts, route_of};
+ghost use Rattle.failover.specs.Exports.{IsIsolated, IsRoute, IsRouteList, after_hearing, first_adverts, first_of, held_advert, is_isolated, is_news, known_links, neighbours_named, no_adverts, route_of};
 
 use crate::SWITCHES;
 use crate::advert::Advert;
@@ -93,7 +93,7 @@ impl Database {
 
     /// The advert that is held of this origin; `None` exactly where none is.
     pub fn get(&self, origin: u32) -> Option<Advert>
-        ensures held { result ≡ held self.now origin }
+        ensures held { result ≡ held_advert self.now origin }
         ensures origin { IfSome result (λ advert. advert.origin ≡ origin) }
         ensures by_origin { AreByOrigin self.now }
     {

@@ -1,5 +1,5 @@
 ghost use Rattle.std.specs.Prelude.{◌≡◌, ◌<◌, ◌∷◌, IfSome, IfNone};
-ghost use Rattle.failover.specs.Exports.{AreBalls, IsAway, IsEdge, IsOutOfReach, IsRouteList, along, first_route, links_of_each, route_to, wider};
+ghost use Rattle.failover.specs.Exports.{AreBalls, IsAway, IsEdge, IsOutOfReach, IsRouteList, path_by_balls, first_route, links_of_each, route_to, grown_ball};
 
 use crate::SWITCHES;
 use crate::down_set::DownSet;
@@ -80,7 +80,7 @@ fn distance(
 // of all others stay within the ball.
 fn wider(neighbours: &[u64; 64], down: &DownSet, ball: u64, edge: u64) -> u64
     requires { IsEdge (links_of_each neighbours.now down.now) ball edge }
-    ensures { result ≡ wider (links_of_each neighbours.now down.now) ball }
+    ensures { result ≡ grown_ball (links_of_each neighbours.now down.now) ball }
 {
     let mut wide = ball;
     let mut rest = edge;
@@ -101,8 +101,9 @@ fn walk(
     from: u32,
 ) -> Route
     requires { IsRouteList
-        (from ∷ along (links_of_each neighbours.now down.now) balls.now distance from) }
-    ensures { result ≡ from ∷ along (links_of_each neighbours.now down.now) balls.now distance from }
+        (from ∷ path_by_balls (links_of_each neighbours.now down.now) balls.now distance from) }
+    ensures { result ≡ from ∷ path_by_balls (links_of_each neighbours.now down.now) balls.now
+        distance from }
 {
     let mut switches = [0; 64];
     switches[0] = from;

@@ -5,7 +5,7 @@ pub use Rattle.five_tuple.proofs.Parts.{parts_at, parts_none}
 use Rattle.std.proofs.Common.{ℕ, ◌≡◌, ◌∙◌, ◌+◌, ◌*◌, ◌^◌, ◌<◌, ◌&&◌, eqb, bit_and, ap, sym, arith}
 use Rattle.std.proofs.lemmas.Bool.Decides.{Decides-eqb, Decides-like, Decides-and, same_from_decides}
 use Rattle.std.proofs.lemmas.Nat.{and_le_l, and_block}
-use Rattle.five_tuple.specs.HeaderNumbers.{packed}
+use Rattle.five_tuple.specs.HeaderNumbers.{packed_number}
 
 -- the fields below the first have their bits
 pub record HasBits (d p q r : ℕ) : Type 0 where
@@ -18,7 +18,7 @@ pub record HasBits (d p q r : ℕ) : Type 0 where
 steps : ℕ → ℕ → ℕ → ℕ → ℕ → ℕ
 steps s d p q r = (((s * 2 ^ 32 + d) * 2 ^ 16 + p) * 2 ^ 16 + q) * 2 ^ 8 + r
 
-packed_steps : (s d p q r : ℕ) → packed s d p q r ≡ steps s d p q r
+packed_steps : (s d p q r : ℕ) → packed_number s d p q r ≡ steps s d p q r
 unfolding steps
 packed_steps s d p q r = omega arith
 
@@ -36,23 +36,24 @@ module _ (s d p q r s' d' p' q' r' : ℕ) (h : HasBits d p q r) (h' : HasBits d'
       rw (e4, e3, e2, e1)
 
   -- `and` of two packed numbers is that of each field
-  pub and_packed : bit_and (packed s d p q r) (packed s' d' p' q' r') ≡ packed (bit_and s s')
+  pub and_packed : bit_and (packed_number s d p q r) (packed_number s' d' p' q' r')
+      ≡ packed_number (bit_and s s')
       (bit_and d d') (bit_and p p') (bit_and q q') (bit_and r r')
   and_packed =
-      ap (λ n. bit_and n (packed s' d' p' q' r')) (packed_steps s d p q r)
+      ap (λ n. bit_and n (packed_number s' d' p' q' r')) (packed_steps s d p q r)
       ∙ ap (λ n. bit_and (steps s d p q r) n) (packed_steps s' d' p' q' r')
       ∙ and_steps
       ∙ sym (packed_steps (bit_and s s') (bit_and d d') (bit_and p p') (bit_and q q')
       (bit_and r r'))
 
   -- packed numbers are equal where each field is
-  pub same_packed : eqb (packed s d p q r) (packed s' d' p' q' r')
+  pub same_packed : eqb (packed_number s d p q r) (packed_number s' d' p' q' r')
       ≡ (eqb s s' && eqb d d' && eqb p p' && eqb q q' && eqb r r')
   same_packed =
       same_from_decides _ _
       (Decides-like _ (λ e. ((((omega arith, omega arith), omega arith), omega arith), omega arith))
       (λ w. omega (arith, w.0.0.0.0, w.0.0.0.1, w.0.0.1, w.0.1, w.1))
-      (Decides-eqb (packed s d p q r) (packed s' d' p' q' r')))
+      (Decides-eqb (packed_number s d p q r) (packed_number s' d' p' q' r')))
       (Decides-and _ _ (Decides-and _ _
       (Decides-and _ _ (Decides-and _ _ (Decides-eqb s s') (Decides-eqb d d'))
       (Decides-eqb p p')) (Decides-eqb q q')) (Decides-eqb r r'))
@@ -70,10 +71,12 @@ fewer_bits d p q r d' p' q' r' h = record {
 -- packed fields agree with packed values under packed masks where each field does
 pub masked_packed : (s d p q r s' d' p' q' r' vs vd vp vq vr : ℕ) → HasBits d p q r
     → HasBits d' p' q' r' → HasBits vd vp vq vr
-    → eqb (bit_and (packed s d p q r) (packed s' d' p' q' r')) (packed vs vd vp vq vr)
+    → eqb (bit_and (packed_number s d p q r) (packed_number s' d' p' q' r'))
+    (packed_number vs vd vp vq vr)
     ≡ (eqb (bit_and s s') vs && eqb (bit_and d d') vd && eqb (bit_and p p') vp
     && eqb (bit_and q q') vq && eqb (bit_and r r') vr)
 masked_packed s d p q r s' d' p' q' r' vs vd vp vq vr fields masks values =
-    ap (λ n. eqb n (packed vs vd vp vq vr)) (and_packed s d p q r s' d' p' q' r' fields masks)
+    ap (λ n. eqb n (packed_number vs vd vp vq vr))
+    (and_packed s d p q r s' d' p' q' r' fields masks)
     ∙ same_packed (bit_and s s') (bit_and d d') (bit_and p p') (bit_and q q') (bit_and r r') vs vd
     vp vq vr (fewer_bits d p q r d' p' q' r' fields) values

@@ -18,8 +18,8 @@ header_numbered n = header_of (record {
 })
 
 -- five numbers at the places that the fields have in a header's number
-abbrev pub packed : ℕ → ℕ → ℕ → ℕ → ℕ → ℕ
-packed src dst sport dport proto =
+abbrev pub packed_number : ℕ → ℕ → ℕ → ℕ → ℕ → ℕ
+packed_number src dst sport dport proto =
     number_of (header_of (record {
       src = src;
       dst = dst;

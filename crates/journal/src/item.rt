@@ -1,5 +1,5 @@
 use crate::shared::{SharedLinks, SharedMessage, SharedRoute};
-use base::Listing;
+use base::Items;
 use five_tuple::Header;
 use policy_rules::{Action, Cause, How, Leaving, Leg};
 use steps::Step;
@@ -152,7 +152,7 @@ pub enum Item {
 }
 
 /// What happened in a play, item by item in order.
-pub type Journal = Listing<Item>;
+pub type Journal = Items<Item>;
 
 /// The most bytes of an item.
 pub const ITEM_SIZE: usize = 48;

@@ -4,15 +4,16 @@ use Rattle.std.proofs.Common.{◌≡◌, ◌&&◌, ◌||◌, ◌==◌, Bool, tru
 use Rattle.std.proofs.lemmas.Bool.{and_right, or_right}
 use Rattle.ctrl_msg.specs.declared.message.Message.{Message}
 use Rattle.update_machine.specs.Quiet.{Sending}
-use Rattle.journal_reports.specs.declared.life.Life.{Life}
-use Rattle.journal_reports.specs.Judging.{has_mark, is_said, let_go, matters_to, noted, says_again, waiting_of}
+use Rattle.journal_reports.specs.declared.status.SwitchStatus.{SwitchStatus}
+use Rattle.journal_reports.specs.Judging.{has_mark, is_replaced, let_go, matters_to, waiting_with, replaces_message, waiting_of}
 use Rattle.journal_reports.proofs.Replacing.{says_through}
 
 -- one that is sent later and was delivered replaces the message
 abbrev pub is_got : List Bool → Message → List Sending → Bool
 is_got marks message [] = false
 is_got marks message (next ∷ later) =
-    (says_again next.message message && has_mark marks next.number) || is_got marks message later
+    (replaces_message next.message message && has_mark marks next.number)
+    || is_got marks message later
 
 -- so it is with each of these
 abbrev pub each_got : List Bool → List Message → List Sending → Bool
@@ -21,11 +22,11 @@ each_got marks (message ∷ messages) later =
     is_got marks message later && each_got marks messages later
 
 -- each that matters was delivered, or is replaced so
-abbrev pub all_got : Life → List Bool → List Sending → Bool
-all_got life marks [] = true
-all_got life marks (next ∷ later) =
-    (not (matters_to life next.boot next.message) || has_mark marks next.number
-    || is_got marks next.message later) && all_got life marks later
+abbrev pub all_got : SwitchStatus → List Bool → List Sending → Bool
+all_got status marks [] = true
+all_got status marks (next ∷ later) =
+    (not (matters_to status next.boot next.message) || has_mark marks next.number
+    || is_got marks next.message later) && all_got status marks later
 
 -- ---- one more is sent
 
@@ -49,7 +50,7 @@ unmarked marks next later [] none = refl
 unmarked marks next later (message ∷ waiting) none =
     let rest : each_got marks waiting (next ∷ later) ≡ each_got marks waiting later =
     unmarked marks next later waiting none in
-    rw (none, rest) (by_test (says_again next.message message))
+    rw (none, rest) (by_test (replaces_message next.message message))
   where
     by_test : (b : Bool)
         → (((b && false) || is_got marks message later) && each_got marks waiting later)
@@ -63,10 +64,10 @@ marked : (marks : List Bool) (next : Sending) (later : List Sending) (waiting : 
     → each_got marks (let_go next.message waiting) later ≡ each_got marks waiting (next ∷ later)
 marked marks next later [] mark = refl
 marked marks next later (message ∷ waiting) mark =
-    rw mark (by_test (says_again next.message message) refl
+    rw mark (by_test (replaces_message next.message message) refl
     (marked marks next later waiting mark))
   where
-    by_test : (b : Bool) → says_again next.message message ≡ b
+    by_test : (b : Bool) → replaces_message next.message message ≡ b
         → each_got marks (let_go next.message waiting) later
         ≡ each_got marks waiting (next ∷ later)
         → each_got marks (if not b then message ∷ let_go next.message waiting
@@ -78,25 +79,26 @@ marked marks next later (message ∷ waiting) mark =
 
 -- what replaces it replaces those that it replaces
 got_through : (marks : List Bool) (next message : Message) (later : List Sending)
-    → says_again next message ≡ true → is_got marks next later ≡ true
+    → replaces_message next message ≡ true → is_got marks next later ≡ true
     → is_got marks message later ≡ true
 got_through marks next message [] says got = absurd cc
 got_through marks next message (one ∷ later) says got =
-    by_tests (says_again one.message next) (has_mark marks one.number) refl refl got
+    by_tests (replaces_message one.message next) (has_mark marks one.number) refl refl got
     (got_through marks next message later says)
   where
     by_rest : is_got marks message later ≡ true
-        → ((says_again one.message message && has_mark marks one.number)
+        → ((replaces_message one.message message && has_mark marks one.number)
         || is_got marks message later) ≡ true
-    by_rest rest = rw rest (or_right (says_again one.message message && has_mark marks one.number) true refl)
+    by_rest rest = rw rest (or_right (replaces_message one.message message
+        && has_mark marks one.number) true refl)
 
-    by_tests : (a b : Bool) → says_again one.message next ≡ a → has_mark marks one.number ≡ b
+    by_tests : (a b : Bool) → replaces_message one.message next ≡ a → has_mark marks one.number ≡ b
         → ((a && b) || is_got marks next later) ≡ true
         → (is_got marks next later ≡ true → is_got marks message later ≡ true)
-        → ((says_again one.message message && has_mark marks one.number)
+        → ((replaces_message one.message message && has_mark marks one.number)
         || is_got marks message later) ≡ true
     by_tests true true e f got rest =
-        let both : says_again one.message message ≡ true =
+        let both : replaces_message one.message message ≡ true =
         says_through one.message next message e says in
         rw (both, f) refl
     by_tests true false e f got rest = by_rest (rest got)
@@ -107,9 +109,9 @@ through : (marks : List Bool) (next : Message) (later : List Sending) (waiting :
     → each_got marks (let_go next waiting) later ≡ each_got marks waiting later
 through marks next later [] got = refl
 through marks next later (message ∷ waiting) got =
-    by_test (says_again next message) refl (through marks next later waiting got)
+    by_test (replaces_message next message) refl (through marks next later waiting got)
   where
-    by_test : (b : Bool) → says_again next message ≡ b
+    by_test : (b : Bool) → replaces_message next message ≡ b
         → each_got marks (let_go next waiting) later ≡ each_got marks waiting later
         → each_got marks (if not b then message ∷ let_go next waiting
         else let_go next waiting) later
@@ -122,16 +124,16 @@ through marks next later (message ∷ waiting) got =
 
 -- where none replaces it, none replaces one that says as much
 said_waits : (marks : List Bool) (next : Message) (later : List Sending) (waiting : List Message)
-    → is_got marks next later ≡ false → is_said next waiting ≡ true
+    → is_got marks next later ≡ false → is_replaced next waiting ≡ true
     → each_got marks waiting later ≡ false
 said_waits marks next later [] none said = absurd cc
 said_waits marks next later (message ∷ waiting) none said =
-    by_tests (says_again message next) (is_got marks message later) refl refl said
+    by_tests (replaces_message message next) (is_got marks message later) refl refl said
     (said_waits marks next later waiting none)
   where
-    by_tests : (a b : Bool) → says_again message next ≡ a → is_got marks message later ≡ b
-        → (a || is_said next waiting) ≡ true
-        → (is_said next waiting ≡ true → each_got marks waiting later ≡ false)
+    by_tests : (a b : Bool) → replaces_message message next ≡ a → is_got marks message later ≡ b
+        → (a || is_replaced next waiting) ≡ true
+        → (is_replaced next waiting ≡ true → each_got marks waiting later ≡ false)
         → (b && each_got marks waiting later) ≡ false
     by_tests true true e f said rest =
         let clash : true ≡ false = sym (got_through marks message next later e f) ∙ none in
@@ -141,18 +143,18 @@ said_waits marks next later (message ∷ waiting) none said =
 
 -- ---- all are sent
 
-one_more : (life : Life) (marks : List Bool) (next : Sending) (later : List Sending)
+one_more : (status : SwitchStatus) (marks : List Bool) (next : Sending) (later : List Sending)
     (waiting : List Message) (m d rest : Bool) → has_mark marks next.number ≡ d
-    → (each_got marks (noted m d next.message waiting) later && rest)
+    → (each_got marks (waiting_with m d next.message waiting) later && rest)
     ≡ (each_got marks waiting (next ∷ later)
     && ((not m || d || is_got marks next.message later) && rest))
-one_more life marks next later waiting false false rest e =
+one_more status marks next later waiting false false rest e =
     let same : each_got marks (waiting ++ []) later ≡ each_got marks waiting (next ∷ later) =
     ap (λ ws. each_got marks ws later) (append-nil waiting)
     ∙ sym (unmarked marks next later waiting e) in
     ap (λ b. b && rest) same
-one_more life marks next later waiting true false rest e =
-    by_tests (is_said next.message left) (is_got marks next.message later) refl refl
+one_more status marks next later waiting true false rest e =
+    by_tests (is_replaced next.message left) (is_got marks next.message later) refl refl
   where
     left : List Message
     left = let_go next.message waiting
@@ -162,7 +164,7 @@ one_more life marks next later waiting true false rest e =
         && (is_got marks next.message later && true))
     split = each_append marks (let_go next.message waiting) (next.message ∷ []) later
 
-    by_tests : (a b : Bool) → is_said next.message left ≡ a
+    by_tests : (a b : Bool) → is_replaced next.message left ≡ a
         → is_got marks next.message later ≡ b
         → (each_got marks (left ++ (if not a then next.message ∷ [] else [])) later && rest)
         ≡ (each_got marks waiting (next ∷ later) && (b && rest))
@@ -192,7 +194,7 @@ one_more life marks next later waiting true false rest e =
         and_false true false = refl
         and_false false true = refl
         and_false false false = refl
-one_more life marks next later waiting m true rest e =
+one_more status marks next later waiting m true rest e =
     by_test m
   where
     same : each_got marks (let_go next.message waiting ++ []) later
@@ -200,35 +202,40 @@ one_more life marks next later waiting m true rest e =
     same = ap (λ ws. each_got marks ws later) (append-nil (let_go next.message waiting))
         ∙ marked marks next later waiting e
 
-    by_test : (m : Bool) → (each_got marks (noted m true next.message waiting) later && rest)
+    by_test : (m : Bool) → (each_got marks (waiting_with m true next.message waiting) later && rest)
         ≡ (each_got marks waiting (next ∷ later)
         && ((not m || true || is_got marks next.message later) && rest))
     by_test true = ap (λ b. b && rest) same
     by_test false = ap (λ b. b && rest) same
 
-none_left : (life : Life) (marks : List Bool) (waiting : List Message) (sent : List Sending)
-    → (length (waiting_of life marks waiting sent) == 0)
-    ≡ (each_got marks waiting sent && all_got life marks sent)
-none_left life marks [] [] = refl
-none_left life marks (message ∷ waiting) [] =
+none_left : (status : SwitchStatus) (marks : List Bool) (waiting : List Message)
+    (sent : List Sending)
+    → (length (waiting_of status marks waiting sent) == 0)
+    ≡ (each_got marks waiting sent && all_got status marks sent)
+none_left status marks [] [] = refl
+none_left status marks (message ∷ waiting) [] =
     ne_eqb (length (message ∷ waiting)) 0 (λ same. absurd (omega (arith, same)))
-none_left life marks waiting (next ∷ later) =
-    none_left life marks
-    (noted (matters_to life next.boot next.message) (has_mark marks next.number) next.message
+none_left status marks waiting (next ∷ later) =
+    none_left status marks
+    (waiting_with (matters_to status next.boot next.message) (has_mark marks next.number)
+    next.message
     waiting) later
-    ∙ one_more life marks next later waiting (matters_to life next.boot next.message)
-    (has_mark marks next.number) (all_got life marks later) refl
+    ∙ one_more status marks next later waiting (matters_to status next.boot next.message)
+    (has_mark marks next.number) (all_got status marks later) refl
 
-pub none_waits : (life : Life) (marks : List Bool) (sent : List Sending)
-    → (length (waiting_of life marks [] sent) == 0) ≡ all_got life marks sent
-none_waits life marks sent = none_left life marks [] sent
+pub none_waits : (status : SwitchStatus) (marks : List Bool) (sent : List Sending)
+    → (length (waiting_of status marks [] sent) == 0) ≡ all_got status marks sent
+none_waits status marks sent = none_left status marks [] sent
 
-pub one_after : (life : Life) (marks : List Bool) (waiting : List Message) (sent : List Sending)
-    (next : Sending) → waiting_of life marks waiting (sent ++ next ∷ [])
-    ≡ noted (matters_to life next.boot next.message) (has_mark marks next.number) next.message
-    (waiting_of life marks waiting sent)
-one_after life marks waiting [] next = refl
-one_after life marks waiting (first ∷ sent) next =
-    one_after life marks
-    (noted (matters_to life first.boot first.message) (has_mark marks first.number) first.message
+pub one_after : (status : SwitchStatus) (marks : List Bool) (waiting : List Message)
+    (sent : List Sending)
+    (next : Sending) → waiting_of status marks waiting (sent ++ next ∷ [])
+    ≡ waiting_with (matters_to status next.boot next.message) (has_mark marks next.number)
+    next.message
+    (waiting_of status marks waiting sent)
+one_after status marks waiting [] next = refl
+one_after status marks waiting (first ∷ sent) next =
+    one_after status marks
+    (waiting_with (matters_to status first.boot first.message) (has_mark marks first.number)
+    first.message
     waiting) sent next

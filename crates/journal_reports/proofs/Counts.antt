@@ -4,10 +4,10 @@ use Rattle.std.specs.Option.{option_or}
 use Rattle.std.proofs.Common.{◌≡◌, ℕ, ◌+◌, ◌<◌, ◌^◌, Bool, true, false, Option, Some, None, List, [], ◌∷◌, ◌++◌, length, refl, ap, ◌∙◌, arith}
 use Rattle.std.proofs.lemmas.List.Sums.{count_by-le-length}
 use Rattle.journal.specs.declared.item.Item.{Item}
-use Rattle.update_machine.specs.Folds.{count_of, last_told}
-use Rattle.update_machine.specs.Marks.{current_mark, retired_mark, tells_current, tells_retired}
+use Rattle.update_machine.specs.Folds.{count_of, last_given}
+use Rattle.update_machine.specs.Marks.{current_mark, retired_mark, gives_current, gives_retired}
 use Rattle.update_machine.specs.Packets.{is_packet}
-use Rattle.update_machine.proofs.CallerLemmas.{count_of_append, last_told_append}
+use Rattle.update_machine.proofs.CallerLemmas.{count_of_append, last_given_append}
 use Rattle.journal_reports.specs.Summary.{CountsHaveRoom, counted_with, counts_of, is_cached, is_closed, is_dropped, is_entered, is_left, is_lost, is_sent, is_stuck, one_more}
 
 count_more : (test : Item → Bool) (before : List Item) (item : Item)
@@ -20,11 +20,11 @@ count_more test before item = count_of_append test before (item ∷ []) ∙ go (
     go false e = rw e (omega arith)
 
 told_more : (tells : Item → Option ℕ) (before : List Item) (item : Item) (other : ℕ)
-    → unwrap_or (last_told tells (before ++ item ∷ [])) other
-    ≡ unwrap_or (tells item) (unwrap_or (last_told tells before) other)
+    → unwrap_or (last_given tells (before ++ item ∷ [])) other
+    ≡ unwrap_or (tells item) (unwrap_or (last_given tells before) other)
 told_more tells before item other =
-    ap (λ o. unwrap_or o other) (last_told_append tells before (item ∷ []))
-    ∙ go (tells item) (last_told tells before)
+    ap (λ o. unwrap_or o other) (last_given_append tells before (item ∷ []))
+    ∙ go (tells item) (last_given tells before)
   where
     go : (told earlier : Option ℕ) → unwrap_or (option_or (option_or None told) earlier) other
         ≡ unwrap_or told (unwrap_or earlier other)
@@ -44,8 +44,8 @@ counts_more before item = rw (
   count_more is_entered before item,
   count_more is_cached before item,
   count_more is_sent before item,
-  told_more tells_current before item 1,
-  told_more tells_retired before item 0,
+  told_more gives_current before item 1,
+  told_more gives_retired before item 0,
 ) refl
 
 pub counts_start : counts_of [] ≡ record {

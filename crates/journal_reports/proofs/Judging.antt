@@ -24,14 +24,14 @@ use Rattle.update_machine.specs.SwitchNumbers.{switches_of}
 use Rattle.update_machine.specs.Settling.{to_switch}
 use Rattle.convergence_laws.proofs.Lists.{IsIn, all_in, each_in, each_of_in, in_range, in_right, of_range, some_in}
 use Rattle.control_laws.proofs.Sends.{each_range}
-use Rattle.journal_reports.specs.declared.life.Life.{Life}
+use Rattle.journal_reports.specs.declared.status.SwitchStatus.{SwitchStatus}
 use Rattle.journal_reports.specs.declared.pending.Pending.{Pending}
-use Rattle.journal_reports.specs.Judging.{has_mark, is_missed, is_old, is_of_boot, is_settled, life_in, matters_to, says_again, waiting_of}
-use Rattle.journal_reports.specs.Lanes.{are_empty}
+use Rattle.journal_reports.specs.Judging.{has_mark, is_missed, is_old, is_of_boot, is_settled, status_in, matters_to, replaces_message, waiting_of}
+use Rattle.journal_reports.specs.Buckets.{are_empty}
 use Rattle.journal_reports.specs.Pending.{ArePending, IsPending, none_pending}
 use Rattle.journal_reports.specs.Plain.{AreInOrder, IsPlain, WasSentTo}
 use Rattle.journal_reports.proofs.Counting.{all_got, is_got, none_waits}
-use Rattle.journal_reports.proofs.Lanes.{none_in_lanes}
+use Rattle.journal_reports.proofs.Buckets.{none_in_buckets}
 use Rattle.journal_reports.proofs.Replacing.{is_cache_rule, means_says, says_means}
 
 -- ---- lists
@@ -78,7 +78,7 @@ flipped a b e = eq-eqb b a (sym (eqb-true a b e))
 -- a message that matters is to a switch that is up, or of one
 record Concerns (journal : List Item) (s boot : ℕ) (message : Message) : Type 0 where
   up : IsTrue (is_up journal s)
-  matter : matters_to (life_in journal s) boot message ≡ true
+  matter : matters_to (status_in journal s) boot message ≡ true
 
 concerns_to : (journal : List Item) (number boot s : ℕ) (body : Body)
     → IsTrue (matters journal
@@ -149,13 +149,13 @@ concerned setting journal x addressed matter =
     by_receiver receiver.Controller body number boot addressed matter =
         by_speaker body number boot (speaker body) refl addressed matter
 
--- and what matters in the life of a switch matters
+-- and what matters in the status of a switch matters
 matters_so : (journal : List Item) (s : ℕ) (x : Sending)
-    → matters_to (life_in journal s) x.boot x.message ≡ true → IsTrue (matters journal x)
+    → matters_to (status_in journal s) x.boot x.message ≡ true → IsTrue (matters journal x)
 matters_so journal s x matter = by_receiver x.message.to x.message.body x.number x.boot matter
   where
     by_speaker : (body : Body) (number boot : ℕ) (o : Option (ℕ × ℕ)) → speaker body ≡ o
-        → (is_up journal s && option_map_or (is_of_boot (life_in journal s)) o false
+        → (is_up journal s && option_map_or (is_of_boot (status_in journal s)) o false
         && not (is_old body (current_mark journal))) ≡ true
         → IsTrue (matters journal (record {
           number = number;
@@ -178,7 +178,7 @@ matters_so journal s x matter = by_receiver x.message.to x.message.body x.number
         rw (e, here, its, old, fresh.1) refl
 
     by_receiver : (to : Receiver) (body : Body) (number boot : ℕ)
-        → matters_to (life_in journal s) boot (record { to = to; body = body }) ≡ true
+        → matters_to (status_in journal s) boot (record { to = to; body = body }) ≡ true
         → IsTrue (matters journal
         (record { number = number; message = record { to = to; body = body }; boot = boot }))
     by_receiver (receiver.Switch t) body number boot matter =
@@ -211,7 +211,7 @@ Says later earlier = (later.message.to ≡ earlier.message.to)
 says_so : (setting : Setting) (journal : List Item) (later earlier : Sending) → AreTables journal
     → All (λ one. IsAddressed setting one.message.to one.message.body) (sendings journal)
     → IsIn later (sendings journal) → IsIn earlier (sendings journal)
-    → says_again later.message earlier.message ≡ true → Says later earlier
+    → replaces_message later.message earlier.message ≡ true → Says later earlier
 says_so setting journal later earlier tables addressed is was says =
     says_means later.message earlier.message
     (λ boot of one other same mine its versions. agree boot of one other same mine its versions
@@ -241,17 +241,17 @@ says_so setting journal later earlier tables addressed is was says =
 record IsGotBy (marks : List Bool) (message : Message) (later : List Sending) : Type 0 where
   by : Sending
   is : IsIn by later
-  says : says_again by.message message ≡ true
+  says : replaces_message by.message message ≡ true
   mark : has_mark marks by.number ≡ true
 
 got_by : (marks : List Bool) (message : Message) (later : List Sending)
     → is_got marks message later ≡ true → IsGotBy marks message later
 got_by marks message [] got = absurd cc
 got_by marks message (next ∷ later) got =
-    by_test (says_again next.message message && has_mark marks next.number) refl got
+    by_test (replaces_message next.message message && has_mark marks next.number) refl got
     (got_by marks message later)
   where
-    by_test : (b : Bool) → (says_again next.message message && has_mark marks next.number) ≡ b
+    by_test : (b : Bool) → (replaces_message next.message message && has_mark marks next.number) ≡ b
         → (b || is_got marks message later) ≡ true
         → (is_got marks message later ≡ true → IsGotBy marks message later)
         → IsGotBy marks message (next ∷ later)
@@ -263,20 +263,21 @@ got_by marks message (next ∷ later) got =
         record { by = its.by; is = inr its.is; says = its.says; mark = its.mark }
 
 got_of : (marks : List Bool) (message : Message) (later : List Sending) (y : Sending)
-    → IsIn y later → says_again y.message message ≡ true → has_mark marks y.number ≡ true
+    → IsIn y later → replaces_message y.message message ≡ true → has_mark marks y.number ≡ true
     → is_got marks message later ≡ true
 got_of marks message [] y is says mark = absurd is
 got_of marks message (next ∷ later) y is says mark = elim is [
   | inl here ↦
-      let said : says_again next.message message ≡ true =
-      ap (λ (one : Sending). says_again one.message message) here ∙ says in
+      let said : replaces_message next.message message ≡ true =
+      ap (λ (one : Sending). replaces_message one.message message) here ∙ says in
       let marked : has_mark marks next.number ≡ true =
       ap (λ (one : Sending). has_mark marks one.number) here ∙ mark in
       rw (said, marked) refl
   | inr behind ↦
       let rest : is_got marks message later ≡ true =
       got_of marks message later y behind says mark in
-      rw rest (or_right (says_again next.message message && has_mark marks next.number) true refl)
+      rw rest (or_right (replaces_message next.message message && has_mark marks next.number) true
+      refl)
 ]
 
 -- ---- all that matters was received
@@ -284,25 +285,25 @@ got_of marks message (next ∷ later) y is says mark = elim is [
 abbrev AreMarks : List Item → List Bool → Type 0
 AreMarks journal marks = (n : ℕ) → has_mark marks n ≡ was_delivered journal n
 
-abbrev Matters : Life → Sending → Type 0
-Matters life x = matters_to life x.boot x.message ≡ true
+abbrev Matters : SwitchStatus → Sending → Type 0
+Matters status x = matters_to status x.boot x.message ≡ true
 
--- each that matters in the life has a mark, or is replaced by one that has
+-- each that matters in the status has a mark, or is replaced by one that has
 record IsMarked (marks : List Bool) (x : Sending) (sent : List Sending) : Type 0 where
   by : (has_mark marks x.number ≡ true)
       ⊎ ((y : Sending) × IsIn y sent × (x.number < y.number)
-      × (says_again y.message x.message ≡ true) × (has_mark marks y.number ≡ true))
+      × (replaces_message y.message x.message ≡ true) × (has_mark marks y.number ≡ true))
 
-marked_of : (life : Life) (marks : List Bool) (sent : List Sending) (x : Sending)
-    → AreInOrder sent → all_got life marks sent ≡ true → IsIn x sent → Matters life x
+marked_of : (status : SwitchStatus) (marks : List Bool) (sent : List Sending) (x : Sending)
+    → AreInOrder sent → all_got status marks sent ≡ true → IsIn x sent → Matters status x
     → IsMarked marks x sent
-marked_of life marks [] x order all is matter = absurd is
-marked_of life marks (next ∷ later) x order all is matter = elim is [
+marked_of status marks [] x order all is matter = absurd is
+marked_of status marks (next ∷ later) x order all is matter = elim is [
   | inl here ↦ subst (λ one. IsMarked marks one (next ∷ later)) here
-      (by_tests (matters_to life next.boot next.message) (has_mark marks next.number) refl refl
-      (and_parts _ _ all).0 (subst (Matters life) (sym here) matter))
+      (by_tests (matters_to status next.boot next.message) (has_mark marks next.number) refl refl
+      (and_parts _ _ all).0 (subst (Matters status) (sym here) matter))
   | inr behind ↦
-      let rest = marked_of life marks later x order.1 (and_parts _ _ all).1 behind matter in
+      let rest = marked_of status marks later x order.1 (and_parts _ _ all).1 behind matter in
       record {
         by = elim rest.by [
           | inl mark ↦ inl mark
@@ -311,9 +312,9 @@ marked_of life marks (next ∷ later) x order all is matter = elim is [
       }
 ]
   where
-    by_tests : (m d : Bool) → matters_to life next.boot next.message ≡ m
+    by_tests : (m d : Bool) → matters_to status next.boot next.message ≡ m
         → has_mark marks next.number ≡ d
-        → (not m || d || is_got marks next.message later) ≡ true → Matters life next
+        → (not m || d || is_got marks next.message later) ≡ true → Matters status next
         → IsMarked marks next (next ∷ later)
     by_tests m true e f one matter = record { by = inl f }
     by_tests false false e f one matter = absurd cc
@@ -342,9 +343,9 @@ received_of setting journal marks x plain right is marked = elim marked.by [
 
 settled_got : (journal : List Item) (s : ℕ) (marks : List Bool)
     → is_settled journal s marks ≡ true
-    → all_got (life_in journal s) marks (sendings journal) ≡ true
+    → all_got (status_in journal s) marks (sendings journal) ≡ true
 settled_got journal s marks settled =
-    sym (none_waits (life_in journal s) marks (sendings journal)) ∙ (and_parts _ _ settled).1
+    sym (none_waits (status_in journal s) marks (sendings journal)) ∙ (and_parts _ _ settled).1
 
 not_missed : (up waited : Bool) → not (not up && waited) ≡ true → IsTrue (up || not waited)
 not_missed true waited e = refl
@@ -385,18 +386,18 @@ settled_quiet setting journal marks plain right settled = record {
         (all_in (λ one. IsAddressed setting one.message.to one.message.body) x
         (sendings journal) plain.addressed is) matter in
         received_of setting journal marks x plain right is
-        (marked_of (life_in journal its.0) marks (sendings journal) x plain.numbers
+        (marked_of (status_in journal its.0) marks (sendings journal) x plain.numbers
         (settled_got journal its.0 marks (settled its.0 its.1)) is its.2.matter)
 
 -- ---- and a quiet one is settled
 
 -- a cache rule never matters
-no_cache_rule : (life : Life) (x : Sending) → Matters life x
+no_cache_rule : (status : SwitchStatus) (x : Sending) → Matters status x
     → IsFalse (is_cache_rule x.message.body)
-no_cache_rule life x matter = by_body x.message.to x.message.body x.boot matter
+no_cache_rule status x matter = by_body x.message.to x.message.body x.boot matter
   where
     by_body : (to : Receiver) (body : Body) (boot : ℕ)
-        → matters_to life boot (record { to = to; body = body }) ≡ true
+        → matters_to status boot (record { to = to; body = body }) ≡ true
         → IsFalse (is_cache_rule body)
     by_body (receiver.Switch s) (CacheRule version word rule action) boot matter =
         false_true (and_parts _ _ (and_parts _ _ matter).0).1
@@ -408,14 +409,14 @@ got_if : (setting : Setting) (journal : List Item) (marks : List Bool) (s : ℕ)
     → IsPlain setting journal → AreMarks journal marks → IsQuiet setting journal
     → (front later : List Sending)
     → front ++ later ≡ sendings journal
-    → all_got (life_in journal s) marks later ≡ true
+    → all_got (status_in journal s) marks later ≡ true
 got_if setting journal marks s plain right quiet front [] is = refl
 got_if setting journal marks s plain right quiet front (x ∷ later) is =
-    let first : (not (matters_to (life_in journal s) x.boot x.message)
+    let first : (not (matters_to (status_in journal s) x.boot x.message)
     || has_mark marks x.number || is_got marks x.message later) ≡ true =
-    by_tests (matters_to (life_in journal s) x.boot x.message) (has_mark marks x.number) refl
+    by_tests (matters_to (status_in journal s) x.boot x.message) (has_mark marks x.number) refl
     refl in
-    let rest : all_got (life_in journal s) marks later ≡ true =
+    let rest : all_got (status_in journal s) marks later ≡ true =
     got_if setting journal marks s plain right quiet (front ++ x ∷ []) later
     (append_assoc front (x ∷ []) later ∙ is) in
     rw (first, rest) refl
@@ -423,7 +424,7 @@ got_if setting journal marks s plain right quiet front (x ∷ later) is =
     there : IsIn x (sendings journal)
     there = subst (IsIn x) is (in_right x front (x ∷ later) (inl refl))
 
-    by_received : Matters (life_in journal s) x → has_mark marks x.number ≡ false
+    by_received : Matters (status_in journal s) x → has_mark marks x.number ≡ false
         → IsReceived journal x → is_got marks x.message later ≡ true
     by_received matter mark (inl delivered) =
         let clash : false ≡ true = sym mark ∙ right x.number ∙ delivered in
@@ -436,11 +437,11 @@ got_if setting journal marks s plain right quiet front (x ∷ later) is =
         in_later front x found.0 later (subst AreInOrder (sym is) plain.numbers)
         (subst (IsIn found.0) (sym is) found.1) found.2.0.sent_later in
         got_of marks x.message later found.0 behind
-        (means_says found.0.message x.message (no_cache_rule (life_in journal s) x matter)
+        (means_says found.0.message x.message (no_cache_rule (status_in journal s) x matter)
         found.2.0.receiver found.2.0.says)
         (right found.0.number ∙ found.2.1)
 
-    by_tests : (m d : Bool) → matters_to (life_in journal s) x.boot x.message ≡ m
+    by_tests : (m d : Bool) → matters_to (status_in journal s) x.boot x.message ≡ m
         → has_mark marks x.number ≡ d → (not m || d || is_got marks x.message later) ≡ true
     by_tests false d e f = refl
     by_tests true true e f = refl
@@ -457,7 +458,7 @@ quiet_settled setting journal marks s plain right quiet there =
     (all_in (λ s. IsTrue (is_up journal s || not (is_waited_for journal s))) s
     (switches_of setting) quiet.switches
     (in_range s 0 (length setting.net.switches) (omega arith) (omega (arith, there)))) in
-    let none = none_waits (life_in journal s) marks (sendings journal)
+    let none = none_waits (status_in journal s) marks (sendings journal)
     ∙ got_if setting journal marks s plain right quiet [] (sendings journal) refl in
     rw (present, none) refl
 
@@ -466,11 +467,12 @@ quiet_settled setting journal marks s plain right quiet there =
 -- nothing is pending of a switch where it is settled
 row_settled : (journal : List Item) (marks : List Bool) (s : ℕ) (row : Pending)
     → IsPending journal marks journal s row
-    → (not (is_missed row.life) && are_empty row.lanes.items) ≡ is_settled journal s marks
+    → (not (is_missed row.status) && are_empty row.buckets.items) ≡ is_settled journal s marks
 row_settled journal marks s row here =
-    ap (λ life. not (is_missed life) && are_empty row.lanes.items) here.life
-    ∙ ap (λ b. not (is_missed (life_in journal s)) && b)
-    (none_in_lanes (waiting_of (life_in journal s) marks [] (sendings journal)) row.lanes.items
+    ap (λ status. not (is_missed status) && are_empty row.buckets.items) here.status
+    ∙ ap (λ b. not (is_missed (status_in journal s)) && b)
+    (none_in_buckets (waiting_of (status_in journal s) marks [] (sendings journal))
+    row.buckets.items
     here.messages)
 
 rows_settled : (journal : List Item) (marks : List Bool) (rows : List Pending) (first : ℕ)

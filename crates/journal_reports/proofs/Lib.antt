@@ -3,6 +3,6 @@ pub mod Counting
 mod Replacing
 mod Lives
 mod Concerned
-mod Lanes
+mod Buckets
 mod Judging
 mod Plain

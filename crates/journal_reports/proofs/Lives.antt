@@ -1,4 +1,4 @@
--- What one more item makes of a switch's life, and of the messages that wait.
+-- What one more item makes of a switch's status, and of the messages that wait.
 use Rattle.std.proofs.Common.{ℕ, ◌≡◌, ◌+◌, ◌<◌, take, length, get_or, ◌||◌, ◌==◌, Bool, true, false, List, [], ◌∷◌, ◌++◌, refl, ap, sym, ◌∙◌, append-nil}
 use Rattle.std.proofs.lemmas.Bool.{and_right, eqb-true}
 use Rattle.std.proofs.lemmas.List.{take_more}
@@ -15,13 +15,13 @@ use Rattle.update_machine.specs.Quiet.{boot_at, sendings}
 use Rattle.control_laws.proofs.Grown.{boot_more, current_more, up_more}
 use Rattle.convergence_laws.proofs.Downs.{waited_more}
 use Rattle.convergence_laws.proofs.Sendings.{delivered_more, sendings_more}
-use Rattle.journal_reports.specs.declared.life.Life.{Life}
-use Rattle.journal_reports.specs.Judging.{boot_after, has_mark, life_after, life_in, matters_to, noted, tiding, waiting_after, waiting_of}
+use Rattle.journal_reports.specs.declared.status.SwitchStatus.{SwitchStatus}
+use Rattle.journal_reports.specs.Judging.{boot_after, has_mark, status_after, status_in, matters_to, waiting_with, status_item, waiting_after, waiting_of}
 use Rattle.journal_reports.proofs.Counting.{one_after}
 
-life_more : (before : List Item) (item : Item) (s : ℕ)
-    → life_in (before ++ item ∷ []) s ≡ life_after item (life_in before s)
-life_more before item s =
+status_more : (before : List Item) (item : Item) (s : ℕ)
+    → status_in (before ++ item ∷ []) s ≡ status_after item (status_in before s)
+status_more before item s =
     rw (
       up_more before item s,
       boot_more before item s,
@@ -29,49 +29,49 @@ life_more before item s =
       current_more before item,
     ) refl
 
-life_told : (told : List Item) (item : Item) (s : ℕ)
-    → life_in (told ++ tiding item) s ≡ life_after item (life_in told s)
-life_told told (item.Down switch) s = life_more told (item.Down switch) s
-life_told told (item.Booted switch boot) s = life_more told (item.Booted switch boot) s
-life_told told (item.OverNow switch) s = life_more told (item.OverNow switch) s
-life_told told (item.Current version) s = life_more told (item.Current version) s
-life_told told item s = ap (λ js. life_in js s) (append-nil told)
+status_told : (told : List Item) (item : Item) (s : ℕ)
+    → status_in (told ++ status_item item) s ≡ status_after item (status_in told s)
+status_told told (item.Down switch) s = status_more told (item.Down switch) s
+status_told told (item.Booted switch boot) s = status_more told (item.Booted switch boot) s
+status_told told (item.OverNow switch) s = status_more told (item.OverNow switch) s
+status_told told (item.Current version) s = status_more told (item.Current version) s
+status_told told item s = ap (λ js. status_in js s) (append-nil told)
 
 -- in which boot another switch is doesn't matter to this one
-same_boot : (life : Life) (before : List Item) (message : Message)
-    → matters_to life (boot_at before message.to) message
-    ≡ matters_to life (boot_of before life.switch) message
-same_boot life before message = by_receiver message.to message.body
+same_boot : (status : SwitchStatus) (before : List Item) (message : Message)
+    → matters_to status (boot_at before message.to) message
+    ≡ matters_to status (boot_of before status.switch) message
+same_boot status before message = by_receiver message.to message.body
   where
     by_receiver : (to : Receiver) (body : Body)
-        → matters_to life (boot_at before to) (record { to = to; body = body })
-        ≡ matters_to life (boot_of before life.switch) (record { to = to; body = body })
+        → matters_to status (boot_at before to) (record { to = to; body = body })
+        ≡ matters_to status (boot_of before status.switch) (record { to = to; body = body })
     by_receiver receiver.Controller body = refl
-    by_receiver (receiver.Switch s) body = by_switch (s == life.switch) refl
+    by_receiver (receiver.Switch s) body = by_switch (s == status.switch) refl
       where
-        by_switch : (b : Bool) → (s == life.switch) ≡ b
-            → matters_to life (boot_of before s)
+        by_switch : (b : Bool) → (s == status.switch) ≡ b
+            → matters_to status (boot_of before s)
             (record { to = receiver.Switch s; body = body })
-            ≡ matters_to life (boot_of before life.switch)
+            ≡ matters_to status (boot_of before status.switch)
             (record { to = receiver.Switch s; body = body })
         by_switch true e =
-            let same : s ≡ life.switch = eqb-true s life.switch e in
-            ap (λ t. matters_to life (boot_of before t)
+            let same : s ≡ status.switch = eqb-true s status.switch e in
+            ap (λ t. matters_to status (boot_of before t)
             (record { to = receiver.Switch s; body = body })) same
-        by_switch false e = rw (e, and_right life.is_up false refl) refl
+        by_switch false e = rw (e, and_right status.is_up false refl) refl
 
-pub waiting_more : (life : Life) (marks : List Bool) (before : List Item) (item : Item)
-    → waiting_of life marks [] (sendings (before ++ item ∷ []))
-    ≡ waiting_after life marks (boot_of before life.switch) item
-    (waiting_of life marks [] (sendings before))
-waiting_more life marks before (item.Sent number message) =
-    ap (waiting_of life marks []) (sendings_more before (item.Sent number message))
-    ∙ one_after life marks [] (sendings before)
+pub waiting_more : (status : SwitchStatus) (marks : List Bool) (before : List Item) (item : Item)
+    → waiting_of status marks [] (sendings (before ++ item ∷ []))
+    ≡ waiting_after status marks (boot_of before status.switch) item
+    (waiting_of status marks [] (sendings before))
+waiting_more status marks before (item.Sent number message) =
+    ap (waiting_of status marks []) (sendings_more before (item.Sent number message))
+    ∙ one_after status marks [] (sendings before)
     (record { number = number; message = message; boot = boot_at before message.to })
-    ∙ ap (λ m. noted m (has_mark marks number) message
-    (waiting_of life marks [] (sendings before))) (same_boot life before message)
-waiting_more life marks before item =
-    ap (waiting_of life marks []) (sendings_more before item ∙ append-nil (sendings before))
+    ∙ ap (λ m. waiting_with m (has_mark marks number) message
+    (waiting_of status marks [] (sendings before))) (same_boot status before message)
+waiting_more status marks before item =
+    ap (waiting_of status marks []) (sendings_more before item ∙ append-nil (sendings before))
 
 -- ---- marks
 
@@ -88,15 +88,15 @@ pub none_delivered : (n : ℕ) → false ≡ was_delivered [] n
 unfolding was_delivered
 none_delivered n = refl
 
-pub life_at_first : (s : ℕ) → life_in [] s
+pub status_at_first : (s : ℕ) → status_in [] s
     ≡ record { switch = s; is_up = true; boot = 1; is_waited_for = false; current = 1 }
 unfolding is_up boot_of current_mark
-life_at_first s = refl
+status_at_first s = refl
 
-pub none_at_first : (life : Life) (marks : List Bool)
-    → waiting_of life marks [] (sendings []) ≡ []
+pub none_at_first : (status : SwitchStatus) (marks : List Bool)
+    → waiting_of status marks [] (sendings []) ≡ []
 unfolding sendings
-none_at_first life marks = refl
+none_at_first status marks = refl
 
 pub boot_at_first : (s : ℕ) → boot_of [] s ≡ 1
 unfolding boot_of
@@ -109,20 +109,20 @@ item_more : (items : List Item) (i : ℕ) (next : Item) → i < length items
 item_more items i next within is =
     take_more items i next within ∙ ap (λ x. take i items ++ x ∷ []) (sym is)
 
-pub life_of_item : (items : List Item) (i s : ℕ) (next : Item) (life after : Life)
-    → i < length items → next ≡ get_or items i next → life ≡ life_in (take i items) s
-    → after ≡ life_after next life → after ≡ life_in (take (i + 1) items) s
-life_of_item items i s next life after within is was now =
-    now ∙ ap (life_after next) was ∙ sym (life_more (take i items) next s)
-    ∙ ap (λ js. life_in js s) (sym (item_more items i next within is))
+pub status_of_item : (items : List Item) (i s : ℕ) (next : Item) (status after : SwitchStatus)
+    → i < length items → next ≡ get_or items i next → status ≡ status_in (take i items) s
+    → after ≡ status_after next status → after ≡ status_in (take (i + 1) items) s
+status_of_item items i s next status after within is was now =
+    now ∙ ap (status_after next) was ∙ sym (status_more (take i items) next s)
+    ∙ ap (λ js. status_in js s) (sym (item_more items i next within is))
 
 pub told_of_item : (items : List Item) (i s : ℕ) (next : Item) (told after : List Item)
     → i < length items → next ≡ get_or items i next
-    → life_in told s ≡ life_in (take i items) s → after ≡ told ++ tiding next
-    → life_in after s ≡ life_in (take (i + 1) items) s
+    → status_in told s ≡ status_in (take i items) s → after ≡ told ++ status_item next
+    → status_in after s ≡ status_in (take (i + 1) items) s
 told_of_item items i s next told after within is was now =
-    life_of_item items i s next (life_in told s) (life_in after s) within is was
-    (ap (λ js. life_in js s) now ∙ life_told told next s)
+    status_of_item items i s next (status_in told s) (status_in after s) within is was
+    (ap (λ js. status_in js s) now ∙ status_told told next s)
 
 pub marks_of_item : (items : List Item) (i n : ℕ) (next : Item) (marks after : List Bool)
     → i < length items → next ≡ get_or items i next
@@ -133,17 +133,17 @@ marks_of_item items i n next marks after within is was now =
     mark_more marks after (take i items) next n was now
     ∙ ap (λ js. was_delivered js n) (sym (item_more items i next within is))
 
-pub waiting_of_item : (life : Life) (marks : List Bool) (items : List Item) (i boot : ℕ)
+pub waiting_of_item : (status : SwitchStatus) (marks : List Bool) (items : List Item) (i boot : ℕ)
     (next : Item) (waiting after : List Message) → i < length items → next ≡ get_or items i next
-    → waiting ≡ waiting_of life marks [] (sendings (take i items))
-    → boot ≡ boot_of (take i items) life.switch
-    → after ≡ waiting_after life marks boot next waiting
-    → after ≡ waiting_of life marks [] (sendings (take (i + 1) items))
-waiting_of_item life marks items i boot next waiting after within is was in_boot now =
-    now ∙ ap (λ b. waiting_after life marks b next waiting) in_boot
-    ∙ ap (waiting_after life marks (boot_of (take i items) life.switch) next) was
-    ∙ sym (waiting_more life marks (take i items) next)
-    ∙ ap (λ js. waiting_of life marks [] (sendings js)) (sym (item_more items i next within is))
+    → waiting ≡ waiting_of status marks [] (sendings (take i items))
+    → boot ≡ boot_of (take i items) status.switch
+    → after ≡ waiting_after status marks boot next waiting
+    → after ≡ waiting_of status marks [] (sendings (take (i + 1) items))
+waiting_of_item status marks items i boot next waiting after within is was in_boot now =
+    now ∙ ap (λ b. waiting_after status marks b next waiting) in_boot
+    ∙ ap (waiting_after status marks (boot_of (take i items) status.switch) next) was
+    ∙ sym (waiting_more status marks (take i items) next)
+    ∙ ap (λ js. waiting_of status marks [] (sendings js)) (sym (item_more items i next within is))
 
 pub boot_of_item : (items : List Item) (i s boot after : ℕ) (next : Item) → i < length items
     → next ≡ get_or items i next → boot ≡ boot_of (take i items) s

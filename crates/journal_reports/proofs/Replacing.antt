@@ -14,7 +14,7 @@ use Rattle.failover.specs.declared.advert.Advert.{Advert}
 use Rattle.failover.proofs.Newest.{newer_through}
 use Rattle.switch_table.specs.declared.tables.Tables.{Tables}
 use Rattle.update_machine.specs.Quiet.{is_later_body}
-use Rattle.journal_reports.specs.Judging.{is_same, is_same_receiver, says_again, says_as_much}
+use Rattle.journal_reports.specs.Judging.{is_same, is_same_receiver, replaces_message, replaces_body}
 
 -- ---- of three messages
 
@@ -66,8 +66,9 @@ adverts_through one two three first second =
         rw (origin, newest) refl in
         ap (λ b. is_same one three || b) new_of ∙ or_right (is_same one three) true refl
 
-body_through : (one two three : Body) → says_as_much one two ≡ true → says_as_much two three ≡ true
-    → says_as_much one three ≡ true
+body_through : (one two three : Body) → replaces_body one two ≡ true → replaces_body two three
+    ≡ true
+    → replaces_body one three ≡ true
 body_through (Install boot tables) (Install of other) (Install own third) first second =
     grind (arith, nat_tests)
 body_through (OpenAt boot version) (OpenAt of other) (OpenAt own third) first second =
@@ -92,14 +93,14 @@ receiver_through (receiver.Switch s) (receiver.Switch t) (receiver.Switch r) fir
 receiver_through receiver.Controller receiver.Controller receiver.Controller first second = refl
 receiver_through one two three first second = absurd cc
 
-pub says_through : (one two three : Message) → says_again one two ≡ true
-    → says_again two three ≡ true → says_again one three ≡ true
+pub says_through : (one two three : Message) → replaces_message one two ≡ true
+    → replaces_message two three ≡ true → replaces_message one three ≡ true
 says_through one two three first second =
     let a = and_parts _ _ first in
     let b = and_parts _ _ second in
     let to : is_same_receiver one.to three.to ≡ true =
     receiver_through one.to two.to three.to a.0 b.0 in
-    let body : says_as_much one.body three.body ≡ true =
+    let body : replaces_body one.body three.body ≡ true =
     body_through one.body two.body three.body a.1 b.1 in
     rw (to, body) refl
 
@@ -110,7 +111,7 @@ abbrev pub Agree : Body → Body → Type 0
 Agree later earlier = (boot of : ℕ) (one other : Tables) → later ≡ Install boot one
     → earlier ≡ Install of other → one.version ≡ other.version → one ≡ other
 
-body_means : (later earlier : Body) → Agree later earlier → says_as_much later earlier ≡ true
+body_means : (later earlier : Body) → Agree later earlier → replaces_body later earlier ≡ true
     → (later ≡ earlier) ⊎ IsTrue (is_later_body later earlier)
 body_means (Install boot tables) (Install of other) agree says =
     let parts = and_parts _ _ says in
@@ -139,7 +140,7 @@ receiver_means later earlier same = absurd cc
 pub says_means : (later earlier : Message)
     → ((boot of : ℕ) (one other : Tables) → later.to ≡ earlier.to → later.body ≡ Install boot one
     → earlier.body ≡ Install of other → one.version ≡ other.version → one ≡ other)
-    → says_again later earlier ≡ true
+    → replaces_message later earlier ≡ true
     → (later.to ≡ earlier.to)
     × ((later.body ≡ earlier.body) ⊎ IsTrue (is_later_body later.body earlier.body))
 says_means later earlier agree says =
@@ -159,7 +160,7 @@ is_cache_rule _ = false
 up_itself : (n : ℕ) → nat_le n n ≡ true
 up_itself n = grind (arith, nat_tests)
 
-body_itself : (body : Body) → IsFalse (is_cache_rule body) → says_as_much body body ≡ true
+body_itself : (body : Body) → IsFalse (is_cache_rule body) → replaces_body body body ≡ true
 body_itself (Install boot tables) plain = rw (own boot, own tables.version) refl
 body_itself (OpenAt boot version) plain = rw (own boot, own version) refl
 body_itself (Stamp boot version) plain = rw (own boot, up_itself version) refl
@@ -174,7 +175,7 @@ body_itself (Stamped s boot version) plain =
 body_itself body plain = absurd cc
 
 later_says : (later earlier : Body) → IsTrue (is_later_body later earlier)
-    → says_as_much later earlier ≡ true
+    → replaces_body later earlier ≡ true
 later_says (Stamp boot version) (Stamp of other) later = grind (arith, nat_tests)
 later_says (Collect boot version) (Collect of other) later = grind (arith, nat_tests)
 later_says (Stamped s boot version) (Stamped t of other) later = grind (arith, nat_tests)
@@ -189,12 +190,12 @@ receiver_itself receiver.Controller = refl
 pub means_says : (later earlier : Message) → IsFalse (is_cache_rule earlier.body)
     → later.to ≡ earlier.to
     → (later.body ≡ earlier.body) ⊎ IsTrue (is_later_body later.body earlier.body)
-    → says_again later earlier ≡ true
+    → replaces_message later earlier ≡ true
 means_says later earlier plain to says =
     let same : is_same_receiver later.to earlier.to ≡ true =
     subst (λ r. is_same_receiver r earlier.to ≡ true) (sym to) (receiver_itself earlier.to) in
-    let body : says_as_much later.body earlier.body ≡ true = elim says [
-      | inl is ↦ subst (λ b. says_as_much b earlier.body ≡ true) (sym is)
+    let body : replaces_body later.body earlier.body ≡ true = elim says [
+      | inl is ↦ subst (λ b. replaces_body b earlier.body ≡ true) (sym is)
           (body_itself earlier.body plain)
       | inr later_is ↦ later_says later.body earlier.body later_is
     ] in

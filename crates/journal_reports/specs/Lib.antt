@@ -1,5 +1,5 @@
 pub mod Summary
 pub mod Plain
 pub mod Judging
-pub mod Lanes
+pub mod Buckets
 pub mod Pending

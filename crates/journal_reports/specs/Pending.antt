@@ -6,16 +6,17 @@ use Rattle.journal.specs.declared.item.Item.{Item}
 use Rattle.update_machine.specs.Boots.{boot_of}
 use Rattle.update_machine.specs.Quiet.{sendings}
 use Rattle.journal_reports.specs.declared.pending.Pending.{Pending}
-use Rattle.journal_reports.specs.Judging.{boot_after, is_missed, life_in, waiting_after, waiting_of}
-use Rattle.journal_reports.specs.Lanes.{AreLanes, are_empty}
+use Rattle.journal_reports.specs.Judging.{boot_after, is_missed, status_in, waiting_after, waiting_of}
+use Rattle.journal_reports.specs.Buckets.{AreBuckets, are_empty}
 
--- the switch's life at the end of the journal, and its boot and the messages that wait behind the
+-- the switch's status at the end of the journal, and its boot and the messages that wait behind the
 -- first items
 pub record IsPending (journal : List Item) (marks : List Bool) (before : List Item) (s : ℕ)
     (row : Pending) : Type 0 where
-  pub life : row.life ≡ life_in journal s
+  pub status : row.status ≡ status_in journal s
   pub boot : row.boot ≡ boot_of before s
-  pub messages : AreLanes (waiting_of (life_in journal s) marks [] (sendings before)) row.lanes.items
+  pub messages : AreBuckets (waiting_of (status_in journal s) marks [] (sendings before))
+      row.buckets.items
 
 -- these are the switches, by their numbers
 abbrev pub ArePending : List Item → List Bool → List Item → List Pending → Type 0
@@ -24,11 +25,11 @@ ArePending journal marks before rows = (s : ℕ) (d : Pending) → s < length ro
 
 -- what one more item makes of a switch
 pub record IsAfter (marks : List Bool) (item : Item) (before after : Pending) : Type 0 where
-  pub life : after.life ≡ before.life
-  pub boot : after.boot ≡ boot_after before.life.switch item before.boot
-  pub messages : (waiting : List Message) → AreLanes waiting before.lanes.items
-      → AreLanes (waiting_after before.life marks before.boot item waiting) after.lanes.items
+  pub status : after.status ≡ before.status
+  pub boot : after.boot ≡ boot_after before.status.switch item before.boot
+  pub messages : (waiting : List Message) → AreBuckets waiting before.buckets.items
+      → AreBuckets (waiting_after before.status marks before.boot item waiting) after.buckets.items
 
 -- the controller misses none of the switches, and no message waits
 abbrev pub none_pending : List Pending → Bool
-none_pending rows = list_all (λ row. not (is_missed row.life) && are_empty row.lanes.items) rows
+none_pending rows = list_all (λ row. not (is_missed row.status) && are_empty row.buckets.items) rows

@@ -5,7 +5,7 @@ use Rattle.journal.specs.declared.item.Item.TheVariants as item
 use Rattle.policy_rules.specs.declared.packet.How.{How}
 use Rattle.policy_rules.specs.declared.packet.How.TheVariants as how
 use Rattle.update_machine.specs.Folds.{count_of}
-use Rattle.update_machine.specs.Marks.{current_mark, retired_mark, tells_current, tells_retired}
+use Rattle.update_machine.specs.Marks.{current_mark, retired_mark, gives_current, gives_retired}
 use Rattle.update_machine.specs.Packets.{is_packet}
 use Rattle.journal_reports.specs.declared.summary.Summary.{Summary}
 
@@ -89,8 +89,8 @@ counted_with s item = record {
   travelling = one_more (is_entered item) s.travelling;
   cached = one_more (is_cached item) s.cached;
   messages = one_more (is_sent item) s.messages;
-  current = unwrap_or (tells_current item) s.current;
-  retired = unwrap_or (tells_retired item) s.retired;
+  current = unwrap_or (gives_current item) s.current;
+  retired = unwrap_or (gives_retired item) s.retired;
 }
 
 -- no count is at its type's end

@@ -14,12 +14,12 @@
 //! ```
 #![tactic(auto)]
 
+mod bucket;
 mod deliveries;
 mod judge;
-mod lane;
 mod laws;
-mod life;
 mod pending;
+mod status;
 mod summary;
 mod text;
 mod waiting;

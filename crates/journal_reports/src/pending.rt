@@ -1,12 +1,12 @@
 //! What is pending of each switch, found in one pass over a journal for all of them.
 ghost use Rattle.std.specs.Prelude.{ℕ, ◌≡◌, ◌<◌, ◌&&◌, Bool, true, false, not, List, [], get_or, length, IfOk, OnOk};
-ghost use Rattle.journal_reports.specs.Judging.{concerned, is_missed, is_named, party, speaks};
-ghost use Rattle.journal_reports.specs.Lanes.{are_empty};
+ghost use Rattle.journal_reports.specs.Judging.{concerned_switch, is_missed, is_named, switch_of_message, speaking_switch};
+ghost use Rattle.journal_reports.specs.Buckets.{are_empty};
 ghost use Rattle.journal_reports.specs.Pending.{ArePending, IsAfter, none_pending};
 ghost use Rattle.journal_reports.specs.declared.pending.Pending.{Pending};
 
-use crate::lane::{Lane, are_empty, empty_lanes};
-use crate::life::{Life, tidings};
+use crate::bucket::{Bucket, are_empty, empty_buckets};
+use crate::status::{SwitchStatus, status_items};
 use crate::waiting;
 use journal::{Body, Item, Message, Receiver};
 use std::alloc::{AllocError, Global};
@@ -15,9 +15,9 @@ use std::alloc::{AllocError, Global};
 /// it or of it that wait behind these.
 #[derive(Drop)]
 pub struct Pending {
-    pub life: Life,
+    pub status: SwitchStatus,
     pub boot: u32,
-    pub lanes: Vec<Lane>,
+    pub buckets: Vec<Bucket>,
 }
 
 impl Pending {
@@ -25,8 +25,8 @@ impl Pending {
     fn take_item(&mut self, item: &Item, delivered: &[bool]) -> Result<(), AllocError>
         ensures { OnOk result (IsAfter delivered.now item.now self.old self.new) }
     {
-        let life = self.life;
-        waiting::take_item(&mut self.lanes, &mut self.boot, item, &life, delivered)
+        let status = self.status;
+        waiting::take_item(&mut self.buckets, &mut self.boot, item, &status, delivered)
     }
 }
 
@@ -34,14 +34,14 @@ impl Pending {
 pub fn are_settled(rows: &[Pending]) -> bool
     ensures { result ≡ none_pending rows.now }
 {
-    rows.iter().all(|row| is_settled(row.life, &row.lanes))
+    rows.iter().all(|row| is_settled(row.status, &row.buckets))
 }
 
 // Whether nothing is pending of a switch: the controller doesn't miss it, and no message waits.
-fn is_settled(life: Life, lanes: &[Lane]) -> bool
-    ensures { result ≡ (not (is_missed life) && are_empty lanes.now) }
+fn is_settled(status: SwitchStatus, buckets: &[Bucket]) -> bool
+    ensures { result ≡ (not (is_missed status) && are_empty buckets.now) }
 {
-    !life.is_missed() && are_empty(lanes)
+    !status.is_missed() && are_empty(buckets)
 }
 
 /// What is pending of each of so many switches behind the journal.
@@ -70,14 +70,14 @@ fn at_first(alloc: Global, items: &[Item], count: u32) -> Result<Vec<Pending>, A
     ensures each { IfOk result (λ rows. (marks : List Bool)
         → ArePending items.now marks [] rows.items) }
 {
-    let told = tidings(alloc, items)?;
+    let told = status_items(alloc, items)?;
     let mut rows = Vec::new(alloc);
     for switch in 0..count {
-        let lanes = empty_lanes(alloc)?;
+        let buckets = empty_buckets(alloc)?;
         rows.push(Pending {
-            life: Life::of(&told, switch),
+            status: SwitchStatus::of(&told, switch),
             boot: 1,
-            lanes,
+            buckets,
         })?;
     }
     Ok(rows)
@@ -87,9 +87,10 @@ fn at_first(alloc: Global, items: &[Item], count: u32) -> Result<Vec<Pending>, A
 fn take_item(rows: &mut Vec<Pending>, item: &Item, delivered: &[bool]) -> Result<(), AllocError>
     ensures count { OnOk result (length rows.new.items ≡ length rows.old.items) }
     ensures concerned { OnOk result ((s : ℕ) (d : Pending) → s < length rows.old.items
-        → is_named s (concerned item.now) ≡ true
+        → is_named s (concerned_switch item.now) ≡ true
         → IsAfter delivered.now item.now (get_or rows.old.items s d) (get_or rows.new.items s d)) }
-    ensures others { OnOk result ((s : ℕ) (d : Pending) → is_named s (concerned item.now) ≡ false
+    ensures others { OnOk result ((s : ℕ) (d : Pending) → is_named s (concerned_switch item.now)
+        ≡ false
         → get_or rows.new.items s d ≡ get_or rows.old.items s d) }
 {
     match concerned(item) {
@@ -100,7 +101,7 @@ fn take_item(rows: &mut Vec<Pending>, item: &Item, delivered: &[bool]) -> Result
 
 // The switch for which the item makes a difference, if any.
 fn concerned(item: &Item) -> Option<u32>
-    ensures { result ≡ concerned item.now }
+    ensures { result ≡ concerned_switch item.now }
 {
     match item {
         Item::Booted { switch, .. } => Some(*switch),
@@ -111,7 +112,7 @@ fn concerned(item: &Item) -> Option<u32>
 
 // The switch that a message is to, or of.
 fn party(message: &Message) -> Option<u32>
-    ensures { result ≡ party message.now }
+    ensures { result ≡ switch_of_message message.now }
 {
     match message.to {
         Receiver::Switch(to) => Some(to),
@@ -121,7 +122,7 @@ fn party(message: &Message) -> Option<u32>
 
 // The switch that says this to the controller.
 fn speaks(body: &Body) -> Option<u32>
-    ensures { result ≡ speaks body.now }
+    ensures { result ≡ speaking_switch body.now }
 {
     match body {
         Body::Hello { switch, .. }

@@ -5,7 +5,7 @@ use Rattle.std.proofs.lemmas.List.{take-append-drop, take-append-le}
 use Rattle.journal.specs.declared.item.Item.{Item}
 use Rattle.journal_text.specs.Lines.{item_line, journal_text}
 use Rattle.net_file.specs.declared.net.Net.{Net}
-use Rattle.shelf.specs.Sink.{gained, GainedPart}
+use Rattle.shelf.specs.Sink.{with_gained, GainedPart}
 
 abbrev line_of : Net → Item → List ℕ
 line_of net item = item_line net item ++ 10 ∷ []
@@ -38,7 +38,7 @@ part_line net items i item within is before now part =
     ) (
       n,
       omega (arith, shorter, length-append front rest),
-      part.2 ∙ ap (gained before) (sym (take-append-le n front rest (omega (arith, shorter)))),
+      part.2 ∙ ap (with_gained before) (sym (take-append-le n front rest (omega (arith, shorter)))),
     )
 
 -- a text that is empty has no lines

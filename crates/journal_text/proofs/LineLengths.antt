@@ -19,7 +19,7 @@ use Rattle.policy_rules.specs.declared.packet.How.TheVariants.{Cached, Authority
 use Rattle.policy_rules.specs.declared.policy.Action.{Action}
 use Rattle.journal.specs.declared.item.Item.{Item}
 use Rattle.journal.specs.declared.item.Item.TheVariants as item
-use Rattle.journal_text.specs.Lines.{advert_text, body_text, boot_text, cause_text, how_text, item_line, mask_text, named, with_number, packet_at, pair_text, receiver_text, ruled_text, state_text, step_text, two_text, version_text, via_text}
+use Rattle.journal_text.specs.Lines.{advert_text, body_text, boot_text, cause_text, how_text, item_line, mask_text, with_name, with_number, packet_at, pair_text, receiver_text, ruled_text, state_text, step_text, two_text, version_text, via_text}
 use Rattle.journal_text.specs.Sizes.{IsBodyOfType, IsHow, IsItemOfType, IsShortRoute, IsStepOfType, LinesFit}
 use Rattle.lines.proofs.Lengths.{IsWithin, all_of, joined_within, with_text, widened, number, rule_within, action_within, fields_within, word_within, name_within, names_within}
 use Rattle.lines.specs.Sizes.{IsAction, IsNumber, IsRule}
@@ -43,7 +43,7 @@ few_switches mask = omega (
 
 module _ (laws : NameLaws) (net : Net) (sound : IsNet net) where
   named_within : {m : ℕ} {text : List ℕ} → IsWithin m text → (s : ℕ)
-      → IsWithin (m + 1 + 16) (named net text s)
+      → IsWithin (m + 1 + 16) (with_name net text s)
   named_within w s =
       joined_within (with_text w (codes " ")) (name_within laws net sound s)
 

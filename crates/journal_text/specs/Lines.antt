@@ -28,8 +28,8 @@ use Rattle.steps.specs.declared.step.Step.TheVariants.{Packet, Hop, Lose, Delive
 abbrev pub with_number : List ℕ → ℕ → List ℕ
 with_number text n = text ++ codes " " ++ decimal n
 
-abbrev pub named : Net → List ℕ → ℕ → List ℕ
-named net text s = text ++ codes " " ++ name_of net s
+abbrev pub with_name : Net → List ℕ → ℕ → List ℕ
+with_name net text s = text ++ codes " " ++ name_of net s
 
 -- two numbers, each behind a text
 unfoldable pub two_text : List ℕ → ℕ → List ℕ → ℕ → List ℕ
@@ -46,27 +46,27 @@ packet_at net text packet s = with_number text packet ++ codes " " ++ name_of ne
 
 -- two switches, as the ends of a link
 abbrev pub pair_text : Net → List ℕ → ℕ → ℕ → List ℕ
-pair_text net text one two = named net text one ++ codes " " ++ name_of net two
+pair_text net text one two = with_name net text one ++ codes " " ++ name_of net two
 
 -- ---- steps
 
 -- the fields of the step's row; a link's lower switch first
 abbrev pub step_text : Net → Step → List ℕ
 step_text net (Packet switch header) =
-    named net (codes "packet") switch ++ codes " " ++ fields_text header.fields
+    with_name net (codes "packet") switch ++ codes " " ++ fields_text header.fields
 step_text net (Hop packet) = with_number (codes "hop") packet
 step_text net (Lose packet) = with_number (codes "lose") packet
 step_text net (Deliver message) = with_number (codes "deliver") message
 step_text net (Forget message) = with_number (codes "forget") message
 step_text net (Expire switch place) =
-    named net (codes "expire") switch ++ codes " " ++ decimal place
+    with_name net (codes "expire") switch ++ codes " " ++ decimal place
 step_text net (Update file) = with_number (codes "update") file
 step_text net (LinkDown one two) = pair_text net (codes "linkdown") (min one two) (max one two)
 step_text net (LinkUp one two) = pair_text net (codes "linkup") (min one two) (max one two)
-step_text net (Crash switch) = named net (codes "crash") switch
-step_text net (Restart switch) = named net (codes "restart") switch
-step_text net (Confirm switch) = named net (codes "confirm") switch
-step_text net (Resend switch) = named net (codes "resend") switch
+step_text net (Crash switch) = with_name net (codes "crash") switch
+step_text net (Restart switch) = with_name net (codes "restart") switch
+step_text net (Confirm switch) = with_name net (codes "confirm") switch
+step_text net (Resend switch) = with_name net (codes "resend") switch
 
 -- ---- messages
 
@@ -82,7 +82,7 @@ version_text text boot version = boot_text text boot ++ codes " version " ++ dec
 
 abbrev pub advert_text : Net → Advert → List ℕ
 advert_text net advert =
-    boot_text (named net (codes "advert") advert.origin) advert.boot
+    boot_text (with_name net (codes "advert") advert.origin) advert.boot
     ++ codes " seq " ++ decimal advert.seq ++ codes " up" ++ mask_text net advert.up
 
 -- a rule and its action
@@ -101,18 +101,18 @@ body_text net (Stamp boot version) = version_text (codes "stamp") boot version
 body_text net (Collect boot version) = version_text (codes "collect") boot version
 body_text net (CacheRule version word rule action) = cache_text version word rule action
 body_text net (Advertise advert) = advert_text net advert
-body_text net (Hello switch boot) = boot_text (named net (codes "hello") switch) boot
+body_text net (Hello switch boot) = boot_text (with_name net (codes "hello") switch) boot
 body_text net (Installed switch boot version) =
-    version_text (named net (codes "installed") switch) boot version
+    version_text (with_name net (codes "installed") switch) boot version
 body_text net (Stamped switch boot version) =
-    version_text (named net (codes "stamped") switch) boot version
+    version_text (with_name net (codes "stamped") switch) boot version
 
 -- ---- items
 
 abbrev pub how_text : Net → How → List ℕ
 how_text net (Cached message) = with_number (codes "cache") message
 how_text net (Authority switch partition) =
-    named net (codes "authority") switch ++ codes " part " ++ decimal partition
+    with_name net (codes "authority") switch ++ codes " part " ++ decimal partition
 
 abbrev pub cause_text : Cause → List ℕ
 cause_text NoAuthority = codes "no-authority"
@@ -157,7 +157,7 @@ item_line net (item.Sent number message) =
 item_line net (item.Delivered number) = with_number (codes "  delivered") number
 item_line net (item.Forgotten number) = with_number (codes "  forgotten") number
 item_line net (item.Expired switch place message) =
-    named net (codes "  expired") switch ++ codes " " ++ decimal place ++ codes " message "
+    with_name net (codes "  expired") switch ++ codes " " ++ decimal place ++ codes " message "
     ++ decimal message
 item_line net (item.Submitted file version) =
     two_text (codes "  submitted file") file (codes " version ") version
@@ -166,11 +166,11 @@ item_line net (item.Refused file code) =
 item_line net (item.Current version) = with_number (codes "  current") version
 item_line net (item.Retired version) = with_number (codes "  retired") version
 item_line net (item.Booted switch boot) =
-    named net (codes "  booted") switch ++ codes " " ++ decimal boot
+    with_name net (codes "  booted") switch ++ codes " " ++ decimal boot
 item_line net (item.Opened switch version) =
-    named net (codes "  opened") switch ++ codes " version " ++ decimal version
-item_line net (item.Down switch) = named net (codes "  down") switch
-item_line net (item.OverNow switch) = named net (codes "  over") switch
+    with_name net (codes "  opened") switch ++ codes " version " ++ decimal version
+item_line net (item.Down switch) = with_name net (codes "  down") switch
+item_line net (item.OverNow switch) = with_name net (codes "  over") switch
 item_line net (item.LinkIs one two up) =
     pair_text net (codes "  link") one two ++ codes " " ++ state_text up
 item_line net item.Nothing = codes "  nothing"

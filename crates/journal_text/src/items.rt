@@ -3,7 +3,7 @@ ghost use Rattle.net_file.specs.Net.{IsNet};
 ghost use Rattle.journal.specs.declared.item.Item.TheVariants as item;
 ghost use Rattle.journal_text.specs.Lines.{cause_text, how_text, item_line, journal_text, with_number, packet_at, two_text, via_text};
 ghost use Rattle.journal_text.specs.Sizes.{IsBodyOfType, IsItemOfType, IsShortRoute};
-ghost use Rattle.lines.specs.Pushes.{pushed};
+ghost use Rattle.lines.specs.Pushes.{line_with};
 
 use crate::laws::lines_fit;
 use crate::messages::{push_body, push_receiver, push_ruled};
@@ -56,7 +56,7 @@ pub(crate) fn set_line(line: &mut Line, net: &Net, item: &Item)
 
 #[tactic(auto, using(lines::proofs::CallerLemmas::pushed_append))]
 fn push_row(line: &mut Line, net: &Net, row: u32, step: &Step)
-    ensures text { line.new ≡ pushed line.old (item_line net.now (item.Row row step.now)) }
+    ensures text { line.new ≡ line_with line.old (item_line net.now (item.Row row step.now)) }
     ensures of_type { IsItemOfType (item.Row row step.now) }
 {
     push_numbered(line, "row", row);
@@ -67,7 +67,7 @@ fn push_row(line: &mut Line, net: &Net, row: u32, step: &Step)
 // A packet and a switch behind a text.
 #[tactic(auto, using(lines::proofs::CallerLemmas::pushed_append))]
 fn push_at(line: &mut Line, net: &Net, text: &str, packet: u32, s: u32)
-    ensures { line.new ≡ pushed line.old (packet_at net.now text.now packet s) }
+    ensures { line.new ≡ line_with line.old (packet_at net.now text.now packet s) }
 {
     push_numbered(line, text, packet);
     line.push(" ");
@@ -77,7 +77,7 @@ fn push_at(line: &mut Line, net: &Net, text: &str, packet: u32, s: u32)
 // The switches of a route.
 #[tactic(auto, using(lines::proofs::CallerLemmas::pushed_append), unfolding(crate::specs::Lines::via_text))]
 fn push_via(line: &mut Line, net: &Net, route: &SharedRoute)
-    ensures text { line.new ≡ pushed line.old (via_text net.now route.now) }
+    ensures text { line.new ≡ line_with line.old (via_text net.now route.now) }
     ensures of_type { IsShortRoute route.now }
 {
     line.push(" via");
@@ -92,7 +92,7 @@ fn push_seeking(
     partition: u32,
     route: &SharedRoute,
 )
-    ensures text { line.new ≡ pushed line.old
+    ensures text { line.new ≡ line_with line.old
         (item_line net.now (item.Seeking packet version partition route.now)) }
     ensures of_type { IsItemOfType (item.Seeking packet version partition route.now) }
 {
@@ -104,7 +104,7 @@ fn push_seeking(
 // A packet's route behind a text.
 #[tactic(auto, using(lines::proofs::CallerLemmas::pushed_append))]
 fn push_route(line: &mut Line, net: &Net, text: &str, packet: u32, route: &SharedRoute)
-    ensures text { line.new ≡ pushed line.old
+    ensures text { line.new ≡ line_with line.old
         (with_number text.now packet ++ via_text net.now route.now) }
     ensures of_type { IsShortRoute route.now }
 {
@@ -114,7 +114,7 @@ fn push_route(line: &mut Line, net: &Net, text: &str, packet: u32, route: &Share
 
 #[tactic(auto, using(lines::proofs::CallerLemmas::pushed_append))]
 fn push_found(line: &mut Line, net: &Net, packet: u32, one: u32, two: u32)
-    ensures { line.new ≡ pushed line.old (item_line net.now (item.FoundDown packet one two)) }
+    ensures { line.new ≡ line_with line.old (item_line net.now (item.FoundDown packet one two)) }
 {
     push_at(line, net, "  found", packet, one);
     line.push(" ");
@@ -123,7 +123,7 @@ fn push_found(line: &mut Line, net: &Net, packet: u32, one: u32, two: u32)
 
 #[tactic(auto, using(lines::proofs::CallerLemmas::pushed_append))]
 fn push_how(line: &mut Line, net: &Net, how: How)
-    ensures { line.new ≡ pushed line.old (how_text net.now how) }
+    ensures { line.new ≡ line_with line.old (how_text net.now how) }
 {
     match how {
         How::Cached { message } => push_numbered(line, "cache", message),
@@ -143,7 +143,7 @@ fn push_decided(
     action: Action,
     how: How,
 )
-    ensures text { line.new ≡ pushed line.old
+    ensures text { line.new ≡ line_with line.old
         (item_line net.now (item.Decided packet version rule action how)) }
     ensures of_type { IsItemOfType (item.Decided packet version rule action how) }
 {
@@ -156,7 +156,7 @@ fn push_decided(
 // Two numbers, each behind a text.
 #[tactic(auto, using(lines::proofs::CallerLemmas::pushed_append), unfolding(crate::specs::Lines::two_text))]
 fn push_two(line: &mut Line, text: &str, n: u32, next: &str, m: u32)
-    ensures { line.new ≡ pushed line.old (two_text text.now n next.now m) }
+    ensures { line.new ≡ line_with line.old (two_text text.now n next.now m) }
 {
     push_numbered(line, text, n);
     line.push(next);
@@ -174,7 +174,7 @@ fn cause_text(cause: Cause) -> &'static str
 
 #[tactic(auto, using(lines::proofs::CallerLemmas::pushed_append))]
 fn push_stuck(line: &mut Line, net: &Net, packet: u32, switch: u32, cause: Cause)
-    ensures { line.new ≡ pushed line.old
+    ensures { line.new ≡ line_with line.old
         (packet_at net.now (codes "  stuck") packet switch ++ codes " " ++ cause_text cause) }
 {
     push_at(line, net, "  stuck", packet, switch);
@@ -184,7 +184,8 @@ fn push_stuck(line: &mut Line, net: &Net, packet: u32, switch: u32, cause: Cause
 
 #[tactic(auto, using(lines::proofs::CallerLemmas::pushed_append))]
 fn push_sent(line: &mut Line, net: &Net, number: u32, message: &SharedMessage)
-    ensures text { line.new ≡ pushed line.old (item_line net.now (item.Sent number message.now)) }
+    ensures text { line.new ≡ line_with line.old
+        (item_line net.now (item.Sent number message.now)) }
     ensures of_type { IsBodyOfType message.now.body }
 {
     let message = message.get();
@@ -198,7 +199,7 @@ fn push_sent(line: &mut Line, net: &Net, number: u32, message: &SharedMessage)
 #[tactic(auto, using(lines::proofs::CallerLemmas::pushed_append))]
 fn push_expired(line: &mut Line, net: &Net, switch: u32, place: u32, message: u32)
     ensures { line.new
-        ≡ pushed line.old (item_line net.now (item.Expired switch place message)) }
+        ≡ line_with line.old (item_line net.now (item.Expired switch place message)) }
 {
     push_named_number(line, net, "  expired", switch, " ", place);
     line.push(" message ");
@@ -207,7 +208,7 @@ fn push_expired(line: &mut Line, net: &Net, switch: u32, place: u32, message: u3
 
 #[tactic(auto, using(lines::proofs::CallerLemmas::pushed_append))]
 fn push_link(line: &mut Line, net: &Net, one: u32, two: u32, up: bool)
-    ensures { line.new ≡ pushed line.old (item_line net.now (item.LinkIs one two up)) }
+    ensures { line.new ≡ line_with line.old (item_line net.now (item.LinkIs one two up)) }
 {
     push_pair(line, net, "  link", one, two);
     line.push(" ");
@@ -220,7 +221,7 @@ fn push_link(line: &mut Line, net: &Net, one: u32, two: u32, up: bool)
 
 // An item's line, without its line feed.
 fn push_item(line: &mut Line, net: &Net, item: &Item)
-    ensures text { line.new ≡ pushed line.old (item_line net.now item.now) }
+    ensures text { line.new ≡ line_with line.old (item_line net.now item.now) }
     ensures of_type { IsItemOfType item.now }
 {
     match item {

@@ -1,9 +1,9 @@
 ghost use Rattle.std.specs.Prelude.{◌≡◌};
 ghost use Rattle.ctrl_msg.specs.declared.message.Body.TheVariants.{CacheRule};
-ghost use Rattle.journal_text.specs.Lines.{advert_text, body_text, boot_text, cache_text, named, receiver_text, ruled_text, version_text};
+ghost use Rattle.journal_text.specs.Lines.{advert_text, body_text, boot_text, cache_text, with_name, receiver_text, ruled_text, version_text};
 ghost use Rattle.journal_text.specs.Sizes.{IsBodyOfType};
 ghost use Rattle.lines.specs.Sizes.{IsAction, IsNumber, IsRule};
-ghost use Rattle.lines.specs.Pushes.{pushed};
+ghost use Rattle.lines.specs.Pushes.{line_with};
 
 use crate::names::push_mask;
 use crate::rows::{push_named_number, push_numbered};
@@ -16,7 +16,7 @@ use ternary::Word;
 
 /// Adds the receiver of a message.
 pub(crate) fn push_receiver(line: &mut Line, net: &Net, to: Receiver)
-    ensures { line.new ≡ pushed line.old (receiver_text net.now to) }
+    ensures { line.new ≡ line_with line.old (receiver_text net.now to) }
 {
     match to {
         Receiver::Switch(s) => push_name(line, net, s),
@@ -27,7 +27,7 @@ pub(crate) fn push_receiver(line: &mut Line, net: &Net, to: Receiver)
 // Adds a boot, behind what was said before it.
 #[tactic(auto, using(lines::proofs::CallerLemmas::pushed_append))]
 fn push_boot(line: &mut Line, text: &str, boot: u32)
-    ensures { line.new ≡ pushed line.old (boot_text text.now boot) }
+    ensures { line.new ≡ line_with line.old (boot_text text.now boot) }
 {
     line.push(text);
     line.push(" boot ");
@@ -36,7 +36,7 @@ fn push_boot(line: &mut Line, text: &str, boot: u32)
 
 #[tactic(auto, using(lines::proofs::CallerLemmas::pushed_append))]
 fn push_version(line: &mut Line, text: &str, boot: u32, version: u32)
-    ensures { line.new ≡ pushed line.old (version_text text.now boot version) }
+    ensures { line.new ≡ line_with line.old (version_text text.now boot version) }
 {
     push_boot(line, text, boot);
     line.push(" version ");
@@ -45,7 +45,7 @@ fn push_version(line: &mut Line, text: &str, boot: u32, version: u32)
 
 #[tactic(auto, using(lines::proofs::CallerLemmas::pushed_append))]
 fn push_booted(line: &mut Line, net: &Net, text: &str, switch: u32, boot: u32)
-    ensures { line.new ≡ pushed line.old (boot_text (named net.now text.now switch) boot) }
+    ensures { line.new ≡ line_with line.old (boot_text (with_name net.now text.now switch) boot) }
 {
     push_named_number(line, net, text, switch, " boot ", boot);
 }
@@ -53,7 +53,7 @@ fn push_booted(line: &mut Line, net: &Net, text: &str, switch: u32, boot: u32)
 #[tactic(auto, using(lines::proofs::CallerLemmas::pushed_append))]
 fn push_answer(line: &mut Line, net: &Net, text: &str, switch: u32, boot: u32, version: u32)
     ensures { line.new
-        ≡ pushed line.old (version_text (named net.now text.now switch) boot version) }
+        ≡ line_with line.old (version_text (with_name net.now text.now switch) boot version) }
 {
     push_booted(line, net, text, switch, boot);
     line.push(" version ");
@@ -63,7 +63,7 @@ fn push_answer(line: &mut Line, net: &Net, text: &str, switch: u32, boot: u32, v
 /// Adds a rule and its action.
 #[tactic(auto, using(lines::proofs::CallerLemmas::pushed_append), unfolding(crate::specs::Lines::ruled_text))]
 pub(crate) fn push_ruled(line: &mut Line, rule: Option<u32>, action: Action)
-    ensures text { line.new ≡ pushed line.old (ruled_text rule action) }
+    ensures text { line.new ≡ line_with line.old (ruled_text rule action) }
     ensures of_type { IsRule rule × IsAction action }
 {
     line.push(" rule ");
@@ -73,7 +73,7 @@ pub(crate) fn push_ruled(line: &mut Line, rule: Option<u32>, action: Action)
 }
 
 fn push_cache(line: &mut Line, version: u32, word: &Word, rule: Option<u32>, action: Action)
-    ensures text { line.new ≡ pushed line.old (cache_text version word.now rule action) }
+    ensures text { line.new ≡ line_with line.old (cache_text version word.now rule action) }
     ensures of_type { IsBodyOfType (CacheRule version word.now rule action) }
 {
     push_numbered(line, "cache version", version);
@@ -84,7 +84,7 @@ fn push_cache(line: &mut Line, version: u32, word: &Word, rule: Option<u32>, act
 
 #[tactic(auto, using(lines::proofs::CallerLemmas::pushed_append))]
 fn push_advert(line: &mut Line, net: &Net, advert: &Advert)
-    ensures text { line.new ≡ pushed line.old (advert_text net.now advert.now) }
+    ensures text { line.new ≡ line_with line.old (advert_text net.now advert.now) }
     ensures of_type { IsNumber advert.now.boot × IsNumber advert.now.seq }
 {
     let Advert {
@@ -102,7 +102,7 @@ fn push_advert(line: &mut Line, net: &Net, advert: &Advert)
 
 /// Adds what a message says.
 pub(crate) fn push_body(line: &mut Line, net: &Net, body: &Body)
-    ensures text { line.new ≡ pushed line.old (body_text net.now body.now) }
+    ensures text { line.new ≡ line_with line.old (body_text net.now body.now) }
     ensures of_type { IsBodyOfType body.now }
 {
     match body {

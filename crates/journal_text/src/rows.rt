@@ -1,8 +1,8 @@
 ghost use Rattle.std.specs.Prelude.{◌≡◌, ◌++◌, decimal};
-ghost use Rattle.journal_text.specs.Lines.{named, with_number, pair_text, step_text};
+ghost use Rattle.journal_text.specs.Lines.{with_name, with_number, pair_text, step_text};
 ghost use Rattle.journal_text.specs.Sizes.{IsStepOfType};
 ghost use Rattle.steps.specs.declared.step.Step.TheVariants.{Packet};
-ghost use Rattle.lines.specs.Pushes.{pushed};
+ghost use Rattle.lines.specs.Pushes.{line_with};
 
 use five_tuple::Header;
 use lines::{Line, push_fields, push_name};
@@ -12,7 +12,7 @@ use steps::Step;
 /// Adds a number behind a text.
 #[tactic(auto, using(lines::proofs::CallerLemmas::pushed_append))]
 pub(crate) fn push_numbered(line: &mut Line, text: &str, n: u32)
-    ensures { line.new ≡ pushed line.old (with_number text.now n) }
+    ensures { line.new ≡ line_with line.old (with_number text.now n) }
 {
     line.push(text);
     line.push(" ");
@@ -22,7 +22,7 @@ pub(crate) fn push_numbered(line: &mut Line, text: &str, n: u32)
 /// Adds a switch's name behind a text.
 #[tactic(auto, using(lines::proofs::CallerLemmas::pushed_append))]
 pub(crate) fn push_named(line: &mut Line, net: &Net, text: &str, s: u32)
-    ensures { line.new ≡ pushed line.old (named net.now text.now s) }
+    ensures { line.new ≡ line_with line.old (with_name net.now text.now s) }
 {
     line.push(text);
     line.push(" ");
@@ -32,7 +32,8 @@ pub(crate) fn push_named(line: &mut Line, net: &Net, text: &str, s: u32)
 /// Adds a switch's name and a number, each behind a text.
 #[tactic(auto, using(lines::proofs::CallerLemmas::pushed_append))]
 pub(crate) fn push_named_number(line: &mut Line, net: &Net, text: &str, s: u32, next: &str, n: u32)
-    ensures { line.new ≡ pushed line.old (named net.now text.now s ++ next.now ++ decimal n) }
+    ensures { line.new ≡ line_with line.old (with_name net.now text.now s ++ next.now
+        ++ decimal n) }
 {
     push_named(line, net, text, s);
     line.push(next);
@@ -42,7 +43,7 @@ pub(crate) fn push_named_number(line: &mut Line, net: &Net, text: &str, s: u32, 
 /// Adds the names of two switches behind a text.
 #[tactic(auto, using(lines::proofs::CallerLemmas::pushed_append))]
 pub(crate) fn push_pair(line: &mut Line, net: &Net, text: &str, one: u32, two: u32)
-    ensures { line.new ≡ pushed line.old (pair_text net.now text.now one two) }
+    ensures { line.new ≡ line_with line.old (pair_text net.now text.now one two) }
 {
     push_named(line, net, text, one);
     line.push(" ");
@@ -51,7 +52,7 @@ pub(crate) fn push_pair(line: &mut Line, net: &Net, text: &str, one: u32, two: u
 
 #[tactic(auto, using(lines::proofs::CallerLemmas::pushed_append))]
 fn push_packet(line: &mut Line, net: &Net, switch: u32, header: &Header)
-    ensures text { line.new ≡ pushed line.old (step_text net.now (Packet switch header.now)) }
+    ensures text { line.new ≡ line_with line.old (step_text net.now (Packet switch header.now)) }
     ensures of_type { IsStepOfType (Packet switch header.now) }
 {
     let _number = header.number();
@@ -62,7 +63,7 @@ fn push_packet(line: &mut Line, net: &Net, switch: u32, header: &Header)
 
 /// Adds the fields of a step's row, separated by blanks.
 pub(crate) fn push_step(line: &mut Line, net: &Net, step: &Step)
-    ensures text { line.new ≡ pushed line.old (step_text net.now step.now) }
+    ensures text { line.new ≡ line_with line.old (step_text net.now step.now) }
     ensures of_type { IsStepOfType step.now }
 {
     match step {

@@ -1,7 +1,7 @@
 -- What proofs above cite: of pieces put at the end of a line, and of tables of pairs of digits.
 use Rattle.std.proofs.Common.{ℕ, ◌≡◌, ◌+◌, ◌-◌, ◌*◌, ◌<◌, ◌≤◌, Bool, true, ◌&&◌, T, eqb, List, [], ◌∷◌, ◌++◌, length, take, get_or, append-nil, append_assoc, ap, ◌∙◌, refl, inl, inr, zero, suc, arith, eq-zero-or-pos, eqb→eq}
 use Rattle.std.proofs.lemmas.List.{take_all}
-use Rattle.lines.specs.Pushes.{pushed}
+use Rattle.lines.specs.Pushes.{line_with}
 use lib.Ieee.Fits.{and_l, and_r}
 
 take_front : (n : ℕ) (xs ys : List ℕ) → take n (take n xs ++ ys) ≡ take n (xs ++ ys)
@@ -10,19 +10,19 @@ take_front (suc n) [] ys = refl
 take_front (suc n) (x ∷ xs) ys = ap (λ zs. x ∷ zs) (take_front n xs ys)
 
 -- two pieces put one after the other are one
-pub pushed_append : (line a b : List ℕ) → pushed (pushed line a) b ≡ pushed line (a ++ b)
-unfolding pushed
+pub pushed_append : (line a b : List ℕ) → line_with (line_with line a) b ≡ line_with line (a ++ b)
+unfolding line_with
 pushed_append line a b =
     take_front 2048 (line ++ a) b ∙ ap (take 2048) (append_assoc line a b)
 
 -- a text that fits is held whole
-pub pushed_whole : (text : List ℕ) → length text ≤ 2048 → pushed [] text ≡ text
-unfolding pushed
+pub pushed_whole : (text : List ℕ) → length text ≤ 2048 → line_with [] text ≡ text
+unfolding line_with
 pushed_whole text fits = take_all 2048 text fits
 
 -- a line with nothing more at its end
-pub pushed_nothing : (line : List ℕ) → length line ≤ 2048 → pushed line [] ≡ line
-unfolding pushed
+pub pushed_nothing : (line : List ℕ) → length line ≤ 2048 → line_with line [] ≡ line
+unfolding line_with
 pushed_nothing line fits = ap (take 2048) (append-nil line) ∙ take_all 2048 line fits
 
 -- ---- tables of pairs

@@ -4,19 +4,19 @@ use Rattle.std.proofs.Math.Seq.{take-append-add}
 use Rattle.std.proofs.lemmas.List.{length-append, length-take, length-take-le, take-append-drop, take_all}
 use Rattle.std.proofs.lemmas.Slice.{take-put_mid}
 use borrow.Rule.Slice.PartMut.{put_mid}
-use Rattle.lines.specs.Pushes.{pushed}
+use Rattle.lines.specs.Pushes.{line_with}
 
 -- a piece for which there is room
 pub whole : (line piece : List ℕ) → length line + length piece ≤ 2048
-    → line ++ piece ≡ pushed line piece
-unfolding pushed
+    → line ++ piece ≡ line_with line piece
+unfolding line_with
 whole line piece fits =
     sym (take_all 2048 (line ++ piece) (omega (arith, fits, length-append line piece)))
 
 -- the front of a piece that fills the line
 pub part : (line piece : List ℕ) (room : ℕ) → 2048 ≡ length line + room
-    → line ++ take room piece ≡ pushed line piece
-unfolding pushed
+    → line ++ take room piece ≡ line_with line piece
+unfolding line_with
 part line piece room full = sym
     (ap (λ n. take n (line ++ piece)) full ∙ take-append-add line piece room)
 

@@ -2,5 +2,5 @@
 use Rattle.std.specs.Prelude.{ℕ, List, ◌++◌, take}
 
 -- the line with a piece at its end, as far as there is room
-unfoldable pub pushed : List ℕ → List ℕ → List ℕ
-pushed line piece = take 2048 (line ++ piece)
+unfoldable pub line_with : List ℕ → List ℕ → List ℕ
+line_with line piece = take 2048 (line ++ piece)

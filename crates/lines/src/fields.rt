@@ -1,14 +1,14 @@
 ghost use Rattle.std.specs.Prelude.{◌≡◌, [], ◌∷◌, decimal};
 ghost use Rattle.std.specs.List.{join_with_byte};
 ghost use Rattle.five_tuple.specs.Printing.{address_text, fields_text, proto_number_text};
-ghost use Rattle.lines.specs.Pushes.{pushed};
+ghost use Rattle.lines.specs.Pushes.{line_with};
 
 use crate::line::Line;
 use five_tuple::Fields;
 
 // Adds four numbers joined by dots.
 fn push_dotted(line: &mut Line, a: u8, b: u8, c: u8, d: u8)
-    ensures { line.new ≡ pushed line.old
+    ensures { line.new ≡ line_with line.old
         (join_with_byte 46 (decimal a ∷ decimal b ∷ decimal c ∷ decimal d ∷ [])) }
 {
     line.push_number(u64::from(a));
@@ -23,7 +23,7 @@ fn push_dotted(line: &mut Line, a: u8, b: u8, c: u8, d: u8)
 /// Adds an address as four numbers joined by dots.
 #[tactic(auto, unfolding(five_tuple::specs::Printing::address_text))]
 pub fn push_address(line: &mut Line, address: u32)
-    ensures { line.new ≡ pushed line.old (address_text address) }
+    ensures { line.new ≡ line_with line.old (address_text address) }
 {
     let [a, b, c, d] = address.to_be_bytes();
     push_dotted(line, a, b, c, d);
@@ -32,7 +32,7 @@ pub fn push_address(line: &mut Line, address: u32)
 // Adds a protocol by the name of ICMP, TCP or UDP, and else as its number.
 #[tactic(auto, unfolding(five_tuple::specs::Printing::proto_number_text))]
 fn push_protocol(line: &mut Line, proto: u8)
-    ensures { line.new ≡ pushed line.old (proto_number_text proto) }
+    ensures { line.new ≡ line_with line.old (proto_number_text proto) }
 {
     match proto {
         1 => line.push("icmp"),
@@ -44,7 +44,7 @@ fn push_protocol(line: &mut Line, proto: u8)
 
 /// Adds both addresses, both ports and the protocol, separated by blanks.
 pub fn push_fields(line: &mut Line, fields: &Fields)
-    ensures { line.new ≡ pushed line.old (fields_text fields.now) }
+    ensures { line.new ≡ line_with line.old (fields_text fields.now) }
 {
     push_address(line, fields.src);
     line.push(" ");

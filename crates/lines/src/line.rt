@@ -1,5 +1,5 @@
 ghost use Rattle.std.specs.Prelude.{◌≡◌, ◌≤◌, [], length, decimal};
-ghost use Rattle.lines.specs.Pushes.{pushed};
+ghost use Rattle.lines.specs.Pushes.{line_with};
 
 use crate::digits::put_short;
 use crate::pieces::put;
@@ -55,7 +55,7 @@ impl Line {
     /// Adds bytes.
     #[inline]
     pub fn push_bytes(&mut self, piece: &[u8])
-        ensures { self.new ≡ pushed self.old piece.now }
+        ensures { self.new ≡ line_with self.old piece.now }
     {
         self.len = put(&mut self.bytes, self.len, piece);
     }
@@ -63,14 +63,14 @@ impl Line {
     /// Adds a text.
     #[inline]
     pub fn push(&mut self, piece: &str)
-        ensures { self.new ≡ pushed self.old piece.now }
+        ensures { self.new ≡ line_with self.old piece.now }
     {
         self.push_bytes(piece.as_bytes());
     }
 
     /// Adds a number in decimal digits.
     pub fn push_number(&mut self, n: u64)
-        ensures { self.new ≡ pushed self.old (decimal n) }
+        ensures { self.new ≡ line_with self.old (decimal n) }
     {
         if n < 1_000_000 && self.len <= LINE_BYTES - 6 {
             self.len = put_short(&mut self.bytes, self.len, n);
@@ -83,7 +83,7 @@ impl Line {
     #[cold]
     #[inline(never)]
     fn push_long_number(&mut self, n: u64)
-        ensures { self.new ≡ pushed self.old (decimal n) }
+        ensures { self.new ≡ line_with self.old (decimal n) }
     {
         let mut buffer = Buffer::new();
         self.push(buffer.format(n));

@@ -1,13 +1,13 @@
 ghost use Rattle.std.specs.Prelude.{◌≡◌};
 ghost use Rattle.net_file.specs.Net.{name_of, names_text};
-ghost use Rattle.lines.specs.Pushes.{pushed};
+ghost use Rattle.lines.specs.Pushes.{line_with};
 
 use crate::line::Line;
 use net_file::Net;
 
 /// Adds the name of the switch of this number, if the network has it.
 pub fn push_name(line: &mut Line, net: &Net, s: u32)
-    ensures { line.new ≡ pushed line.old (name_of net.now s) }
+    ensures { line.new ≡ line_with line.old (name_of net.now s) }
 {
     let name = match net.switches.items().get(s as usize) {
         Some(row) => row.name.bytes(),
@@ -19,7 +19,7 @@ pub fn push_name(line: &mut Line, net: &Net, s: u32)
 /// Adds the names of switches, each behind a blank.
 #[tactic(auto, using(crate::proofs::CallerLemmas::pushed_append, crate::proofs::CallerLemmas::pushed_nothing))]
 pub fn push_names(line: &mut Line, net: &Net, switches: &[u32])
-    ensures { line.new ≡ pushed line.old (names_text net.now switches.now) }
+    ensures { line.new ≡ line_with line.old (names_text net.now switches.now) }
 {
     let _within = line.bytes();
     for s in switches {

@@ -1,6 +1,6 @@
 // Pieces put behind the first bytes of a line's array.
 ghost use Rattle.std.specs.Prelude.{◌≡◌, ◌≤◌, ◌+◌, ◌++◌, ◌<◌, length, take};
-ghost use Rattle.lines.specs.Pushes.{pushed};
+ghost use Rattle.lines.specs.Pushes.{line_with};
 
 use crate::line::LINE_BYTES;
 
@@ -9,7 +9,7 @@ use crate::line::LINE_BYTES;
 pub(crate) fn put(bytes: &mut [u8; 2048], len: usize, piece: &[u8]) -> usize
     requires { len ≤ LINE_BYTES }
     ensures within { result ≤ LINE_BYTES }
-    ensures held { take result bytes.new ≡ pushed (take len bytes.old) piece.now }
+    ensures held { take result bytes.new ≡ line_with (take len bytes.old) piece.now }
 {
     if piece.len() <= LINE_BYTES - len {
         put_whole(bytes, len, piece);
@@ -26,7 +26,7 @@ pub(crate) fn put(bytes: &mut [u8; 2048], len: usize, piece: &[u8]) -> usize
 fn fill(bytes: &mut [u8; 2048], len: usize, piece: &[u8])
     requires line { len ≤ 2048 }
     requires more { 2048 < len + length piece.now }
-    ensures { take LINE_BYTES bytes.new ≡ pushed (take len bytes.old) piece.now }
+    ensures { take LINE_BYTES bytes.new ≡ line_with (take len bytes.old) piece.now }
 {
     bytes[len..].copy_from_slice(&piece[..LINE_BYTES - len]);
 }

@@ -2,7 +2,7 @@ ghost use Rattle.std.specs.Prelude.{◌≡◌};
 ghost use Rattle.policy_rules.specs.Policy.{action_text, rule_text};
 ghost use Rattle.ternary.specs.Word.{hex_digits, word_text};
 ghost use Rattle.lines.specs.Sizes.{IsAction, IsRule};
-ghost use Rattle.lines.specs.Pushes.{pushed};
+ghost use Rattle.lines.specs.Pushes.{line_with};
 
 use crate::line::Line;
 use policy_rules::Action;
@@ -39,7 +39,7 @@ fn hex_of(number: u128) -> [u8; 26]
 /// Adds a word as its value and its mask with a slash between them.
 #[tactic(auto, using(crate::proofs::CallerLemmas::pushed_append), unfolding(ternary::specs::Word::word_text))]
 pub fn push_word(line: &mut Line, word: &Word)
-    ensures { line.new ≡ pushed line.old (word_text word.now) }
+    ensures { line.new ≡ line_with line.old (word_text word.now) }
 {
     line.push_bytes(&hex_of(word.value()));
     line.push("/");
@@ -48,7 +48,7 @@ pub fn push_word(line: &mut Line, word: &Word)
 
 /// Adds a rule's name: the priority of its row, or `default`.
 pub fn push_rule(line: &mut Line, rule: Option<u32>)
-    ensures text { line.new ≡ pushed line.old (rule_text rule) }
+    ensures text { line.new ≡ line_with line.old (rule_text rule) }
     ensures of_type { IsRule rule }
 {
     match rule {
@@ -60,7 +60,7 @@ pub fn push_rule(line: &mut Line, rule: Option<u32>)
 /// Adds an action: `drop`, or `out:` and the port.
 #[tactic(auto, using(crate::proofs::CallerLemmas::pushed_append))]
 pub fn push_action(line: &mut Line, action: Action)
-    ensures text { line.new ≡ pushed line.old (action_text action) }
+    ensures text { line.new ≡ line_with line.old (action_text action) }
     ensures of_type { IsAction action }
 {
     match action {

@@ -6,7 +6,7 @@ use Rattle.std.proofs.lemmas.Bool.{cases_eq, ne_eqb}
 use Rattle.std.proofs.lemmas.List.Elements.{All-contains, All-contains_itself, All-head, All-tail}
 use Rattle.std.proofs.lemmas.Option.{same_Some}
 use Rattle.ctrl_msg.specs.declared.message.Message.{Message}
-use Rattle.wire.specs.Frames.{AreFrames, count_in_frame, frames, piece_of, pieces, place_in_frame}
+use Rattle.wire.specs.Frames.{AreFrames, count_in_frame, frames, chunk_of, chunks, place_in_frame}
 use Rattle.wire.specs.Assembly.{held_at, with_frame, AreAllHeld, AreRising, IsOfCount, IsRefusedFrame, too_short, too_long, past_the_count, another_count, another_frame, no_message}
 use Rattle.wire.proofs.Assembling.{spelled_by}
 use Rattle.wire.proofs.Decoding.{one_message}
@@ -31,12 +31,12 @@ of_count from count (g ∷ gs) place f rising at =
 
 pub record IsOneOf (m : Message) (f : List ℕ) : Type 0 where
   pub at : held_at (frames m) (place_in_frame f) ≡ Some f
-  pub of : IsOfCount (length (pieces m)) f
+  pub of : IsOfCount (length (chunks m)) f
   pub sized : IsSized f
 
 pub is_one_of : (m : Message) (f : List ℕ) → HasFrames m → Contains (frames m) f → IsOneOf m f
 is_one_of m f has there =
-    let count = length (pieces m) in
+    let count = length (chunks m) in
     let at = held_there 0 count (frames m) f (frames_rise m has) there in
     record {
       at = at;
@@ -49,10 +49,12 @@ passes : (m : Message) (p : ℕ → Bool) (n : ℕ) → IsSome (held_at (part p 
 passes m p n some = some_passes (p n) (held_at (frames m) n) (subst IsSome (held_part p (frames m) n) some)
 
 -- where all places are held, all frames are
-all_are : (m : Message) (p : ℕ → Bool) → HasFrames m → AreAllHeld (part p (frames m)) (length (pieces m))
+all_are : (m : Message) (p : ℕ → Bool) → HasFrames m
+    → AreAllHeld (part p (frames m)) (length (chunks m))
     → part p (frames m) ≡ frames m
 all_are m p has held =
-    part_all p 0 (length (pieces m)) (frames m) (frames_rise m has) (λ n lt. passes m p n (held n lt))
+    part_all p 0 (length (chunks m)) (frames m) (frames_rise m has)
+    (λ n lt. passes m p n (held n lt))
 
 -- the frames of a message are not refused, whichever of them are held
 pub never_refused : (m : Message) (p q : ℕ → Bool) (f : List ℕ) → HasFrames m → IsOneOf m f
@@ -61,8 +63,8 @@ never_refused m p q f has one joined (too_short lt) = absurd (omega (arith, one.
 never_refused m p q f has one joined (too_long lt) = absurd (omega (arith, one.sized.short))
 never_refused m p q f has one joined (past_the_count le) = absurd (omega (arith, one.of.below, one.of.count_is))
 never_refused m p q f has one joined (another_count place g at other) =
-    other (held_count 0 (length (pieces m)) (part p (frames m)) place g
-    (part_rises p 0 (length (pieces m)) (frames m) (frames_rise m has)) at ∙ sym one.of.count_is)
+    other (held_count 0 (length (chunks m)) (part p (frames m)) place g
+    (part_rises p 0 (length (chunks m)) (frames m) (frames_rise m has)) at ∙ sym one.of.count_is)
 never_refused m p q f has one joined (another_frame g at other) =
     other (by_test (p (place_in_frame f)) (sym (held_part p (frames m) (place_in_frame f)) ∙ at))
   where
@@ -70,7 +72,7 @@ never_refused m p q f has one joined (another_frame g at other) =
     by_test true is = same_Some g f (sym is ∙ one.at)
     by_test false is = absurd (cc is)
 never_refused m p q f has one joined (no_message all none) =
-    let held : AreAllHeld (part q (frames m)) (length (pieces m)) =
+    let held : AreAllHeld (part q (frames m)) (length (chunks m)) =
     subst (λ n. AreAllHeld (part q (frames m)) n) one.of.count_is
     (subst (λ fs. AreAllHeld fs (count_in_frame f)) joined all) in
     none m (record { fits = has.fits; frames_are = joined ∙ all_are m q has held })
@@ -91,7 +93,8 @@ come_elsewhere f fed n other = rw (ne_eqb (place_in_frame f) n (λ e. other (sym
 joins : (m : Message) (f : List ℕ) (fed : List (List ℕ)) → HasFrames m → IsOneOf m f
     → with_frame (part (has_come fed) (frames m)) f ≡ part (has_come (f ∷ fed)) (frames m)
 joins m f fed has one =
-    with_part (has_come fed) (has_come (f ∷ fed)) 0 (length (pieces m)) (frames m) f (frames_rise m has) one.at
+    with_part (has_come fed) (has_come (f ∷ fed)) 0 (length (chunks m)) (frames m) f
+    (frames_rise m has) one.at
     (come_elsewhere f fed) (come_here f fed)
 
 held_is : (m : Message) (fed : List (List ℕ)) → HasFrames m → AreOf m fed
@@ -110,9 +113,10 @@ taken m f fed has of refused =
 
 -- each place has come where each frame has
 places_come : (m : Message) (fed : List (List ℕ)) → HasFrames m → AreAllAmong m fed
-    → (n : ℕ) → n < length (pieces m) → has_come fed n ≡ true
+    → (n : ℕ) → n < length (chunks m) → has_come fed n ≡ true
 places_come m fed has among n lt =
-    let there = all_held (length (pieces m)) (frames m) (frames_rise m has) (length_frames m) n lt in
+    let there = all_held (length (chunks m)) (frames m) (frames_rise m has) (length_frames m) n lt
+    in
     let g = the_some (held_at (frames m) n) there in
     let found = found_there (frames m) n g.0 g.1 in
     let come : Contains fed g.0 = All-contains (Contains fed) (frames m) g.0 among found.0 in
@@ -122,7 +126,8 @@ pub whole : (m : Message) (fed : List (List ℕ)) → HasFrames m → AreOf m fe
     → held_after fed ≡ frames m
 whole m fed has of among =
     held_is m fed has of
-    ∙ part_all (has_come fed) 0 (length (pieces m)) (frames m) (frames_rise m has) (places_come m fed has among)
+    ∙ part_all (has_come fed) 0 (length (chunks m)) (frames m) (frames_rise m has)
+    (places_come m fed has among)
 
 -- a frame whose place has come has come itself
 frame_come : (m : Message) (fed : List (List ℕ)) (g : List ℕ) → HasFrames m → AreOf m fed → Contains (frames m) g
@@ -140,7 +145,7 @@ pub all_come : (m : Message) (f : List ℕ) (fed : List (List ℕ)) → HasFrame
 all_come m f fed has of = (forth, back)
   where
     count : ℕ
-    count = length (pieces m)
+    count = length (chunks m)
 
     one : IsOneOf m f
     one = is_one_of m f has (All-head (Contains (frames m)) f fed of)
@@ -165,4 +170,4 @@ all_come m f fed has of = (forth, back)
 
 pub same_message : (m other : Message) (fs : List (List ℕ)) → AreFrames m fs → AreFrames other fs → other ≡ m
 same_message m other fs are are_other =
-    one_message (flat_map piece_of fs) other m (spelled_by other fs are_other) (spelled_by m fs are)
+    one_message (flat_map chunk_of fs) other m (spelled_by other fs are_other) (spelled_by m fs are)

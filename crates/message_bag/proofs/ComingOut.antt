@@ -6,27 +6,30 @@ use Rattle.std.proofs.lemmas.List.Elements.{All-head}
 use Rattle.std.proofs.lemmas.Option.{slice_get_within}
 use Rattle.ctrl_msg.specs.declared.message.Message.{Message}
 use Rattle.wire.specs.Assembly.{AreAllHeld, IsRefusedFrame, with_frame}
-use Rattle.wire.specs.Frames.{AreFrames, count_in_frame, frames, piece_of}
+use Rattle.wire.specs.Frames.{AreFrames, count_in_frame, frames, chunk_of}
 use Rattle.wire.specs.Messages.{IsSpelling}
 use Rattle.wire.proofs.Assembling.{spelled_by}
 use Rattle.wire.proofs.Decoding.{one_message}
 use Rattle.message_bag.specs.Feeding.{HasFrames}
 use Rattle.message_bag.proofs.InOrder.{all_before, comes_next, frames_before, none_before}
 use Rattle.message_bag.proofs.Sized.{IsSized, few_frames, frames_sized, length_frames}
-use Rattle.message_bag.specs.Kept.{AreOfMessage}
+use Rattle.message_bag.specs.KeptFrames.{AreOfMessage}
 
 pub are_frames : (m : Message) (fs : List (List ℕ)) → HasFrames m → fs ≡ frames m → AreFrames m fs
 are_frames m fs has is = record { fits = has.fits; frames_are = is }
 
--- the one piece is the spelling
-pub spelled_alone : (f : List ℕ) → (of : AreOfMessage (f ∷ [])) → IsSpelling of.0 (piece_of f)
+-- the one chunk is the spelling
+pub spelled_alone : (f : List ℕ) → (of : AreOfMessage (f ∷ [])) → IsSpelling of.0 (chunk_of f)
 spelled_alone f of =
-    subst (IsSpelling of.0) (append-nil (piece_of f)) (spelled_by of.0 (f ∷ []) (are_frames of.0 (f ∷ []) of.1 of.2))
+    subst (IsSpelling of.0) (append-nil (chunk_of f))
+    (spelled_by of.0 (f ∷ []) (are_frames of.0 (f ∷ []) of.1 of.2))
 
-pub alone_are : (f bytes : List ℕ) (m : Message) → AreOfMessage (f ∷ []) → bytes ≡ piece_of f → IsSpelling m bytes
+pub alone_are : (f bytes : List ℕ) (m : Message) → AreOfMessage (f ∷ []) → bytes ≡ chunk_of f
+    → IsSpelling m bytes
     → AreFrames m (f ∷ [])
 alone_are f bytes m of is spelled =
-    let same : m ≡ of.0 = one_message (piece_of f) m of.0 (subst (IsSpelling m) is spelled) (spelled_alone f of) in
+    let same : m ≡ of.0 = one_message (chunk_of f) m of.0 (subst (IsSpelling m) is spelled)
+    (spelled_alone f of) in
     subst (λ n. AreFrames n (f ∷ [])) (sym same) (are_frames of.0 (f ∷ []) of.1 of.2)
 
 -- ---- an assembler that is fed with one frame after the other
@@ -104,5 +107,5 @@ long_alone f of =
     omega (arith, sized.long)
 
 -- what stands behind the header
-pub rest_is : (f : List ℕ) → take (length f - 8) (drop 8 f) ≡ piece_of f
+pub rest_is : (f : List ℕ) → take (length f - 8) (drop 8 f) ≡ chunk_of f
 rest_is f = take_all (length f - 8) (drop 8 f) (omega (arith, length-drop 8 f))

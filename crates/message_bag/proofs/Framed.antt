@@ -4,15 +4,16 @@ use Rattle.ctrl_msg.specs.declared.message.Message.{Message}
 use Rattle.message_bag.proofs.Coming.{same_message}
 use Rattle.wire.specs.Frames.{frames}
 use Rattle.wire.specs.Messages.{message as form}
-use Rattle.message_bag.specs.Posts.{framed}
+use Rattle.message_bag.specs.Posts.{posted_frames}
 
 -- of a message that has a spelling they are its frames
-pub framed_is : (m : Message) → form.fits m ≡ true → framed m ≡ frames m
-unfolding framed
+pub framed_is : (m : Message) → form.fits m ≡ true → posted_frames m ≡ frames m
+unfolding posted_frames
 framed_is m fits = rw fits refl
 
-pub known_by_frames : (m other : Message) → form.fits m ≡ true → framed other ≡ framed m → other ≡ m
-unfolding framed
+pub known_by_frames : (m other : Message) → form.fits m ≡ true → posted_frames other
+    ≡ posted_frames m → other ≡ m
+unfolding posted_frames
 known_by_frames m other fits same =
     by_fit (form.fits other) refl (same ∙ framed_is m fits)
   where

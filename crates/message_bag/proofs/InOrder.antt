@@ -6,7 +6,7 @@ use Rattle.std.specs.List.{Contains}
 use Rattle.std.proofs.lemmas.Bool.{cases_lt, le-ltb, lt-ltb}
 use Rattle.std.proofs.lemmas.Option.{slice_get_within, same_Some}
 use Rattle.ctrl_msg.specs.declared.message.Message.{Message}
-use Rattle.wire.specs.Frames.{count_in_frame, frame, frames, frames_from, pieces, place_in_frame}
+use Rattle.wire.specs.Frames.{count_in_frame, frame, frames, frames_from, chunks, place_in_frame}
 use Rattle.wire.specs.Assembly.{held_at, with_frame, AreAllHeld, IsRefusedFrame}
 use Rattle.wire.proofs.Framing.{place_of_frame}
 use Rattle.wire.proofs.Holding.{all_held}
@@ -24,7 +24,7 @@ none_before m = part_none (λ n. ltb n 0) (frames m) (λ n. le-ltb n 0 (omega ar
 
 pub all_before : (m : Message) → HasFrames m → frames_before m (length (frames m)) ≡ frames m
 all_before m has =
-    part_all (λ n. ltb n (length (frames m))) 0 (length (pieces m)) (frames m) (frames_rise m has)
+    part_all (λ n. ltb n (length (frames m))) 0 (length (chunks m)) (frames m) (frames_rise m has)
     (λ n lt. lt-ltb _ _ (omega (arith, length_frames m)))
 
 -- ---- the frame of a place
@@ -68,8 +68,9 @@ comes_next m place f has at = record {
   held = joined;
   some = λ last.
       subst (AreAllHeld (frames_before m (place + 1))) (sym one.of.count_is)
-      (subst (λ fs. AreAllHeld fs (length (pieces m))) (sym (ap (frames_before m) last ∙ all_before m has))
-      (all_held (length (pieces m)) (frames m) (frames_rise m has) (length_frames m)));
+      (subst (λ fs. AreAllHeld fs (length (chunks m)))
+      (sym (ap (frames_before m) last ∙ all_before m has))
+      (all_held (length (chunks m)) (frames m) (frames_rise m has) (length_frames m)));
   none = λ held. elim (cases_lt (place + 1) (length (frames m))) [
     | inl lt ↦ absurd (missing (place + 1)
         (subst (AreAllHeld (frames_before m (place + 1))) one.of.count_is held (place + 1) (omega (arith, length_frames m))))
@@ -86,9 +87,11 @@ comes_next m place f has at = record {
     one = is_one_of m f has (there (frames m) place f at)
 
     here : place_in_frame f ≡ place
-    here = place_from 0 (length (pieces m)) (pieces m) place f (omega arith) (few_frames m has) at ∙ omega arith
+    here = place_from 0 (length (chunks m)) (chunks m) place f (omega arith) (few_frames m has) at
+        ∙ omega arith
 
     joined : with_frame (frames_before m place) f ≡ frames_before m (place + 1)
     joined =
-        with_part (λ n. ltb n place) (λ n. ltb n (place + 1)) 0 (length (pieces m)) (frames m) f (frames_rise m has) one.at
+        with_part (λ n. ltb n place) (λ n. ltb n (place + 1)) 0 (length (chunks m)) (frames m) f
+        (frames_rise m has) one.at
         (λ n other. beside n place (λ e. other (e ∙ sym here))) (lt-ltb _ _ (omega (arith, here)))

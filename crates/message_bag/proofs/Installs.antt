@@ -9,19 +9,19 @@ use Rattle.ctrl_msg.specs.declared.message.Message.{Message}
 use Rattle.ctrl_msg.specs.declared.message.Receiver.{Receiver}
 use Rattle.switch_table.specs.declared.tables.Tables.{Tables}
 use Rattle.wire.specs.Fields.{n4, tables}
-use Rattle.wire.specs.Frames.{AreFrames, cut, frame, frames, frames_of, frames_of_version, head_len, piece_of}
-use Rattle.wire.specs.Messages.{IsFront, front, message, spelled_front, suits}
-use Rattle.wire.proofs.Framing.{length_frame, length_n4, piece_of_frame}
+use Rattle.wire.specs.Frames.{AreFrames, chunks_behind_head, frame, frames, frames_of, frames_of_version, head_len, chunk_of}
+use Rattle.wire.specs.Messages.{IsFront, message_front, message, spelled_front, suits_receiver}
+use Rattle.wire.proofs.Framing.{length_frame, length_n4, chunk_of_frame}
 use Rattle.wire.proofs.Fronts.{one_front}
 use Rattle.message_bag.specs.Installing.{frame_count, install_frames, table_frames}
 use Rattle.message_bag.proofs.Coming.{same_message}
 use Rattle.message_bag.proofs.Versions.{behind, fits_too, same_count}
 use Rattle.message_bag.proofs.Installing.{fits_parts, fits_whole, installed, length_behind, some_behind, suits_any}
-use Rattle.message_bag.specs.Kept.{AreOfInstall, AreOfMessage, SayTables, tables_version}
+use Rattle.message_bag.specs.KeptFrames.{AreOfInstall, AreOfMessage, CarryTables, tables_version}
 
 -- ---- a message of one frame
 
-whole : (bytes : List ℕ) → cut (length bytes) bytes ≡ bytes ∷ []
+whole : (bytes : List ℕ) → chunks_behind_head (length bytes) bytes ≡ bytes ∷ []
 whole bytes =
     let none : length bytes - length bytes ≡ 0 = omega arith in
     rw (none, take_all (length bytes) bytes (omega arith)) refl
@@ -39,7 +39,8 @@ head_of (Stamped s boot version) bytes alone = refl
 
 pub only_frame : (m : Message) → tables_version m.body ≡ None → frames m ≡ frame 0 1 (message.spell m) ∷ []
 only_frame m alone =
-    ap frames_of (ap (λ head. cut head (message.spell m)) (head_of m.body (message.spell m) alone) ∙ whole (message.spell m))
+    ap frames_of (ap (λ head. chunks_behind_head head (message.spell m))
+    (head_of m.body (message.spell m) alone) ∙ whole (message.spell m))
 
 -- ---- an installation
 
@@ -51,17 +52,18 @@ tables_fit : (m : Message) (boot : ℕ) (t : Tables) → m.body ≡ Install boot
 tables_fit m boot t carries fits =
     (fits_parts m.to boot t (ap (λ b. message.fits (record { to = m.to; body = b })) (sym carries) ∙ fits)).1
 
-header_of : (place count : ℕ) (piece : List ℕ) → take 8 (frame place count piece) ≡ n4.spell place ++ n4.spell count
+header_of : (place count : ℕ) (chunk : List ℕ) → take 8 (frame place count chunk) ≡ n4.spell place
+    ++ n4.spell count
 unfolding frame
-header_of place count piece =
-    take_at (n4.spell place ++ n4.spell count) piece 8
+header_of place count chunk =
+    take_at (n4.spell place ++ n4.spell count) chunk 8
     (omega (arith, length-append (n4.spell place) (n4.spell count), length_n4 place, length_n4 count))
 
 pub says : (m : Message) (fs : List (List ℕ)) (boot : ℕ) (t : Tables) → AreFrames m fs → m.body ≡ Install boot t
-    → SayTables t fs
+    → CarryTables t fs
 says m fs boot t are carries =
     let is : fs ≡ install_frames m.to boot t = are.frames_are ∙ carried m boot t carries in
-    subst (SayTables t) (sym is) (record {
+    subst (CarryTables t) (sym is) (record {
       behind = record { fits = tables_fit m boot t carries are.fits; are = refl };
       count = sym (add-one (length (table_frames t))) ∙ length_behind t;
       header = header_of 0 (frame_count t) (spelled_front m.to boot);
@@ -69,22 +71,22 @@ says m fs boot t are carries =
 
 -- ---- the same tables under another version
 
-pub says_too : (version : ℕ) (t : Tables) (fs : List (List ℕ)) → version < 2 ^ 32 → SayTables t fs
-    → SayTables (record t { version = version }) (frames_of_version version fs)
-says_too version t [] few say = absurd (omega (arith, say.count, length_behind t))
-says_too version t (first ∷ others) few say =
+pub says_too : (version : ℕ) (t : Tables) (fs : List (List ℕ)) → version < 2 ^ 32 → CarryTables t fs
+    → CarryTables (record t { version = version }) (frames_of_version version fs)
+says_too version t [] few carry = absurd (omega (arith, carry.count, length_behind t))
+says_too version t (first ∷ others) few carry =
     let u : Tables = record t { version = version } in
     let is : frames_of_version version (first ∷ others) ≡ first ∷ table_frames u =
-    ap (λ fs. frames_of_version version (first ∷ fs)) say.behind.are ∙ behind version first t in
-    subst (SayTables u) (sym is) (record {
-      behind = record { fits = fits_too version t few say.behind.fits; are = refl };
+    ap (λ fs. frames_of_version version (first ∷ fs)) carry.behind.are ∙ behind version first t in
+    subst (CarryTables u) (sym is) (record {
+      behind = record { fits = fits_too version t few carry.behind.fits; are = refl };
       count = sym (add-one (length (table_frames u))) ∙ length_behind u;
-      header = say.header ∙ ap (λ n. n4.spell 0 ++ n4.spell n) (sym (same_count version t));
+      header = carry.header ∙ ap (λ n. n4.spell 0 ++ n4.spell n) (sym (same_count version t));
     })
 
 -- ---- the tables that come out of the frames of an installation
 
-pub its_say : (fs : List (List ℕ)) → (of : AreOfInstall fs) → SayTables of.tables fs
+pub its_say : (fs : List (List ℕ)) → (of : AreOfInstall fs) → CarryTables of.tables fs
 its_say fs of = says of.message_is fs of.boot of.tables (record { fits = of.has.fits; frames_are = of.are }) of.carries
 
 pub not_none : (fs : List (List ℕ)) → AreOfInstall fs → length fs ≤ 0 → ⊥
@@ -99,14 +101,14 @@ pub of_message : (fs : List (List ℕ)) (first : List ℕ) → AreOfInstall fs �
 of_message fs first of at = (of.message_is, of.has, with_first fs first at ∙ of.are)
 
 pub out_says : (fs : List (List ℕ)) (first : List ℕ) (m : Message) (boot : ℕ) (t : Tables) → slice_get fs 0 ≡ Some first
-    → AreFrames m (first ∷ drop 1 fs) → m.body ≡ Install boot t → SayTables t fs
+    → AreFrames m (first ∷ drop 1 fs) → m.body ≡ Install boot t → CarryTables t fs
 out_says fs first m boot t at are carries =
     says m fs boot t (subst (AreFrames m) (with_first fs first at) are) carries
 
 pub cloned_say : {E : Type 0} (N : E → Type 0) (r : Result Tables E) (t : Tables) (fs : List (List ℕ))
-    → MatchResult r (λ copy. copy ≡ t) N → SayTables t fs → IfOk r (λ copy. SayTables copy fs)
-cloned_say N (Ok copy) t fs is say = subst (λ u. SayTables u fs) (sym is) say
-cloned_say N (Err e) t fs is say = tt
+    → MatchResult r (λ copy. copy ≡ t) N → CarryTables t fs → IfOk r (λ copy. CarryTables copy fs)
+cloned_say N (Ok copy) t fs is carry = subst (λ u. CarryTables u fs) (sym is) carry
+cloned_say N (Err e) t fs is carry = tt
 
 -- another message doesn't come out
 pub not_alone : (fs : List (List ℕ)) (first : List ℕ) (m : Message) → AreOfInstall fs → slice_get fs 0 ≡ Some first
@@ -125,37 +127,41 @@ own_is : (fs : List (List ℕ)) (own : List ℕ) → slice_get fs 0 ≡ Some own
 own_is [] own at = absurd (cc at)
 own_is (f ∷ fs) own at = same_Some f own at
 
-own_header : (t : Tables) (fs : List (List ℕ)) (own : List ℕ) → SayTables t fs → slice_get fs 0 ≡ Some own
+own_header : (t : Tables) (fs : List (List ℕ)) (own : List ℕ) → CarryTables t fs → slice_get fs 0
+    ≡ Some own
     → take 8 own ≡ n4.spell 0 ++ n4.spell (length fs)
-own_header t fs own say at =
-    ap (take 8) (sym (own_is fs own at)) ∙ say.header ∙ ap (λ n. n4.spell 0 ++ n4.spell n) (sym say.count)
+own_header t fs own carry at =
+    ap (take 8) (sym (own_is fs own at)) ∙ carry.header
+    ∙ ap (λ n. n4.spell 0 ++ n4.spell n) (sym carry.count)
 
-pub own_long : (t : Tables) (fs : List (List ℕ)) (own : List ℕ) → SayTables t fs → slice_get fs 0 ≡ Some own → 8 ≤ length own
-own_long t fs own say at =
+pub own_long : (t : Tables) (fs : List (List ℕ)) (own : List ℕ) → CarryTables t fs → slice_get fs 0
+    ≡ Some own → 8 ≤ length own
+own_long t fs own carry at =
     omega (
       arith,
       length-take 8 own,
-      ap length (own_header t fs own say at),
+      ap length (own_header t fs own carry at),
       length-append (n4.spell 0) (n4.spell (length fs)),
       length_n4 0,
       length_n4 (length fs),
     )
 
-first_put : (t : Tables) (fs : List (List ℕ)) (own before with_header after piece : List ℕ) → SayTables t fs
-    → slice_get fs 0 ≡ Some own → with_header ≡ before ++ take 8 own → after ≡ with_header ++ piece
-    → after ≡ before ++ frame 0 (length fs) piece
+first_put : (t : Tables) (fs : List (List ℕ)) (own before with_header after chunk : List ℕ)
+    → CarryTables t fs
+    → slice_get fs 0 ≡ Some own → with_header ≡ before ++ take 8 own → after ≡ with_header ++ chunk
+    → after ≡ before ++ frame 0 (length fs) chunk
 unfolding frame
-first_put t fs own before with_header after piece say at put more =
-    more ∙ ap (λ b. b ++ piece) put ∙ append_assoc before (take 8 own) piece
-    ∙ ap (λ h. before ++ (h ++ piece)) (own_header t fs own say at)
+first_put t fs own before with_header after chunk carry at put more =
+    more ∙ ap (λ b. b ++ chunk) put ∙ append_assoc before (take 8 own) chunk
+    ∙ ap (λ h. before ++ (h ++ chunk)) (own_header t fs own carry at)
 
 pub first_put_ok : {T E : Type 0} (r : Result T E) (t : Tables) (fs : List (List ℕ))
-    (own before with_header after piece : List ℕ) → SayTables t fs → slice_get fs 0 ≡ Some own
-    → with_header ≡ before ++ take 8 own → OnOk r (after ≡ with_header ++ piece)
-    → OnOk r (after ≡ before ++ frame 0 (length fs) piece)
-first_put_ok (Ok x) t fs own before with_header after piece say at put more =
-    first_put t fs own before with_header after piece say at put more
-first_put_ok (Err e) t fs own before with_header after piece say at put more = tt
+    (own before with_header after chunk : List ℕ) → CarryTables t fs → slice_get fs 0 ≡ Some own
+    → with_header ≡ before ++ take 8 own → OnOk r (after ≡ with_header ++ chunk)
+    → OnOk r (after ≡ before ++ frame 0 (length fs) chunk)
+first_put_ok (Ok x) t fs own before with_header after chunk carry at put more =
+    first_put t fs own before with_header after chunk carry at put more
+first_put_ok (Err e) t fs own before with_header after chunk carry at put more = tt
 
 -- ---- an installation is known by its first frame and its tables
 
@@ -163,8 +169,8 @@ first_put_ok (Err e) t fs own before with_header after piece say at put more = t
 pub record IsInstalled (first : List ℕ) (t : Tables) : Type 0 where
   pub to : Receiver
   pub boot : ℕ
-  pub fits : front.fits (to, (1, boot)) ≡ true
-  pub suits_it : suits to (Install boot t) ≡ true
+  pub fits : message_front.fits (to, (1, boot)) ≡ true
+  pub suits_it : suits_receiver to (Install boot t) ≡ true
   pub first_is : first ≡ frame 0 (frame_count t) (spelled_front to boot)
 
 lone : (m : Message) (first : List ℕ) (t : Tables) → tables_version m.body ≡ None → first ∷ table_frames t ≡ frames m → ⊥
@@ -206,7 +212,8 @@ of_body to (Stamped s i j) first t fits are = absurd (lone (record { to = to; bo
 is_installed : (first : List ℕ) (t : Tables) → AreOfMessage (first ∷ table_frames t) → IsInstalled first t
 is_installed first t of = of_body of.0.to of.0.body first t of.1.fits of.2
 
-pub has_front : (first bytes : List ℕ) (t : Tables) → AreOfMessage (first ∷ table_frames t) → bytes ≡ piece_of first
+pub has_front : (first bytes : List ℕ) (t : Tables) → AreOfMessage (first ∷ table_frames t) → bytes
+    ≡ chunk_of first
     → (to : Receiver) × (boot : ℕ) × IsFront to boot bytes
 has_front first bytes t of is =
     let i = is_installed first t of in (
@@ -214,18 +221,20 @@ has_front first bytes t of is =
       i.boot,
       record {
         fits = i.fits;
-        spelled = is ∙ ap piece_of i.first_is ∙ piece_of_frame 0 (frame_count t) (spelled_front i.to i.boot);
+        spelled = is ∙ ap chunk_of i.first_is ∙ chunk_of_frame 0 (frame_count t)
+            (spelled_front i.to i.boot);
       },
     )
 
 pub again_installed : (first bytes : List ℕ) (t : Tables) (to : Receiver) (boot : ℕ) → AreOfMessage (first ∷ table_frames t)
-    → tables.fits t ≡ true → bytes ≡ piece_of first → IsFront to boot bytes
+    → tables.fits t ≡ true → bytes ≡ chunk_of first → IsFront to boot bytes
     → AreFrames (record { to = to; body = Install boot t }) (first ∷ table_frames t)
 again_installed first bytes t to boot of fits is front_is =
     let i = is_installed first t of in
     let its : IsFront i.to i.boot bytes = record {
       fits = i.fits;
-      spelled = is ∙ ap piece_of i.first_is ∙ piece_of_frame 0 (frame_count t) (spelled_front i.to i.boot);
+      spelled = is ∙ ap chunk_of i.first_is ∙ chunk_of_frame 0 (frame_count t)
+          (spelled_front i.to i.boot);
     } in
     let whole : AreFrames (record { to = i.to; body = Install i.boot t }) (first ∷ table_frames t) = record {
       fits = fits_whole i.to i.boot t i.fits fits i.suits_it;

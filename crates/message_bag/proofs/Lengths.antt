@@ -14,7 +14,7 @@ use Rattle.ternary.specs.Word.{WordValue}
 use Rattle.wire.specs.Format.{spelled_number}
 use Rattle.wire.specs.Fields.{n1, n4, n8, n16, switch, word, rule_name, action, tables}
 use Rattle.wire.proofs.Framing.{length_n4}
-use Rattle.wire.specs.Messages.{receiver, install_form, of_version, cache_rule_form, advert, hello, acknowledged, kind_number, spelled_fields, body, message}
+use Rattle.wire.specs.Messages.{receiver, install_form, boot_and_version, cache_rule_form, advert, hello, acknowledgement, kind_number, spelled_fields, body, message}
 
 pub length_receiver : (to : Receiver) → length (receiver.spell to) ≡ 1
 unfolding receiver switch n1 spelled_number
@@ -42,12 +42,12 @@ abbrev pub is_alone : Body → Bool
 is_alone (Install _ _) = false
 is_alone _ = true
 
-two_numbers : (a b : ℕ) → length (of_version.spell (a, b)) ≡ 8
-unfolding of_version n4 spelled_number
+two_numbers : (a b : ℕ) → length (boot_and_version.spell (a, b)) ≡ 8
+unfolding boot_and_version n4 spelled_number
 two_numbers a b = refl
 
-three_numbers : (s a b : ℕ) → length (acknowledged.spell (s, (a, b))) ≡ 9
-unfolding acknowledged switch n1 n4 spelled_number
+three_numbers : (s a b : ℕ) → length (acknowledgement.spell (s, (a, b))) ≡ 9
+unfolding acknowledgement switch n1 n4 spelled_number
 three_numbers s a b = refl
 
 told : (s a : ℕ) → length (hello.spell (s, a)) ≡ 5

@@ -3,7 +3,7 @@ use Rattle.std.proofs.Common.{◌≡◌, ◌+◌, ℕ, Bool, true, false, Option
 use Rattle.std.specs.Prelude.{slice_get, option_map, ◌==◌, if◌then◌else◌}
 use Rattle.std.specs.Option.{option_map_or}
 use Prim.Native.Nat.compare.{suc-suc}
-use Rattle.message_bag.specs.Numbered.{numbered, with_changed}
+use Rattle.message_bag.specs.Numbered.{item_numbered, with_changed}
 
 get_pushed : {X : Type 0} (xs : List X) (x : X) (i : ℕ)
     → slice_get (xs ++ x ∷ []) i ≡ (if i == length xs then Some x else slice_get xs i)
@@ -14,8 +14,8 @@ get_pushed (y ∷ xs) x (suc i) = rw suc-suc (get_pushed xs x i)
 
 -- one more gets the next number; the others stay
 pub numbered_pushed : {X : Type 0} (xs : List X) (x : X) (number : ℕ)
-    → numbered (xs ++ x ∷ []) number
-    ≡ (if number == length xs + 1 then Some x else numbered xs number)
+    → item_numbered (xs ++ x ∷ []) number
+    ≡ (if number == length xs + 1 then Some x else item_numbered xs number)
 numbered_pushed xs x zero = grind arith
 numbered_pushed xs x (suc place) = rw (add-one, suc-suc) (get_pushed xs x place)
 
@@ -39,8 +39,9 @@ get_set f (y ∷ xs) (suc i) (suc j) (Some x) at = rw suc-suc (get_set f xs i j 
 
 -- a change is of one number; the others stay
 pub numbered_changed : {X : Type 0} (change : X → X) (xs : List X) (changed number : ℕ)
-    → numbered (with_changed change xs changed) number
-    ≡ (if number == changed then option_map change (numbered xs number) else numbered xs number)
+    → item_numbered (with_changed change xs changed) number
+    ≡ (if number == changed then option_map change (item_numbered xs number)
+    else item_numbered xs number)
 numbered_changed change xs zero zero = grind arith
 numbered_changed change xs zero (suc place) = grind arith
 numbered_changed change xs (suc at) zero = grind arith
@@ -59,7 +60,7 @@ length_changed change xs (suc place) = by_one (slice_get xs place)
 
 -- what each one gives
 pub numbered_map : {X Y : Type 0} (f : X → Y) (xs : List X) (number : ℕ)
-    → numbered (map f xs) number ≡ option_map f (numbered xs number)
+    → item_numbered (map f xs) number ≡ option_map f (item_numbered xs number)
 numbered_map f xs zero = refl
 numbered_map f xs (suc place) = get_map xs place
   where

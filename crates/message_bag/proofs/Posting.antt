@@ -8,19 +8,19 @@ use Rattle.ctrl_msg.specs.declared.message.Message.{Message}
 use Rattle.wire.specs.Fields.{n4, tables}
 use Rattle.wire.specs.Format.{spelled_number}
 use Rattle.wire.specs.Frames.{frame, frames}
-use Rattle.wire.specs.Messages.{front, message, spelled_front, suits}
+use Rattle.wire.specs.Messages.{message_front, message, spelled_front, suits_receiver}
 use Rattle.message_bag.specs.Feeding.{HasFrames}
 use Rattle.message_bag.specs.Installing.{frame_count}
 use Rattle.message_bag.proofs.Installing.{fits_whole}
 use Rattle.switch_table.specs.declared.tables.Tables.{Tables}
-use Rattle.message_bag.specs.Kept.{AreOfMessage, First, IsGrown, AreKeptFrames, IsThere, SayTables, frames_in, tables_version}
+use Rattle.message_bag.specs.KeptFrames.{AreOfMessage, First, IsGrown, AreKeptFrames, IsThere, CarryTables, frames_in, tables_version}
 use Rattle.message_bag.proofs.Installs.{carried, only_frame}
 
 -- ---- a message of one frame
 
-header : (piece : List ℕ) → frame 0 1 piece ≡ (0 ∷ 0 ∷ 0 ∷ 0 ∷ 0 ∷ 0 ∷ 0 ∷ 1 ∷ []) ++ piece
+header : (chunk : List ℕ) → frame 0 1 chunk ≡ (0 ∷ 0 ∷ 0 ∷ 0 ∷ 0 ∷ 0 ∷ 0 ∷ 1 ∷ []) ++ chunk
 unfolding frame n4 spelled_number
-header piece = refl
+header chunk = refl
 
 pub alone_is : (m : Message) (kept : List (List (List ℕ))) (bytes : List ℕ) → tables_version m.body ≡ None
     → bytes ≡ (0 ∷ 0 ∷ 0 ∷ 0 ∷ 0 ∷ 0 ∷ 0 ∷ 1 ∷ []) ++ message.spell m → frames_in kept (bytes, None) ≡ frames m
@@ -104,17 +104,18 @@ unchanged_after (Err e) before after bag firsts longer grown kept view same =
 
 -- the first frame of its own, and the kept ones behind it
 pub tables_are : (m : Message) (kept : List (List (List ℕ))) (number boot : ℕ) (t : Tables) (bytes : List ℕ)
-    → m.body ≡ Install boot t → SayTables t (get_or kept number [])
+    → m.body ≡ Install boot t → CarryTables t (get_or kept number [])
     → bytes ≡ frame 0 (length (get_or kept number [])) (spelled_front m.to boot)
     → frames_in kept (bytes, Some number) ≡ frames m
-tables_are m kept number boot t bytes carries say is =
+tables_are m kept number boot t bytes carries carry is =
     let fs = get_or kept number [] in
-    ap (λ f. f ∷ drop 1 fs) (is ∙ ap (λ n. frame 0 n (spelled_front m.to boot)) say.count)
-    ∙ ap (λ others. frame 0 (frame_count t) (spelled_front m.to boot) ∷ others) say.behind.are
+    ap (λ f. f ∷ drop 1 fs) (is ∙ ap (λ n. frame 0 n (spelled_front m.to boot)) carry.count)
+    ∙ ap (λ others. frame 0 (frame_count t) (spelled_front m.to boot) ∷ others) carry.behind.are
     ∙ sym (carried m boot t carries)
 
-pub tables_fit : (m : Message) (boot : ℕ) (t : Tables) → m.body ≡ Install boot t → front.fits (m.to, (1, boot)) ≡ true
-    → tables.fits t ≡ true → suits m.to m.body ≡ true → message.fits m ≡ true
+pub tables_fit : (m : Message) (boot : ℕ) (t : Tables) → m.body ≡ Install boot t
+    → message_front.fits (m.to, (1, boot)) ≡ true
+    → tables.fits t ≡ true → suits_receiver m.to m.body ≡ true → message.fits m ≡ true
 tables_fit m boot t carries head fits is =
     ap (λ b. message.fits (record { to = m.to; body = b })) carries
-    ∙ fits_whole m.to boot t head fits (ap (suits m.to) (sym carries) ∙ is)
+    ∙ fits_whole m.to boot t head fits (ap (suits_receiver m.to) (sym carries) ∙ is)

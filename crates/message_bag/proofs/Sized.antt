@@ -10,17 +10,17 @@ use Rattle.ctrl_msg.specs.declared.message.Body.{Body}
 use Rattle.ctrl_msg.specs.declared.message.Body.TheVariants.{Install, OpenAt, Stamp, Collect, CacheRule, Advertise, Hello, Installed, Stamped}
 use Rattle.ctrl_msg.specs.declared.message.Message.{Message}
 use Rattle.wire.specs.Messages.{message, spelled_fields}
-use Rattle.wire.specs.Frames.{frame, frames, frames_from, pieces, place_in_frame, slices, head_len, most_of_piece}
+use Rattle.wire.specs.Frames.{frame, frames, frames_from, chunks, place_in_frame, equal_chunks, head_len, most_of_chunk}
 use Rattle.wire.specs.Assembly.{AreRising, IsOfCount}
-use Rattle.wire.proofs.Framing.{length_frame, place_of_frame, count_of_frame, piece_of_frame}
-use Rattle.wire.proofs.Cutting.{few_pieces}
+use Rattle.wire.proofs.Framing.{length_frame, place_of_frame, count_of_frame, chunk_of_frame}
+use Rattle.wire.proofs.Cutting.{few_chunks}
 use Rattle.message_bag.specs.Feeding.{HasFrames}
 use Rattle.message_bag.proofs.Lengths.{is_alone, length_message, fields_short, install_long}
 
 -- ---- places and counts
 
-pub few_frames : (m : Message) → HasFrames m → length (pieces m) < 2 ^ 32
-few_frames m has = few_pieces (head_len m.body (message.spell m)) (message.spell m) has.short
+pub few_frames : (m : Message) → HasFrames m → length (chunks m) < 2 ^ 32
+few_frames m has = few_chunks (head_len m.body (message.spell m)) (message.spell m) has.short
 
 rising : (place count : ℕ) (parts : List (List ℕ)) → place + length parts ≡ count → count < 2 ^ 32
     → AreRising place count (frames_from place count parts)
@@ -29,7 +29,9 @@ rising place count (part ∷ parts) all few =
     let at : place_in_frame (frame place count part) ≡ place = place_of_frame place count part (omega arith) in
     let of : IsOfCount count (frame place count part) = record {
       below = omega arith;
-      whole = ap (λ p. frame p count part) (sym at) ∙ ap (frame (place_in_frame (frame place count part)) count) (sym (piece_of_frame place count part));
+      whole = ap (λ p. frame p count part) (sym at)
+          ∙ ap (frame (place_in_frame (frame place count part)) count)
+          (sym (chunk_of_frame place count part));
       count_is = count_of_frame place count part few;
     } in (
       omega arith,
@@ -39,15 +41,15 @@ rising place count (part ∷ parts) all few =
     )
 
 -- the frames of a message have rising places
-pub frames_rise : (m : Message) → HasFrames m → AreRising 0 (length (pieces m)) (frames m)
-frames_rise m has = rising 0 (length (pieces m)) (pieces m) (omega arith) (few_frames m has)
+pub frames_rise : (m : Message) → HasFrames m → AreRising 0 (length (chunks m)) (frames m)
+frames_rise m has = rising 0 (length (chunks m)) (chunks m) (omega arith) (few_frames m has)
 
 pub length_from : (place count : ℕ) (parts : List (List ℕ)) → length (frames_from place count parts) ≡ length parts
 length_from place count [] = refl
 length_from place count (part ∷ parts) = ap suc (length_from (place + 1) count parts)
 
-pub length_frames : (m : Message) → length (frames m) ≡ length (pieces m)
-length_frames m = length_from 0 (length (pieces m)) (pieces m)
+pub length_frames : (m : Message) → length (frames m) ≡ length (chunks m)
+length_frames m = length_from 0 (length (chunks m)) (chunks m)
 
 -- ---- lengths
 
@@ -55,30 +57,33 @@ pub record IsSized (f : List ℕ) : Type 0 where
   pub long : 9 ≤ length f
   pub short : length f ≤ 16384
 
--- a piece of a frame
-record IsPiece (part : List ℕ) : Type 0 where
+-- a chunk of a frame
+record IsChunk (part : List ℕ) : Type 0 where
   pub some : 1 ≤ length part
   pub short : length part ≤ 16376
 
-slices_are : (count : ℕ) (bytes : List ℕ) → count * most_of_piece < length bytes + most_of_piece
-    → AllByRecursion IsPiece (slices count most_of_piece bytes)
+slices_are : (count : ℕ) (bytes : List ℕ) → count * most_of_chunk < length bytes + most_of_chunk
+    → AllByRecursion IsChunk (equal_chunks count most_of_chunk bytes)
 slices_are zero bytes enough = tt
 slices_are (suc count) bytes enough =
-    let first : IsPiece (take most_of_piece bytes) = record {
-      some = omega (arith, length-take most_of_piece bytes);
-      short = omega (arith, length-take most_of_piece bytes);
-    } in
-    (first, slices_are count (drop most_of_piece bytes) (omega (arith, length-drop most_of_piece bytes)))
+    let first : IsChunk (take most_of_chunk bytes) = record {
+      some = omega (arith, length-take most_of_chunk bytes);
+      short = omega (arith, length-take most_of_chunk bytes);
+    } in (
+      first,
+      slices_are count (drop most_of_chunk bytes)
+          (omega (arith, length-drop most_of_chunk bytes)),
+    )
 
 all_is : (b : Body) (bytes : List ℕ) → is_alone b ≡ true → length bytes ≡ 2 + length (spelled_fields b)
-    → IsPiece (take (length bytes) bytes)
+    → IsChunk (take (length bytes) bytes)
 all_is b bytes alone long = record {
   some = omega (arith, length-take (length bytes) bytes);
   short = omega (arith, length-take (length bytes) bytes, fields_short b alone);
 }
 
 head_is : (b : Body) (bytes : List ℕ) → length bytes ≡ 2 + length (spelled_fields b)
-    → IsPiece (take (head_len b bytes) bytes)
+    → IsChunk (take (head_len b bytes) bytes)
 head_is (Install boot t) bytes long = record {
   some = omega (arith, length-take 6 bytes, install_long boot t);
   short = omega (arith, length-take 6 bytes);
@@ -93,16 +98,20 @@ head_is (Hello s boot) bytes long = all_is (Hello s boot) bytes refl long
 head_is (Installed s boot version) bytes long = all_is (Installed s boot version) bytes refl long
 head_is (Stamped s boot version) bytes long = all_is (Stamped s boot version) bytes refl long
 
-pieces_are : (m : Message) → AllByRecursion IsPiece (pieces m)
-pieces_are m =
+chunks_are : (m : Message) → AllByRecursion IsChunk (chunks m)
+chunks_are m =
     let bytes = message.spell m in
     let rest = length bytes - head_len m.body bytes in (
       head_is m.body bytes (length_message m),
-      slices_are (div_ceil rest most_of_piece) (drop (head_len m.body bytes) bytes)
-          (omega (arith, length-drop (head_len m.body bytes) bytes, (div_ceil_times rest most_of_piece (omega arith)).1)),
+      slices_are (div_ceil rest most_of_chunk) (drop (head_len m.body bytes) bytes)
+          (omega (
+            arith,
+            length-drop (head_len m.body bytes) bytes,
+            (div_ceil_times rest most_of_chunk (omega arith)).1,
+          )),
     )
 
-sized : (place count : ℕ) (parts : List (List ℕ)) → AllByRecursion IsPiece parts
+sized : (place count : ℕ) (parts : List (List ℕ)) → AllByRecursion IsChunk parts
     → AllByRecursion IsSized (frames_from place count parts)
 sized place count [] are = tt
 sized place count (part ∷ parts) are =
@@ -114,4 +123,4 @@ sized place count (part ∷ parts) are =
 
 pub frames_sized : (m : Message) → All IsSized (frames m)
 frames_sized m =
-    All-from_recursion IsSized (frames m) (sized 0 (length (pieces m)) (pieces m) (pieces_are m))
+    All-from_recursion IsSized (frames m) (sized 0 (length (chunks m)) (chunks m) (chunks_are m))

@@ -4,7 +4,7 @@ use Rattle.std.specs.Prelude.{All}
 use Rattle.std.proofs.Math.Seq.{drop-append_seam}
 use Rattle.std.proofs.lemmas.List.{drop-append-le, map_push, take-append-le, take_all}
 use Rattle.std.proofs.lemmas.List.Elements.{All-head, All-push, All-tail}
-use Rattle.message_bag.specs.Kept.{IsWithin, first_in}
+use Rattle.message_bag.specs.KeptFrames.{IsWithin, first_in}
 use Rattle.message_bag.specs.declared.firsts.Span.{Span}
 
 one_stays : (bytes more : List ℕ) (span : Span) → IsWithin bytes span → first_in (bytes ++ more) span ≡ first_in bytes span

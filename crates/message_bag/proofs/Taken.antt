@@ -3,7 +3,7 @@ use Rattle.std.proofs.Common.{◌≡◌, ◌⊎◌, ◌<◌, ℕ, true, Option, 
 use Rattle.std.specs.Prelude.{IfOk, IfSome, IsNone, ◌↔◌, is_some}
 use Rattle.std.specs.List.{zip}
 use Rattle.ctrl_msg.specs.declared.message.Message.{Message}
-use Rattle.message_bag.specs.Kept.{IsPosted}
+use Rattle.message_bag.specs.KeptFrames.{IsPosted}
 use Rattle.wire.specs.Frames.{frames}
 use Rattle.message_bag.specs.Deliveries as statuses
 use Rattle.message_bag.specs.Posts.{IsMessageOf, is_post_deliverable}

@@ -10,13 +10,13 @@ use Rattle.ctrl_msg.specs.declared.message.Body.TheVariants.{Install}
 use Rattle.switch_table.specs.declared.tables.Tables.{Tables}
 use Rattle.wire.specs.Fields.{n4, partition, region, tables}
 use Rattle.wire.specs.Format.{list_of}
-use Rattle.wire.specs.Frames.{begun_with, frame, frames, frames_from, frames_of_version, most_of_piece, slices}
+use Rattle.wire.specs.Frames.{begun_with, frame, frames, frames_from, frames_of_version, most_of_chunk, equal_chunks}
 use Rattle.wire.specs.Messages.{spelled_front}
 use Rattle.wire.proofs.Framing.{length_n4}
-use Rattle.message_bag.specs.Installing.{frame_count, table_frames, table_pieces}
+use Rattle.message_bag.specs.Installing.{frame_count, table_frames, table_chunks}
 use Rattle.message_bag.proofs.Installing.{installed}
 
--- ---- the pieces
+-- ---- the chunks
 
 -- what tables spell behind their version
 abbrev rows : Tables → List ℕ
@@ -26,43 +26,54 @@ spelled : (t : Tables) → tables.spell t ≡ n4.spell t.version ++ rows t
 unfolding tables
 spelled t = refl
 
--- the pieces behind the first one
+-- the chunks behind the first one
 abbrev others : List ℕ → List (List ℕ)
-others rest = slices (div_ceil (4 + length rest) most_of_piece - 1) most_of_piece (drop 16372 rest)
+others rest = equal_chunks (div_ceil (4 + length rest) most_of_chunk - 1) most_of_chunk
+    (drop 16372 rest)
 
 begin : (head rest : List ℕ) → length head ≡ 4
-    → slices (div_ceil (length (head ++ rest)) most_of_piece) most_of_piece (head ++ rest)
+    → equal_chunks (div_ceil (length (head ++ rest)) most_of_chunk) most_of_chunk (head ++ rest)
     ≡ (head ++ take 16372 rest) ∷ others rest
 begin head rest len =
     let bytes = head ++ rest in
     let long : length bytes ≡ 4 + length rest = omega (arith, length-append head rest) in
-    let some : div_ceil (length bytes) most_of_piece ≡ suc (div_ceil (4 + length rest) most_of_piece - 1) =
-    omega (arith, ap (λ n. div_ceil n most_of_piece) long, div_ceil_times (length bytes) most_of_piece (omega arith)) in
-    let whole : most_of_piece ≡ length head + 16372 = omega arith in
-    let first : take most_of_piece bytes ≡ head ++ take 16372 rest =
+    let some : div_ceil (length bytes) most_of_chunk
+    ≡ suc (div_ceil (4 + length rest) most_of_chunk - 1) =
+    omega (
+      arith,
+      ap (λ n. div_ceil n most_of_chunk) long,
+      div_ceil_times (length bytes)
+          most_of_chunk (omega arith),
+    ) in
+    let whole : most_of_chunk ≡ length head + 16372 = omega arith in
+    let first : take most_of_chunk bytes ≡ head ++ take 16372 rest =
     ap (λ n. take n bytes) whole ∙ take-append-add head rest 16372 in
-    let left : drop most_of_piece bytes ≡ drop 16372 rest =
+    let left : drop most_of_chunk bytes ≡ drop 16372 rest =
     ap (λ n. drop n bytes) whole ∙ drop-append-add head rest 16372 in
-    ap (λ count. slices count most_of_piece bytes) some
-    ∙ ap (λ f. f ∷ slices (div_ceil (4 + length rest) most_of_piece - 1) most_of_piece (drop most_of_piece bytes)) first
-    ∙ ap (λ bytes. (head ++ take 16372 rest) ∷ slices (div_ceil (4 + length rest) most_of_piece - 1) most_of_piece bytes) left
+    ap (λ count. equal_chunks count most_of_chunk bytes) some
+    ∙ ap (λ f. f ∷ equal_chunks (div_ceil (4 + length rest) most_of_chunk - 1) most_of_chunk
+    (drop most_of_chunk bytes)) first
+    ∙ ap (λ bytes. (head ++ take 16372 rest) ∷ equal_chunks
+    (div_ceil (4 + length rest) most_of_chunk - 1) most_of_chunk bytes) left
 
-pieces_are : (t : Tables) → table_pieces t ≡ (n4.spell t.version ++ take 16372 (rows t)) ∷ others (rows t)
-pieces_are t =
-    ap (λ bytes. slices (div_ceil (length bytes) most_of_piece) most_of_piece bytes) (spelled t)
+chunks_are : (t : Tables) → table_chunks t ≡ (n4.spell t.version ++ take 16372 (rows t))
+    ∷ others (rows t)
+chunks_are t =
+    ap (λ bytes. equal_chunks (div_ceil (length bytes) most_of_chunk) most_of_chunk bytes)
+    (spelled t)
     ∙ begin (n4.spell t.version) (rows t) (length_n4 t.version)
 
 -- ---- the frames
 
 count_is : (t : Tables) → frame_count t ≡ suc (length (others (rows t))) + 1
-count_is t = ap (λ (parts : List (List ℕ)). length parts + 1) (pieces_are t)
+count_is t = ap (λ (parts : List (List ℕ)). length parts + 1) (chunks_are t)
 
 pub same_count : (version : ℕ) (t : Tables) → frame_count (record t { version = version }) ≡ frame_count t
 same_count version t = count_is (record t { version = version }) ∙ sym (count_is t)
 
 frames_are : (t : Tables) → table_frames t
     ≡ frame 1 (frame_count t) (n4.spell t.version ++ take 16372 (rows t)) ∷ frames_from 2 (frame_count t) (others (rows t))
-frames_are t = ap (frames_from 1 (frame_count t)) (pieces_are t)
+frames_are t = ap (frames_from 1 (frame_count t)) (chunks_are t)
 
 begun : (version place count : ℕ) (head rest : List ℕ) → length head ≡ 4
     → begun_with version (frame place count (head ++ rest)) ≡ frame place count (n4.spell version ++ rest)

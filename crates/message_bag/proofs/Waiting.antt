@@ -8,74 +8,79 @@ use Rattle.std.proofs.lemmas.Bool.{cases_lt, cases_eq, ne_eqb}
 use Rattle.std.proofs.lemmas.Grind.{common_steps}
 use Rattle.std.proofs.lemmas.Option.{get_or_from_slice_get}
 use Rattle.message_bag.proofs.Numbered.{length_changed, numbered_changed, numbered_pushed}
-use Rattle.message_bag.specs.Deliveries.{waiting, waits, is_waiting, is_deliverable, next_waiting, may_be_delivered, ArePassed, IsFirstWaiting}
-use Rattle.message_bag.specs.Numbered.{numbered, with_changed}
+use Rattle.message_bag.specs.Deliveries.{waiting_status, waits, is_waiting, is_deliverable, next_waiting, may_be_delivered, ArePassed, IsFirstWaiting}
+use Rattle.message_bag.specs.Numbered.{item_numbered, with_changed}
 use Rattle.message_bag.specs.declared.deliveries.Status.{Status}
 
 waits_as : (statuses after : List Status) (number : ℕ) (b : Bool)
-    → numbered after number ≡ numbered statuses number → is_waiting statuses number ≡ b
+    → item_numbered after number ≡ item_numbered statuses number → is_waiting statuses number ≡ b
     → is_waiting after number ≡ b
 waits_as statuses after number b same is = ap (λ o. option_map_or waits o false) same ∙ is
 
 status_before : (statuses : List Status) (status : Status) (number : ℕ) → number ≤ length statuses
-    → numbered (statuses ++ status ∷ []) number ≡ numbered statuses number
+    → item_numbered (statuses ++ status ∷ []) number ≡ item_numbered statuses number
 status_before statuses status number within = numbered_pushed statuses status number
-    ∙ ap (λ b. cond b (Some status) (numbered statuses number))
+    ∙ ap (λ b. cond b (Some status) (item_numbered statuses number))
     (ne_eqb number (length statuses + 1) (λ same. absurd (omega arith)))
 
 status_last : (statuses : List Status) (status : Status) (number : ℕ) → number ≡ length statuses + 1
-    → numbered (statuses ++ status ∷ []) number ≡ Some status
+    → item_numbered (statuses ++ status ∷ []) number ≡ Some status
 status_last statuses status number last = numbered_pushed statuses status number
-    ∙ ap (λ b. cond b (Some status) (numbered statuses number)) (eq-eqb number (length statuses + 1) last)
+    ∙ ap (λ b. cond b (Some status) (item_numbered statuses number))
+    (eq-eqb number (length statuses + 1) last)
 
 -- a status behind the others leaves what waits before it, and waits itself
 pub pushed_passed : (passed : ℕ) (statuses : List Status)
-    → length statuses + 1 < 2 ^ 32 → ArePassed passed statuses → ArePassed passed (statuses ++ waiting ∷ [])
+    → length statuses + 1 < 2 ^ 32 → ArePassed passed statuses
+    → ArePassed passed (statuses ++ waiting_status ∷ [])
 pushed_passed passed statuses few are =
-    let after = statuses ++ waiting ∷ [] in
-    let longer : length after ≡ length statuses + 1 = length-append statuses (waiting ∷ []) in
+    let after = statuses ++ waiting_status ∷ [] in
+    let longer : length after ≡ length statuses + 1 = length-append statuses (waiting_status ∷ [])
+    in
     record {
       few = omega arith;
       within = omega (arith, are.within);
       here = λ below. elim (cases_lt passed (length statuses)) [
         | inl within ↦ waits_as statuses after (passed + 1) true
-            (status_before statuses waiting (passed + 1) (omega arith)) (are.here within)
+            (status_before statuses waiting_status (passed + 1) (omega arith)) (are.here within)
         | inr past ↦ ap (λ o. option_map_or waits o false)
-            (status_last statuses waiting (passed + 1) (omega arith))
+            (status_last statuses waiting_status (passed + 1) (omega arith))
       ];
       none = λ number below. waits_as statuses after number false
-          (status_before statuses waiting number (omega (arith, are.within)))
+          (status_before statuses waiting_status number (omega (arith, are.within)))
           (are.none number below);
     }
 
 -- statuses but for the last one
-pub without_last : (n : ℕ) (all before : List Status) → all ≡ before ++ waiting ∷ []
+pub without_last : (n : ℕ) (all before : List Status) → all ≡ before ++ waiting_status ∷ []
     → n ≡ length all - 1 → take n all ≡ before
 without_last n all before is last =
     let many : n ≡ length before =
-    omega (arith, last, ap length is, length-append before (waiting ∷ [])) in
-    rw (is, many) (take-append_seam before (waiting ∷ []))
+    omega (arith, last, ap length is, length-append before (waiting_status ∷ [])) in
+    rw (is, many) (take-append_seam before (waiting_status ∷ []))
 
 -- so it is without a status that waits behind the others
-pub taken_back : (passed : ℕ) (statuses : List Status) → ArePassed passed (statuses ++ waiting ∷ [])
+pub taken_back : (passed : ℕ) (statuses : List Status)
+    → ArePassed passed (statuses ++ waiting_status ∷ [])
     → ArePassed passed statuses
 taken_back passed statuses are =
-    let longer = length-append statuses (waiting ∷ []) in
+    let longer = length-append statuses (waiting_status ∷ []) in
     let within : passed ≤ length statuses = elim (cases_lt (length statuses) passed) [
-      | inl past ↦ absurd (let last : is_waiting (statuses ++ waiting ∷ []) (length statuses + 1)
+      | inl past ↦ absurd (let last : is_waiting (statuses ++ waiting_status ∷ [])
+          (length statuses + 1)
           ≡ true = ap (λ o. option_map_or waits o false)
-          (status_last statuses waiting (length statuses + 1) refl) in
+          (status_last statuses waiting_status (length statuses + 1) refl) in
           let not_last = are.none (length statuses + 1) (omega (arith, past)) in cc)
       | inr within ↦ within
     ] in
     record {
       few = omega (arith, are.few, longer);
       within = within;
-      here = λ below. waits_as (statuses ++ waiting ∷ []) statuses (passed + 1) true
-          (sym (status_before statuses waiting (passed + 1) (omega (arith, below))))
+      here = λ below. waits_as (statuses ++ waiting_status ∷ []) statuses (passed + 1) true
+          (sym (status_before statuses waiting_status (passed + 1) (omega (arith, below))))
           (are.here (omega (arith, below, longer)));
-      none = λ number below. waits_as (statuses ++ waiting ∷ []) statuses number false
-          (sym (status_before statuses waiting number (omega (arith, below, within))))
+      none = λ number below. waits_as (statuses ++ waiting_status ∷ []) statuses number false
+          (sym (status_before statuses waiting_status number (omega (arith, below, within))))
           (are.none number below);
     }
 
@@ -85,7 +90,7 @@ still_none : (change : Status → Status) (statuses : List Status) (changed numb
     → is_waiting (with_changed change statuses changed) number ≡ false
 still_none change statuses changed number still none =
     ap (λ o. option_map_or waits o false) (numbered_changed change statuses changed number)
-    ∙ by_status (number == changed) (numbered statuses number) none
+    ∙ by_status (number == changed) (item_numbered statuses number) none
   where
     by_status : (b : Bool) (o : Option Status) → option_map_or waits o false ≡ false
         → option_map_or waits (if b then option_map change o else o) false ≡ false

@@ -6,7 +6,7 @@ use Rattle.std.specs.Option.{option_and_then, option_map_or}
 use Rattle.std.proofs.lemmas.Slice.Zip.{length-zip, seconds-zip}
 use Rattle.message_bag.specs.Deliveries.{is_deliverable, may_be_delivered}
 use Rattle.message_bag.specs.Numbered.{with_changed}
-use Rattle.message_bag.specs.Posts.{Post, frames_posted, remembered, statuses_of, with_status}
+use Rattle.message_bag.specs.Posts.{Post, frames_posted, remembered_frames, statuses_of, with_status}
 use Rattle.message_bag.specs.declared.deliveries.Status.{Status}
 
 pub zip_pushed : {A B : Type 0} (xs : List A) (ys : List B) (x : A) (y : B) → length xs ≡ length ys
@@ -89,7 +89,7 @@ deliverable_same all statuses (suc place) same = at_place all statuses place sam
 
     at_place : (all : List (List (List ℕ))) (statuses : List Status) (i : ℕ)
         → length all ≡ length statuses → option_map_or may_be_delivered (slice_get statuses i) false
-        ≡ is_some (option_and_then remembered (slice_get (zip all statuses) i))
+        ≡ is_some (option_and_then remembered_frames (slice_get (zip all statuses) i))
     at_place [] [] i same = refl
     at_place [] (s ∷ statuses) i same = absurd (omega (arith, same))
     at_place (m ∷ all) [] i same = absurd (omega (arith, same))
@@ -115,7 +115,7 @@ the_frames all statuses (suc place) fs is kept =
     at_place : (all : List (List (List ℕ))) (statuses : List Status) (i : ℕ)
         → option_map_or may_be_delivered (slice_get statuses i) false ≡ true
         → slice_get all i ≡ Some fs
-        → option_and_then remembered (slice_get (zip all statuses) i) ≡ Some fs
+        → option_and_then remembered_frames (slice_get (zip all statuses) i) ≡ Some fs
     at_place [] statuses i is kept = absurd (cc kept)
     at_place (m ∷ all) [] i is kept = absurd (cc is)
     at_place (m ∷ all) (s ∷ statuses) zero is kept = by_flag s.forgotten is

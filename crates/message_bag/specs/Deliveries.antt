@@ -3,18 +3,18 @@
 use Rattle.std.specs.Prelude.{ℕ, ◌≡◌, ◌+◌, ◌-◌, ◌^◌, ◌<◌, ◌≤◌, Bool, true, false, not, ◌&&◌, Option, List, length, find}
 use Rattle.std.specs.List.{range_with_len}
 use Rattle.std.specs.Option.{option_map_or}
-use Rattle.message_bag.specs.Numbered.{numbered}
+use Rattle.message_bag.specs.Numbered.{item_numbered}
 use Rattle.message_bag.specs.declared.deliveries.Status.{Status}
 
 -- of a message that is posted now
-abbrev pub waiting : Status
-waiting = record { delivered = false; forgotten = false }
+abbrev pub waiting_status : Status
+waiting_status = record { delivered = false; forgotten = false }
 
-abbrev pub delivered : Status → Status
-delivered status = record status { delivered = true }
+abbrev pub delivered_status : Status → Status
+delivered_status status = record status { delivered = true }
 
-abbrev pub forgotten : Status → Status
-forgotten status = record status { forgotten = true }
+abbrev pub forgotten_status : Status → Status
+forgotten_status status = record status { forgotten = true }
 
 abbrev pub may_be_delivered : Status → Bool
 may_be_delivered status = not status.forgotten
@@ -24,11 +24,12 @@ waits status = not status.delivered && not status.forgotten
 
 -- the number was posted, and isn't forgotten
 abbrev pub is_deliverable : List Status → ℕ → Bool
-is_deliverable statuses number = option_map_or may_be_delivered (numbered statuses number) false
+is_deliverable statuses number = option_map_or may_be_delivered (item_numbered statuses number)
+    false
 
 -- the number was posted, was never delivered, and isn't forgotten
 abbrev pub is_waiting : List Status → ℕ → Bool
-is_waiting statuses number = option_map_or waits (numbered statuses number) false
+is_waiting statuses number = option_map_or waits (item_numbered statuses number) false
 
 -- the least number at or above `from` of a message that waits
 abbrev pub next_waiting : List Status → ℕ → Option ℕ

@@ -5,22 +5,22 @@ use Rattle.std.specs.Int.{div_ceil}
 use Rattle.ctrl_msg.specs.declared.message.Receiver.{Receiver}
 use Rattle.switch_table.specs.declared.tables.Tables.{Tables}
 use Rattle.wire.specs.Fields as form
-use Rattle.wire.specs.Frames.{frame, frames_from, most_of_piece, slices}
+use Rattle.wire.specs.Frames.{frame, frames_from, most_of_chunk, equal_chunks}
 use Rattle.wire.specs.Messages.{spelled_front}
 
--- the spelling of the tables, in as few pieces as can be
-abbrev pub table_pieces : Tables → List (List ℕ)
-table_pieces t =
+-- the spelling of the tables, in as few chunks as can be
+abbrev pub table_chunks : Tables → List (List ℕ)
+table_chunks t =
     let bytes = form.tables.spell t in
-    slices (div_ceil (length bytes) most_of_piece) most_of_piece bytes
+    equal_chunks (div_ceil (length bytes) most_of_chunk) most_of_chunk bytes
 
 -- how many frames an installation of these tables has
 abbrev pub frame_count : Tables → ℕ
-frame_count t = length (table_pieces t) + 1
+frame_count t = length (table_chunks t) + 1
 
 -- those behind the first one
 abbrev pub table_frames : Tables → List (List ℕ)
-table_frames t = frames_from 1 (frame_count t) (table_pieces t)
+table_frames t = frames_from 1 (frame_count t) (table_chunks t)
 
 abbrev pub install_frames : Receiver → ℕ → Tables → List (List ℕ)
 install_frames to boot t = frame 0 (frame_count t) (spelled_front to boot) ∷ table_frames t

@@ -1,6 +1,6 @@
 pub mod Feeding
 pub mod Installing
-pub mod Kept
+pub mod KeptFrames
 pub mod Numbered
 pub mod Deliveries
 pub mod Posts

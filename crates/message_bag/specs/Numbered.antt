@@ -3,9 +3,9 @@ use Rattle.std.specs.Prelude.{ℕ, Option, None, List, zero, suc, set, slice_get
 use Rattle.std.specs.Option.{option_map_or}
 
 -- the one of a number
-abbrev pub numbered : {X : Type 0} → List X → ℕ → Option X
-numbered xs zero = None
-numbered xs (suc place) = slice_get xs place
+abbrev pub item_numbered : {X : Type 0} → List X → ℕ → Option X
+item_numbered xs zero = None
+item_numbered xs (suc place) = slice_get xs place
 
 -- the one of a number is changed, where there is one
 abbrev pub with_changed : {X : Type 0} → (X → X) → List X → ℕ → List X

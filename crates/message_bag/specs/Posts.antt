@@ -6,31 +6,31 @@ use Rattle.ctrl_msg.specs.declared.message.Message.{Message}
 use Rattle.wire.specs.Frames.{frames}
 use Rattle.wire.specs.Messages.{message as form}
 use Rattle.message_bag.specs.Deliveries as statuses
-use Rattle.message_bag.specs.Numbered.{numbered, with_changed}
+use Rattle.message_bag.specs.Numbered.{item_numbered, with_changed}
 use Rattle.message_bag.specs.declared.deliveries.Status.{Status}
 
 -- the frames of a message; one that has no spelling has none
-unfoldable pub framed : Message → List (List ℕ)
-framed message = if form.fits message then frames message else []
+unfoldable pub posted_frames : Message → List (List ℕ)
+posted_frames message = if form.fits message then frames message else []
 
 abbrev pub Post : Type 0
 Post = List (List ℕ) × Status
 
 -- a message that is posted now
-abbrev pub posted : Message → Post
-posted message = (framed message, statuses.waiting)
+abbrev pub new_post : Message → Post
+new_post message = (posted_frames message, statuses.waiting_status)
 
 -- what became of each
 abbrev pub statuses_of : List Post → List Status
 statuses_of posts = map (λ (post : Post). post.1) posts
 
 -- the frames of a post that isn't forgotten
-abbrev pub remembered : Post → Option (List (List ℕ))
-remembered post = if post.1.forgotten then None else Some post.0
+abbrev pub remembered_frames : Post → Option (List (List ℕ))
+remembered_frames post = if post.1.forgotten then None else Some post.0
 
 -- the frames of the message of a number, if it was posted and isn't forgotten
 abbrev pub frames_posted : List Post → ℕ → Option (List (List ℕ))
-frames_posted posts number = option_and_then remembered (numbered posts number)
+frames_posted posts number = option_and_then remembered_frames (item_numbered posts number)
 
 -- there is such a message
 abbrev pub is_post_deliverable : List Post → ℕ → Bool
@@ -39,7 +39,7 @@ is_post_deliverable posts number = is_some (frames_posted posts number)
 -- the message has a spelling, and its frames are those of this number
 pub record IsMessageOf (posts : List Post) (number : ℕ) (message : Message) : Type 0 where
   pub fits : form.fits message ≡ true
-  pub frames_are : frames_posted posts number ≡ Some (framed message)
+  pub frames_are : frames_posted posts number ≡ Some (posted_frames message)
 
 -- the least number at or above `from` of a message that was never delivered and isn't forgotten
 abbrev pub next_waiting_post : List Post → ℕ → Option ℕ
@@ -51,8 +51,8 @@ with_status change post = (post.0, change post.1)
 
 -- the message of the number was delivered, perhaps once more
 abbrev pub with_delivered : List Post → ℕ → List Post
-with_delivered posts number = with_changed (with_status statuses.delivered) posts number
+with_delivered posts number = with_changed (with_status statuses.delivered_status) posts number
 
 -- the message of the number is never delivered again
 abbrev pub with_forgotten : List Post → ℕ → List Post
-with_forgotten posts number = with_changed (with_status statuses.forgotten) posts number
+with_forgotten posts number = with_changed (with_status statuses.forgotten_status) posts number

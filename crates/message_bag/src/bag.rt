@@ -1,5 +1,5 @@
 ghost use Rattle.std.specs.Prelude.{◌≡◌, ◌<◌, ◌+◌, ◌-◌, ◌^◌, [], ◌∷◌, ◌++◌, length, is_some, IsTrue, IfOk, IfSome, OnOk, OnErr};
-ghost use Rattle.message_bag.specs.Posts.{IsMessageOf, is_post_deliverable, next_waiting_post, posted, with_delivered, with_forgotten};
+ghost use Rattle.message_bag.specs.Posts.{IsMessageOf, is_post_deliverable, next_waiting_post, new_post, with_delivered, with_forgotten};
 ghost use Rattle.message_bag.specs.Feeding.{HasShortSpelling};
 
 use crate::deliveries::Deliveries;
@@ -48,7 +48,7 @@ impl Bag {
         requires spelling { HasShortSpelling message.now }
         requires few { length self.old < 2 ^ 32 - 1 }
         ensures number { IfOk result (λ number. number ≡ length self.old + 1) }
-        ensures posted { OnOk result (self.new ≡ self.old ++ posted message.now ∷ []) }
+        ensures posted { OnOk result (self.new ≡ self.old ++ new_post message.now ∷ []) }
         ensures unchanged { OnErr result (self.new ≡ self.old) }
     {
         self.deliveries.add()?;

@@ -1,7 +1,7 @@
 #![tactic(auto, using(crate::proofs::Waiting::changed_from))]
 
 ghost use Rattle.std.specs.Prelude.{◌≡◌, ◌<◌, ◌+◌, ◌-◌, ◌^◌, [], ◌∷◌, ◌++◌, List, length, IsTrue, OnOk, OnErr};
-ghost use Rattle.message_bag.specs.Deliveries.{delivered, forgotten, is_deliverable, may_be_delivered, next_waiting, waiting, waits, IsFirstWaiting};
+ghost use Rattle.message_bag.specs.Deliveries.{delivered_status, forgotten_status, is_deliverable, may_be_delivered, next_waiting, waiting_status, waits, IsFirstWaiting};
 ghost use Rattle.message_bag.specs.Numbered.{with_changed};
 ghost use Rattle.message_bag.specs.declared.deliveries.Status.{Status};
 
@@ -20,7 +20,7 @@ pub struct Status {
 impl Status {
     // Of a message that is posted now.
     fn waiting() -> Status
-        ensures { result ≡ waiting }
+        ensures { result ≡ waiting_status }
     {
         Status {
             delivered: false,
@@ -77,7 +77,7 @@ impl Deliveries {
     /// Want of memory alone; nothing changes then.
     pub fn add(&mut self) -> Result<(), AllocError>
         requires { length self.old < 2 ^ 32 - 1 }
-        ensures added { OnOk result (self.new ≡ self.old ++ waiting ∷ []) }
+        ensures added { OnOk result (self.new ≡ self.old ++ waiting_status ∷ []) }
         ensures unchanged { OnErr result (self.new ≡ self.old) }
     {
         self.statuses.push(Status::waiting())?;
@@ -86,8 +86,8 @@ impl Deliveries {
 
     /// The last message, which waits, isn't there after all.
     pub(crate) fn take_back(&mut self)
-        requires { (before : List Status) × (self.old ≡ before ++ waiting ∷ []) }
-        ensures { (before : List Status) → self.old ≡ before ++ waiting ∷ []
+        requires { (before : List Status) × (self.old ≡ before ++ waiting_status ∷ []) }
+        ensures { (before : List Status) → self.old ≡ before ++ waiting_status ∷ []
             → self.new ≡ before }
     {
         self.statuses.truncate(self.statuses.len() - 1);
@@ -116,7 +116,7 @@ impl Deliveries {
     /// The message of this number was delivered, perhaps once more.
     pub fn deliver(&mut self, number: u32)
         requires { IsTrue (is_deliverable self.old number) }
-        ensures { self.new ≡ with_changed delivered self.old number }
+        ensures { self.new ≡ with_changed delivered_status self.old number }
     {
         self.statuses[number as usize - 1].delivered = true;
         self.passed = first_waiting(&self.statuses, self.passed);
@@ -125,7 +125,7 @@ impl Deliveries {
     /// The message of this number is never delivered again.
     pub fn forget(&mut self, number: u32)
         requires { IsTrue (is_deliverable self.old number) }
-        ensures { self.new ≡ with_changed forgotten self.old number }
+        ensures { self.new ≡ with_changed forgotten_status self.old number }
     {
         self.statuses[number as usize - 1].forgotten = true;
         self.passed = first_waiting(&self.statuses, self.passed);

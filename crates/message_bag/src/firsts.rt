@@ -22,7 +22,7 @@ pub struct Firsts {
 
 impl Model for Firsts {
     ghost use Rattle.std.specs.Prelude.{List, Option, All, map};
-    ghost use Rattle.message_bag.specs.Kept.{First, IsWithin, first_in};
+    ghost use Rattle.message_bag.specs.KeptFrames.{First, IsWithin, first_in};
 
     ghost Value = { List First };
 

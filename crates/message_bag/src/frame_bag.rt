@@ -2,10 +2,10 @@ ghost use Rattle.std.specs.Prelude.{◌≡◌, ◌<◌, ◌+◌, ◌-◌, ◌^�
 ghost use Rattle.ctrl_msg.specs.declared.message.Body.TheVariants.{Install};
 ghost use Rattle.wire.specs.Frames.{frames};
 ghost use Rattle.wire.specs.Messages.{HasSpelling, message as form};
-ghost use Rattle.message_bag.specs.Kept.{IsPosted, tables_version};
+ghost use Rattle.message_bag.specs.KeptFrames.{IsPosted, tables_version};
 
 use crate::firsts::Firsts;
-use crate::reading::{alone, tables_of};
+use crate::reading::{message_of_frame, tables_of};
 use crate::tables::{TableFrames, spell};
 use ctrl_msg::{Message, SharedTables};
 use std::alloc::{AllocError, Global};
@@ -24,7 +24,7 @@ pub struct FrameBag {
 
 impl Model for FrameBag {
     ghost use Rattle.std.specs.Prelude.{List, ℕ, All, map};
-    ghost use Rattle.message_bag.specs.Kept.{AreKeptFrames, frames_in};
+    ghost use Rattle.message_bag.specs.KeptFrames.{AreKeptFrames, frames_in};
 
     ghost Value = { List (List (List ℕ)) };
 
@@ -76,7 +76,7 @@ impl FrameBag {
     fn post_alone(&mut self, message: &Message) -> Result<(), AllocError>
         requires spelling { HasSpelling message.now }
         requires short { length (form.spell message.now) < 2 ^ 40 }
-        requires alone { tables_version message.now.body ≡ None }
+        requires message_of_frame { tables_version message.now.body ≡ None }
         ensures fits { OnOk result (form.fits message.now ≡ true) }
         ensures posted { OnOk result (self.new ≡ self.old ++ frames message.now ∷ []) }
         ensures unchanged { OnErr result (self.new ≡ self.old) }
@@ -129,7 +129,7 @@ impl FrameBag {
         }
         match self.firsts.get(number as usize - 1) {
             None => Ok(None),
-            Some((frame, None)) => Ok(Some(alone(alloc, frame)?)),
+            Some((frame, None)) => Ok(Some(message_of_frame(alloc, frame)?)),
             Some((frame, Some(kept))) => {
                 let message = self.tables[kept].message(alloc, frame)?;
                 Ok(Some(message))

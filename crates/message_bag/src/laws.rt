@@ -34,7 +34,7 @@ pub fn frames_are_of_one_message()
 /// The frames of an installation behind its first one are spelled of the tables alone: they are the
 /// same whatever switch it is for, and in whatever boot. The first one says how many there are, the
 /// switch and the boot.
-pub fn frames_behind_the_first_say_the_tables()
+pub fn frames_behind_the_first_carry_the_tables()
     ensures { (to : Receiver) (boot : ℕ) (tables : Tables)
         → frames (record { to = to; body = Install boot tables })
         ≡ install_frames to boot tables }

@@ -38,6 +38,6 @@ pub use bag::Bag;
 pub use deliveries::{Deliveries, Status};
 pub use frame_bag::FrameBag;
 pub use laws::{
-    frames_are_of_one_message, frames_behind_the_first_say_the_tables, frames_come_in_any_order,
+    frames_are_of_one_message, frames_behind_the_first_carry_the_tables, frames_come_in_any_order,
     frames_of_another_version,
 };

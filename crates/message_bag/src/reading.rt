@@ -7,20 +7,17 @@ ghost use Rattle.wire.specs.Assembly.{AreAllHeld, IsRefusedFrame, with_frame};
 ghost use Rattle.wire.specs.Fields as fields;
 ghost use Rattle.wire.specs.Frames.{AreFrames, count_in_frame};
 ghost use Rattle.wire.specs.Messages.{IsFront};
-ghost use Rattle.message_bag.specs.Kept.{AreOfInstall, AreOfMessage, SayTables, tables_version};
+ghost use Rattle.message_bag.specs.KeptFrames.{AreOfInstall, AreOfMessage, CarryTables, tables_version};
 
 use ctrl_msg::{Body, Message, Receiver, SharedTables};
 use std::alloc::{AllocError, Global};
-use wire::{Assembler, Frames, WireError, decode, decode_front};
+use wire::{Assembler, Frames, HEADER_LEN, WireError, decode, decode_front};
 
-/// How many bytes of a frame stand before its piece.
-const HEADER_LEN: usize = 8;
-
-/// The message of one frame, whose piece is the whole spelling.
+/// The message of one frame, whose chunk is the whole spelling.
 ///
 /// # Errors
 /// Want of memory alone.
-pub fn alone(alloc: Global, frame: &[u8]) -> Result<Message, AllocError>
+pub fn message_of_frame(alloc: Global, frame: &[u8]) -> Result<Message, AllocError>
     requires { AreOfMessage (frame.now ∷ []) }
     ensures { IfOk result (λ message. AreFrames message (frame.now ∷ [])) }
 {
@@ -86,7 +83,7 @@ pub fn tables_of(body: &Body) -> Option<(u32, &SharedTables)>
 /// Want of memory alone.
 pub fn tables_in(alloc: Global, frames: &Frames) -> Result<SharedTables, AllocError>
     requires { AreOfInstall frames.now }
-    ensures { IfOk result (λ tables. SayTables tables frames.now) }
+    ensures { IfOk result (λ tables. CarryTables tables frames.now) }
 {
     let message = match frames.get(0) {
         Some(first) => assembled(alloc, first, frames)?,

@@ -3,8 +3,8 @@ ghost use Rattle.std.specs.Prelude.{◌≡◌, ◌<◌, ◌^◌, ◌++◌, ◌�
 ghost use Rattle.ctrl_msg.specs.declared.message.Body.TheVariants.{Install};
 ghost use Rattle.switch_table.specs.declared.tables.Tables.{Tables};
 ghost use Rattle.wire.specs.Frames.{AreFrames, frame, frames};
-ghost use Rattle.wire.specs.Messages.{HasSpelling, IsReceiver, front, message as form, spelled_front};
-ghost use Rattle.message_bag.specs.Kept.{AreOfMessage, IsGrown, IsInstallOf, SayRows, SayTables, frames_in};
+ghost use Rattle.wire.specs.Messages.{HasSpelling, IsReceiver, message_front, message as form, spelled_front};
+ghost use Rattle.message_bag.specs.KeptFrames.{AreOfMessage, IsGrown, IsInstallOf, CarryRows, CarryTables, frames_in};
 
 use crate::reading::{shared, tables_in};
 use crate::same::{are_same_tables, have_same_rows};
@@ -12,10 +12,7 @@ use ctrl_msg::{Message, Receiver, SharedTables};
 use std::alloc::{AllocError, Global};
 use std::marker::Model;
 use switch_table::{PartRow, Tables};
-use wire::{Frames, append_front, split};
-
-/// How many bytes of a frame say its place and the count of frames.
-const HEADER_LEN: usize = 8;
+use wire::{Frames, HEADER_LEN, append_front, split};
 
 /// How many bits the number of a packet's header has.
 const HEADER_BITS: u32 = 104;
@@ -31,20 +28,20 @@ pub struct TableFrames {
 
 impl Model for TableFrames {
     ghost use Rattle.std.specs.Prelude.{List, ℕ};
-    ghost use Rattle.message_bag.specs.Kept.{SayTables};
+    ghost use Rattle.message_bag.specs.KeptFrames.{CarryTables};
 
     ghost Value = { List (List ℕ) };
 
     ghost view = { λ t. t.frames };
 
-    ghost invariant = { λ t. SayTables t.said t.frames };
+    ghost invariant = { λ t. CarryTables t.said t.frames };
 }
 
 impl TableFrames {
     // Of an installation of these tables, which are spelled and read.
     fn new(alloc: Global, message: &Message, tables: &Tables) -> Result<TableFrames, AllocError>
         requires { IsInstallOf message.now tables.now }
-        ensures { IfOk result (SayTables tables.now) }
+        ensures { IfOk result (CarryTables tables.now) }
     {
         let frames = split(alloc, message)?;
         let said = with_trees(alloc, tables_in(alloc, &frames)?)?;
@@ -52,25 +49,25 @@ impl TableFrames {
     }
 
     // Of the same tables under another version, which are neither spelled nor read anew.
-    fn of_version(&self, alloc: Global, version: u32) -> Result<TableFrames, AllocError>
-        ensures { IfOk result (λ kept. (t : Tables) → SayTables t self.now
-            → SayTables (record t { version = version }) kept) }
+    fn with_version(&self, alloc: Global, version: u32) -> Result<TableFrames, AllocError>
+        ensures { IfOk result (λ kept. (t : Tables) → CarryTables t self.now
+            → CarryTables (record t { version = version }) kept) }
     {
-        let said = self.said.of_version(alloc, version)?;
-        let frames = self.frames.of_version(alloc, version)?;
+        let said = self.said.with_version(alloc, version)?;
+        let frames = self.frames.with_version(alloc, version)?;
         Ok(TableFrames { said, frames })
     }
 
     // Whether they say these tables.
-    fn say(&self, tables: &Tables) -> bool
-        ensures { IsTrue result → SayTables tables.now self.now }
+    fn carry(&self, tables: &Tables) -> bool
+        ensures { IsTrue result → CarryTables tables.now self.now }
     {
         are_same_tables(self.said.tables(), tables)
     }
 
     // Whether they say these tables under some version.
-    fn say_rows(&self, tables: &Tables) -> bool
-        ensures { IsTrue result → SayRows tables.now self.now }
+    fn carry_rows(&self, tables: &Tables) -> bool
+        ensures { IsTrue result → CarryRows tables.now self.now }
     {
         have_same_rows(self.said.tables(), tables)
     }
@@ -79,7 +76,7 @@ impl TableFrames {
     // the boot are its own.
     fn put_first(&self, out: &mut Vec<u8>, to: Receiver, boot: u32) -> Result<(), AllocError>
         requires { IsReceiver to }
-        ensures fits { OnOk result (front.fits (to, (1, boot)) ≡ true) }
+        ensures fits { OnOk result (message_front.fits (to, (1, boot)) ≡ true) }
         ensures put { OnOk result (out.new.items
             ≡ out.old.items ++ frame 0 (length self.now) (spelled_front to boot)) }
     {
@@ -128,17 +125,17 @@ fn are_whole(rows: &[PartRow]) -> bool {
 // The number of the frames that say these tables. Most often they are among the last.
 fn find(kept: &[TableFrames], tables: &Tables) -> Option<usize>
     ensures there { IfSome result (λ number. number < length kept.now) }
-    ensures say { IfSome result (λ number. SayTables tables.now (get_or kept.now number [])) }
+    ensures carry { IfSome result (λ number. CarryTables tables.now (get_or kept.now number [])) }
 {
-    kept.iter().rposition(|frames| frames.say(tables))
+    kept.iter().rposition(|frames| frames.carry(tables))
 }
 
 // The number of the frames that say these tables under some version.
 fn find_rows(kept: &[TableFrames], tables: &Tables) -> Option<usize>
     ensures there { IfSome result (λ number. number < length kept.now) }
-    ensures say { IfSome result (λ number. SayRows tables.now (get_or kept.now number [])) }
+    ensures carry { IfSome result (λ number. CarryRows tables.now (get_or kept.now number [])) }
 {
-    kept.iter().rposition(|frames| frames.say_rows(tables))
+    kept.iter().rposition(|frames| frames.carry_rows(tables))
 }
 
 // The frames of an installation of these tables: those that are there under another version, but
@@ -150,10 +147,10 @@ fn made(
     tables: &Tables,
 ) -> Result<TableFrames, AllocError>
     requires { IsInstallOf message.now tables.now }
-    ensures { IfOk result (SayTables tables.now) }
+    ensures { IfOk result (CarryTables tables.now) }
 {
     match find_rows(kept, tables) {
-        Some(number) => Ok(kept[number].of_version(alloc, tables.version)?),
+        Some(number) => Ok(kept[number].with_version(alloc, tables.version)?),
         None => Ok(TableFrames::new(alloc, message, tables)?),
     }
 }
@@ -168,8 +165,8 @@ fn keep(
 ) -> Result<usize, AllocError>
     requires { IsInstallOf message.now tables.now }
     ensures there { IfOk result (λ number. number < length kept.new.items) }
-    ensures say { IfOk result (λ number.
-        SayTables tables.now (get_or kept.new.items number [])) }
+    ensures carry { IfOk result (λ number.
+        CarryTables tables.now (get_or kept.new.items number [])) }
     ensures grown { IsGrown kept.old.items kept.new.items }
 {
     match find(kept, tables) {
@@ -193,7 +190,7 @@ fn put_first_of(
 ) -> Result<(), AllocError>
     requires there { number < length kept.now }
     requires switch { IsReceiver to }
-    ensures fits { OnOk result (front.fits (to, (1, boot)) ≡ true) }
+    ensures fits { OnOk result (message_front.fits (to, (1, boot)) ≡ true) }
     ensures put { OnOk result (out.new.items
         ≡ out.old.items ++ frame 0 (length (get_or kept.now number [])) (spelled_front to boot)) }
 {

@@ -9,7 +9,7 @@ use Rattle.std.proofs.lemmas.Bool.Decides.{nat_tests}
 use Rattle.std.proofs.lemmas.List.Elements.{filter-append}
 use Rattle.std.proofs.lemmas.Bool.{ne_eqb}
 use Rattle.policy_rules.specs.declared.packet.Leaving.{Leaving}
-use Rattle.meters.specs.Meters.{PortLeavings, holding, has_ended, is_over_within, leavings_of, kept, IsNoted}
+use Rattle.meters.specs.Meters.{PortLeavings, meter_with, has_ended, is_over_within, leavings_of, meters_after, IsNoted}
 use Rattle.meters.specs.Seen.{Seen}
 use Rattle.meters.specs.declared.meter.Stay.TheVariants as stay
 
@@ -23,29 +23,29 @@ list_any-shift f h same from (suc count) =
     ∙ ap (λ rest. h from || rest) (list_any-shift f h same (from + 1) count)
 
 holding-append : (left more : List Leaving) (meter : Seen)
-    → holding (left ++ more) meter ≡ holding more (holding left meter)
+    → meter_with (left ++ more) meter ≡ meter_with more (meter_with left meter)
 holding-append left more meter =
     ap (λ held. record meter { held = held }) (sym (append_assoc meter.held left more))
 
 is_over_within-cons : (one : Leaving) (more : List Leaving) (meter : Seen)
     → is_over_within (one ∷ more) meter
-    ≡ (has_ended (holding (one ∷ []) meter) || is_over_within more (holding (one ∷ []) meter))
+    ≡ (has_ended (meter_with (one ∷ []) meter) || is_over_within more (meter_with (one ∷ []) meter))
 is_over_within-cons one more meter =
-    ap (λ rest. has_ended (holding (one ∷ []) meter) || rest) (list_any-shift
-    (λ k. has_ended (holding (take k (one ∷ more)) meter))
-    (λ k. has_ended (holding (take k more) (holding (one ∷ []) meter)))
+    ap (λ rest. has_ended (meter_with (one ∷ []) meter) || rest) (list_any-shift
+    (λ k. has_ended (meter_with (take k (one ∷ more)) meter))
+    (λ k. has_ended (meter_with (take k more) (meter_with (one ∷ []) meter)))
     (λ k. rw add-one (ap has_ended (holding-append (one ∷ []) (take k more) meter)))
     1 (length more))
 
 is_over_within-append : (left more : List Leaving) (meter : Seen)
     → is_over_within (left ++ more) meter
-    ≡ (is_over_within left meter || is_over_within more (holding left meter))
+    ≡ (is_over_within left meter || is_over_within more (meter_with left meter))
 is_over_within-append [] more meter =
     ap (λ held. is_over_within more (record meter { held = held })) (sym (append-nil meter.held))
 is_over_within-append (one ∷ left) more meter =
-    let now = holding (one ∷ []) meter in
-    let then : Bool = is_over_within more (holding left now) in
-    let same : holding (one ∷ left) meter ≡ holding left now =
+    let now = meter_with (one ∷ []) meter in
+    let then : Bool = is_over_within more (meter_with left now) in
+    let same : meter_with (one ∷ left) meter ≡ meter_with left now =
     holding-append (one ∷ []) left meter in
     is_over_within-cons one (left ++ more) meter
     ∙ ap (λ rest. has_ended now || rest) (is_over_within-append left more now)
@@ -60,17 +60,18 @@ leavings_of-append port left more = rw (filter-append, map-append)
 -- ---- lists of meters
 
 pub kept-append : (left : PortLeavings) (some others : List Seen)
-    → kept left (some ++ others) ≡ kept left some ++ kept left others
-unfolding kept
+    → meters_after left (some ++ others) ≡ meters_after left some ++ meters_after left others
+unfolding meters_after
 kept-append left some others = rw (filter-append, map-append)
 
-pub kept-nothing : (meters : List Seen) → kept [] meters ≡ meters
-unfolding kept
+pub kept-nothing : (meters : List Seen) → meters_after [] meters ≡ meters
+unfolding meters_after
 kept-nothing [] = refl
 kept-nothing (meter ∷ meters) =
-    let now : holding [] meter ≡ meter =
+    let now : meter_with [] meter ≡ meter =
     ap (λ held. record meter { held = held }) (append-nil meter.held) in
-    ap (λ first. first ∷ kept [] meters) now ∙ ap (λ rest. meter ∷ rest) (kept-nothing meters)
+    ap (λ first. first ∷ meters_after [] meters) now
+    ∙ ap (λ rest. meter ∷ rest) (kept-nothing meters)
 
 map-cond : (f : Seen → Seen) (meter : Seen) (over : Bool)
     → map f (cond (not over) (meter ∷ []) []) ≡ cond over [] (f meter ∷ [])
@@ -78,11 +79,11 @@ map-cond f meter true = refl
 map-cond f meter false = refl
 
 pub kept-one : (left : PortLeavings) (meter : Seen)
-    → kept left (meter ∷ []) ≡ cond (is_over_within (leavings_of meter.port left) meter) []
-    (holding (leavings_of meter.port left) meter ∷ [])
-unfolding kept
+    → meters_after left (meter ∷ []) ≡ cond (is_over_within (leavings_of meter.port left) meter) []
+    (meter_with (leavings_of meter.port left) meter ∷ [])
+unfolding meters_after
 kept-one left meter =
-    map-cond (λ m. holding (leavings_of m.port left) m) meter
+    map-cond (λ m. meter_with (leavings_of m.port left) m) meter
     (is_over_within (leavings_of meter.port left) meter)
 
 map-chosen : {M : Type 0} (seen : M → Seen) (first : M) (chosen : Bool) (some : List M)
@@ -115,13 +116,13 @@ leavings_elsewhere port leaving meter apart =
     (ne_eqb port meter.port (λ same. apart (sym same)))
 
 over_after_one : (leaving : Leaving) (old new : Seen) (over : Bool)
-    → new ≡ holding (leaving ∷ []) old → has_ended new ≡ over
+    → new ≡ meter_with (leaving ∷ []) old → has_ended new ≡ over
     → is_over_within (leaving ∷ []) old ≡ (over || false)
 over_after_one leaving old new over is_new is_over_now =
     ap (λ now. now || false) (ap has_ended (sym is_new) ∙ is_over_now)
 
 pub kept-stay : (port : ℕ) (leaving : Leaving) (old new : Seen) → old.port ≡ port
-    → IsNoted leaving old new stay.Stay → kept ((port, leaving) ∷ []) (old ∷ []) ≡ new ∷ []
+    → IsNoted leaving old new stay.Stay → meters_after ((port, leaving) ∷ []) (old ∷ []) ≡ new ∷ []
 kept-stay port leaving old new here noted =
     rw (
       kept-one ((port, leaving) ∷ []) old,
@@ -130,7 +131,7 @@ kept-stay port leaving old new here noted =
     ) (ap (λ m. m ∷ []) (sym noted.0))
 
 pub kept-leave : (port : ℕ) (leaving : Leaving) (old new : Seen) → old.port ≡ port
-    → IsNoted leaving old new stay.Leave → kept ((port, leaving) ∷ []) (old ∷ []) ≡ []
+    → IsNoted leaving old new stay.Leave → meters_after ((port, leaving) ∷ []) (old ∷ []) ≡ []
 kept-leave port leaving old new here noted =
     rw (
       kept-one ((port, leaving) ∷ []) old,
@@ -139,7 +140,7 @@ kept-leave port leaving old new here noted =
     ) refl
 
 pub kept_elsewhere : (port : ℕ) (leaving : Leaving) (meter : Seen) → meter.port ≢ port
-    → kept ((port, leaving) ∷ []) (meter ∷ []) ≡ meter ∷ []
+    → meters_after ((port, leaving) ∷ []) (meter ∷ []) ≡ meter ∷ []
 kept_elsewhere port leaving meter apart =
     rw (kept-one ((port, leaving) ∷ []) meter, leavings_elsewhere port leaving meter apart)
     (ap (λ held. record meter { held = held } ∷ []) (append-nil meter.held))
@@ -148,10 +149,10 @@ kept_elsewhere port leaving meter apart =
 
 pub after_stay : {M : Type 0} (seen : M → Seen) (left : PortLeavings) (meters : List M) (at : ℕ)
     → (old new : M) → at < length meters → get_or meters at old ≡ old
-    → kept left (seen old ∷ []) ≡ seen new ∷ []
-    → map seen (take at meters) ++ kept left (map seen (drop at meters))
+    → meters_after left (seen old ∷ []) ≡ seen new ∷ []
+    → map seen (take at meters) ++ meters_after left (map seen (drop at meters))
     ≡ map seen (take (at + 1) (set meters at new))
-    ++ kept left (map seen (drop (at + 1) (set meters at new)))
+    ++ meters_after left (map seen (drop (at + 1) (set meters at new)))
 after_stay seen left meters at old new within is_old stays =
     let first = map seen (take at meters) in
     let rest = map seen (drop (at + 1) meters) in
@@ -165,7 +166,7 @@ after_stay seen left meters at old new within is_old stays =
       append_assoc,
     )
     (ap (λ more. first ++ more) (kept-append left (seen old ∷ []) rest
-    ∙ ap (λ one. one ++ kept left rest) stays))
+    ∙ ap (λ one. one ++ meters_after left rest) stays))
 
 seam : {M : Type 0} (front back : List M) (at : ℕ) → length front ≡ at
     → (take at (front ++ back) ≡ front) × (drop at (front ++ back) ≡ back)
@@ -180,9 +181,9 @@ removed meters at new within =
 
 pub after_leave : {M : Type 0} (seen : M → Seen) (left : PortLeavings) (meters : List M) (at : ℕ)
     → (old new : M) (after : List M) → at < length meters → get_or meters at old ≡ old
-    → kept left (seen old ∷ []) ≡ [] → after ≡ remove (set meters at new) at
-    → map seen (take at meters) ++ kept left (map seen (drop at meters))
-    ≡ map seen (take at after) ++ kept left (map seen (drop at after))
+    → meters_after left (seen old ∷ []) ≡ [] → after ≡ remove (set meters at new) at
+    → map seen (take at meters) ++ meters_after left (map seen (drop at meters))
+    ≡ map seen (take at after) ++ meters_after left (map seen (drop at after))
 after_leave seen left meters at old new after within is_old leaves is_after =
     let rest = map seen (drop (at + 1) meters) in
     let split : drop at meters ≡ old ∷ drop (at + 1) meters =
@@ -191,24 +192,25 @@ after_leave seen left meters at old new after within is_old leaves is_after =
     (length-take-le at meters (omega arith)) in
     rw (is_after, removed meters at new within, parts.0, parts.1, split)
     (ap (λ more. map seen (take at meters) ++ more) (kept-append left (seen old ∷ []) rest
-    ∙ ap (λ one. one ++ kept left rest) leaves))
+    ∙ ap (λ one. one ++ meters_after left rest) leaves))
 
 pub after_all : {M : Type 0} (seen : M → Seen) (left : PortLeavings) (meters : List M) (at : ℕ)
     → length meters ≤ at
-    → map seen (take at meters) ++ kept left (map seen (drop at meters)) ≡ map seen meters
-unfolding kept
+    → map seen (take at meters) ++ meters_after left (map seen (drop at meters)) ≡ map seen meters
+unfolding meters_after
 after_all seen left meters at past =
     rw (take_all at meters past, drop_of_length-le meters past, append-nil) refl
 
 kept-cond : (more : PortLeavings) (meter : Seen) (over : Bool)
     → cond (over || is_over_within (leavings_of meter.port more) meter) []
-    (holding (leavings_of meter.port more) meter ∷ []) ≡ kept more (cond over [] (meter ∷ []))
-unfolding kept
+    (meter_with (leavings_of meter.port more) meter ∷ [])
+    ≡ meters_after more (cond over [] (meter ∷ []))
+unfolding meters_after
 kept-cond more meter true = refl
 kept-cond more meter false = sym (kept-one more meter)
 
 kept_on_one : (left more : PortLeavings) (meter : Seen)
-    → kept (left ++ more) (meter ∷ []) ≡ kept more (kept left (meter ∷ []))
+    → meters_after (left ++ more) (meter ∷ []) ≡ meters_after more (meters_after left (meter ∷ []))
 kept_on_one left more meter =
     let before = leavings_of meter.port left in
     let after = leavings_of meter.port more in
@@ -219,17 +221,18 @@ kept_on_one left more meter =
       is_over_within-append before after meter,
       holding-append before after meter,
     )
-    (kept-cond more (holding before meter) (is_over_within before meter))
+    (kept-cond more (meter_with before meter) (is_over_within before meter))
 
 -- who stays through all leavings stays through the earlier ones, and from there through the others
 pub kept_on : (left more : PortLeavings) (meters : List Seen)
-    → kept (left ++ more) meters ≡ kept more (kept left meters)
-unfolding kept
+    → meters_after (left ++ more) meters ≡ meters_after more (meters_after left meters)
+unfolding meters_after
 kept_on left more [] = refl
 kept_on left more (meter ∷ meters) =
     let both = left ++ more in
     kept-append both (meter ∷ []) meters
-    ∙ ap (λ first. first ++ kept both meters) (kept_on_one left more meter)
-    ∙ ap (λ rest. kept more (kept left (meter ∷ [])) ++ rest) (kept_on left more meters)
-    ∙ sym (kept-append more (kept left (meter ∷ [])) (kept left meters))
-    ∙ ap (kept more) (sym (kept-append left (meter ∷ []) meters))
+    ∙ ap (λ first. first ++ meters_after both meters) (kept_on_one left more meter)
+    ∙ ap (λ rest. meters_after more (meters_after left (meter ∷ [])) ++ rest)
+    (kept_on left more meters)
+    ∙ sym (kept-append more (meters_after left (meter ∷ [])) (meters_after left meters))
+    ∙ ap (meters_after more) (sym (kept-append left (meter ∷ []) meters))

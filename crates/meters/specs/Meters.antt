@@ -18,8 +18,8 @@ pub record Limited : Type 0 where
   pub most : ℕ
 
 -- the meter holds these leavings too
-abbrev pub holding : List Leaving → Seen → Seen
-holding more meter = record meter { held = meter.held ++ more }
+abbrev pub meter_with : List Leaving → Seen → Seen
+meter_with more meter = record meter { held = meter.held ++ more }
 
 -- its list is ended
 abbrev pub has_ended : Seen → Bool
@@ -27,8 +27,8 @@ has_ended meter = meter.is_ended meter.held
 
 -- what a note of a leaving makes of a meter, by its answer
 abbrev pub IsNoted : Leaving → Seen → Seen → Stay → Type 0
-IsNoted leaving old new stay.Stay = (new ≡ holding (leaving ∷ []) old) × (has_ended new ≡ false)
-IsNoted leaving old new stay.Leave = (new ≡ holding (leaving ∷ []) old) × (has_ended new ≡ true)
+IsNoted leaving old new stay.Stay = (new ≡ meter_with (leaving ∷ []) old) × (has_ended new ≡ false)
+IsNoted leaving old new stay.Leave = (new ≡ meter_with (leaving ∷ []) old) × (has_ended new ≡ true)
 IsNoted leaving old new stay.NoMemory = new ≡ old
 
 -- leavings of all ports, in order, each with its port
@@ -42,17 +42,17 @@ leavings_of port left = map (λ one. one.1) (filter (λ one. one.0 == port) left
 -- its list, followed by the first k of these leavings, is ended for some k from 1
 abbrev pub is_over_within : List Leaving → Seen → Bool
 is_over_within more meter =
-    list_any (λ k. has_ended (holding (take k more) meter)) (range_with_len 1 (length more))
+    list_any (λ k. has_ended (meter_with (take k more) meter)) (range_with_len 1 (length more))
 
 -- the meters that stay while packets leave, in order, each with all leavings of its port
-unfoldable pub kept : PortLeavings → List Seen → List Seen
-kept left meters =
-    map (λ meter. holding (leavings_of meter.port left) meter)
+unfoldable pub meters_after : PortLeavings → List Seen → List Seen
+meters_after left meters =
+    map (λ meter. meter_with (leavings_of meter.port left) meter)
     (filter (λ meter. not (is_over_within (leavings_of meter.port left) meter)) meters)
 
 -- the meters that stay in a network with these ports
 abbrev pub kept_meters : ℕ → PortLeavings → List Seen → List Seen
-kept_meters ports left meters = kept left (filter (λ meter. has ports meter.port) meters)
+kept_meters ports left meters = meters_after left (filter (λ meter. has ports meter.port) meters)
 
 -- where the old meters are those that stayed until now, the new ones are those that stay with one
 -- more leaving

@@ -1,7 +1,7 @@
 //! The meters of a network's ports.
 ghost use Rattle.std.specs.Prelude.{◌≡◌, ◌∷◌, [], map, filter, OnOk};
 ghost use Rattle.base.specs.Masks.{has};
-ghost use Rattle.meters.specs.Meters.{kept, kept_meters, GoesOnKept};
+ghost use Rattle.meters.specs.Meters.{meters_after, kept_meters, GoesOnKept};
 
 use crate::meter::{Meter, Stay};
 use policy_rules::Leaving;
@@ -37,7 +37,7 @@ impl<M: Meter> Board<M> {
     /// An error is want of memory of a meter; the meters are then unknown.
     pub fn note(&mut self, port: u32, leaving: &Leaving) -> Result<(), AllocError>
         ensures noted { OnOk result (map M.seen self.new
-            ≡ kept ((port, leaving.now) ∷ []) (map M.seen self.old)) }
+            ≡ meters_after ((port, leaving.now) ∷ []) (map M.seen self.old)) }
         ensures goes_on { OnOk result
             (GoesOnKept (port, leaving.now) (map M.seen self.old) (map M.seen self.new)) }
     {
@@ -72,9 +72,9 @@ fn has_port(ports: u64, port: u32) -> bool
 /// Lets a meter of this port note the leaving, and leaves a meter of another port as it is.
 fn offer<M: Meter>(meter: &mut M, port: u32, leaving: &Leaving) -> Stay
     ensures stay { result ≡ Stay.Stay
-        → kept ((port, leaving.now) ∷ []) (M.seen meter.old ∷ []) ≡ M.seen meter.new ∷ [] }
+        → meters_after ((port, leaving.now) ∷ []) (M.seen meter.old ∷ []) ≡ M.seen meter.new ∷ [] }
     ensures leave { result ≡ Stay.Leave
-        → kept ((port, leaving.now) ∷ []) (M.seen meter.old ∷ []) ≡ [] }
+        → meters_after ((port, leaving.now) ∷ []) (M.seen meter.old ∷ []) ≡ [] }
 {
     if meter.port() == port {
         meter.note(leaving)

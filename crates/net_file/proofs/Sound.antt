@@ -14,11 +14,11 @@ use Rattle.net_file.specs.declared.error.NetRefusal.TheVariants as refusal
 use Rattle.net_file.specs.declared.net.SwitchRow.{SwitchRow}
 use Rattle.net_file.specs.declared.net.LinkRow.{LinkRow}
 use Rattle.net_file.specs.declared.net.Net.{Net}
-use Rattle.net_file.specs.Keys.{at_key, number_within, of_type, within}
+use Rattle.net_file.specs.Keys.{at_key, number_within, of_type, integer_within}
 use Rattle.base.specs.ComputedMasks.{mask_of}
 use Rattle.base.proofs.CallerLemmas.{mask_of_lt}
 use Rattle.net_file.specs.Net.{AreApart, AreOther, IsLink, IsNet, IsSwitchRow, is_name}
-use Rattle.net_file.specs.Reading.{are_distinct, are_new, array_in, document_of, end_read, ends_in, link_array, link_of, link_with, name_in, net_read, net_of, number_stated, ports_in, rows_read, setting_read, switch_array, switch_read, switch_with}
+use Rattle.net_file.specs.Reading.{are_distinct, are_new, array_in, document_of, end_read, ends_in, link_array, link_of, link_with, name_in, net_read, net_of, number_stated, ports_in, rows_read, number_or_default, switch_array, switch_read, switch_with}
 use Rattle.net_file.specs.Refusals.{require, with_value}
 use Rattle.base.specs.Refusals.{in_row}
 use Rattle.net_file.specs.Owners.{have_name, have_port, switch_number}
@@ -73,7 +73,7 @@ number_range low high d n e =
     within_range low high z n rest
 
 setting_range : (table : Members) (key : List ℕ) (low high default n : ℕ) → low ≤ default
-    → default ≤ high → setting_read table key low high default ≡ Ok n → (low ≤ n) × (n ≤ high)
+    → default ≤ high → number_or_default table key low high default ≡ Ok n → (low ≤ n) × (n ≤ high)
 setting_range table key low high default n from to e = at (get_member key table) e
   where
     at : (o : Option Data) → option_map_or (number_stated low high) o (Ok default) ≡ Ok n → (low ≤ n)
@@ -171,7 +171,8 @@ switch_with_new earlier keys row e =
     let (name, named, e1) = with_value_ok
     (at_key name_in (Err refusal.MissingKey) keys (codes "name")) _ row e in
     let (ports, read, e2) = with_value_ok (at_key ports_in (Ok []) keys (codes "ports")) _ row e1 in
-    let (room, sized, e3) = with_value_ok (setting_read keys (codes "authority") 0 8192 0) _ row e2 in
+    let (room, sized, e3) = with_value_ok (number_or_default keys (codes "authority") 0 8192 0) _
+    row e2 in
     let (other, e4) = require_ok (not (have_name earlier name)) refusal.DuplicateName _ row e3 in
     let (new, e5) = require_ok (are_new earlier ports) refusal.DuplicatePort _ row e4 in
     subst (IsNew earlier) (ok_value _ row e5) (record {
@@ -196,8 +197,8 @@ AreSwitches rows = All IsSwitchRow rows × AllPairs AreApart rows
 
 none_passes : {X : Type 0} (test : X → Bool) (xs : List X) (i : ℕ) (d : X) → i < length xs
     → list_any test xs ≡ false → test (get_or xs i d) ≡ false
-none_passes test xs i d within none = false_from_ne_true _
-    (λ passes. both_ways _ none (list_any_at test xs i d within passes))
+none_passes test xs i d integer_within none = false_from_ne_true _
+    (λ passes. both_ways _ none (list_any_at test xs i d integer_within passes))
 
 switches_push : (earlier : List SwitchRow) (d : Data) (row : SwitchRow) → AreSwitches earlier
     → switch_read earlier d ≡ Ok row → AreSwitches (earlier ++ row ∷ [])
@@ -205,10 +206,11 @@ switches_push earlier d row sound e =
     let new = switch_new earlier d row e in (
       All-push IsSwitchRow earlier row sound.0 new.switch,
       all_pairs_push AreApart earlier row sound.1 (λ k x within. record {
-        names = none_passes (λ other. bytes_eq other.name row.name) earlier k x within new.name;
+        names = none_passes (λ other. bytes_eq other.name row.name) earlier k x integer_within
+            new.name;
         ports = λ port has. false_from_ne_true _
             (λ shared. both_ways _ (new.ports port shared)
-            (list_any_at (has_port port) earlier k x within has));
+            (list_any_at (has_port port) earlier k x integer_within has));
       }),
     )
 
@@ -285,10 +287,12 @@ link_array_size table ds e =
 pub sound_net : (table : Members) (net : Net) → net_read table ≡ Ok net → IsNet net
 sound_net table net e =
     let (leaf_rules, a, e1) =
-    with_value_ok (in_row 0 (setting_read table (codes "leaf_rules") 1 8192 64)) _ net e in
-    let (backups, b, e2) = with_value_ok (in_row 0 (setting_read table (codes "backups") 0 3 0)) _ net
+    with_value_ok (in_row 0 (number_or_default table (codes "leaf_rules") 1 8192 64)) _ net e in
+    let (backups, b, e2) = with_value_ok (in_row 0
+    (number_or_default table (codes "backups") 0 3 0)) _ net
     e1 in
-    let (cache, c, e3) = with_value_ok (in_row 0 (setting_read table (codes "cache") 0 65536 256)) _
+    let (cache, c, e3) = with_value_ok (in_row 0
+    (number_or_default table (codes "cache") 0 65536 256)) _
     net e2 in
     let (switch_values, d, e4) = with_value_ok (in_row 0 (switch_array table)) _ net e3 in
     let (switches, f, e5) = with_value_ok (rows_read 0 switch_read [] switch_values) _ net e4 in

@@ -23,10 +23,10 @@ abbrev pub at_key : {X : Type 0} → (Data → Result X NetRefusal) → Result X
 at_key read absent table key = option_map_or read (get_member key table) absent
 
 -- the integer, if it lies from low to high
-abbrev pub within : ℕ → ℕ → ℤ → Option ℕ
-within low high (pos n) = if nat_le low n && nat_le n high then Some n else None
-within low high (negsuc n) = None
+abbrev pub integer_within : ℕ → ℕ → ℤ → Option ℕ
+integer_within low high (pos n) = if nat_le low n && nat_le n high then Some n else None
+integer_within low high (negsuc n) = None
 
 -- an integer that must lie from low to high
 abbrev pub number_within : ℕ → ℕ → ℤ → Result ℕ NetRefusal
-number_within low high z = option_map_or Ok (within low high z) (Err refusal.Range)
+number_within low high z = option_map_or Ok (integer_within low high z) (Err refusal.Range)

@@ -4,7 +4,7 @@ use Rattle.std.specs.List.{list_all, list_any}
 use Rattle.std.specs.Str.{is_utf8}
 use Rattle.toml.specs.Data.{Data, Members, as_integer, as_str, as_array, as_table}
 use Rattle.toml.specs.Parse.{parse_document}
-use Rattle.net_file.specs.Keys.{at_key, items_list, number_within, of_type, within}
+use Rattle.net_file.specs.Keys.{at_key, items_list, number_within, of_type, integer_within}
 use Rattle.base.specs.ComputedMasks.{mask_of}
 use Rattle.net_file.specs.Net.{is_name}
 use Rattle.net_file.specs.Refusals.{require, with_value}
@@ -31,7 +31,7 @@ name_in d = with_value (of_type (as_str d)) (λ text. require (is_name text) ref
 
 -- a port of the array `ports`
 abbrev pub port_read : Data → Option ℕ
-port_read d = option_and_then (within 0 63) (as_integer d)
+port_read d = option_and_then (integer_within 0 63) (as_integer d)
 
 abbrev pub ports_of : List Data → List ℕ
 ports_of ds = filter_map port_read ds
@@ -56,8 +56,9 @@ ends_in d = with_value (array_in d) (λ ends. of_type (texts_of ends))
 -- ---- settings
 
 -- a number of the document, or its default where the key is absent
-abbrev pub setting_read : Members → List ℕ → ℕ → ℕ → ℕ → Result ℕ NetRefusal
-setting_read table key low high default = at_key (number_stated low high) (Ok default) table key
+abbrev pub number_or_default : Members → List ℕ → ℕ → ℕ → ℕ → Result ℕ NetRefusal
+number_or_default table key low high default = at_key (number_stated low high) (Ok default) table
+    key
 
 -- ---- switches
 
@@ -93,7 +94,7 @@ abbrev pub switch_with : List SwitchRow → Members → Result SwitchRow NetRefu
 switch_with earlier keys =
     with_value (name_at keys) (λ name.
     with_value (ports_at keys) (λ ports.
-    with_value (setting_read keys (codes "authority") 0 8192 0) (λ room.
+    with_value (number_or_default keys (codes "authority") 0 8192 0) (λ room.
     require (not (have_name earlier name)) refusal.DuplicateName (
     require (are_new earlier ports) refusal.DuplicatePort (
     Ok (record { name = name; ports = port_bits ports; room = room }))))))
@@ -146,9 +147,9 @@ links_in switches ds = rows_read 100 (link_of switches) [] ds
 -- the network that a document states, or its first refusal
 abbrev pub net_read : Members → Result Net (InRow NetRefusal)
 net_read table =
-    with_value (in_row 0 (setting_read table (codes "leaf_rules") 1 8192 64)) (λ leaf_rules.
-    with_value (in_row 0 (setting_read table (codes "backups") 0 3 0)) (λ backups.
-    with_value (in_row 0 (setting_read table (codes "cache") 0 65536 256)) (λ cache.
+    with_value (in_row 0 (number_or_default table (codes "leaf_rules") 1 8192 64)) (λ leaf_rules.
+    with_value (in_row 0 (number_or_default table (codes "backups") 0 3 0)) (λ backups.
+    with_value (in_row 0 (number_or_default table (codes "cache") 0 65536 256)) (λ cache.
     with_value (in_row 0 (switch_array table)) (λ switch_values.
     with_value (switches_read switch_values) (λ switches.
     with_value (in_row 0 (link_array table)) (λ link_values.

@@ -1,7 +1,7 @@
 ghost use Rattle.std.specs.Prelude.{◌≡◌, option_map};
 ghost use Rattle.toml.specs.Data.{as_str, as_table, get_member};
 ghost use Rattle.toml.specs.View.{table_view, view};
-ghost use Rattle.net_file.specs.Exports.{array_in, number_stated, of_type, setting_read, within};
+ghost use Rattle.net_file.specs.Exports.{array_in, number_stated, of_type, number_or_default, integer_within};
 ghost use Rattle.net_file.specs.Outcomes.{IsRead, seen_values};
 
 use crate::error::NetRefusal;
@@ -16,7 +16,7 @@ pub fn value_at<'a>(table: &'a Table, key: &str) -> Option<&'a Value>
 
 /// The number, if it lies from low to high.
 pub fn within(low: u32, high: u32, number: i64) -> Option<u32>
-    ensures { result ≡ within low high number }
+    ensures { result ≡ integer_within low high number }
 {
     if number < low as i64 || (high as i64) < number {
         return None;
@@ -40,7 +40,7 @@ pub fn setting_of(
     high: u32,
     default: u32,
 ) -> Result<u32, NetRefusal>
-    ensures { result ≡ setting_read (table_view table.now) key.now low high default }
+    ensures { result ≡ number_or_default (table_view table.now) key.now low high default }
 {
     match value_at(table, key) {
         Some(value) => number_in(low, high, value),

@@ -2,7 +2,7 @@ ghost use Rattle.std.specs.Prelude.{◌≡◌, ◌≤◌, ◌<◌, ◌==◌, ℕ
 ghost use Rattle.net_file.specs.Exports.{AreOwners, IsLink, IsNet, joins, links_of, owner_of, port_mask, solo_net, switch_number};
 
 use crate::ports::{Ports, owners};
-use base::{Listing, has, with};
+use base::{Items, has, with};
 use std::alloc::{AllocError, AllocFailed, Global};
 use std::marker::Model;
 
@@ -38,10 +38,10 @@ pub struct LinkRow {
 }
 
 /// The switches of a network in the order of its text: a switch's number is its place, from 0.
-pub type Switches = Listing<SwitchRow>;
+pub type Switches = Items<SwitchRow>;
 
 /// The links of a network in the order of its text.
-pub type Links = Listing<LinkRow>;
+pub type Links = Items<LinkRow>;
 
 /// A network, with the settings of the trees that are cut for it.
 #[derive(Drop)]

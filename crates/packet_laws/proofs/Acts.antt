@@ -21,7 +21,7 @@ use Rattle.control_laws.specs.ItemCauses.{HasItemCause}
 use Rattle.control_laws.proofs.Facts.{own}
 use Rattle.packet_laws.specs.OnWay.{IsOnWay, IsOnLeg}
 use Rattle.packet_laws.specs.Facts.{PacketFacts, what_is_known}
-use Rattle.packet_laws.specs.Kept.{AllKept}
+use Rattle.packet_laws.specs.KeptFacts.{AllKept}
 use Rattle.packet_laws.specs.Rest.{AreResting}
 use Rattle.packet_laws.specs.Stages.{stage_of}
 use Rattle.packet_laws.specs.WayCauses.{IsAt}

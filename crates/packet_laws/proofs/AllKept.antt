@@ -35,14 +35,14 @@ use Rattle.packet_laws.specs.Rules.{IsRightEntry, IsRightRule}
 use Rattle.packet_laws.specs.OnWay.{IsUnknown}
 use Rattle.packet_laws.specs.Facts.{is_of_packet, facts_after, what_is_known}
 use Rattle.packet_laws.proofs.PacketFacts.{facts_named, facts_other}
-use Rattle.packet_laws.specs.Kept.{AllKept, BringsRight, IsJudged, IsKept}
-use Rattle.packet_laws.specs.Stages.{Blocked, CameIn, Judged, OnWay, Stage, stage_of, tells_stage}
-use Rattle.packet_laws.specs.WayCauses.{TellsRightly, TellsRule, WayCause}
+use Rattle.packet_laws.specs.KeptFacts.{AllKept, BringsRight, IsJudged, IsKept}
+use Rattle.packet_laws.specs.Stages.{Blocked, CameIn, Judged, OnWay, Stage, stage_of, gives_stage}
+use Rattle.packet_laws.specs.WayCauses.{SendsRightRule, SendsRule, WayCause}
 use Rattle.packet_laws.proofs.CacheRules.{cache_rule_right}
 use Rattle.packet_laws.proofs.Caches.{cache_holds}
 use Rattle.packet_laws.proofs.Growing.{Grows, grows, kept_on, right_on}
 use Rattle.packet_laws.proofs.Here.{IsHere, Rules, here_of, rules_of, some_same}
-use Rattle.packet_laws.proofs.Kept.{Knows, decided_after, entered_after, exiting_after, found_after, gone, hopped_after, rerouted_after, seeking_after}
+use Rattle.packet_laws.proofs.KeptFacts.{Knows, decided_after, entered_after, exiting_after, found_after, gone, hopped_after, rerouted_after, seeking_after}
 use Rattle.packet_laws.proofs.Lookups.{deciding}
 use Rattle.packet_laws.proofs.PacketBlocks.{stage_more, stage_stays}
 use Rattle.packet_laws.proofs.Rests.{IsAsked, IsWayItem, Past, numbered, switches_of_all, ways_of_all, with_past}
@@ -98,7 +98,7 @@ knows setting before i known = record {
 
 -- the packet that an item names
 named_as : (setting : Setting) (before : List Item) (packet i : ℕ) (next : Item) (stage : Stage)
-    → (packet == i) ≡ true → tells_stage i next ≡ Some stage
+    → (packet == i) ≡ true → gives_stage i next ≡ Some stage
     → IsKept setting before (facts_after (retired_mark before) next (what_is_known before packet))
     (Some stage)
     → IsKept setting before (facts_after (retired_mark before) next (what_is_known before i))
@@ -157,7 +157,7 @@ named_after setting before (item.Stuck packet switch cause leg down) i known way
     gone setting before _ _ refl
 named_after setting before next i known way named = absurd cc
 
-unnamed_stage : (i : ℕ) (next : Item) → is_of_packet i next ≡ false → tells_stage i next ≡ None
+unnamed_stage : (i : ℕ) (next : Item) → is_of_packet i next ≡ false → gives_stage i next ≡ None
 unnamed_stage i (item.Entered packet s header) e = rw e refl
 unnamed_stage i (item.Seeking packet version partition route) e = rw e refl
 unnamed_stage i (item.Exiting packet route) e = rw e refl
@@ -253,7 +253,7 @@ brings_on setting before after _ grow right = tt
 
 -- the rule that a switch tells is right
 told_right : (setting : Setting) (before : List Item) (message : Message)
-    → Before setting before → TellsRule setting before message
+    → Before setting before → SendsRule setting before message
     → BringsRight setting before message.body
 told_right setting before message known tells =
     let i : ℕ = tells.packet in
@@ -297,7 +297,7 @@ sent_right setting before number message known way = by_body message.body refl w
         → BringsRight setting before message.body
     by_body (CacheRule version word rule act) e way =
         told_right setting before message known
-        (subst (λ b. TellsRightly setting before message b) e way)
+        (subst (λ b. SendsRightRule setting before message b) e way)
     by_body _ e way = subst (BringsRight setting before) (sym e) tt
 
 sent_on : (setting : Setting) (before : List Item) (next : Item) → Before setting before

@@ -12,7 +12,7 @@ use Rattle.control_laws.specs.Authorities.{EndsAt}
 use Rattle.packet_laws.specs.OnWay.{EndsAtTarget, IsOnLeg, IsOnWay}
 use Rattle.packet_laws.specs.Facts.{PacketFacts, what_is_known}
 use Rattle.packet_laws.specs.Arriving.{IsAtEnd, PacketsArrive}
-use Rattle.packet_laws.specs.Kept.{AllKept}
+use Rattle.packet_laws.specs.KeptFacts.{AllKept}
 use Rattle.packet_laws.proofs.Ends.{last_here, one_target}
 use Rattle.packet_laws.proofs.Here.{header_in_facts, leg_in, next_in, stands_in, some_same, travels_in}
 

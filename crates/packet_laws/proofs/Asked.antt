@@ -6,7 +6,7 @@ use Rattle.journal.specs.declared.item.Item.{Item}
 use Rattle.journal.specs.declared.item.Item.TheVariants as item
 use Rattle.steps.specs.declared.step.Step.TheVariants.{Hop}
 use Rattle.update_machine.specs.Causes.{HaveCauses}
-use Rattle.update_machine.specs.Folds.{folded}
+use Rattle.update_machine.specs.Folds.{folded_value}
 use Rattle.update_machine.specs.Travels.{travels}
 use Rattle.update_machine.proofs.CallerLemmas.{folded_append}
 use Rattle.control_laws.proofs.Facts.{AreKept, fact_on}
@@ -19,7 +19,7 @@ changes_asked i before asked (item.Row row (Hop packet)) =
 changes_asked i before asked item = if is_of_packet i item then false else asked
 
 unfoldable pub is_asked : List Item → ℕ → Bool
-is_asked journal i = folded (changes_asked i) false journal
+is_asked journal i = folded_value (changes_asked i) false journal
 
 pub asked_more : (before : List Item) (next : Item) (i : ℕ)
     → is_asked (before ++ next ∷ []) i ≡ changes_asked i before (is_asked before i) next

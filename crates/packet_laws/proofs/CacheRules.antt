@@ -7,7 +7,7 @@ use Rattle.std.proofs.lemmas.Bool.{eqb-true}
 use Rattle.std.proofs.lemmas.List.Elements.{All-tail}
 use Rattle.std.proofs.lemmas.Nat.{and_mask}
 use Rattle.std.proofs.lemmas.Option.{get_or_from_slice_get, slice_get-map, slice_get_within, same_Some}
-use Rattle.cache_maker.specs.Independent.{IsIndependent, is_independent, widen, widened}
+use Rattle.cache_maker.specs.Independent.{IsIndependent, is_independent, widen, widening_of}
 use Rattle.cache_maker.proofs.Independence.{test_true}
 use Rattle.five_tuple.specs.Header.{IsHeader, number_of}
 use Rattle.five_tuple.specs.declared.header.Header.{Header}
@@ -117,8 +117,8 @@ independent_settles setting rows plan header hosted finds word is apart other fi
 widened_settles : (setting : Setting) (rows : List Row) (plan : List Hosted) (header : Header)
     (hosted : Hosted) (finds : Finds rows plan header hosted) (n : ℕ) → IsPlanned setting rows plan → IsHeader header
     → Settles rows finds.rule
-    (widened (number_of header) hosted.0.region hosted.0.rules finds.place n)
-unfolding widened
+    (widening_of (number_of header) hosted.0.region hosted.0.rules finds.place n)
+unfolding widening_of
 widened_settles setting rows plan header hosted finds zero is sound = exact_settles setting rows plan header hosted
     finds is sound
 widened_settles setting rows plan header hosted finds (suc n) is sound =
@@ -126,7 +126,7 @@ widened_settles setting rows plan header hosted finds (suc n) is sound =
     (widened_settles setting rows plan header hosted finds n is sound)
   where
     before : WordValue
-    before = widened (number_of header) hosted.0.region hosted.0.rules finds.place n
+    before = widening_of (number_of header) hosted.0.region hosted.0.rules finds.place n
 
     by_test : (b : Bool)
         → is_independent hosted.0.region hosted.0.rules finds.place (free_of before n) ≡ b

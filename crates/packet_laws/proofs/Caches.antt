@@ -7,12 +7,12 @@ use Rattle.std.proofs.lemmas.List.Elements.{All-append, All-drop, All-filter, Al
 use Rattle.ctrl_msg.specs.declared.message.Body.{Body}
 use Rattle.ctrl_msg.specs.declared.message.Body.TheVariants.{OpenAt, Stamp, CacheRule}
 use Rattle.policy_rules.specs.declared.policy.Action.{Action}
-use Rattle.switch_table.specs.Cache.{CacheValue, newest, raised, same_key}
+use Rattle.switch_table.specs.Cache.{CacheValue, newest_entries, after_raise, same_key}
 use Rattle.switch_table.specs.declared.cache.CacheEntry.{CacheEntry}
 use Rattle.ternary.specs.Word.{WordValue}
 use Rattle.journal.specs.declared.item.Item.{Item}
 use Rattle.journal.specs.declared.item.Item.TheVariants as item
-use Rattle.update_machine.specs.Boots.{said_to}
+use Rattle.update_machine.specs.Boots.{body_to_switch}
 use Rattle.update_machine.specs.Caches.{cache_after, cache_of, changes_cache, raised_from}
 use Rattle.update_machine.specs.Setting.{Setting}
 use Rattle.update_machine.specs.Versions.{stamp_of}
@@ -32,7 +32,7 @@ abbrev Holds : (CacheEntry → Type 0) → CacheValue → Type 0
 Holds P cache = All P cache.entries
 
 newest_holds : (P : CacheEntry → Type 0) (capacity : ℕ) (entries : List CacheEntry)
-    → All P entries → All P (newest capacity entries)
+    → All P entries → All P (newest_entries capacity entries)
 newest_holds P capacity entries all = by_room (nat_lt capacity (length entries))
   where
     by_room : (b : Bool) → All P (if b then drop 1 entries else entries)
@@ -43,7 +43,7 @@ raised_holds : (P : CacheEntry → Type 0) (earlier stamp : ℕ) (cache : CacheV
     → Holds P cache → Holds P (raised_from earlier stamp cache)
 raised_holds P earlier stamp cache all = by_test (nat_lt earlier stamp)
   where
-    by_test : (b : Bool) → Holds P (if b then raised stamp cache else cache)
+    by_test : (b : Bool) → Holds P (if b then after_raise stamp cache else cache)
     by_test true = All-filter (λ entry. nat_le stamp entry.version) P cache.entries all
     by_test false = all
 
@@ -57,7 +57,7 @@ told_holds P earlier stamp number cache (CacheRule version word rule action) bri
     || list_any (same_key (entry_of number version word rule action)) cache.entries)
   where
     by_test : (b : Bool) → Holds P (if b then cache else record cache {
-      entries = newest cache.capacity (cache.entries
+      entries = newest_entries cache.capacity (cache.entries
           ++ entry_of number version word rule action ∷ []);
     })
     by_test true = all
@@ -75,7 +75,7 @@ told_holds P earlier stamp number cache _ brings all = all
 changed_holds : (P : CacheEntry → Type 0) (s : ℕ) (before : List Item) (cache : CacheValue)
     (next : Item)
     → ((number version : ℕ) (word : WordValue) (rule : Option ℕ) (action : Action)
-    → said_to before s number ≡ Some (CacheRule version word rule action)
+    → body_to_switch before s number ≡ Some (CacheRule version word rule action)
     → P (entry_of number version word rule action))
     → Holds P cache → Holds P (changes_cache s before cache next)
 changed_holds P s before cache (item.Down switch) brings all = by_switch (switch == s)
@@ -99,9 +99,9 @@ changed_holds P s before cache (item.Expired switch place message) brings all =
         (All-take P place cache.entries all) (All-drop P (suc place) cache.entries all)
     by_switch false = all
 changed_holds P s before cache (item.Delivered number) brings all =
-    by_said (said_to before s number) refl
+    by_said (body_to_switch before s number) refl
   where
-    by_said : (o : Option Body) → said_to before s number ≡ o → Holds P (option_map_or
+    by_said : (o : Option Body) → body_to_switch before s number ≡ o → Holds P (option_map_or
         (cache_after (stamp_of before s) (stamp_of (before ++ item.Delivered number ∷ []) s) number
         cache) o cache)
     by_said None e = all
@@ -109,13 +109,13 @@ changed_holds P s before cache (item.Delivered number) brings all =
         told_holds P (stamp_of before s) (stamp_of (before ++ item.Delivered number ∷ []) s) number
         cache body
         (λ version word rule action same. brings number version word rule action
-        (subst (λ b. said_to before s number ≡ Some b) same e)) all
+        (subst (λ b. body_to_switch before s number ≡ Some b) same e)) all
 changed_holds P s before cache _ brings all = all
 
 pub cache_holds : (P : CacheEntry → Type 0) (setting : Setting) (s : ℕ) (before : List Item)
     (next : Item)
     → ((number version : ℕ) (word : WordValue) (rule : Option ℕ) (action : Action)
-    → said_to before s number ≡ Some (CacheRule version word rule action)
+    → body_to_switch before s number ≡ Some (CacheRule version word rule action)
     → P (entry_of number version word rule action))
     → All P (cache_of setting before s).entries
     → All P (cache_of setting (before ++ next ∷ []) s).entries

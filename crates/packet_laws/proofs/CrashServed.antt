@@ -10,7 +10,7 @@ use Rattle.update_machine.specs.Boots.{is_up}
 use Rattle.update_machine.specs.Deliveries.{link_changes}
 use Rattle.update_machine.specs.Folds.{count_of}
 use Rattle.update_machine.specs.Messages.{next_message, sent_from}
-use Rattle.update_machine.specs.Moves.{put}
+use Rattle.update_machine.specs.Moves.{items_then}
 use Rattle.update_machine.specs.Packets.{is_packet, next_packet, standing}
 use Rattle.update_machine.specs.Pieces.{crash_items, nothing}
 use Rattle.update_machine.specs.Setting.{Setting}
@@ -148,7 +148,7 @@ crash_served setting before s journal numbered served same = by_up (is_up before
   where
     by_up : (b : Bool) → AreServed (journal ++ elim b [
       | false ↦ nothing
-      | true ↦ put (item.Down s ∷ map item.Lost (packets_at before s))
+      | true ↦ items_then (item.Down s ∷ map item.Lost (packets_at before s))
           (link_changes setting before) journal
     ])
     by_up false = λ i.

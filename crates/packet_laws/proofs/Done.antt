@@ -16,34 +16,34 @@ use Rattle.journal.specs.declared.item.Item.TheVariants as item
 use Rattle.update_machine.specs.Links.{serves}
 use Rattle.update_machine.specs.Caches.{lookup_at}
 use Rattle.update_machine.specs.LinkMasks.{near}
-use Rattle.update_machine.specs.Moves.{AuthorityRule, arrive_items, authority_items, authority_rule, cache_items, end_items, found_items, go_on, header_at, in_turn, leaves, leg_items, lookup_items, move_items, put, reroute_by, reroute_items, route_for, stuck_on, takes_route}
+use Rattle.update_machine.specs.Moves.{AuthorityRule, arrive_items, authority_items, authority_rule, cache_items, end_items, found_items, go_on, header_at, in_turn, leaving_item, leg_items, lookup_items, move_items, items_then, reroute_by, reroute_items, route_for, stuck_on, takes_route}
 use Rattle.update_machine.specs.Packets.{standing}
 use Rattle.update_machine.specs.Pieces.{hop_items, nothing, packet_items}
 use Rattle.update_machine.specs.Setting.{Setting}
 use Rattle.update_machine.specs.Versions.{stamp_of}
-use Rattle.update_machine.specs.Travels.{leg_of, tells_travelling, travels}
+use Rattle.update_machine.specs.Travels.{leg_of, gives_travelling, travels}
 use Rattle.update_machine.specs.Ways.{next_switch, owner}
 use Rattle.update_machine.proofs.CallerLemmas.{folded_append}
 use Rattle.packet_laws.specs.Rest.{IsMoving}
-use Rattle.packet_laws.specs.Stages.{OnWay, tells_stage}
+use Rattle.packet_laws.specs.Stages.{OnWay, gives_stage}
 use Rattle.packet_laws.proofs.PacketBlocks.{ended, stage_more, stage_stays, travels_more}
 
 -- ---- one item
 
 -- an item with which the switch is done with the packet
-ends_done : (journal : List Item) (next : Item) (i : ℕ) → tells_travelling i next ≡ Some false
+ends_done : (journal : List Item) (next : Item) (i : ℕ) → gives_travelling i next ≡ Some false
     → IsMoving (journal ++ next ∷ []) i
 ends_done journal next i ends travelling =
     let over : travels (journal ++ next ∷ []) i ≡ false = ended journal next i ends in
     absurd cc
 
-moves_done : (journal : List Item) (next : Item) (i : ℕ) → tells_stage i next ≡ Some OnWay
+moves_done : (journal : List Item) (next : Item) (i : ℕ) → gives_stage i next ≡ Some OnWay
     → IsMoving (journal ++ next ∷ []) i
 moves_done journal next i moves travelling = stage_more journal next i OnWay moves
 
 -- one that says nothing of it
-pub silent_done : (journal : List Item) (next : Item) (i : ℕ) → tells_travelling i next ≡ None
-    → tells_stage i next ≡ None → IsMoving journal i → IsMoving (journal ++ next ∷ []) i
+pub silent_done : (journal : List Item) (next : Item) (i : ℕ) → gives_travelling i next ≡ None
+    → gives_stage i next ≡ None → IsMoving journal i → IsMoving (journal ++ next ∷ []) i
 silent_done journal next i travels_on stays done travelling =
     stage_stays journal next i stays
     ∙ done (rw (travels_more journal next i, travels_on) at travelling)
@@ -54,7 +54,7 @@ none_done journal i done = subst (λ js. IsMoving js i) (sym (append-nil journal
 -- items, and a block behind them
 put_done : (items : List Item) (rest : List Item → List Item) (journal : List Item) (i : ℕ)
     → IsMoving ((journal ++ items) ++ rest (journal ++ items)) i
-    → IsMoving (journal ++ put items rest journal) i
+    → IsMoving (journal ++ items_then items rest journal) i
 put_done items rest journal i done =
     subst (λ js. IsMoving js i) (append_assoc journal items (rest (journal ++ items))) done
 
@@ -65,7 +65,7 @@ leg_done : (setting : Setting) (journal : List Item) (i s : ℕ) (leg : Leg)
 unfolding leg_items
 leg_done setting journal i s leg = by_route (route_for setting journal i s leg)
   where
-    taken : (leg : Leg) (route : List ℕ) → tells_stage i (takes_route i leg route) ≡ Some OnWay
+    taken : (leg : Leg) (route : List ℕ) → gives_stage i (takes_route i leg route) ≡ Some OnWay
     taken (Seek version partition) route = rw (own i) refl
     taken (Exit port) route = rw (own i) refl
 
@@ -84,10 +84,10 @@ end_done setting i s action.Drop journal =
 end_done setting i s (action.Out port) journal = by_owner (owner setting port == s)
   where
     by_owner : (b : Bool) → IsMoving (journal ++ elim b [
-      | true ↦ leaves journal i port ∷ []
+      | true ↦ leaving_item journal i port ∷ []
       | false ↦ leg_items setting journal i s (Exit port)
     ]) i
-    by_owner true = ends_done journal (leaves journal i port) i (rw (own i) refl)
+    by_owner true = ends_done journal (leaving_item journal i port) i (rw (own i) refl)
     by_owner false = leg_done setting journal i s (Exit port)
 
 authority_done : (setting : Setting) (i s : ℕ) (o : Option AuthorityRule) (journal : List Item)
@@ -161,7 +161,7 @@ reroute_done setting i s leg journal takes =
   where
     by_route : (o : Option (List ℕ)) → IsMoving (journal ++ elim o [
       | None ↦ stuck_on setting journal i s leg ∷ []
-      | Some route ↦ put (item.Rerouted i route ∷ []) (go_on setting i s) journal
+      | Some route ↦ items_then (item.Rerouted i route ∷ []) (go_on setting i s) journal
     ]) i
     by_route None = ends_done journal (stuck_on setting journal i s leg) i (rw (own i) refl)
     by_route (Some route) =
@@ -182,7 +182,7 @@ move_done setting i s leg journal takes done = by_next (next_switch journal i)
   where
     by_link : (next : ℕ) (b : Bool) → IsMoving (journal ++ elim b [
       | true ↦ item.Hopped i next ∷ []
-      | false ↦ put (item.FoundDown i s next ∷ []) (reroute_items setting i s) journal
+      | false ↦ items_then (item.FoundDown i s next ∷ []) (reroute_items setting i s) journal
     ]) i
     by_link next true = moves_done journal (item.Hopped i next) i (rw (own i) refl)
     by_link next false =
@@ -194,7 +194,7 @@ move_done setting i s leg journal takes done = by_next (next_switch journal i)
       | None ↦ arrive_items setting i s journal
       | Some next ↦ elim (has (near setting journal s) next) [
         | true ↦ item.Hopped i next ∷ []
-        | false ↦ put (item.FoundDown i s next ∷ []) (reroute_items setting i s) journal
+        | false ↦ items_then (item.FoundDown i s next ∷ []) (reroute_items setting i s) journal
       ]
     ]) i
     by_next None = arrive_done setting i s journal done
@@ -228,7 +228,7 @@ packet_done setting i s header journal there done = by_serving (serves journal s
   where
     by_serving : (b : Bool) → serves journal s ≡ b → IsMoving (journal ++ elim b [
       | false ↦ item.Closed i s ∷ []
-      | true ↦ put (item.Entered i s header ∷ []) (lookup_items setting i s) journal
+      | true ↦ items_then (item.Entered i s header ∷ []) (lookup_items setting i s) journal
     ]) i
     by_serving false e = silent_done journal (item.Closed i s) i refl refl done
     by_serving true e =

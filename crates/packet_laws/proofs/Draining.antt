@@ -15,9 +15,9 @@ use Rattle.update_machine.specs.Folds.{count_of}
 use Rattle.update_machine.specs.Packets.{is_packet, next_packet}
 use Rattle.update_machine.specs.Pieces.{piece, step_items}
 use Rattle.update_machine.specs.Setting.{Setting, IsSetting}
-use Rattle.update_machine.specs.Causes.{present_step, tells_step}
+use Rattle.update_machine.specs.Causes.{present_step, gives_step}
 use Rattle.update_machine.specs.Travels.{next_travelling, packets_in, travels}
-use Rattle.update_machine.proofs.CallerLemmas.{Nears, last_told_append, loop_ends, step_stays}
+use Rattle.update_machine.proofs.CallerLemmas.{Nears, last_given_append, loop_ends, step_stays}
 use Rattle.control_laws.proofs.Facts.{AreKept, Both, fact_on, have_both}
 use Rattle.packet_laws.specs.Drains.{drain_left, hops_left}
 use Rattle.packet_laws.specs.Hops.{changes_taken, hops_taken, most_hops}
@@ -81,7 +81,7 @@ record IsHopped (i : ℕ) (before after : List Item) : Type 0 where
 row_present : (journal : List Item) (row i : ℕ)
     → present_step (journal ++ item.Row row (Hop i) ∷ []) ≡ Some (Hop i)
 unfolding present_step
-row_present journal row i = last_told_append tells_step journal (item.Row row (Hop i) ∷ [])
+row_present journal row i = last_given_append gives_step journal (item.Row row (Hop i) ∷ [])
 
 hop_is : (setting : Setting) (journal : List Item) (row i : ℕ) → IsReady setting journal
     → travels journal i ≡ true

@@ -36,12 +36,12 @@ use Rattle.control_laws.proofs.Claims.{own_end}
 use Rattle.control_laws.proofs.NetLinks.{linked_by_mask}
 use Rattle.packet_laws.specs.OnWay.{FollowsLinks, IsOnLeg, IsOnWay, IsPartitionOf}
 use Rattle.packet_laws.specs.Facts.{PacketFacts, entry_mark, what_is_known}
-use Rattle.packet_laws.specs.Kept.{IsJudged}
+use Rattle.packet_laws.specs.KeptFacts.{IsJudged}
 use Rattle.packet_laws.specs.Stages.{stage_of}
 use Rattle.packet_laws.specs.StrongCauses.{SeeksRightly}
 use Rattle.packet_laws.specs.WayCauses.{FindsNoRoute, IsAt, IsAtPort, IsBlockedOn, IsLostHere, LeavesHere, MeetsDown, TakesLeg, WayCause}
 use Rattle.packet_laws.proofs.Here.{IsHere, decision_in, exiting_of, header_in_facts, leg_in, next_in, stands_in, seeking_of, some_same}
-use Rattle.packet_laws.proofs.Kept.{Knows, here_known, port_named, redirected_to, stage_when, undecided_of}
+use Rattle.packet_laws.proofs.KeptFacts.{Knows, here_known, port_named, redirected_to, stage_when, undecided_of}
 use Rattle.packet_laws.proofs.OpenWays.{Sees, none_leads, open_joined}
 
 pub decision_out : (journal : List Item) (i : ℕ) (decision : Option Decision)

@@ -5,7 +5,7 @@ use Rattle.update_machine.specs.Causes.{HasCause, HaveCauses}
 use Rattle.update_machine.specs.Setting.{Setting, IsSetting}
 use Rattle.control_laws.proofs.Facts.{Behind, have_weaker}
 use Rattle.control_laws.proofs.Openings.{caused_known}
-use Rattle.packet_laws.specs.Kept.{AllKept}
+use Rattle.packet_laws.specs.KeptFacts.{AllKept}
 use Rattle.packet_laws.proofs.AllKept.{kept_before, known_before, knows}
 use Rattle.packet_laws.proofs.Ends.{end_caused}
 use Rattle.packet_laws.proofs.Rests.{IsWayItem, Past, switches_of_all}

@@ -24,14 +24,14 @@ use Rattle.control_laws.proofs.Planned.{versions_planned}
 use Rattle.packet_laws.specs.OnWay.{IsOnWay, IsOnLeg}
 use Rattle.packet_laws.specs.Facts.{PacketFacts, is_of_packet, facts_after, what_is_known}
 use Rattle.packet_laws.proofs.PacketFacts.{facts_grow}
-use Rattle.packet_laws.specs.Hops.{detours, exits, is_detour, is_exit, is_search, routes_taken, searches}
-use Rattle.packet_laws.specs.Kept.{AllKept}
-use Rattle.packet_laws.specs.Stages.{Blocked, Judged, Stage, stage_of, tells_stage}
+use Rattle.packet_laws.specs.Hops.{detour_count, exit_count, is_detour, is_exit, is_search, routes_taken, search_count}
+use Rattle.packet_laws.specs.KeptFacts.{AllKept}
+use Rattle.packet_laws.specs.Stages.{Blocked, Judged, Stage, stage_of, gives_stage}
 use Rattle.packet_laws.specs.StrongCauses.{FindsLinkDown, FurtherCause, StrongCause}
 use Rattle.packet_laws.specs.WayCauses.{IsLookedUp, MeetsDown, TakesRoute, WayCause}
 use Rattle.packet_laws.proofs.AllKept.{Before, kept_before, known_before, knows}
 use Rattle.packet_laws.proofs.Here.{IsHere, decision_in, here_of, leg_in, next_in, seeking_of, some_same}
-use Rattle.packet_laws.proofs.Kept.{Knows, seeking_after}
+use Rattle.packet_laws.proofs.KeptFacts.{Knows, seeking_after}
 use Rattle.packet_laws.proofs.Rests.{IsWayItem, Past, switches_of_all}
 use Rattle.packet_laws.proofs.Strong.{strongly_caused}
 use Rattle.packet_laws.proofs.PacketBlocks.{stage_next}
@@ -42,50 +42,51 @@ use Rattle.packet_laws.proofs.Counts.{count_more, one_more}
 -- ---- what is kept of a packet's routes
 
 -- it searched at most as often as the version that it seeks says
-pub record SearchesAreFew (current : ℕ) (leg : Option Leg) (searches : ℕ) : Type 0 where
-  pub none : leg ≡ None → searches ≡ 0
+pub record SearchesAreFew (current : ℕ) (leg : Option Leg) (search_count : ℕ) : Type 0 where
+  pub none : leg ≡ None → search_count ≡ 0
   pub sought : (version partition : ℕ) → leg ≡ Some (Seek version partition)
-      → searches ≤ version
-  pub searched : searches ≤ current
+      → search_count ≤ version
+  pub searched : search_count ≤ current
 
 -- it left by no port before it was decided
-pub record ExitsAreFew (decision : Option Decision) (exits : ℕ) : Type 0 where
-  pub undecided : decision ≡ None → exits ≡ 0
-  pub exited : exits ≤ 1
+pub record ExitsAreFew (decision : Option Decision) (exit_count : ℕ) : Type 0 where
+  pub undecided : decision ≡ None → exit_count ≡ 0
+  pub exited : exit_count ≤ 1
 
 -- the links that it didn't find down leave room for its detours; each was found down once
-pub record DetoursAreFew (setting : Setting) (found : List ℕ) (detours finds : ℕ)
+pub record DetoursAreFew (setting : Setting) (found : List ℕ) (detour_count finds : ℕ)
     : Type 0 where
   pub set : IsLinkSet found
-  pub detoured : detours + unfound setting.net.links found ≤ length setting.net.links
+  pub detoured : detour_count + unfound setting.net.links found ≤ length setting.net.links
   pub once : finds + unfound setting.net.links found ≤ length setting.net.links
 
 -- where it was just decided it left by no port yet, and where it just found a link down there is
 -- room for one more detour
 abbrev pub HasRoom : Setting → List ℕ → ℕ → ℕ → Option Stage → Type 0
-HasRoom setting found exits detours (Some Judged) = exits ≡ 0
-HasRoom setting found exits detours (Some Blocked) =
-    detours + unfound setting.net.links found < length setting.net.links
-HasRoom setting found exits detours _ = ⊤
+HasRoom setting found exit_count detour_count (Some Judged) = exit_count ≡ 0
+HasRoom setting found exit_count detour_count (Some Blocked) =
+    detour_count + unfound setting.net.links found < length setting.net.links
+HasRoom setting found exit_count detour_count _ = ⊤
 
 abbrev pub IsFew : Setting → ℕ → PacketFacts → Option Stage → ℕ → ℕ → ℕ → ℕ → Type 0
-IsFew setting current held stage searches exits detours finds = record {
-  seeking : SearchesAreFew current held.leg searches;
-  leaving : ExitsAreFew held.decision exits;
-  turning : DetoursAreFew setting held.found detours finds;
-  room : HasRoom setting held.found exits detours stage;
+IsFew setting current held stage search_count exit_count detour_count finds = record {
+  seeking : SearchesAreFew current held.leg search_count;
+  leaving : ExitsAreFew held.decision exit_count;
+  turning : DetoursAreFew setting held.found detour_count finds;
+  room : HasRoom setting held.found exit_count detour_count stage;
 }
 
 abbrev pub IsFewOf : Setting → List Item → ℕ → Type 0
 IsFewOf setting journal i =
     IsFew setting (current_mark journal) (what_is_known journal i) (stage_of journal i)
-    (searches journal i) (exits journal i) (detours journal i) (finding_count journal i)
+    (search_count journal i) (exit_count journal i) (detour_count journal i)
+    (finding_count journal i)
 
 -- ---- lookups
 
 -- the version of a lookup is one that the packet didn't seek yet
 record IsRaised (setting : Setting) (before : List Item) (i version : ℕ) : Type 0 where
-  raised : searches before i + 1 ≤ version
+  raised : search_count before i + 1 ≤ version
   current : version ≤ current_mark before
 
 is_raised : (setting : Setting) (before : List Item) (i version partition : ℕ) (route : List ℕ)
@@ -112,7 +113,7 @@ is_raised setting before i version partition route known few takes raises =
     }
   where
     by_lookup : IsHere setting before i takes.switch → 1 ≤ version
-        → IsLookedUp before i takes.switch → searches before i + 1 ≤ version
+        → IsLookedUp before i takes.switch → search_count before i + 1 ≤ version
     by_lookup here first (inl came) =
         let none : (what_is_known before i).leg ≡ None =
         ((known.kept.packets i).came_in here.travelling came).1 in
@@ -154,8 +155,8 @@ record Premises (setting : Setting) (before : List Item) (next : Item) : Type 0 
   way : WayCause setting before next
   further : FurtherCause setting before next
 
-risen : {leg : Option Leg} {searches was current : ℕ} → was ≤ current
-    → SearchesAreFew was leg searches → SearchesAreFew current leg searches
+risen : {leg : Option Leg} {search_count was current : ℕ} → was ≤ current
+    → SearchesAreFew was leg search_count → SearchesAreFew current leg search_count
 risen more few = record {
   none = few.none;
   sought = few.sought;
@@ -165,9 +166,11 @@ risen more few = record {
 -- an item that leaves the leg, the decision, the links found and the counts as they were
 kept_few : (setting : Setting) (before : List Item) (i current : ℕ) (stage : Option Stage)
     → current_mark before ≤ current → IsFewOf setting before i
-    → HasRoom setting (what_is_known before i).found (exits before i) (detours before i) stage
-    → IsFew setting current (what_is_known before i) stage (searches before i) (exits before i)
-    (detours before i) (finding_count before i)
+    → HasRoom setting (what_is_known before i).found (exit_count before i) (detour_count before i)
+    stage
+    → IsFew setting current (what_is_known before i) stage (search_count before i)
+    (exit_count before i)
+    (detour_count before i) (finding_count before i)
 kept_few setting before i current stage more few room = record {
   seeking = risen more few.seeking;
   leaving = few.leaving;
@@ -178,8 +181,8 @@ kept_few setting before i current stage more few room = record {
 -- and the stage too
 still_few : (setting : Setting) (before : List Item) (i current : ℕ)
     → current_mark before ≤ current → IsFewOf setting before i
-    → IsFew setting current (what_is_known before i) (stage_of before i) (searches before i)
-    (exits before i) (detours before i) (finding_count before i)
+    → IsFew setting current (what_is_known before i) (stage_of before i) (search_count before i)
+    (exit_count before i) (detour_count before i) (finding_count before i)
 still_few setting before i current more few =
     kept_few setting before i current (stage_of before i) more few few.room
 
@@ -188,9 +191,10 @@ named_few : (setting : Setting) (before : List Item) (next : Item) (i current : 
     → is_of_packet i next ≡ b → IsFewOf setting before i
     → IsFew setting current
     (if b then facts_after (retired_mark before) next (what_is_known before i) else what_is_known before i)
-    (option_or (tells_stage i next) (stage_of before i))
-    (one_more (is_search i next) (searches before i)) (one_more (is_exit i next) (exits before i))
-    (one_more (is_detour i next) (detours before i))
+    (option_or (gives_stage i next) (stage_of before i))
+    (one_more (is_search i next) (search_count before i))
+    (one_more (is_exit i next) (exit_count before i))
+    (one_more (is_detour i next) (detour_count before i))
     (one_more (is_finding i next) (finding_count before i))
 named_few setting before (item.Entered packet s header) i current facts more true e few =
     rw e (kept_few setting before i current None more few tt)
@@ -199,12 +203,12 @@ named_few setting before (item.Seeking packet v p route) i current facts more tr
     let raised : IsRaised setting before packet v =
     is_raised setting before packet v p route facts.known
     (subst (IsFewOf setting before) (sym same) few) facts.way facts.further.0 in
-    let above : searches before i + 1 ≤ v =
-    subst (λ k. searches before k + 1 ≤ v) same raised.raised in
+    let above : search_count before i + 1 ≤ v =
+    subst (λ k. search_count before k + 1 ≤ v) same raised.raised in
     rw e (record {
       seeking = record {
         none = λ is. absurd cc;
-        sought = λ w q is. subst (λ n. searches before i + 1 ≤ n) (cc) above;
+        sought = λ w q is. subst (λ n. search_count before i + 1 ≤ n) (cc) above;
         searched = omega (arith, above, raised.current, more);
       };
       leaving = few.leaving;
@@ -215,7 +219,7 @@ named_few setting before (item.Exiting packet route) i current facts more true e
     let same : packet ≡ i = eqb-true packet i e in
     let judged : stage_of before i ≡ Some Judged =
     subst (λ k. stage_of before k ≡ Some Judged) same facts.way.by.takes.judged in
-    let first : exits before i ≡ 0 = rw judged at few.room in
+    let first : exit_count before i ≡ 0 = rw judged at few.room in
     let decision : Decision = facts.way.by.takes.decision in
     let decided : (what_is_known before i).decision ≡ Some decision =
     decision_in before i (Some decision)
@@ -234,7 +238,7 @@ named_few setting before (item.Rerouted packet route) i current facts more true 
     let blocked : stage_of before i ≡ Some Blocked =
     subst (λ k. stage_of before k ≡ Some Blocked) (eqb-true packet i e)
     facts.way.blocked.blocked in
-    let room : detours before i + unfound setting.net.links (what_is_known before i).found
+    let room : detour_count before i + unfound setting.net.links (what_is_known before i).found
     < length setting.net.links = rw blocked at few.room in
     rw e (record {
       seeking = risen more few.seeking;
@@ -301,7 +305,7 @@ named_few setting before next i current facts more false e few =
 few_more : (setting : Setting) (before : List Item) (next : Item) (i : ℕ)
     → Premises setting before next → HasItemCause setting before next
     → IsFewOf setting before i → IsFewOf setting (before ++ next ∷ []) i
-unfolding searches exits detours finding_count
+unfolding search_count exit_count detour_count finding_count
 few_more setting before next i facts cause few =
     rw (
       facts_grow i before next,
@@ -331,7 +335,8 @@ premises_of setting before next is both = record {
 }
 
 few_at_first : (setting : Setting) → RoutesAreFew setting []
-unfolding what_is_known stage_of leg_of decision_of found_down searches exits detours finding_count
+unfolding what_is_known stage_of leg_of decision_of found_down search_count exit_count detour_count
+    finding_count
 few_at_first setting i = record {
   seeking = record {
     none = λ is. refl;
@@ -359,7 +364,7 @@ routes_few setting journal is have =
 -- ---- laws
 
 pub searched_few : (setting : Setting) (journal : List Item) → IsSetting setting
-    → HaveCauses (IsWayItem setting) [] journal → (i : ℕ) → searches journal i ≤ most_versions
+    → HaveCauses (IsWayItem setting) [] journal → (i : ℕ) → search_count journal i ≤ most_versions
 searched_few setting journal is have i =
     let switches : HaveCauses (HasItemCause setting) [] journal =
     switches_of_all setting [] journal have in
@@ -372,7 +377,7 @@ searched_few setting journal is have i =
 
 pub detoured_few : (setting : Setting) (journal : List Item) → IsSetting setting
     → HaveCauses (IsWayItem setting) [] journal → (i : ℕ)
-    → detours journal i ≤ length setting.net.links
+    → detour_count journal i ≤ length setting.net.links
 detoured_few setting journal is have i =
     omega (arith, (routes_few setting journal is have i).turning.detoured)
 

@@ -22,7 +22,7 @@ use Rattle.control_laws.proofs.Versions.{caused_numbered}
 use Rattle.packet_laws.specs.Rules.{IsRightRule}
 use Rattle.packet_laws.specs.OnWay.{IsOnLeg, IsOnWay, IsPartitionOf, IsSought, IsUnderWay}
 use Rattle.packet_laws.specs.Facts.{PacketFacts}
-use Rattle.packet_laws.specs.Kept.{IsJudged, IsKept}
+use Rattle.packet_laws.specs.KeptFacts.{IsJudged, IsKept}
 use Rattle.packet_laws.specs.Stages.{Stage}
 
 -- marks rise, and the versions that are current or were keep their policies and plans

@@ -20,7 +20,7 @@ use Rattle.update_machine.specs.Ways.{found_down, next_switch}
 use Rattle.control_laws.specs.ItemCauses.{HasItemCause}
 use Rattle.packet_laws.specs.OnWay.{IsOnLeg, IsOnWay, IsSought, IsUnderWay}
 use Rattle.packet_laws.specs.Facts.{PacketFacts, what_is_known}
-use Rattle.packet_laws.specs.Kept.{IsKept}
+use Rattle.packet_laws.specs.KeptFacts.{IsKept}
 use Rattle.packet_laws.specs.Stages.{Stage}
 use Rattle.packet_laws.specs.WayCauses.{AuthorityFinds, IsAt}
 use Rattle.packet_laws.proofs.Lookups.{FindsRule, IsStamped, authority_found, current_planned, deciding, rule_there, stamped}

@@ -16,7 +16,7 @@ pub mod Caches
 pub mod Routes
 pub mod Growing
 pub mod Here
-pub mod Kept
+pub mod KeptFacts
 pub mod AllKept
 pub mod Travelling
 pub mod OpenWays

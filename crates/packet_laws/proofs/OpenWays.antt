@@ -5,10 +5,10 @@ use Rattle.std.specs.Prelude.{IsTrue, slice_index}
 use Rattle.std.specs.List.{list_any}
 use Rattle.std.proofs.lemmas.Bool.{cases_eq}
 use Rattle.std.proofs.lemmas.List.{get_or-map, length-map}
-use Rattle.failover.specs.Adverts.{held}
+use Rattle.failover.specs.Adverts.{held_advert}
 use Rattle.failover.specs.Links.{is_link, neighbours_named, named_links, has_link, AreJoined, IsReachable, LinksLead}
 use Rattle.failover.specs.declared.advert.Advert.{Advert}
-use Rattle.failover.specs.Isolated.{names}
+use Rattle.failover.specs.Isolated.{names_neighbour}
 use Rattle.failover.proofs.Rows.{has_known}
 use Rattle.failover.proofs.Searching.{straight_path}
 use Rattle.base.specs.Masks.{has}
@@ -59,7 +59,7 @@ pub record Sees (setting : Setting) (before : List Item) (s : ℕ) : Type 0 wher
 end_has : (setting : Setting) (before : List Item) (s one two : ℕ) → Sees setting before s
     → IsTrue (is_end setting before s one two)
     → IsNamed one two (IsTrue (has (claimed_mask setting before s one) two))
-unfolding named_links names
+unfolding named_links names_neighbour
 end_has setting before s one two sees is = elim (cases_eq one s) [
   | inl same ↦ own same
       (own_end setting before sees.net s two
@@ -91,11 +91,11 @@ end_has setting before s one two sees is = elim (cases_eq one s) [
         })
 
     told : one ≢ s
-        → IsNamed one two (IsTrue (has (neighbours_named (held adverts one)) two))
+        → IsNamed one two (IsTrue (has (neighbours_named (held_advert adverts one)) two))
         → IsNamed one two (IsTrue (has (get_or (set rows s (near setting before s)) one 0) two))
     told apart named =
         let row : get_or (set rows s (near setting before s)) one 0
-        ≡ neighbours_named (held adverts one) =
+        ≡ neighbours_named (held_advert adverts one) =
         get_or-set_other rows s one (near setting before s) 0 apart
         ∙ get_or-map neighbours_named adverts one None 0 (omega (arith, named.one_small, places)) in
         record {

@@ -14,11 +14,11 @@ use Rattle.update_machine.specs.Adverts.{held_adverts, own_advert}
 use Rattle.update_machine.specs.Causes.{HaveCauses, IsLinkStep, present_step}
 use Rattle.update_machine.specs.Deliveries.{advert_to, has_changed, link_changes, passed_on, switch_items, messages_of, messages_over, switches_in}
 use Rattle.update_machine.specs.LinkMasks.{near}
-use Rattle.update_machine.specs.Messages.{sends}
+use Rattle.update_machine.specs.Messages.{send_items}
 use Rattle.update_machine.specs.Pieces.{deliver_items, expire_items, forget_items, link_items, resend_items, restart_items, update_items}
 use Rattle.update_machine.specs.Setting.{Setting}
 use Rattle.update_machine.specs.SwitchNumbers.{switches_of}
-use Rattle.update_machine.specs.Settling.{install_for, unacked, versions_from_current}
+use Rattle.update_machine.specs.Settling.{install_for, unacked_installs, versions_from_current}
 use Rattle.update_machine.proofs.CallerLemmas.{have_first}
 use Rattle.control_laws.proofs.Commands.{Control, IsCommand, IsControl, controller_control, update_has}
 use Rattle.control_laws.proofs.Delivered.{deliver_has}
@@ -91,7 +91,7 @@ abbrev AreOther : List Message → Type 0
 AreOther messages = AllByRecursion TellsOther messages
 
 sends_aside : (journal : List Item) (messages : List Message) → AreOther messages
-    → AreAside journal (sends journal messages)
+    → AreAside journal (send_items journal messages)
 sends_aside = sends_each IsAside TellsOther (λ before n message is. is)
 
 each_other : {X : Type 0} (to : X → Message) → ((x : X) → IsOther (to x).body) → (xs : List X)
@@ -101,7 +101,8 @@ each_other to other xs =
     (each (λ x. IsOther (to x).body) other xs)
 
 to_each : {X : Type 0} (journal : List Item) (to : X → Message)
-    → ((x : X) → IsOther (to x).body) → (xs : List X) → AreAside journal (sends journal (map to xs))
+    → ((x : X) → IsOther (to x).body) → (xs : List X)
+    → AreAside journal (send_items journal (map to xs))
 to_each journal to other xs = sends_aside journal (map to xs) (each_other to other xs)
 
 -- ---- the controller
@@ -206,7 +207,7 @@ switch_aside setting before s (Stamp boot version) journal = sends_aside journal
 switch_aside setting before s (OpenAt boot version) journal =
     grind (arith, have_first, changes_aside)
 switch_aside setting before s (Advertise advert) journal =
-    let passed : AreAside journal (sends journal (passed_on setting journal s advert)) =
+    let passed : AreAside journal (send_items journal (passed_on setting journal s advert)) =
     to_each journal (λ neighbour. advert_to neighbour advert) (λ neighbour. tt) _ in
     grind (arith, passed)
 switch_aside setting before s _ journal = tt
@@ -221,7 +222,7 @@ deliver_aside setting before number journal =
 -- ---- sending again
 
 unacked_other : (setting : Setting) (journal : List Item) (s : ℕ) (versions : List ℕ)
-    → AreOther (unacked setting journal s versions)
+    → AreOther (unacked_installs setting journal s versions)
 unacked_other setting journal s versions =
     each_other (λ version. install_for setting journal version s) (λ version. tt) _
 

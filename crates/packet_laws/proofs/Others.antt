@@ -14,14 +14,14 @@ use Rattle.update_machine.specs.Caches.{lookup_at}
 use Rattle.update_machine.specs.Causes.{HaveCauses}
 use Rattle.update_machine.specs.Deliveries.{link_changes}
 use Rattle.update_machine.specs.Messages.{sent_from}
-use Rattle.update_machine.specs.Moves.{AuthorityRule, arrive_items, authority_items, cache_items, end_items, found_items, header_at, leg_items, lookup_items, move_items, put, reroute_items}
-use Rattle.update_machine.specs.Travels.{packets_at, tells_travelling, travels}
+use Rattle.update_machine.specs.Moves.{AuthorityRule, arrive_items, authority_items, cache_items, end_items, found_items, header_at, leg_items, lookup_items, move_items, items_then, reroute_items}
+use Rattle.update_machine.specs.Travels.{packets_at, gives_travelling, travels}
 use Rattle.update_machine.specs.Pieces.{crash_items, hop_items, lose_items, nothing, packet_items}
 use Rattle.update_machine.specs.Setting.{Setting}
 use Rattle.update_machine.proofs.CallerLemmas.{have_append, have_put}
 use Rattle.control_laws.proofs.Facts.{AreKept, fact_on, have_weaker}
 use Rattle.packet_laws.specs.Rest.{IsMoving}
-use Rattle.packet_laws.specs.Stages.{CameIn, tells_stage}
+use Rattle.packet_laws.specs.Stages.{CameIn, gives_stage}
 use Rattle.packet_laws.proofs.OtherBlocks.{AreAside, IsAside, changes_aside}
 use Rattle.packet_laws.proofs.PacketBlocks.{ended, stage_stays, travels_more}
 
@@ -41,11 +41,11 @@ IsInStep _ = ⊤
 
 -- the item doesn't bring the packet in or on, and begins no step
 abbrev pub Spares : ℕ → List Item → Item → Type 0
-Spares i before next = (tells_stage i next ≡ None) × IsNoRow next
+Spares i before next = (gives_stage i next ≡ None) × IsNoRow next
 
 -- nor does it bring in or refuse any packet
 abbrev pub SparesAll : ℕ → List Item → Item → Type 0
-SparesAll i before next = (tells_stage i next ≡ None) × IsInStep next
+SparesAll i before next = (gives_stage i next ≡ None) × IsInStep next
 
 in_step_no_row : (next : Item) → IsInStep next → IsNoRow next
 in_step_no_row (item.Row row step) within = absurd within
@@ -67,8 +67,8 @@ pub ends_or_not : (b : Bool) → ((if b then Some false else None) ≡ None)
 ends_or_not true = inr refl
 ends_or_not false = inl refl
 
-comes_in : (i : ℕ) (next : Item) → tells_stage i next ≡ None
-    → (tells_travelling i next ≡ None) ⊎ (tells_travelling i next ≡ Some false)
+comes_in : (i : ℕ) (next : Item) → gives_stage i next ≡ None
+    → (gives_travelling i next ≡ None) ⊎ (gives_travelling i next ≡ Some false)
 comes_in i (item.Entered packet switch header) spares = by_test (packet == i) spares
   where
     by_test : (b : Bool) → (if b then Some CameIn else None) ≡ None
@@ -213,7 +213,7 @@ crash_spares setting j before s journal = by_up (is_up before s)
   where
     by_up : (b : Bool) → Spared j journal (elim b [
       | false ↦ nothing
-      | true ↦ put (item.Down s ∷ map item.Lost (packets_at before s))
+      | true ↦ items_then (item.Down s ∷ map item.Lost (packets_at before s))
           (link_changes setting before) journal
     ])
     by_up false = ((refl, tt), tt)

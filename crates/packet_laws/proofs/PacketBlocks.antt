@@ -18,22 +18,22 @@ use Rattle.switch_table.specs.Tables.{Hosted, part_of}
 use Rattle.journal.specs.declared.item.Item.{Item}
 use Rattle.journal.specs.declared.item.Item.TheVariants as item
 use Rattle.steps.specs.declared.step.Step.TheVariants.{Lose}
-use Rattle.update_machine.specs.Links.{serves, tells_serving}
+use Rattle.update_machine.specs.Links.{serves, gives_serving}
 use Rattle.update_machine.specs.Caches.{lookup_at}
 use Rattle.update_machine.specs.Causes.{HaveCauses, present_step}
 use Rattle.update_machine.specs.LinkMasks.{near}
-use Rattle.update_machine.specs.Messages.{next_message, sends, sent_from}
-use Rattle.update_machine.specs.Moves.{AuthorityRule, arrive_by, arrive_items, authority_items, authority_rule, cache_items, cache_rule, end_items, first_place, found_items, go_on, header_at, in_turn, leaves, leg_items, lookup_items, move_items, put, reroute_by, reroute_items, route_for, stuck_on, takes_route}
-use Rattle.update_machine.specs.Packets.{Decision, decision_of, header_in, standing, tells_decision, tells_header, tells_standing}
+use Rattle.update_machine.specs.Messages.{next_message, send_items, sent_from}
+use Rattle.update_machine.specs.Moves.{AuthorityRule, arrive_by, arrive_items, authority_items, authority_rule, cache_items, cache_rule, end_items, first_place, found_items, go_on, header_at, in_turn, leaving_item, leg_items, lookup_items, move_items, items_then, reroute_by, reroute_items, route_for, stuck_on, takes_route}
+use Rattle.update_machine.specs.Packets.{Decision, decision_of, header_in, standing, gives_decision, gives_header, gives_standing}
 use Rattle.update_machine.specs.Pieces.{hop_items, lose_items, nothing, packet_items}
 use Rattle.update_machine.specs.Setting.{Setting}
 use Rattle.update_machine.specs.Versions.{holds_version, stamp_of, plan_at}
-use Rattle.update_machine.specs.Travels.{ingress_of, is_at, leg_of, tells_travelling, travels}
-use Rattle.update_machine.specs.Ways.{changes_hops, found_down, next_switch, owner, route_in, route_place, targets_of, tells_route}
-use Rattle.update_machine.proofs.CallerLemmas.{folded_append, have_append, have_first, last_told_append, lookup_stays, near_stays, policies_keep, switch_keeps}
+use Rattle.update_machine.specs.Travels.{ingress_of, is_at, leg_of, gives_travelling, travels}
+use Rattle.update_machine.specs.Ways.{changes_hops, found_down, next_switch, owner, route_in, route_place, targets_of, gives_route}
+use Rattle.update_machine.proofs.CallerLemmas.{folded_append, have_append, have_first, last_given_append, lookup_stays, near_stays, policies_keep, switch_keeps}
 use Rattle.control_laws.proofs.Grown.{last_more, serving_more}
 use Rattle.control_laws.proofs.Facts.{own}
-use Rattle.packet_laws.specs.Stages.{Stage, Blocked, CameIn, Judged, OnWay, stage_of, tells_stage}
+use Rattle.packet_laws.specs.Stages.{Stage, Blocked, CameIn, Judged, OnWay, stage_of, gives_stage}
 use Rattle.packet_laws.specs.Rest.{AreResting, IsServed}
 use Rattle.packet_laws.specs.WayCauses.{Arrives, AuthorityFinds, IsAt, IsLookedUp, IsOfRow, ReachesAuthority, TakesLeg, WayCause}
 use Rattle.packet_laws.proofs.FirstLinks.{first_usable}
@@ -44,36 +44,36 @@ Ways setting journal items = HaveCauses (WayCause setting) journal items
 -- ---- what stays behind one more item
 
 pub travels_more : (before : List Item) (next : Item) (i : ℕ)
-    → travels (before ++ next ∷ []) i ≡ unwrap_or (tells_travelling i next) (travels before i)
+    → travels (before ++ next ∷ []) i ≡ unwrap_or (gives_travelling i next) (travels before i)
 unfolding travels
-travels_more before next i = last_more (tells_travelling i) before next false
+travels_more before next i = last_more (gives_travelling i) before next false
 
 -- an item with which it ends
-pub ended : (before : List Item) (next : Item) (i : ℕ) → tells_travelling i next ≡ Some false
+pub ended : (before : List Item) (next : Item) (i : ℕ) → gives_travelling i next ≡ Some false
     → travels (before ++ next ∷ []) i ≡ false
 ended before next i ends = rw (travels_more before next i, ends) refl
 
 pub standing_more : (before : List Item) (next : Item) (i : ℕ)
-    → standing (before ++ next ∷ []) i ≡ option_or (tells_standing i next) (standing before i)
+    → standing (before ++ next ∷ []) i ≡ option_or (gives_standing i next) (standing before i)
 unfolding standing
-standing_more before next i = last_told_append (tells_standing i) before (next ∷ [])
+standing_more before next i = last_given_append (gives_standing i) before (next ∷ [])
 
 pub stage_next : (before : List Item) (next : Item) (i : ℕ)
-    → stage_of (before ++ next ∷ []) i ≡ option_or (tells_stage i next) (stage_of before i)
+    → stage_of (before ++ next ∷ []) i ≡ option_or (gives_stage i next) (stage_of before i)
 unfolding stage_of
-stage_next before next i = last_told_append (tells_stage i) before (next ∷ [])
+stage_next before next i = last_given_append (gives_stage i) before (next ∷ [])
 
 pub stage_more : (before : List Item) (next : Item) (i : ℕ) (stage : Stage)
-    → tells_stage i next ≡ Some stage → stage_of (before ++ next ∷ []) i ≡ Some stage
+    → gives_stage i next ≡ Some stage → stage_of (before ++ next ∷ []) i ≡ Some stage
 stage_more before next i stage tells = rw (stage_next before next i, tells) refl
 
-pub stage_stays : (before : List Item) (next : Item) (i : ℕ) → tells_stage i next ≡ None
+pub stage_stays : (before : List Item) (next : Item) (i : ℕ) → gives_stage i next ≡ None
     → stage_of (before ++ next ∷ []) i ≡ stage_of before i
 stage_stays before next i tells = rw (stage_next before next i, tells) refl
 
 -- an item that leaves a packet where it is
-pub still : (before : List Item) (next : Item) (i s : ℕ) → tells_travelling i next ≡ None
-    → tells_standing i next ≡ None → tells_serving s next ≡ None → IsAt before i s
+pub still : (before : List Item) (next : Item) (i s : ℕ) → gives_travelling i next ≡ None
+    → gives_standing i next ≡ None → gives_serving s next ≡ None → IsAt before i s
     → IsAt (before ++ next ∷ []) i s
 still before next i s travelling stands serving at = record {
   travelling = rw (travels_more before next i, travelling) at.travelling;
@@ -136,7 +136,7 @@ end_ways setting journal i s decision (action.Out port) here says =
     by_owner (owner setting port == s) refl
   where
     by_owner : (b : Bool) → (owner setting port == s) ≡ b → Ways setting journal (elim b [
-      | true ↦ leaves journal i port ∷ []
+      | true ↦ leaving_item journal i port ∷ []
       | false ↦ leg_items setting journal i s (Exit port)
     ])
     by_owner true e = (
@@ -168,7 +168,7 @@ judged_now journal i s version rule act by at =
     record {
       at = still journal decided i s refl refl refl at;
       judged = stage_more journal decided i Judged (rw (own i) refl);
-      decided = rw (last_told_append (tells_decision i) journal (decided ∷ []), own i) refl;
+      decided = rw (last_given_append (gives_decision i) journal (decided ∷ []), own i) refl;
     }
 
 judged_on : (journal : List Item) (i s number : ℕ) (message : Message) (decision : Decision)
@@ -180,14 +180,14 @@ judged_on journal i s number message decision here =
     record {
       at = still journal sent i s refl refl refl here.at;
       judged = stage_stays journal sent i refl ∙ here.judged;
-      decided = last_told_append (tells_decision i) journal (sent ∷ []) ∙ here.decided;
+      decided = last_given_append (gives_decision i) journal (sent ∷ []) ∙ here.decided;
     }
 
 header_more : (journal : List Item) (i version : ℕ) (rule : Option ℕ) (act : Action) (by : How)
     → header_in (journal ++ item.Decided i version rule act by ∷ []) i ≡ header_in journal i
 unfolding header_in
 header_more journal i version rule act by =
-    last_told_append (tells_header i) journal (item.Decided i version rule act by ∷ [])
+    last_given_append (gives_header i) journal (item.Decided i version rule act by ∷ [])
 
 leg_more : (journal : List Item) (i version : ℕ) (rule : Option ℕ) (act : Action) (by : How)
     → leg_of (journal ++ item.Decided i version rule act by ∷ []) i ≡ leg_of journal i
@@ -257,7 +257,8 @@ cache_ways setting journal i s found here finds = by_apart (is_at s (ingress_of 
         (end_ways setting after i s decision found.rule.action judged refl) tt
 
     by_apart : (b : Bool) → is_at s (ingress_of journal i) ≡ b
-        → (let items : List Item = elim b [ true ↦ [] | false ↦ sends journal (message ∷ []) ] in
+        → (let items : List Item = elim b [ true ↦ [] | false ↦ send_items journal (message ∷ []) ]
+        in
         Ways setting journal (items
         ++ in_turn (end_items setting i s found.rule.action ∷ []) (journal ++ items)))
     by_apart true e =
@@ -436,7 +437,7 @@ route_now : (journal : List Item) (i : ℕ) (route : List ℕ)
 unfolding next_switch route_in route_place
 route_now journal i route =
     rw (
-      last_told_append (tells_route i) journal (item.Rerouted i route ∷ []),
+      last_given_append (gives_route i) journal (item.Rerouted i route ∷ []),
       folded_append (changes_hops i) 0 journal (item.Rerouted i route ∷ []),
       own i,
     ) refl
@@ -465,7 +466,7 @@ reroute_ways setting journal i s at blocked = by_leg (leg_of journal i) refl
   where
     detour : (leg : Leg) (route : List ℕ) → leg_of journal i ≡ Some leg
         → route_for setting journal i s leg ≡ Some route
-        → Ways setting journal (put (item.Rerouted i route ∷ []) (go_on setting i s) journal)
+        → Ways setting journal (items_then (item.Rerouted i route ∷ []) (go_on setting i s) journal)
     detour leg route takes leads =
         let turned : Item = item.Rerouted i route in
         let after : List Item = journal ++ turned ∷ [] in
@@ -488,7 +489,7 @@ reroute_ways setting journal i s at blocked = by_leg (leg_of journal i) refl
     by_route : (leg : Leg) (o : Option (List ℕ)) → leg_of journal i ≡ Some leg
         → route_for setting journal i s leg ≡ o → Ways setting journal (elim o [
           | None ↦ stuck_on setting journal i s leg ∷ []
-          | Some route ↦ put (item.Rerouted i route ∷ []) (go_on setting i s) journal
+          | Some route ↦ items_then (item.Rerouted i route ∷ []) (go_on setting i s) journal
         ])
     by_route leg None takes none = (
       record {
@@ -515,7 +516,7 @@ move_ways setting journal i s at moving = by_next (next_switch journal i) refl
     by_link : (next : ℕ) (b : Bool) → next_switch journal i ≡ Some next
         → has (near setting journal s) next ≡ b → Ways setting journal (elim b [
           | true ↦ item.Hopped i next ∷ []
-          | false ↦ put (item.FoundDown i s next ∷ []) (reroute_items setting i s) journal
+          | false ↦ items_then (item.FoundDown i s next ∷ []) (reroute_items setting i s) journal
         ])
     by_link next true goes_on e =
         (record { switch = s; at = at; moving = moving; goes_on = goes_on; usable = e }, tt)
@@ -530,7 +531,7 @@ move_ways setting journal i s at moving = by_next (next_switch journal i) refl
       | None ↦ arrive_items setting i s journal
       | Some next ↦ elim (has (near setting journal s) next) [
         | true ↦ item.Hopped i next ∷ []
-        | false ↦ put (item.FoundDown i s next ∷ []) (reroute_items setting i s) journal
+        | false ↦ items_then (item.FoundDown i s next ∷ []) (reroute_items setting i s) journal
       ]
     ])
     by_next None e = arrive_ways setting journal i s at (record { moving = moving; last = e })
@@ -555,7 +556,7 @@ packet_ways setting journal i s header of_row = by_serving (serves journal s) re
   where
     by_serving : (b : Bool) → serves journal s ≡ b → Ways setting journal (elim b [
       | false ↦ item.Closed i s ∷ []
-      | true ↦ put (item.Entered i s header ∷ []) (lookup_items setting i s) journal
+      | true ↦ items_then (item.Entered i s header ∷ []) (lookup_items setting i s) journal
     ])
     by_serving false e = (((header, of_row), e), tt)
     by_serving true e =

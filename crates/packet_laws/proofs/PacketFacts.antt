@@ -6,26 +6,26 @@ use Rattle.std.proofs.lemmas.Bool.Decides.{nat_tests}
 use Rattle.failover.specs.Links.{no_links}
 use Rattle.journal.specs.declared.item.Item.{Item}
 use Rattle.journal.specs.declared.item.Item.TheVariants as item
-use Rattle.update_machine.specs.Folds.{last_told}
+use Rattle.update_machine.specs.Folds.{last_given}
 use Rattle.update_machine.specs.Marks.{retired_mark}
-use Rattle.update_machine.specs.Packets.{decision_of, header_in, standing, tells_decision, tells_header, tells_standing}
-use Rattle.update_machine.specs.Travels.{changes_leg, ingress_of, leg_of, tells_ingress, tells_travelling, travels}
-use Rattle.update_machine.specs.Ways.{changes_found, changes_hops, found_down, route_in, route_place, tells_route}
-use Rattle.update_machine.proofs.CallerLemmas.{folded_append, last_told_append}
+use Rattle.update_machine.specs.Packets.{decision_of, header_in, standing, gives_decision, gives_header, gives_standing}
+use Rattle.update_machine.specs.Travels.{changes_leg, ingress_of, leg_of, gives_ingress, gives_travelling, travels}
+use Rattle.update_machine.specs.Ways.{changes_found, changes_hops, found_down, route_in, route_place, gives_route}
+use Rattle.update_machine.proofs.CallerLemmas.{folded_append, last_given_append}
 use Rattle.packet_laws.specs.Facts.{PacketFacts, changes_mark, entry_mark, is_of_packet, facts_after, what_is_known}
 
 -- the facts behind one more item, each by its own fold
 abbrev told_facts : List Item → ℕ → Item → PacketFacts
 told_facts before i item = record {
-  header = option_or (tells_header i item) (header_in before i);
-  ingress = option_or (tells_ingress i item) (ingress_of before i);
-  stands = option_or (tells_standing i item) (standing before i);
-  travels = unwrap_or (option_or (tells_travelling i item)
-      (last_told (tells_travelling i) before))
+  header = option_or (gives_header i item) (header_in before i);
+  ingress = option_or (gives_ingress i item) (ingress_of before i);
+  stands = option_or (gives_standing i item) (standing before i);
+  travels = unwrap_or (option_or (gives_travelling i item)
+      (last_given (gives_travelling i) before))
       false;
-  decision = option_or (tells_decision i item) (decision_of before i);
+  decision = option_or (gives_decision i item) (decision_of before i);
   leg = changes_leg i before (leg_of before i) item;
-  route = unwrap_or (option_or (tells_route i item) (last_told (tells_route i) before)) [];
+  route = unwrap_or (option_or (gives_route i item) (last_given (gives_route i) before)) [];
   hops = changes_hops i before (route_place before i) item;
   found = changes_found i before (found_down before i) item;
   mark = changes_mark i before (entry_mark before i) item;
@@ -37,13 +37,13 @@ unfolding what_is_known header_in ingress_of standing travels decision_of leg_of
     found_down entry_mark
 facts_more before i item =
     rw (
-      last_told_append (tells_header i) before (item ∷ []),
-      last_told_append (tells_ingress i) before (item ∷ []),
-      last_told_append (tells_standing i) before (item ∷ []),
-      last_told_append (tells_travelling i) before (item ∷ []),
-      last_told_append (tells_decision i) before (item ∷ []),
+      last_given_append (gives_header i) before (item ∷ []),
+      last_given_append (gives_ingress i) before (item ∷ []),
+      last_given_append (gives_standing i) before (item ∷ []),
+      last_given_append (gives_travelling i) before (item ∷ []),
+      last_given_append (gives_decision i) before (item ∷ []),
       folded_append (changes_leg i) None before (item ∷ []),
-      last_told_append (tells_route i) before (item ∷ []),
+      last_given_append (gives_route i) before (item ∷ []),
       folded_append (changes_hops i) 0 before (item ∷ []),
       folded_append (changes_found i) no_links before (item ∷ []),
       folded_append (changes_mark i) 0 before (item ∷ []),

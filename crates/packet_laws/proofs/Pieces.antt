@@ -10,19 +10,19 @@ use Rattle.steps.specs.declared.step.Step.{Step}
 use Rattle.steps.specs.declared.step.Step.TheVariants.{Packet, Hop, Lose, Deliver, Forget, Expire, Update, LinkDown, LinkUp, Crash, Restart, Confirm, Resend}
 use Rattle.update_machine.specs.Boots.{is_up}
 use Rattle.update_machine.specs.Deliveries.{link_changes}
-use Rattle.update_machine.specs.Folds.{count_of, last_told}
+use Rattle.update_machine.specs.Folds.{count_of, last_given}
 use Rattle.update_machine.specs.Laws.{PacketKeeps}
-use Rattle.update_machine.specs.Moves.{put}
+use Rattle.update_machine.specs.Moves.{items_then}
 use Rattle.update_machine.specs.Packets.{is_packet, next_packet, standing}
 use Rattle.update_machine.specs.Pieces.{crash_items, nothing, piece, step_items}
 use Rattle.update_machine.specs.Setting.{Setting}
-use Rattle.update_machine.specs.Causes.{present_step, tells_step}
+use Rattle.update_machine.specs.Causes.{present_step, gives_step}
 use Rattle.update_machine.specs.Travels.{is_at, packets_at, travels, travels_at}
-use Rattle.update_machine.proofs.CallerLemmas.{have_first, have_put, last_told_append, packet_keeps, packets_keep, step_stays}
+use Rattle.update_machine.proofs.CallerLemmas.{have_first, have_put, last_given_append, packet_keeps, packets_keep, step_stays}
 use Rattle.control_laws.proofs.Commands.{confirm_control}
 use Rattle.control_laws.proofs.Grown.{serving_more, up_more}
 use Rattle.packet_laws.specs.Rest.{AreResting, IsServed}
-use Rattle.packet_laws.specs.WayCauses.{WayCause, ends_with_row, fallen, tells_fall, tells_row}
+use Rattle.packet_laws.specs.WayCauses.{WayCause, ends_with_row, fallen_switch, gives_fall, gives_row_test}
 use Rattle.packet_laws.proofs.OtherBlocks.{aside_ways, changes_aside, control_aside, deliver_aside, expire_aside, forget_aside, link_aside, resend_aside, restart_aside, update_aside}
 use Rattle.packet_laws.proofs.PacketBlocks.{Ways, hop_ways, lose_ways, packet_ways, stage_stays}
 
@@ -36,7 +36,7 @@ AsBefore before journal k = (j : ℕ) → k ≤ j
 -- the switch went down in its crash
 record WentDown (journal : List Item) (s : ℕ) : Type 0 where
   crashes : present_step journal ≡ Some (Crash s)
-  fell : fallen journal ≡ Some s
+  fell : fallen_switch journal ≡ Some s
   down : IsFalse (is_up journal s)
 
 at_switch : (s : ℕ) (at : Option ℕ) → is_at s at ≡ true → at ≡ Some s
@@ -44,18 +44,18 @@ at_switch s None is = absurd cc
 at_switch s (Some at) is = ap Some (eqb-true at s is)
 
 fallen_more : (journal : List Item) (next : Item)
-    → fallen (journal ++ next ∷ [])
-    ≡ unwrap_or (option_or (tells_fall next) (last_told tells_fall journal)) None
-unfolding fallen
+    → fallen_switch (journal ++ next ∷ [])
+    ≡ unwrap_or (option_or (gives_fall next) (last_given gives_fall journal)) None
+unfolding fallen_switch
 fallen_more journal next =
-    ap (λ o. unwrap_or o None) (last_told_append tells_fall journal (next ∷ []))
+    ap (λ o. unwrap_or o None) (last_given_append gives_fall journal (next ∷ []))
 
-fallen_stays : (journal : List Item) (next : Item) → tells_fall next ≡ None
-    → fallen (journal ++ next ∷ []) ≡ fallen journal
-unfolding fallen
+fallen_stays : (journal : List Item) (next : Item) → gives_fall next ≡ None
+    → fallen_switch (journal ++ next ∷ []) ≡ fallen_switch journal
+unfolding fallen_switch
 fallen_stays journal next none =
-    let same : last_told tells_fall (journal ++ next ∷ []) ≡ last_told tells_fall journal =
-    rw (last_told_append tells_fall journal (next ∷ []), none) refl in
+    let same : last_given gives_fall (journal ++ next ∷ []) ≡ last_given gives_fall journal =
+    rw (last_given_append gives_fall journal (next ∷ []), none) refl in
     ap (λ (o : Option (Option ℕ)). unwrap_or o None) same
 
 lost_on : (journal : List Item) (s k : ℕ) → WentDown journal s
@@ -121,7 +121,7 @@ crash_ways setting before s journal crashes same = by_up (is_up before s)
   where
     by_up : (b : Bool) → Ways setting journal (elim b [
       | false ↦ nothing
-      | true ↦ put (item.Down s ∷ map item.Lost (packets_at before s))
+      | true ↦ items_then (item.Down s ∷ map item.Lost (packets_at before s))
           (link_changes setting before) journal
     ])
     by_up false = (tt, tt)
@@ -145,13 +145,13 @@ crash_ways setting before s journal crashes same = by_up (is_up before s)
 pub step_now : (before : List Item) (row : ℕ) (step : Step)
     → present_step (before ++ item.Row row step ∷ []) ≡ Some step
 unfolding present_step
-step_now before row step = last_told_append tells_step before (item.Row row step ∷ [])
+step_now before row step = last_given_append gives_step before (item.Row row step ∷ [])
 
 row_now : (before : List Item) (row : ℕ) (step : Step)
     → ends_with_row (before ++ item.Row row step ∷ []) ≡ true
 unfolding ends_with_row
 row_now before row step =
-    ap (λ o. unwrap_or o false) (last_told_append tells_row before (item.Row row step ∷ []))
+    ap (λ o. unwrap_or o false) (last_given_append gives_row_test before (item.Row row step ∷ []))
 
 -- the row leaves packets and switches as they are
 pub row_rests : (before : List Item) (row : ℕ) (step : Step) → AreResting before

@@ -15,7 +15,7 @@ use Rattle.policy_rules.specs.Rules.{first_rule, is_held}
 use Rattle.policy_rules.specs.declared.policy.Row.{Row}
 use Rattle.policy_rules.specs.declared.rules.Partition.{Partition}
 use Rattle.policy_rules.specs.declared.rules.Rule.{Rule}
-use Rattle.policy_rules.specs.Scan.{highest, hit_of, is_highest, scan}
+use Rattle.policy_rules.specs.Scan.{highest_row, hit_of, is_highest, scan}
 use Rattle.policy_rules.proofs.CallerLemmas.{find-position}
 use Rattle.switch_table.specs.Lookup.{lookup_in, plan_lookup, table_lookup}
 use Rattle.switch_table.specs.Tables.{Hosted, part_of, tables_of}
@@ -58,7 +58,7 @@ hit_named setting rows (Some row) all e =
 pub scan_named : (setting : Setting) (rows : List Row) (plan : List Hosted) (header : Header)
     → IsPlanned setting rows plan → NamesOwnPort setting (scan rows header).action
 scan_named setting rows plan header is =
-    hit_named setting (rows_that_match rows header) (highest (rows_that_match rows header))
+    hit_named setting (rows_that_match rows header) (highest_row (rows_that_match rows header))
     (All-filter (λ row. row_matches row (fields_of header)) (λ row. NamesOwnPort setting row.action)
     rows is.ports) refl
 

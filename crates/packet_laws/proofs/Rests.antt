@@ -14,12 +14,12 @@ use Rattle.update_machine.specs.Links.{serves}
 use Rattle.update_machine.specs.Caches.{lookup_at}
 use Rattle.update_machine.specs.Causes.{HaveCauses}
 use Rattle.update_machine.specs.Moves.{authority_rule, header_at}
-use Rattle.update_machine.specs.Packets.{header_in, next_packet, tells_header}
+use Rattle.update_machine.specs.Packets.{header_in, next_packet, gives_header}
 use Rattle.update_machine.specs.Pieces.{packet_items, piece, step_items}
 use Rattle.update_machine.specs.Setting.{Setting, IsSetting}
 use Rattle.update_machine.specs.Versions.{stamp_of}
 use Rattle.update_machine.specs.Travels.{travels}
-use Rattle.update_machine.proofs.CallerLemmas.{have_append, last_told_append, packet_keeps}
+use Rattle.update_machine.proofs.CallerLemmas.{have_append, last_given_append, packet_keeps}
 use Rattle.control_laws.specs.ItemCauses.{HasItemCause}
 use Rattle.control_laws.proofs.Commands.{confirm_control}
 use Rattle.control_laws.proofs.Facts.{Both, fact_on, have_both, have_weaker}
@@ -251,7 +251,7 @@ header_now : (journal : List Item) (i s : ℕ) (header : Header)
 unfolding header_in
 header_now journal i s header =
     rw (
-      last_told_append (tells_header i) journal (item.Entered i s header ∷ []),
+      last_given_append (gives_header i) journal (item.Entered i s header ∷ []),
       eq-eqb i i refl,
     ) refl
 

@@ -18,7 +18,7 @@ use Rattle.update_machine.specs.Setting.{Setting}
 use Rattle.update_machine.proofs.CallerLemmas.{has_known_link, known_link_laws}
 use Rattle.control_laws.specs.Adverts.{LinksAreThere}
 use Rattle.packet_laws.specs.OnWay.{StartsAt, LeadsTo}
-use Rattle.packet_laws.specs.Kept.{Avoids}
+use Rattle.packet_laws.specs.KeptFacts.{Avoids}
 
 -- what a joined pair is: a link of the network, not found down
 record IsGoodLink (setting : Setting) (down : List ℕ) (one two : ℕ) : Type 0 where

@@ -8,7 +8,7 @@ use Rattle.steps.specs.declared.step.Step.TheVariants.{Packet}
 use Rattle.update_machine.specs.Answers.{StepOfRow, after_steps}
 use Rattle.update_machine.specs.Links.{serves}
 use Rattle.update_machine.specs.Causes.{HaveCauses}
-use Rattle.update_machine.specs.Moves.{lookup_items, put}
+use Rattle.update_machine.specs.Moves.{lookup_items, items_then}
 use Rattle.update_machine.specs.Packets.{next_packet}
 use Rattle.update_machine.specs.Pieces.{packet_items, piece}
 use Rattle.update_machine.specs.Setting.{Setting}
@@ -75,7 +75,7 @@ packet_enters setting before row s header = by_serving (serves here s) refl
 
     by_serving : (b : Bool) → serves here s ≡ b → EachEnters before (item.Row row (Packet s header) ∷ elim b [
       | false ↦ item.Closed i s ∷ []
-      | true ↦ put (item.Entered i s header ∷ []) (lookup_items setting i s) here
+      | true ↦ items_then (item.Entered i s header ∷ []) (lookup_items setting i s) here
     ])
     by_serving false is = ((refl, refl, is), tt)
     by_serving true is =

@@ -14,8 +14,8 @@ use Rattle.policy_rules.proofs.CallerLemmas.{first_match-scan}
 use Rattle.journal.specs.declared.item.Item.{Item}
 use Rattle.journal.specs.declared.item.Item.TheVariants as item
 use Rattle.update_machine.specs.Causes.{HaveCauses}
-use Rattle.update_machine.specs.Machine.{Dropped, End, Ends, IsRun, LeftBy, Lost, Machine, MayEnd, Packet, Runs, Stuck, Takes, start, with_packet}
-use Rattle.update_machine.specs.Marks.{retired_mark, tells_retired}
+use Rattle.update_machine.specs.Machine.{Dropped, End, Ends, IsRun, LeftBy, Lost, Machine, MayEnd, Packet, Runs, Stuck, Takes, first_machine, with_packet}
+use Rattle.update_machine.specs.Marks.{retired_mark, gives_retired}
 use Rattle.update_machine.specs.Packets.{Decision, header_in, next_packet}
 use Rattle.update_machine.specs.Setting.{Setting, IsSetting}
 use Rattle.update_machine.specs.Laws.{PoliciesKeep}
@@ -30,13 +30,13 @@ use Rattle.control_laws.proofs.Marks.{bounded}
 use Rattle.packet_laws.specs.OnWay.{IsUnknown}
 use Rattle.packet_laws.specs.Facts.{PacketFacts, is_of_packet, facts_after, what_is_known}
 use Rattle.packet_laws.proofs.PacketFacts.{other_number, facts_named, facts_other, facts_grow}
-use Rattle.packet_laws.specs.Kept.{AllKept}
+use Rattle.packet_laws.specs.KeptFacts.{AllKept}
 use Rattle.packet_laws.specs.Stages.{stage_of}
 use Rattle.packet_laws.specs.WayCauses.{IsDecided, WayCause}
 use Rattle.packet_laws.proofs.AllKept.{Before, kept_before, known_before, knows}
 use Rattle.packet_laws.proofs.Here.{IsHere, decision_in, here_of, some_same, travels_in}
 use Rattle.packet_laws.proofs.Ends.{leaves_rightly}
-use Rattle.packet_laws.proofs.Kept.{IsDecidedNow, Knows, decided_now, stage_when, undecided_of}
+use Rattle.packet_laws.proofs.KeptFacts.{IsDecidedNow, Knows, decided_now, stage_when, undecided_of}
 use Rattle.packet_laws.proofs.Rests.{IsWayItem, Past, switches_of_all}
 
 -- ---- what the machine knows of a packet, by its facts
@@ -124,7 +124,7 @@ no_submission : (next : Item) → IsUnseen next → is_submission next ≡ false
 no_submission (item.Submitted file version) is = absurd is
 no_submission _ is = refl
 
-no_retirement : (next : Item) → IsUnseen next → tells_retired next ≡ None
+no_retirement : (next : Item) → IsUnseen next → gives_retired next ≡ None
 no_retirement (item.Retired version) is = absurd is
 no_retirement _ is = refl
 
@@ -157,7 +157,7 @@ record KeepsMarks (setting : Setting) (journal after : List Item) : Type 0 where
   mark : retired_mark after ≡ retired_mark journal
 
 keeps_marks : (setting : Setting) (journal : List Item) (next : Item)
-    → is_submission next ≡ false → tells_retired next ≡ None
+    → is_submission next ≡ false → gives_retired next ≡ None
     → KeepsMarks setting journal (journal ++ next ∷ [])
 keeps_marks setting journal next submits retires = record {
   keep = policies_keep journal (next ∷ []) (submits, tt);
@@ -459,7 +459,8 @@ runs_from setting machine before (next ∷ items) is have matches =
     runs_from setting step.new (before ++ next ∷ []) items is have.1 step.matches in
     (rest.0, (step.new, step.takes, rest.1))
 
-matches_at_first : (setting : Setting) → IsSetting setting → Matches setting (start setting) []
+matches_at_first : (setting : Setting) → IsSetting setting
+    → Matches setting (first_machine setting) []
 unfolding what_is_known header_in
 matches_at_first setting is = record {
   policies = policies_begin setting is;
@@ -470,5 +471,5 @@ matches_at_first setting is = record {
 pub caused_is_run : (setting : Setting) (journal : List Item) → IsSetting setting
     → HaveCauses (IsWayItem setting) [] journal → IsRun setting journal
 caused_is_run setting journal is have =
-    runs_from setting (start setting) [] journal is (kept_before setting journal is have)
+    runs_from setting (first_machine setting) [] journal is (kept_before setting journal is have)
     (matches_at_first setting is)

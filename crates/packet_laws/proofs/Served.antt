@@ -11,10 +11,10 @@ use Rattle.journal.specs.declared.item.Item.{Item}
 use Rattle.journal.specs.declared.item.Item.TheVariants as item
 use Rattle.update_machine.specs.Boots.{is_up}
 use Rattle.update_machine.specs.Folds.{count_of}
-use Rattle.update_machine.specs.Links.{serves, tells_serving}
-use Rattle.update_machine.specs.Packets.{is_packet, next_packet, tells_standing}
+use Rattle.update_machine.specs.Links.{serves, gives_serving}
+use Rattle.update_machine.specs.Packets.{is_packet, next_packet, gives_standing}
 use Rattle.update_machine.specs.Setting.{Setting}
-use Rattle.update_machine.specs.Travels.{changes_leg, exit_port, leg_of, tells_travelling, travels}
+use Rattle.update_machine.specs.Travels.{changes_leg, exit_port, leg_of, gives_travelling, travels}
 use Rattle.update_machine.proofs.CallerLemmas.{count_of_append, folded_append}
 use Rattle.control_laws.specs.BootLaws.{ServingIsKnown}
 use Rattle.control_laws.specs.ItemCauses.{HasItemCause}
@@ -22,7 +22,7 @@ use Rattle.control_laws.proofs.Facts.{AreKept}
 use Rattle.control_laws.proofs.Grown.{serving_more}
 use Rattle.control_laws.proofs.NetLinks.{ends_serve}
 use Rattle.packet_laws.specs.Rest.{AreServed, IsServed}
-use Rattle.packet_laws.specs.Stages.{Blocked, CameIn, Judged, OnWay, Stage, stage_of, tells_stage}
+use Rattle.packet_laws.specs.Stages.{Blocked, CameIn, Judged, OnWay, Stage, stage_of, gives_stage}
 use Rattle.packet_laws.specs.WayCauses.{WayCause}
 use Rattle.packet_laws.proofs.Others.{ends_or_not}
 use Rattle.packet_laws.proofs.PacketBlocks.{ended, stage_next, standing_more, travels_more}
@@ -47,8 +47,8 @@ NotDown (item.Down s) = ⊥
 NotDown _ = ⊤
 
 -- an item that brings no packet to another switch, behind which its own serves as before
-pub stays_served : (before : List Item) (next : Item) (i : ℕ) → tells_standing i next ≡ None
-    → (tells_travelling i next ≡ None) ⊎ (tells_travelling i next ≡ Some false)
+pub stays_served : (before : List Item) (next : Item) (i : ℕ) → gives_standing i next ≡ None
+    → (gives_travelling i next ≡ None) ⊎ (gives_travelling i next ≡ Some false)
     → ((s : ℕ) → IsTrue (serves before s) → IsTrue (serves (before ++ next ∷ []) s))
     → (IsTrue (travels before i) → IsServed before i)
     → IsTrue (travels (before ++ next ∷ []) i) → IsServed (before ++ next ∷ []) i
@@ -64,7 +64,7 @@ stays_served before next i stays (inl same) on served travelling =
       serving = on here.switch here.serving;
     }
 
-pub still_serves : (before : List Item) (next : Item) (s : ℕ) → tells_serving s next ≡ None
+pub still_serves : (before : List Item) (next : Item) (s : ℕ) → gives_serving s next ≡ None
     → IsTrue (serves before s) → IsTrue (serves (before ++ next ∷ []) s)
 still_serves before next s none serving = rw (serving_more before next s, none) serving
 
@@ -74,9 +74,9 @@ pub record IsCausedUp (setting : Setting) (before : List Item) (next : Item) : T
 
 -- an item that brings a packet to a switch that serves
 brought_served : (before : List Item) (next : Item) (packet s i : ℕ)
-    → ((t : ℕ) → tells_serving t next ≡ None)
-    → tells_standing i next ≡ (if packet == i then Some s else None)
-    → ((packet == i) ≡ false → tells_travelling i next ≡ None) → AreServed before
+    → ((t : ℕ) → gives_serving t next ≡ None)
+    → gives_standing i next ≡ (if packet == i then Some s else None)
+    → ((packet == i) ≡ false → gives_travelling i next ≡ None) → AreServed before
     → IsTrue (serves before s) → IsTrue (travels (before ++ next ∷ []) i)
     → IsServed (before ++ next ∷ []) i
 brought_served before next packet s i silent stands moves served serving travelling =
@@ -161,7 +161,7 @@ unfolding next_packet
 next_first journal = omega arith
 
 number_stays : (before : List Item) (next : Item) (i : ℕ)
-    → (tells_travelling i next ≡ None) ⊎ (tells_travelling i next ≡ Some false)
+    → (gives_travelling i next ≡ None) ⊎ (gives_travelling i next ≡ Some false)
     → (IsTrue (travels before i) → (1 ≤ i) × (i < next_packet before))
     → IsTrue (travels (before ++ next ∷ []) i)
     → (1 ≤ i) × (i < next_packet (before ++ next ∷ []))
@@ -221,7 +221,7 @@ leg_more before next i = folded_append (changes_leg i) None before (next ∷ [])
 -- a packet has a leg behind an item: its own one where the item is of another packet
 leg_behind : (before : List Item) (next : Item) (packet i : ℕ) → HaveLegs before
     → ((packet == i) ≡ true → (leg : Leg) × (leg_of (before ++ next ∷ []) i ≡ Some leg))
-    → ((packet == i) ≡ false → (tells_stage i next ≡ None)
+    → ((packet == i) ≡ false → (gives_stage i next ≡ None)
     × (changes_leg i before (leg_of before i) next ≡ leg_of before i))
     → stage_of (before ++ next ∷ []) i ≡ Some OnWay
     → (leg : Leg) × (leg_of (before ++ next ∷ []) i ≡ Some leg)
@@ -239,7 +239,7 @@ leg_behind before next packet i has own other moving = by_same (packet == i) ref
 -- an item that takes its packet off its way, to another stage
 off_way : (before : List Item) (next : Item) (packet i : ℕ) (stage : Stage)
     → (Some stage ≡ Some OnWay → ⊥)
-    → tells_stage i next ≡ (if packet == i then Some stage else None)
+    → gives_stage i next ≡ (if packet == i then Some stage else None)
     → changes_leg i before (leg_of before i) next ≡ leg_of before i → HaveLegs before
     → stage_of (before ++ next ∷ []) i ≡ Some OnWay
     → (leg : Leg) × (leg_of (before ++ next ∷ []) i ≡ Some leg)

@@ -10,7 +10,7 @@ use Rattle.update_machine.specs.Causes.{present_step}
 use Rattle.update_machine.specs.Travels.{travels}
 use Rattle.update_machine.specs.Links.{serves}
 use Rattle.update_machine.proofs.Examples.{one, open_net}
-use Rattle.packet_laws.specs.WayCauses.{IsLostInCrash, WayCause, ends_with_row, fallen}
+use Rattle.packet_laws.specs.WayCauses.{IsLostInCrash, WayCause, ends_with_row, fallen_switch}
 
 in_by_its_row : WayCause open_net (item.Row 1 (Packet 0 one) ∷ []) (item.Entered 1 0 one)
 unfolding next_packet present_step ends_with_row serves
@@ -27,7 +27,7 @@ crashed =
     item.Row 1 (Packet 0 one) ∷ item.Entered 1 0 one ∷ item.Row 2 (Crash 0) ∷ item.Down 0 ∷ []
 
 lost_with_it : WayCause open_net crashed (item.Lost 1)
-unfolding travels present_step fallen is_up standing
+unfolding travels present_step fallen_switch is_up standing
 lost_with_it = record {
   travelling = refl;
   how = inr (record { switch = 0; crashes = refl; fell = refl; down = refl; stands = refl });
@@ -40,7 +40,7 @@ down_already =
     ∷ item.Row 3 (Crash 0) ∷ item.Nothing ∷ []
 
 not_lost_when_it_was_down : WayCause open_net down_already (item.Lost 1) → ⊥
-unfolding present_step fallen
+unfolding present_step fallen_switch
 not_lost_when_it_was_down way = by_how way.how
   where
     by_how : (present_step down_already ≡ Some (Lose 1)) ⊎ IsLostInCrash down_already 1 → ⊥

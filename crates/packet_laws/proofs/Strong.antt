@@ -19,14 +19,14 @@ use Rattle.control_laws.proofs.Facts.{Behind, have_weaker}
 use Rattle.control_laws.proofs.Serving.{serving_hold}
 use Rattle.packet_laws.specs.OnWay.{IsOnLeg}
 use Rattle.packet_laws.specs.Facts.{PacketFacts, what_is_known}
-use Rattle.packet_laws.specs.Kept.{AllKept}
+use Rattle.packet_laws.specs.KeptFacts.{AllKept}
 use Rattle.packet_laws.specs.Stages.{stage_of}
 use Rattle.packet_laws.specs.StrongCauses.{AvoidsFound, FindsLinkDown, FurtherCause, IsOnRightLeg, IsStuckOnLeg, RaisesVersion, SeeksRightly, StrongCause}
 use Rattle.packet_laws.specs.WayCauses.{FindsNoRoute, IsBlockedOn, IsDecided, IsLookedUp, MeetsDown, TakesLeg, TakesRoute, WayCause}
 use Rattle.packet_laws.proofs.AllKept.{Before, kept_before, known_before, knows}
 use Rattle.packet_laws.proofs.Ends.{decision_out, leaves_rightly, mark_in, meets_link, seeks_rightly, stands_known, stuck_rightly}
 use Rattle.packet_laws.proofs.Here.{IsHere, here_of, leg_in, seeking_of, some_same}
-use Rattle.packet_laws.proofs.Kept.{IsDecidedNow, Knows, decided_now, stage_when, undecided_of}
+use Rattle.packet_laws.proofs.KeptFacts.{IsDecidedNow, Knows, decided_now, stage_when, undecided_of}
 use Rattle.packet_laws.proofs.Rests.{IsWayItem, Past}
 use Rattle.packet_laws.proofs.Routes.{route_way}
 

@@ -8,7 +8,7 @@ use Rattle.update_machine.specs.Setting.{Setting, IsSetting}
 use Rattle.control_laws.proofs.Serving.{serving_hold}
 use Rattle.packet_laws.specs.OnWay.{IsOnWay}
 use Rattle.packet_laws.specs.Facts.{what_is_known}
-use Rattle.packet_laws.specs.Kept.{AllKept, Avoids}
+use Rattle.packet_laws.specs.KeptFacts.{AllKept, Avoids}
 use Rattle.packet_laws.specs.Travelling.{PacketsTravel, RulesAreRight}
 use Rattle.packet_laws.proofs.AllKept.{all_kept}
 use Rattle.packet_laws.proofs.Here.{leg_in, seeking_of, travels_in}

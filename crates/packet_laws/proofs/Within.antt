@@ -19,14 +19,14 @@ use Rattle.control_laws.proofs.Facts.{Behind, Both, fact_on, have_both, have_wea
 use Rattle.packet_laws.specs.OnWay.{IsOnLeg, IsOnWay}
 use Rattle.packet_laws.specs.Facts.{PacketFacts, is_of_packet, facts_after, what_is_known}
 use Rattle.packet_laws.proofs.PacketFacts.{facts_grow}
-use Rattle.packet_laws.specs.Hops.{changes_taken, detours, exits, hops_taken, is_detour, is_exit, is_search, most_hops, most_switches, routes_taken, searches}
-use Rattle.packet_laws.specs.Kept.{AllKept, IsKept}
+use Rattle.packet_laws.specs.Hops.{changes_taken, detour_count, exit_count, hops_taken, is_detour, is_exit, is_search, most_hops, most_switches, routes_taken, search_count}
+use Rattle.packet_laws.specs.KeptFacts.{AllKept, IsKept}
 use Rattle.packet_laws.specs.Rest.{AreResting}
-use Rattle.packet_laws.specs.Stages.{OnWay, Stage, stage_of, tells_stage}
+use Rattle.packet_laws.specs.Stages.{OnWay, Stage, stage_of, gives_stage}
 use Rattle.packet_laws.specs.WayCauses.{WayCause}
 use Rattle.packet_laws.proofs.AllKept.{Before, kept_before, known_before, knows}
 use Rattle.packet_laws.proofs.Here.{travels_in}
-use Rattle.packet_laws.proofs.Kept.{exiting_after, rerouted_after, seeking_after}
+use Rattle.packet_laws.proofs.KeptFacts.{exiting_after, rerouted_after, seeking_after}
 use Rattle.packet_laws.proofs.Rests.{IsWayItem, Past}
 use Rattle.packet_laws.specs.Routes.{changes_on_route, hops_on_route}
 use Rattle.packet_laws.proofs.FewRoutes.{taken_few}
@@ -144,10 +144,11 @@ within_by : (setting : Setting) (before : List Item) (next : Item) (i : ℕ)
     → Premises setting before next → (b : Bool) → is_of_packet i next ≡ b → IsWithinOf before i
     → IsWithin
     (if b then facts_after (retired_mark before) next (what_is_known before i) else what_is_known before i)
-    (option_or (tells_stage i next) (stage_of before i))
+    (option_or (gives_stage i next) (stage_of before i))
     (changes_asked i before (is_asked before i) next)
-    (one_more (is_search i next) (searches before i) + one_more (is_exit i next) (exits before i)
-    + one_more (is_detour i next) (detours before i))
+    (one_more (is_search i next) (search_count before i) + one_more (is_exit i next)
+    (exit_count before i)
+    + one_more (is_detour i next) (detour_count before i))
     (changes_taken i before (hops_taken before i) next)
     (changes_on_route i before (hops_on_route before i) next)
 within_by setting before (item.Row row (Hop packet)) i facts true e within = absurd cc
@@ -232,7 +233,7 @@ on_route_more before next i = folded_append (changes_on_route i) 0 before (next 
 
 within_more : (setting : Setting) (before : List Item) (next : Item) (i : ℕ)
     → Premises setting before next → IsWithinOf before i → IsWithinOf (before ++ next ∷ []) i
-unfolding searches exits detours
+unfolding search_count exit_count detour_count
 within_more setting before next i facts within =
     rw (
       facts_grow i before next,
@@ -246,7 +247,8 @@ within_more setting before next i facts within =
     ) (within_by setting before next i facts (is_of_packet i next) refl within)
 
 within_at_first : (i : ℕ) → IsWithinOf [] i
-unfolding what_is_known stage_of is_asked hops_taken hops_on_route travels searches exits detours
+unfolding what_is_known stage_of is_asked hops_taken hops_on_route travels search_count exit_count
+    detour_count
 within_at_first i = record {
   all = omega arith;
   each = omega arith;

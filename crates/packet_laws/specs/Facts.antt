@@ -6,7 +6,7 @@ use Rattle.policy_rules.specs.declared.packet.Leg.{Leg}
 use Rattle.policy_rules.specs.declared.packet.Leg.TheVariants.{Seek, Exit}
 use Rattle.journal.specs.declared.item.Item.{Item}
 use Rattle.journal.specs.declared.item.Item.TheVariants as item
-use Rattle.update_machine.specs.Folds.{folded}
+use Rattle.update_machine.specs.Folds.{folded_value}
 use Rattle.update_machine.specs.Marks.{retired_mark}
 use Rattle.update_machine.specs.Packets.{Decision, decision_of, header_in, standing}
 use Rattle.update_machine.specs.Travels.{ingress_of, leg_of, port_in, travels}
@@ -21,7 +21,7 @@ changes_mark i before mark _ = mark
 
 -- the mark up to which versions were retired as the packet came in
 unfoldable pub entry_mark : List Item → ℕ → ℕ
-entry_mark journal i = folded (changes_mark i) 0 journal
+entry_mark journal i = folded_value (changes_mark i) 0 journal
 
 -- ---- all that is known of it
 

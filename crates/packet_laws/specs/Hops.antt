@@ -3,7 +3,7 @@ use Rattle.std.specs.Prelude.{ℕ, ◌+◌, Bool, false, ◌&&◌, ◌==◌, if�
 use Rattle.journal.specs.declared.item.Item.{Item}
 use Rattle.journal.specs.declared.item.Item.TheVariants as item
 use Rattle.steps.specs.declared.step.Step.TheVariants.{Hop}
-use Rattle.update_machine.specs.Folds.{count_of, folded}
+use Rattle.update_machine.specs.Folds.{count_of, folded_value}
 use Rattle.update_machine.specs.Travels.{travels}
 
 -- ---- hops
@@ -15,7 +15,7 @@ changes_taken i before taken _ = taken
 
 -- the steps that asked the packet to hop while it travelled: each moved it on, or it arrived
 unfoldable pub hops_taken : List Item → ℕ → ℕ
-hops_taken journal i = folded (changes_taken i) 0 journal
+hops_taken journal i = folded_value (changes_taken i) 0 journal
 
 -- ---- routes
 
@@ -24,27 +24,27 @@ is_search i (item.Seeking packet version partition route) = packet == i
 is_search i _ = false
 
 -- its routes to an authority switch, one for each lookup that found none of its own
-unfoldable pub searches : List Item → ℕ → ℕ
-searches journal i = count_of (is_search i) journal
+unfoldable pub search_count : List Item → ℕ → ℕ
+search_count journal i = count_of (is_search i) journal
 
 abbrev pub is_exit : ℕ → Item → Bool
 is_exit i (item.Exiting packet route) = packet == i
 is_exit i _ = false
 
 -- its routes to the switch of its port
-unfoldable pub exits : List Item → ℕ → ℕ
-exits journal i = count_of (is_exit i) journal
+unfoldable pub exit_count : List Item → ℕ → ℕ
+exit_count journal i = count_of (is_exit i) journal
 
 abbrev pub is_detour : ℕ → Item → Bool
 is_detour i (item.Rerouted packet route) = packet == i
 is_detour i _ = false
 
 -- its routes around links that it found down
-unfoldable pub detours : List Item → ℕ → ℕ
-detours journal i = count_of (is_detour i) journal
+unfoldable pub detour_count : List Item → ℕ → ℕ
+detour_count journal i = count_of (is_detour i) journal
 
 abbrev pub routes_taken : List Item → ℕ → ℕ
-routes_taken journal i = searches journal i + exits journal i + detours journal i
+routes_taken journal i = search_count journal i + exit_count journal i + detour_count journal i
 
 -- the switches of a route at most, and so the hops on it, its arrival included
 abbrev pub most_switches : ℕ

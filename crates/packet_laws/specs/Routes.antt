@@ -4,7 +4,7 @@ use Rattle.std.specs.Prelude.{ℕ, ◌+◌, Bool, false, ◌&&◌, ◌==◌, if�
 use Rattle.journal.specs.declared.item.Item.{Item}
 use Rattle.journal.specs.declared.item.Item.TheVariants as item
 use Rattle.steps.specs.declared.step.Step.TheVariants.{Hop}
-use Rattle.update_machine.specs.Folds.{count_of, folded}
+use Rattle.update_machine.specs.Folds.{count_of, folded_value}
 use Rattle.update_machine.specs.Travels.{travels}
 
 -- one for each of 64 versions, one to its port, and one around each of 256 links
@@ -24,7 +24,7 @@ changes_on_route i before hops _ = hops
 
 -- the hops that the packet was asked for, while it travelled, since it took its last route
 unfoldable pub hops_on_route : List Item → ℕ → ℕ
-hops_on_route journal i = folded (changes_on_route i) 0 journal
+hops_on_route journal i = folded_value (changes_on_route i) 0 journal
 
 -- ---- links found down
 

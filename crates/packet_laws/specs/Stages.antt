@@ -2,7 +2,7 @@
 use Rattle.std.specs.Prelude.{ℕ, ◌==◌, if◌then◌else◌, Option, Some, None, List}
 use Rattle.journal.specs.declared.item.Item.{Item}
 use Rattle.journal.specs.declared.item.Item.TheVariants as item
-use Rattle.update_machine.specs.Folds.{last_told}
+use Rattle.update_machine.specs.Folds.{last_given}
 
 -- a packet came in, was decided, or found a link down, and what its switch makes of it stands in
 -- the next items; or it is on its way by a route
@@ -12,18 +12,18 @@ pub data Stage : Type 0 where
   Blocked : Stage
   OnWay : Stage
 
-abbrev pub tells_stage : ℕ → Item → Option Stage
-tells_stage i (item.Entered packet switch header) = if packet == i then Some CameIn else None
-tells_stage i (item.Decided packet version rule action how) =
+abbrev pub gives_stage : ℕ → Item → Option Stage
+gives_stage i (item.Entered packet switch header) = if packet == i then Some CameIn else None
+gives_stage i (item.Decided packet version rule action how) =
     if packet == i then Some Judged else None
-tells_stage i (item.FoundDown packet one two) = if packet == i then Some Blocked else None
-tells_stage i (item.Seeking packet version partition route) =
+gives_stage i (item.FoundDown packet one two) = if packet == i then Some Blocked else None
+gives_stage i (item.Seeking packet version partition route) =
     if packet == i then Some OnWay else None
-tells_stage i (item.Exiting packet route) = if packet == i then Some OnWay else None
-tells_stage i (item.Rerouted packet route) = if packet == i then Some OnWay else None
-tells_stage i (item.Hopped packet switch) = if packet == i then Some OnWay else None
-tells_stage i _ = None
+gives_stage i (item.Exiting packet route) = if packet == i then Some OnWay else None
+gives_stage i (item.Rerouted packet route) = if packet == i then Some OnWay else None
+gives_stage i (item.Hopped packet switch) = if packet == i then Some OnWay else None
+gives_stage i _ = None
 
 -- the stage of the packet's last such item
 unfoldable pub stage_of : List Item → ℕ → Option Stage
-stage_of journal i = last_told (tells_stage i) journal
+stage_of journal i = last_given (gives_stage i) journal

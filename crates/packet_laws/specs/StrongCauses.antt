@@ -19,7 +19,7 @@ use Rattle.update_machine.specs.Ways.{found_down, targets_of}
 use Rattle.update_machine.specs.ExactCauses.{FindsNextDown, FindsNoPath}
 use Rattle.control_laws.specs.ItemCauses.{RetiresRightly, SubmitsRightly}
 use Rattle.packet_laws.specs.Facts.{entry_mark}
-use Rattle.packet_laws.specs.Kept.{Avoids}
+use Rattle.packet_laws.specs.KeptFacts.{Avoids}
 use Rattle.packet_laws.specs.WayCauses.{WayCause}
 
 -- a link of the network, from where the packet stands to the next switch of its route, which its

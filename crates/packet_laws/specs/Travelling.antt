@@ -12,7 +12,7 @@ use Rattle.update_machine.specs.Links.{serves, message_of}
 use Rattle.packet_laws.specs.Rules.{IsRightEntry}
 use Rattle.packet_laws.specs.OnWay.{IsOnWay}
 use Rattle.packet_laws.specs.Facts.{what_is_known}
-use Rattle.packet_laws.specs.Kept.{Avoids, BringsRight}
+use Rattle.packet_laws.specs.KeptFacts.{Avoids, BringsRight}
 use Rattle.packet_laws.specs.Rest.{IsServed}
 
 -- the packet stands at its place of a route that leads over links of the network to a target of its

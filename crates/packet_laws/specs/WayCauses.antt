@@ -22,9 +22,9 @@ use Rattle.journal.specs.declared.item.Item.TheVariants as item
 use Rattle.steps.specs.declared.step.Step.TheVariants.{Packet, Lose, Crash, Restart, Update}
 use Rattle.update_machine.specs.Boots.{is_up}
 use Rattle.update_machine.specs.Caches.{lookup_at}
-use Rattle.update_machine.specs.Folds.{last_told}
+use Rattle.update_machine.specs.Folds.{last_given}
 use Rattle.update_machine.specs.LinkMasks.{near}
-use Rattle.update_machine.specs.Moves.{AuthorityRule, authority_rule, cache_rule, cause_at, first_place, header_at, leaves, route_for}
+use Rattle.update_machine.specs.Moves.{AuthorityRule, authority_rule, cache_rule, cause_at, first_place, header_at, leaving_item, route_for}
 use Rattle.update_machine.specs.Packets.{Decision, decision_of, next_packet, standing}
 use Rattle.update_machine.specs.Setting.{Setting}
 use Rattle.update_machine.specs.Causes.{IsLinkStep, present_step}
@@ -42,13 +42,13 @@ pub record IsAt (before : List Item) (packet switch : ℕ) : Type 0 where
   pub stands : unwrap_or (standing before packet) 0 ≡ switch
   pub serving : IsTrue (serves before switch)
 
-abbrev pub tells_row : Item → Option Bool
-tells_row (item.Row row step) = Some true
-tells_row _ = Some false
+abbrev pub gives_row_test : Item → Option Bool
+gives_row_test (item.Row row step) = Some true
+gives_row_test _ = Some false
 
 -- the last item is the row of a step
 unfoldable pub ends_with_row : List Item → Bool
-ends_with_row journal = unwrap_or (last_told tells_row journal) false
+ends_with_row journal = unwrap_or (last_given gives_row_test journal) false
 
 -- it comes in, or is refused, right behind its row, under the next number
 pub record IsOfRow (before : List Item) (packet switch : ℕ) (header : Header) : Type 0 where
@@ -216,7 +216,7 @@ pub record IsDecided (setting : Setting) (before : List Item) (packet version : 
   pub by : DecidesBy setting before packet switch version rule action how
 
 -- the authority rule that decided the packet is told to its ingress, another switch
-pub record TellsRule (setting : Setting) (before : List Item) (message : Message) : Type 0 where
+pub record SendsRule (setting : Setting) (before : List Item) (message : Message) : Type 0 where
   pub packet : ℕ
   pub switch : ℕ
   pub at : IsAt before packet switch
@@ -247,7 +247,7 @@ pub record LeavesHere (setting : Setting) (before : List Item) (packet port : �
   pub switch : ℕ
   pub at : IsAt before packet switch
   pub at_port : IsAtPort setting before packet switch port
-  pub own : item.Left packet port leaving ≡ leaves before packet port
+  pub own : item.Left packet port leaving ≡ leaving_item before packet port
 
 -- it was just decided to drop it
 pub record IsDroppedHere (before : List Item) (packet : ℕ) : Type 0 where
@@ -258,20 +258,20 @@ pub record IsDroppedHere (before : List Item) (packet : ℕ) : Type 0 where
   pub decided : decision_of before packet ≡ Some decision
   pub action : decision.action ≡ action.Drop
 
-abbrev pub tells_fall : Item → Option (Option ℕ)
-tells_fall (item.Row row step) = Some None
-tells_fall (item.Down switch) = Some (Some switch)
-tells_fall _ = None
+abbrev pub gives_fall : Item → Option (Option ℕ)
+gives_fall (item.Row row step) = Some None
+gives_fall (item.Down switch) = Some (Some switch)
+gives_fall _ = None
 
 -- the switch that went down in the step that is being taken
-unfoldable pub fallen : List Item → Option ℕ
-fallen journal = unwrap_or (last_told tells_fall journal) None
+unfoldable pub fallen_switch : List Item → Option ℕ
+fallen_switch journal = unwrap_or (last_given gives_fall journal) None
 
 -- it stands at a switch that went down in its crash, and not before
 pub record IsLostInCrash (before : List Item) (packet : ℕ) : Type 0 where
   pub switch : ℕ
   pub crashes : present_step before ≡ Some (Crash switch)
-  pub fell : fallen before ≡ Some switch
+  pub fell : fallen_switch before ≡ Some switch
   pub down : IsFalse (is_up before switch)
   pub stands : standing before packet ≡ Some switch
 
@@ -281,10 +281,10 @@ pub record IsLostHere (before : List Item) (packet : ℕ) : Type 0 where
 
 -- ---- all items
 
-abbrev pub TellsRightly : Setting → List Item → Message → Body → Type 0
-TellsRightly setting before message (CacheRule version word rule action) =
-    TellsRule setting before message
-TellsRightly setting before message _ = ⊤
+abbrev pub SendsRightRule : Setting → List Item → Message → Body → Type 0
+SendsRightRule setting before message (CacheRule version word rule action) =
+    SendsRule setting before message
+SendsRightRule setting before message _ = ⊤
 
 -- each item of packets and of cache rules, and each that changes a switch or a link or submits a
 -- version, has its cause in the journal before it
@@ -308,7 +308,7 @@ WayCause setting before (item.Lost packet) = IsLostHere before packet
 WayCause setting before (item.Stuck packet switch cause leg down) =
     FindsNoRoute setting before packet switch cause leg down
 WayCause setting before (item.Sent number message) =
-    TellsRightly setting before message message.body
+    SendsRightRule setting before message message.body
 WayCause setting before (item.Down switch) = present_step before ≡ Some (Crash switch)
 WayCause setting before (item.Booted switch boot) = present_step before ≡ Some (Restart switch)
 WayCause setting before (item.LinkIs one two up) = IsLinkStep (present_step before) one two up

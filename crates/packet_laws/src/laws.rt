@@ -4,7 +4,7 @@ ghost use Rattle.steps.specs.Steps.{IsEvent};
 ghost use Rattle.steps.specs.declared.step.Step.TheVariants.{Deliver, Hop};
 ghost use Rattle.update_machine.specs.Exports.{AreAll, AreSome, Event, HasCause, HasPlay, HaveCauses, IsPlay, IsReached, IsRun, IsSetting, Item, Setting, StepOfRow, current_mark, most_versions, next_delivery, next_hop, next_packet, next_travelling, next_waiting, piece};
 ghost use Rattle.control_laws.specs.Always.{HoldsReached};
-ghost use Rattle.packet_laws.specs.Exports.{AllKept, AreEntered, AreResting, GoesOrStops, HoldsBetween, KeepVersionsWhole, PacketsArrive, PacketsTravel, RulesAreRight, StrongCause, WayCause, detours, drain_left, exits, finding_count, hops_on_route, hops_taken, most_hops, most_routes, most_switches, routes_taken, rows_played, searches};
+ghost use Rattle.packet_laws.specs.Exports.{AllKept, AreEntered, AreResting, GoesOrStops, HoldsBetween, KeepVersionsWhole, PacketsArrive, PacketsTravel, RulesAreRight, StrongCause, WayCause, detour_count, drain_left, exit_count, finding_count, hops_on_route, hops_taken, most_hops, most_routes, most_switches, routes_taken, rows_played, search_count};
 
 use control_laws::{
     acknowledgements_hold, boots_are_known, installs_are_planned, items_have_causes,
@@ -77,13 +77,13 @@ pub fn causes_are_strong()
 /// links. So it takes at most 321 routes.
 pub fn packets_take_few_routes()
     ensures raised { HoldsReached (λ setting journal. IsSetting setting
-        → (i : ℕ) → searches journal i ≤ current_mark journal) }
+        → (i : ℕ) → search_count journal i ≤ current_mark journal) }
     ensures searched { HoldsReached (λ setting journal. IsSetting setting
-        → (i : ℕ) → searches journal i ≤ most_versions) }
+        → (i : ℕ) → search_count journal i ≤ most_versions) }
     ensures exited { HoldsReached (λ setting journal. IsSetting setting
-        → (i : ℕ) → exits journal i ≤ 1) }
+        → (i : ℕ) → exit_count journal i ≤ 1) }
     ensures detoured { HoldsReached (λ setting journal. IsSetting setting
-        → (i : ℕ) → detours journal i ≤ length setting.net.links) }
+        → (i : ℕ) → detour_count journal i ≤ length setting.net.links) }
     ensures found { HoldsReached (λ setting journal. IsSetting setting
         → (i : ℕ) → finding_count journal i ≤ length setting.net.links) }
     ensures few { HoldsReached (λ setting journal. IsSetting setting

@@ -16,7 +16,7 @@ use Rattle.policy_rules.specs.declared.rules.Rule.{Rule}
 use Rattle.policy_rules.proofs.CallerLemmas.{IsRuleList-rules_of}
 use Rattle.cut_tree.specs.Cuts.{side_of}
 use Rattle.cut_tree.specs.DefinedTree.{IsDefinedTree, IsTreeOf, tree_of}
-use Rattle.cut_tree.specs.Narrow.{narrow, narrowed}
+use Rattle.cut_tree.specs.Narrow.{narrow, narrowed_rule}
 use Rattle.cut_tree.specs.Shape.{Shape, End, Node, leaves_of}
 use Rattle.cut_tree.proofs.CallerLemmas.{tree_defined}
 use Rattle.cut_tree.proofs.NarrowLemmas.{narrow_apart, narrow_covered, narrow_more}
@@ -27,8 +27,9 @@ use Rattle.partition.proofs.PartLemmas.{numbered_all}
 
 -- a rule that covers the region still does when it is narrowed to it
 narrowed_covers : (region : WordValue) (rule : Rule) → IsTrue (meets rule.word region)
-    → IsTrue (covers_of rule.word region) → IsTrue (covers_of (narrowed region rule).word region)
-unfolding narrowed
+    → IsTrue (covers_of rule.word region) → IsTrue
+    (covers_of (narrowed_rule region rule).word region)
+unfolding narrowed_rule
 narrowed_covers region rule meet covers =
     meet_greatest rule.word region _ region (met_joined rule.word region meet)
     ∙ and_from _ _ covers (covers_reflexive region)
@@ -39,7 +40,7 @@ ends_at_once : (region : WordValue) (rule : Rule) (rules : List Rule)
     → EndInCover region (narrow (rule ∷ rules) region)
 ends_at_once region rule rules meet covers = (
   [],
-  narrowed region rule,
+  narrowed_rule region rule,
   narrow_covered region rule rules meet covers,
   narrowed_covers region rule meet covers,
 )
@@ -56,9 +57,10 @@ narrow_ends (rule ∷ earlier) last region covers =
       | inl meet ↦ elim (cases_Bool (covers_of rule.word region)) [
         | inl whole ↦ ends_at_once region rule rules meet whole
         | inr past ↦ (
-          narrowed region rule ∷ rest.0,
+          narrowed_rule region rule ∷ rest.0,
           rest.1,
-          narrow_more region rule rules meet past ∙ ap (λ rs. narrowed region rule ∷ rs) rest.2,
+          narrow_more region rule rules meet past
+              ∙ ap (λ rs. narrowed_rule region rule ∷ rs) rest.2,
           rest.3,
         )
       ]

@@ -25,7 +25,7 @@ use Rattle.policy_rules.specs.declared.rules.Rule.{Rule}
 use Rattle.policy_rules.proofs.CallerLemmas.{IsRuleList-rules_of, at_item, first_rule-rules_of}
 use Rattle.cut_tree.specs.Cuts.{side_of}
 use Rattle.cut_tree.specs.DefinedTree.{IsTreeOf, IsDefinedTree, tree_of}
-use Rattle.cut_tree.specs.Narrow.{narrow, narrowed}
+use Rattle.cut_tree.specs.Narrow.{narrow, narrowed_rule}
 use Rattle.cut_tree.specs.Nodes.{AreWords}
 use Rattle.cut_tree.specs.Shape.{Shape, End, Node, leaf_count, leaves_of}
 use Rattle.cut_tree.proofs.CallerLemmas.{narrow_few, narrow_first, tree_defined}
@@ -90,13 +90,14 @@ record IsLeafThatDecides (rules : List Rule) (region : WordValue) (header : ℕ)
   pub few : length leaf.1 ≤ length rules
   pub same : IsTrue (holds leaf.0 header) → hit_at header leaf.1 ≡ hit_at header rules
 
-hit_narrowed : (region : WordValue) (rule : Rule) → hit_of_rule (narrowed region rule) ≡ hit_of_rule
+hit_narrowed : (region : WordValue) (rule : Rule) → hit_of_rule (narrowed_rule region rule)
+    ≡ hit_of_rule
     rule
-unfolding narrowed
+unfolding narrowed_rule
 hit_narrowed region rule = refl
 
 hits_narrowed : (region : WordValue) (rule : Option Rule)
-    → option_map hit_of_rule (option_map (narrowed region) rule) ≡ option_map hit_of_rule rule
+    → option_map hit_of_rule (option_map (narrowed_rule region) rule) ≡ option_map hit_of_rule rule
 hits_narrowed region None = refl
 hits_narrowed region (Some rule) = ap Some (hit_narrowed region rule)
 

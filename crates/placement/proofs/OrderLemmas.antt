@@ -12,7 +12,7 @@ use Rattle.std.proofs.lemmas.List.{get_or-take, get_or_default}
 use Rattle.std.proofs.lemmas.List.Folds.{list_any-append, list_any_none}
 use Rattle.std.proofs.lemmas.List.Kept.{AllPairs-cons}
 use Rattle.std.proofs.lemmas.List.Sums.{sum_by-cons}
-use Rattle.placement.specs.Order.{inserted, in_order}
+use Rattle.placement.specs.Order.{with_inserted, in_order}
 
 -- a test that puts any two different numbers in one order
 pub record IsOrder (before : ℕ → ℕ → Bool) : Type 0 where
@@ -140,15 +140,15 @@ range-within z n some = grind (arith, nat_tests, count-range z 0 n)
 -- ---- an insertion sort
 
 pub sum-inserted : (f : ℕ → ℕ) (before : ℕ → ℕ → Bool) (x : ℕ) (xs : List ℕ)
-    → sum_by f (inserted before x xs) ≡ f x + sum_by f xs
+    → sum_by f (with_inserted before x xs) ≡ f x + sum_by f xs
 sum-inserted f before x [] = sum_by-cons f x []
 sum-inserted f before x (y ∷ ys) = by_case (before y x) (sum-inserted f before x ys)
   where
-    by_case : (b : Bool) → sum_by f (inserted before x ys) ≡ f x + sum_by f ys
-        → sum_by f (cond b (y ∷ inserted before x ys) (x ∷ y ∷ ys)) ≡ f x + sum_by f (y ∷ ys)
+    by_case : (b : Bool) → sum_by f (with_inserted before x ys) ≡ f x + sum_by f ys
+        → sum_by f (cond b (y ∷ with_inserted before x ys) (x ∷ y ∷ ys)) ≡ f x + sum_by f (y ∷ ys)
     by_case true rest = omega (
       arith,
-      sum_by-cons f y (inserted before x ys),
+      sum_by-cons f y (with_inserted before x ys),
       sum_by-cons f y ys,
       rest,
     )
@@ -166,13 +166,14 @@ sum-in_order f before (x ∷ xs) =
       sum_by-cons f x xs,
     )
 
-pub length-inserted : (before : ℕ → ℕ → Bool) (x : ℕ) (xs : List ℕ) → length (inserted before x xs)
+pub length-inserted : (before : ℕ → ℕ → Bool) (x : ℕ) (xs : List ℕ)
+    → length (with_inserted before x xs)
     ≡ suc (length xs)
 length-inserted before x [] = refl
 length-inserted before x (y ∷ ys) = by_case (before y x) (length-inserted before x ys)
   where
-    by_case : (b : Bool) → length (inserted before x ys) ≡ suc (length ys)
-        → length (cond b (y ∷ inserted before x ys) (x ∷ y ∷ ys)) ≡ suc (suc (length ys))
+    by_case : (b : Bool) → length (with_inserted before x ys) ≡ suc (length ys)
+        → length (cond b (y ∷ with_inserted before x ys) (x ∷ y ∷ ys)) ≡ suc (suc (length ys))
     by_case true rest = ap suc rest
     by_case false rest = refl
 
@@ -184,13 +185,13 @@ length-in_order before (x ∷ xs) = length-inserted before x (in_order before xs
     ∙ ap suc (length-in_order before xs)
 
 each-inserted : (P : ℕ → Type 0) (before : ℕ → ℕ → Bool) (x : ℕ) (xs : List ℕ) → P x
-    → AllByRecursion P xs → AllByRecursion P (inserted before x xs)
+    → AllByRecursion P xs → AllByRecursion P (with_inserted before x xs)
 each-inserted P before x [] here each = (here, tt)
 each-inserted P before x (y ∷ ys) here each = by_case (before y x)
     (each-inserted P before x ys here each.1)
   where
-    by_case : (b : Bool) → AllByRecursion P (inserted before x ys)
-        → AllByRecursion P (cond b (y ∷ inserted before x ys) (x ∷ y ∷ ys))
+    by_case : (b : Bool) → AllByRecursion P (with_inserted before x ys)
+        → AllByRecursion P (cond b (y ∷ with_inserted before x ys) (x ∷ y ∷ ys))
     by_case true rest = (each.0, rest)
     by_case false rest = (here, each)
 
@@ -201,7 +202,7 @@ each-trans before order x y (z ∷ zs) first each =
     (order.trans x y z first each.0, each-trans before order x y zs first each.1)
 
 rises-inserted : (before : ℕ → ℕ → Bool) → IsOrder before → (x : ℕ) (xs : List ℕ) → count x xs ≡ 0
-    → Rises before xs → Rises before (inserted before x xs)
+    → Rises before xs → Rises before (with_inserted before x xs)
 rises-inserted before order x [] none rises = (tt, tt)
 rises-inserted before order x (y ∷ ys) none rises =
     let other : x ≢ y = λ same.

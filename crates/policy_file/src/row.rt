@@ -1,6 +1,6 @@
 ghost use Rattle.std.specs.Prelude.{◌≡◌, ◌<◌, ◌+◌, ◌&&◌, drop, IfOk, bytes_eq};
 ghost use Rattle.csv.specs.Records.{fields_of};
-ghost use Rattle.csv_records.specs.Texts.{field, is_heading};
+ghost use Rattle.csv_records.specs.Texts.{field_or_empty, is_heading};
 ghost use Rattle.five_tuple.specs.Texts.{number_up_to};
 ghost use Rattle.policy_rules.specs.Read.{HasSmallPort};
 ghost use Rattle.policy_file.specs.Reading.{policy_heading, row_read};
@@ -31,8 +31,8 @@ pub const ACTION: &str = "action";
 // Whether the fields at this place and the next are these texts.
 fn has_texts(fields: &ByteRecord, place: usize, one: &str, next: &str) -> bool
     requires { place < WIDTH }
-    ensures { result ≡ (bytes_eq (field (fields_of fields.now) place) one.now
-        && bytes_eq (field (fields_of fields.now) (place + 1)) next.now) }
+    ensures { result ≡ (bytes_eq (field_or_empty (fields_of fields.now) place) one.now
+        && bytes_eq (field_or_empty (fields_of fields.now) (place + 1)) next.now) }
 {
     has_text(fields, place, one) && has_text(fields, place + 1, next)
 }

@@ -13,7 +13,7 @@ use Rattle.policy_rules.specs.declared.policy.Action.{Action}
 use Rattle.policy_rules.specs.declared.policy.Hit.{Hit}
 use Rattle.policy_rules.specs.declared.policy.Row.{Row}
 use Rattle.policy_rules.specs.Policy.{HaveDistinctPriorities, IsFirstMatch, IsHighestIn, row_matches}
-use Rattle.policy_rules.specs.Scan.{highest, hit_of, is_highest, scan}
+use Rattle.policy_rules.specs.Scan.{highest_row, hit_of, is_highest, scan}
 
 -- ---- the first that passes
 
@@ -66,7 +66,7 @@ bounds rows row is k d within =
 
 -- among rows of distinct priorities one is the highest
 pub highest_is : (rows : List Row) (row : Row) → HaveDistinctPriorities rows → IsHighestIn rows row
-    → highest rows ≡ Some row
+    → highest_row rows ≡ Some row
 highest_is rows row distinct is = by_case (find (is_highest rows) rows)
     (find_found (is_highest rows) rows)
   where
@@ -90,7 +90,7 @@ top_of row [] = (
   row,
   record {
     member = (0, omega arith, refl);
-    highest =
+    highest_row =
         All-cons (λ (x : Row). x.priority ≤ row.priority) row [] (omega arith) (All-nil _);
   },
 )
@@ -103,7 +103,7 @@ top_of row (next ∷ rows) = by_case (top_of next rows)
         row,
         record {
           member = (0, omega arith, refl);
-          highest =
+          highest_row =
               All-cons (λ (x : Row). x.priority ≤ row.priority) row (next ∷ rows) (omega arith)
               (All-weaker (λ (x : Row). x.priority ≤ best.priority)
               (λ (x : Row). x.priority ≤ row.priority) (λ x h. omega (arith, lower)) (next ∷ rows)
@@ -114,13 +114,13 @@ top_of row (next ∷ rows) = by_case (top_of next rows)
         best,
         record {
           member = in_tail row (next ∷ rows) best is.member;
-          highest =
+          highest_row =
               All-cons (λ (x : Row). x.priority ≤ best.priority) row (next ∷ rows) upper is.highest;
         },
       )
     ]
 
-pub highest_of : (rows : List Row) → MatchOption (highest rows) (rows ≡ []) (IsHighestIn rows)
+pub highest_of : (rows : List Row) → MatchOption (highest_row rows) (rows ≡ []) (IsHighestIn rows)
 highest_of [] = refl
 highest_of (row ∷ rows) = by_case (top_of row rows) (find (is_highest (row ∷ rows)) (row ∷ rows))
     (find_found (is_highest (row ∷ rows)) (row ∷ rows))
@@ -157,7 +157,7 @@ first_match_by : (rows : List Row) (header : Header) (rule : Option ℕ) (action
     → HaveDistinctPriorities rows → IsFirstMatch rows header (hit_with rule action)
     → hit_with rule action ≡ scan rows header
 first_match_by rows header None action distinct (none, drop) = ap (hit_with None) drop
-    ∙ ap (λ matching. hit_of (highest matching)) (sym none)
+    ∙ ap (λ matching. hit_of (highest_row matching)) (sym none)
 first_match_by rows header (Some priority) action distinct (row, is, names, acts) =
     let kept = AllPairs-filter (λ (x y : Row). x.priority ≢ y.priority)
     (λ x. row_matches x (fields_of header)) rows distinct in
@@ -185,7 +185,7 @@ best_takes kept row best new true here is now matches exceeds known =
     let top : IsHighestIn (kept ++ row ∷ []) row =
     record {
       member = Contains-push kept row;
-      highest =
+      highest_row =
           All-push (λ (x : Row). x.priority ≤ row.priority) kept row (lower best exceeds known)
           (omega arith);
     } in
@@ -215,6 +215,6 @@ best_keeps kept row (Some best) true lower is =
     (lower refl) in
     record {
       member = Contains-append_left kept (row ∷ []) best.now is.member;
-      highest =
+      highest_row =
           All-push (λ (x : Row). x.priority ≤ best.now.priority) kept row is.highest below;
     }

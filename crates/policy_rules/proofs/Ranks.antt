@@ -8,7 +8,7 @@ use Rattle.policy_rules.specs.declared.policy.Hit.{Hit}
 use Rattle.policy_rules.specs.declared.policy.Row.{Row}
 use Rattle.std.proofs.Math.Nat.{mul-le-mul_left}
 use Rattle.policy_rules.specs.declared.rules.Rule.{Rule}
-use Rattle.policy_rules.specs.RuleList.{ranked, ranked_from, entries_of, with_hit, word_count, word_total}
+use Rattle.policy_rules.specs.RuleList.{ranked_rule, ranked_from, entries_of, with_hit, word_count, word_total}
 use Rattle.five_tuple.specs.Cover.{Block, cover_of}
 use Rattle.policy_rules.specs.Words.{word_of_row, words_of_row}
 use Rattle.std.proofs.lemmas.List.Sums.{sum_by-cons}
@@ -22,7 +22,7 @@ pub ranked_from-append : (n : ℕ) (xs ys : List (WordValue × Hit))
     → ranked_from n (xs ++ ys) ≡ ranked_from n xs ++ ranked_from (n + length xs) ys
 unfolding ranked_from
 ranked_from-append n [] ys = ap (λ k. ranked_from k ys) (omega arith)
-ranked_from-append n (x ∷ xs) ys = ap (λ rest. ranked (n, x) ∷ rest)
+ranked_from-append n (x ∷ xs) ys = ap (λ rest. ranked_rule (n, x) ∷ rest)
     (ranked_from-append (n + 1) xs ys ∙ ap (λ k. ranked_from (n + 1) xs ++ ranked_from k ys)
     (omega arith))
 

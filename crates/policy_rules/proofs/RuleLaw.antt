@@ -18,7 +18,7 @@ use Rattle.policy_rules.specs.declared.policy.Hit.{Hit}
 use Rattle.policy_rules.specs.Policy.{IsPolicy, IsSoundRow, row_matches}
 use Rattle.policy_rules.specs.Rules.{is_held, first_rule}
 use Rattle.policy_rules.specs.Words.{word_of_row, words_of_row}
-use Rattle.policy_rules.specs.RuleList.{entries_of, with_hit, ranked, ranked_from, with_default, by_falling_priority, rules_of, hit_of_rule}
+use Rattle.policy_rules.specs.RuleList.{entries_of, with_hit, ranked_rule, ranked_from, with_default, by_falling_priority, rules_of, hit_of_rule}
 use Rattle.policy_rules.specs.Scan.{hit_of, scan}
 use Rattle.policy_rules.proofs.RowWords.{holds-word_of_row}
 use Rattle.policy_rules.proofs.Sorting.{IsPermutation-by_falling_priority, find-by_falling_priority}
@@ -37,7 +37,7 @@ found-ranked n k (entry ∷ entries) = by_case (holds entry.0 n) (found-ranked n
   where
     by_case : (b : Bool) → option_map hit_of_rule (find (is_held n) (ranked_from (k + 1) entries))
         ≡ found n entries → option_map hit_of_rule
-        (cond b (Some (ranked (k, entry))) (find (is_held n) (ranked_from (k + 1) entries)))
+        (cond b (Some (ranked_rule (k, entry))) (find (is_held n) (ranked_from (k + 1) entries)))
         ≡ option_map (λ (e : WordValue × Hit). e.1)
         (cond b (Some entry) (find (λ e. holds e.0 n) entries))
     by_case true rest = refl

@@ -16,7 +16,7 @@ use Rattle.policy_rules.specs.declared.policy.Hit.{Hit}
 use Rattle.policy_rules.specs.declared.rules.Rule.{Rule}
 use Rattle.policy_rules.specs.Policy.{IsPolicy, IsSoundRow}
 use Rattle.policy_rules.specs.Words.{word_of_row, words_of_row}
-use Rattle.policy_rules.specs.RuleList.{entries_of, ranked, ranked_from, with_default, by_falling_priority, rules_of, word_count, word_total, default_rule, IsRuleList}
+use Rattle.policy_rules.specs.RuleList.{entries_of, ranked_rule, ranked_from, with_default, by_falling_priority, rules_of, word_count, word_total, default_rule, IsRuleList}
 use Rattle.policy_rules.specs.Scan.{hit_of}
 use Rattle.policy_rules.proofs.RowWords.{IsWord-word_of_row}
 use Rattle.policy_rules.proofs.Ranks.{length-ranked_from, ranked_from-append, length-entries}
@@ -63,7 +63,7 @@ words_ranked : (k : ℕ) (entries : List (WordValue × Hit)) → All HasWord ent
 unfolding HasWord ranked_from
 words_ranked k [] all = λ i d h. absurd (omega arith)
 words_ranked k (entry ∷ entries) all = All-cons (λ (rule : Rule). IsWord rule.word)
-    (ranked (k, entry)) (ranked_from (k + 1) entries) (all 0 entry (omega arith))
+    (ranked_rule (k, entry)) (ranked_from (k + 1) entries) (all 0 entry (omega arith))
     (words_ranked (k + 1) entries (All-tail HasWord entry entries all))
 
 rank_at : (entries : List (WordValue × Hit)) (place : ℕ) (d : Rule)
@@ -76,8 +76,8 @@ rank_at entries place d within =
     omega (arith, length-ranked_from 0 entries, length-enumerate_from 0 entries) in
     let inside : place < length entries = omega (arith, length-ranked_from 0 entries) in
     ap (λ (rule : Rule). rule.rank)
-    (get_or-map ranked (enumerate_from 0 entries) place start d listed)
-    ∙ ap (λ p. (ranked p).rank) (get_or-enumerate_from 0 entries place start inside)
+    (get_or-map ranked_rule (enumerate_from 0 entries) place start d listed)
+    ∙ ap (λ p. (ranked_rule p).rank) (get_or-enumerate_from 0 entries place start inside)
     ∙ omega arith
 
 any_is_word : IsWord any_word

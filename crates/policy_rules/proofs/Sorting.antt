@@ -13,7 +13,7 @@ use Rattle.std.proofs.lemmas.Map.Keys.{ge_from_not_lt}
 use Rattle.policy_rules.specs.declared.policy.Row.{Row}
 use Rattle.policy_rules.specs.Policy.{HaveDistinctPriorities, IsHighestIn, IsSoundRow}
 use Rattle.policy_rules.specs.RuleList.{by_falling_priority, falling_below}
-use Rattle.policy_rules.specs.Scan.{highest}
+use Rattle.policy_rules.specs.Scan.{highest_row}
 use Rattle.policy_rules.specs.Repeats.{IsFalling}
 use Rattle.policy_rules.proofs.FirstMatch.{highest_is, one_of_priority}
 
@@ -252,19 +252,19 @@ in_filter p (row ∷ rows) = by_case (p row) refl (in_filter p rows)
 
 -- among rows by falling priority the first that passes is the highest
 pub find-by_falling_priority : (p : Row → Bool) (rows : List Row) → All IsSoundRow rows
-    → HaveDistinctPriorities rows → find p (by_falling_priority rows) ≡ highest (filter p rows)
+    → HaveDistinctPriorities rows → find p (by_falling_priority rows) ≡ highest_row (filter p rows)
 unfolding FirstPasses
 find-by_falling_priority p rows sound distinct = by_case (find p (by_falling_priority rows))
     (first_passes p (by_falling_priority rows) (IsFalling-by_falling_priority rows))
   where
     by_case : (found : Option Row) → FirstPasses p (by_falling_priority rows) found
-        → found ≡ highest (filter p rows)
+        → found ≡ highest_row (filter p rows)
     by_case None none =
         let back = IsPermutation-sym rows (by_falling_priority rows)
         (IsPermutation-by_falling_priority rows sound) in
         let all = All-permutation (λ row. p row ≡ false) (by_falling_priority rows) rows back
         none in
-        ap highest (sym (filter_none p rows all))
+        ap highest_row (sym (filter_none p rows all))
     by_case (Some row) first =
         let back = IsPermutation-sym rows (by_falling_priority rows)
         (IsPermutation-by_falling_priority rows sound) in

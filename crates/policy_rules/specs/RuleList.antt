@@ -33,13 +33,13 @@ abbrev pub entries_of : Row → List (WordValue × Hit)
 entries_of row = with_hit row (words_of_row row)
 
 -- a word and what becomes of its headers, as the rule of a rank
-abbrev pub ranked : ℕ × (WordValue × Hit) → Rule
-ranked (rank, entry) =
+abbrev pub ranked_rule : ℕ × (WordValue × Hit) → Rule
+ranked_rule (rank, entry) =
     record { word = entry.0; rank = rank; rule = entry.1.rule; action = entry.1.action }
 
 -- ranks from this one on
 unfoldable pub ranked_from : ℕ → List (WordValue × Hit) → List Rule
-ranked_from rank entries = map ranked (enumerate_from rank entries)
+ranked_from rank entries = map ranked_rule (enumerate_from rank entries)
 
 -- the new rules are the old ones and after them these entries, each ranked by its place
 abbrev pub AppendsRanked : List Rule → List Rule → List (WordValue × Hit) → Type 0

@@ -21,8 +21,8 @@ abbrev pub is_highest : List Row → Row → Bool
 is_highest rows row = list_all (λ other. nat_le other.priority row.priority) rows
 
 -- of some rows, the one that none exceeds in priority
-abbrev pub highest : List Row → Option Row
-highest rows = find (is_highest rows) rows
+abbrev pub highest_row : List Row → Option Row
+highest_row rows = find (is_highest rows) rows
 
 abbrev pub hit_of : Option Row → Hit
 hit_of None = record { rule = None; action = Drop }
@@ -30,7 +30,7 @@ hit_of (Some row) = record { rule = Some row.priority; action = row.action }
 
 -- the first match of a header with these fields, as a function
 abbrev pub scan_by : List Row → Fields → Hit
-scan_by rows f = hit_of (highest (filter (λ row. row_matches row f) rows))
+scan_by rows f = hit_of (highest_row (filter (λ row. row_matches row f) rows))
 
 -- the first match of a header, as a function
 abbrev pub scan : List Row → Header → Hit

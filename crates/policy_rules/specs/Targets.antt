@@ -1,6 +1,6 @@
 -- One to four switches, held in four places.
 use Rattle.std.specs.Prelude.{ℕ, ◌≡◌, ◌-◌, ◌<◌, ◌≤◌, List, length, take, drop, replicate}
-use Rattle.base.specs.Filled.{filled, filled-take}
+use Rattle.base.specs.Filled.{filled_places, filled-take}
 use Rattle.policy_rules.specs.declared.targets.Targets.TheInside.{Inside}
 
 -- of the four places, one or more are in the list; those past it are 0
@@ -12,7 +12,7 @@ pub record AreFilledTargets (t : Inside) : Type 0 where
 
 -- the four places that hold this list
 abbrev pub filled_targets : List ℕ → Inside
-filled_targets xs = record { places = filled 4 xs; len = length xs }
+filled_targets xs = record { places = filled_places 4 xs; len = length xs }
 
 -- the four places are those of the list that they hold
 pub filled_targets-take : (t : Inside) → AreFilledTargets t

@@ -1,7 +1,7 @@
 -- The words of a row.
 use Rattle.std.specs.Prelude.{ℕ, ◌-◌, ◌^◌, List, map}
 use Rattle.std.specs.List.{flat_map}
-use Rattle.five_tuple.specs.HeaderNumbers.{packed}
+use Rattle.five_tuple.specs.HeaderNumbers.{packed_number}
 use Rattle.five_tuple.specs.Header.{AddressBlock}
 use Rattle.five_tuple.specs.Cover.{Block, cover_of}
 use Rattle.five_tuple.specs.declared.matching.Proto.{Proto}
@@ -25,9 +25,10 @@ proto_value (Is number) = number
 -- the word that fixes what the row says of the addresses and the protocol, and a block of each port
 unfoldable pub word_of_row : Row → Block → Block → WordValue
 word_of_row row source destination = record {
-  value = packed row.src.address row.dst.address source.0 destination.0 (proto_value row.proto);
+  value = packed_number row.src.address row.dst.address source.0 destination.0
+      (proto_value row.proto);
   mask =
-      packed (prefix_mask row.src) (prefix_mask row.dst) source.1 destination.1
+      packed_number (prefix_mask row.src) (prefix_mask row.dst) source.1 destination.1
       (proto_mask row.proto);
 }
 

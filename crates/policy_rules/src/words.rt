@@ -1,6 +1,6 @@
 ghost use Rattle.std.specs.Prelude.{◌≡◌};
 ghost use Rattle.five_tuple.specs.Cover.{IsPortBlock};
-ghost use Rattle.five_tuple.specs.HeaderNumbers.{packed};
+ghost use Rattle.five_tuple.specs.HeaderNumbers.{packed_number};
 ghost use Rattle.policy_rules.specs.Exports.{IsSoundRow, prefix_mask, proto_mask, proto_value, word_of_row};
 
 use crate::policy::Row;
@@ -23,7 +23,8 @@ pub fn word_of_row(row: &Row, source: PortBlock, destination: PortBlock) -> Word
 // The fixed bits that are 1, where these are those of the ports.
 fn value_of_row(row: &Row, sport: u16, dport: u16) -> u128
     ensures { result ≡
-        packed row.now.src.address row.now.dst.address sport dport (proto_value row.now.proto) }
+        packed_number row.now.src.address row.now.dst.address sport dport
+        (proto_value row.now.proto) }
 {
     let fields = Fields {
         src: row.src.address,
@@ -38,7 +39,7 @@ fn value_of_row(row: &Row, sport: u16, dport: u16) -> u128
 // The fixed bits, where these are those of the ports.
 fn mask_of_row(row: &Row, sport: u16, dport: u16) -> u128
     ensures { result ≡
-        packed (prefix_mask row.now.src) (prefix_mask row.now.dst) sport dport
+        packed_number (prefix_mask row.now.src) (prefix_mask row.now.dst) sport dport
         (proto_mask row.now.proto) }
 {
     let fields = Fields {

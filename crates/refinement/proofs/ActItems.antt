@@ -2,10 +2,10 @@
 use Rattle.std.proofs.Common.{ℕ, ◌≡◌, ◌+◌, cond, Bool, List, [], ◌∷◌, ◌++◌, refl, ap, ◌∙◌, length, arith}
 use Rattle.std.specs.Prelude.{IsFalse}
 use Rattle.std.proofs.lemmas.List.Sums.{sum_by-cons}
-use Rattle.message_bag.specs.Posts.{posted}
+use Rattle.message_bag.specs.Posts.{new_post}
 use Rattle.controller.specs.declared.sends.Act.{Act}
 use Rattle.controller.specs.declared.sends.Act.TheVariants as act
-use Rattle.refinement.specs.Written.{written}
+use Rattle.refinement.specs.Written.{written_items}
 use Rattle.ctrl_msg.specs.declared.message.Message.{Message}
 use Rattle.journal.specs.declared.item.Item.{Item}
 use Rattle.journal.specs.declared.item.Item.TheVariants as item
@@ -59,7 +59,7 @@ acts_posted number [] = refl
 acts_posted number (act.Current v ∷ acts) = acts_posted number acts
 acts_posted number (act.Retired v ∷ acts) = acts_posted number acts
 acts_posted number (act.Post message ∷ acts) =
-    ap (λ posts. posted message ∷ posts) (acts_posted (number + 1) acts)
+    ap (λ posts. new_post message ∷ posts) (acts_posted (number + 1) acts)
 
 -- how many messages these items send
 pub acts_counted : (number : ℕ) (acts : List Act)
@@ -82,7 +82,7 @@ acts_counted number (act.Post message ∷ acts) =
 -- ---- acts as the journal's definitions have them
 
 pub written_is : (journal : List Item) (acts : List Act)
-    → written journal acts ≡ act_items (next_message journal) acts
+    → written_items journal acts ≡ act_items (next_message journal) acts
 unfolding act_items
 written_is journal [] = refl
 written_is journal (act.Current v ∷ acts) =

@@ -35,9 +35,9 @@ use Rattle.packet_laws.specs.Facts.{PacketFacts, what_is_known}
 use Rattle.packet_laws.proofs.Ends.{last_here, one_target}
 use Rattle.packet_laws.proofs.Lookups.{current_planned}
 use Rattle.packet_laws.proofs.Plans.{Finds, IsPlanned, in_plan}
-use Rattle.world_log.specs.Writing.{arrived_items, arrived_traveller}
+use Rattle.world_log.specs.Writing.{arrived_items, arrived_flight}
 use Rattle.travelling.specs.Travelling.{Standing}
-use Rattle.travelling.specs.declared.travelling.Traveller.{Traveller}
+use Rattle.travelling.specs.declared.travelling.Flight.{Flight}
 use Rattle.refinement.proofs.Deciding.{header_is}
 use Rattle.refinement.proofs.Goings.{AreOfFacts, IsComing, answer_goes, looked_goes, ruled_goes}
 use Rattle.refinement.proofs.Known.{Known}
@@ -45,7 +45,7 @@ use Rattle.refinement.proofs.Legs.{at_switch}
 use Rattle.refinement.proofs.Looking.{IsAsked, IsOurs, looked_law, ruled_law}
 use Rattle.refinement.proofs.Own.{IsSeen}
 use Rattle.refinement.proofs.Saying.{own_numbered}
-use Rattle.refinement.proofs.FactsAlong.{Targets, traveller_by, facts_along}
+use Rattle.refinement.proofs.FactsAlong.{Targets, flight_by, facts_along}
 
 -- ---- where a route ends
 
@@ -152,7 +152,7 @@ module _ (setting : Setting) (journal : List Item) (s : ℕ) (w : SwitchValue) (
       ∙ ours.finds.position
 
   -- at an authority that has the version, or not
-  sought_law : (t : Traveller) (version partition : ℕ) (b : Bool)
+  sought_law : (t : Flight) (version partition : ℕ) (b : Bool)
       → holds_version journal s version ≡ b
       → IsOurs setting journal s packet.header version partition
       → elim b [
@@ -187,7 +187,7 @@ module _ (setting : Setting) (journal : List Item) (s : ℕ) (w : SwitchValue) (
       (sym (asked.sees.tables version
       ∙ ap (λ b. if b then Some (tables_at setting journal version s) else None) held))
 
-  pub arrive_law : (t : Traveller) (leg : Leg)
+  pub arrive_law : (t : Flight) (leg : Leg)
       → AreOfFacts t.version t.rule (what_is_known journal packet.number)
       → (what_is_known journal packet.number).leg ≡ Some leg
       → IsAtEnd setting journal s packet.header leg
@@ -230,10 +230,10 @@ module _ (setting : Setting) (journal : List Item) (s : ℕ) (w : SwitchValue) (
 -- ---- what becomes of the packet
 
 pub arrival_goes : (targets : Targets) (before : List Item) (number : ℕ) (at : Standing)
-    (t : Traveller) (what : Arrived) (facts : PacketFacts) → IsSeen at at.ingress facts
+    (t : Flight) (what : Arrived) (facts : PacketFacts) → IsSeen at at.ingress facts
     → AreOfFacts t.version t.rule facts → GoesOut targets at what
-    → arrived_traveller t.version t.rule what
-    ≡ traveller_by targets at.packet
+    → arrived_flight t.version t.rule what
+    ≡ flight_by targets at.packet
     (facts_along at.packet before (arrived_items number at t.version t.rule what) facts)
 arrival_goes targets before number at t (arrived.Out port) facts seen of goes =
     let own : (at.packet == at.packet) ≡ true = eq-eqb _ _ refl in

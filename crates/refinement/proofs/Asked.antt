@@ -32,7 +32,7 @@ use Rattle.update_machine.specs.Versions.{stamp_of, plan_at}
 use Rattle.update_machine.specs.Links.{serves as serves_in, message_of}
 use Rattle.control_laws.specs.Authorities.{EndsAt}
 use Rattle.control_laws.specs.Serving.{ServingHold}
-use Rattle.refinement.specs.Asked.{AskedTies}
+use Rattle.refinement.specs.Asked.{RequirementsHold}
 use Rattle.refinement.specs.Knowing.{TablesAreKnown}
 use Rattle.refinement.specs.SwitchOf.{switch_of}
 use Rattle.refinement.proofs.Knowing.{held_shown, planned, planned_tables, tables_sound}
@@ -165,9 +165,9 @@ at_leg setting journal s header (Seek version partition) known sought =
         (λ part. IsTrue (is_in header part)))
         (sym are.0) (own of.rows of.plan)
 
-pub asked_ties : AskedTies
+pub requirements_hold : RequirementsHold
 unfolding switch_of
-asked_ties = record {
+requirements_hold = record {
   hear = sound_body;
   near_changed = λ setting journal s fit there. record {
     now = fit.seqs s there;

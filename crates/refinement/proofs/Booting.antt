@@ -3,9 +3,9 @@
 use Rattle.std.proofs.Common.{ℕ, ◌≡◌, ◌+◌, ◌<◌, ◌==◌, Bool, true, false, cond, List, [], ◌∷◌, ◌++◌, refl, ap, sym, subst, ◌∙◌, length, filter, get_or, set, append_assoc, arith, eq-eqb, eqb-true}
 use Rattle.std.specs.Prelude.{◌&&◌, not, Some, None, if◌then◌else◌, unwrap_or}
 use Rattle.std.specs.Option.{option_or}
-use Rattle.update_machine.specs.Folds.{last_told}
+use Rattle.update_machine.specs.Folds.{last_given}
 use Rattle.std.proofs.lemmas.List.{length-set}
-use Rattle.message_bag.specs.Posts.{posted}
+use Rattle.message_bag.specs.Posts.{new_post}
 use Rattle.control_laws.proofs.Openings.{caused_known, serving_known}
 use Rattle.refinement.proofs.Steps.{steps_leave}
 use Rattle.controller.specs.declared.sends.Act.TheVariants.{Post as PostAct}
@@ -19,37 +19,37 @@ use Rattle.net_file.specs.declared.net.LinkRow.{LinkRow}
 use Rattle.control_laws.specs.Sends.{NumbersFit}
 use Rattle.control_laws.proofs.Fitting.{fit_in_room}
 use Rattle.steps.specs.declared.step.Step.TheVariants.{Restart}
-use Rattle.switch_core.specs.Life.{near_changed, restarted}
+use Rattle.switch_core.specs.Life.{near_changed, restarted_switch}
 use Rattle.switch_core.specs.State.{SwitchValue}
 use Rattle.refinement.specs.Asked.{CanRestart}
 use Rattle.refinement.specs.SwitchOf.{switch_of}
-use Rattle.refinement.proofs.Asked.{asked_ties}
-use Rattle.refinement.proofs.Life.{life_ties}
-use Rattle.refinement.proofs.Links.{kept_is, link_ties}
-use Rattle.update_machine.specs.Boots.{boot_of, is_up, tells_boot}
+use Rattle.refinement.proofs.Asked.{requirements_hold}
+use Rattle.refinement.proofs.Life.{lives_refine}
+use Rattle.refinement.proofs.Links.{kept_is, links_refine}
+use Rattle.update_machine.specs.Boots.{boot_of, is_up, gives_boot}
 use Rattle.control_laws.specs.ItemCauses.{HasItemCause}
 use Rattle.update_machine.specs.Causes.{HaveCauses}
 use Rattle.update_machine.specs.Deliveries.{has_changed}
 use Rattle.update_machine.specs.Full.{HasRoom}
-use Rattle.update_machine.specs.Links.{is_link_up, is_usable, serves, tells_serving}
-use Rattle.update_machine.specs.Messages.{next_message, sends, sent_from}
-use Rattle.update_machine.specs.Moves.{put}
+use Rattle.update_machine.specs.Links.{is_link_up, is_usable, serves, gives_serving}
+use Rattle.update_machine.specs.Messages.{next_message, send_items, sent_from}
+use Rattle.update_machine.specs.Moves.{items_then}
 use Rattle.update_machine.specs.Pieces.{hello_of, nothing, piece, restart_items}
 use Rattle.steps.specs.Steps.{IsStep}
 use Rattle.update_machine.specs.Setting.{Setting}
 use Rattle.update_machine.specs.LinkMasks.{near}
-use Rattle.update_machine.proofs.CallerLemmas.{last_told_append, messages_keep, switch_keeps}
+use Rattle.update_machine.proofs.CallerLemmas.{last_given_append, messages_keep, switch_keeps}
 use Rattle.world_log.specs.Sending.{act_items, act_posts}
-use Rattle.refinement.specs.Tied.{AreTied, Control, is_up_link}
-use Rattle.travelling.specs.Travelling.{Travellers}
+use Rattle.refinement.specs.Refinement.{RefineJournal, Control, is_up_link}
+use Rattle.travelling.specs.Travelling.{Flights}
 use Rattle.refinement.proofs.Delivering.{nothing_happens}
 use Rattle.refinement.proofs.GoneSwitches.{up_as}
 use Rattle.refinement.proofs.Known.{reached_known}
 use Rattle.refinement.proofs.OneItem.{grown}
 use Rattle.refinement.proofs.Posting.{bag_on}
 use Rattle.refinement.proofs.Switches.{switch_is, switch_there}
-use Rattle.refinement.proofs.Told.{tied_told}
-use Rattle.refinement.proofs.Tying.{one_changes, same_links}
+use Rattle.refinement.proofs.Told.{refines_told}
+use Rattle.refinement.proofs.Refining.{one_changes, same_links}
 use Rattle.refinement.proofs.LinksChange.{caused_first}
 
 same_filter : (now before : LinkRow → Bool) (links : List LinkRow)
@@ -60,14 +60,14 @@ same_filter now before (link ∷ links) same =
     ∙ ap (λ rest. cond (before link) (link ∷ rest) rest) (same_filter now before links same)
 
 module _ (control : Control) (setting : Setting) (journal : List Item)
-    (switches : List SwitchValue) (before : Travellers) (count row s : ℕ) (own : SwitchValue)
-    (tied : AreTied setting journal switches before count control)
+    (switches : List SwitchValue) (before : Flights) (count row s : ℕ) (own : SwitchValue)
+    (refines : RefineJournal setting journal switches before count control)
     (may : IsStep setting.net (length setting.policies) (Restart s)) (own_at : own ≡ get_or switches s own) where
   boot_there : s < length switches
-  boot_there = switch_there control setting journal switches before count s tied may
+  boot_there = switch_there control setting journal switches before count s refines may
 
   own_is : own ≡ switch_of setting journal s
-  own_is = switch_is control setting journal switches before count s own tied may own_at
+  own_is = switch_is control setting journal switches before count s own refines may own_at
 
   own_up : is_up journal s ≡ own.is_up
   own_up = sym (up_as setting journal s) ∙ ap (λ (w : SwitchValue). w.is_up) (sym own_is)
@@ -81,26 +81,28 @@ module _ (control : Control) (setting : Setting) (journal : List Item)
 
   pub up_already : own.is_up ≡ true
       → (piece setting journal row (Restart s) ≡ item.Row row (Restart s) ∷ nothing)
-      × AreTied setting (grown journal row (Restart s) item.Nothing) switches before count control
+      × RefineJournal setting (grown journal row (Restart s) item.Nothing) switches before count
+      control
   unfolding piece restart_items
   up_already up =
-      nothing_happens control setting journal switches before count row (Restart s) tied may
+      nothing_happens control setting journal switches before count row (Restart s) refines may
       (λ q. refl) (ap (λ b. item.Row row (Restart s) ∷ elim b [
         | true ↦ nothing
-        | false ↦ put (item.Booted s (boot_of rowed s + 1) ∷ [])
-            (λ booted. sends booted (hello_of booted s ∷ [])) rowed
+        | false ↦ items_then (item.Booted s (boot_of rowed s + 1) ∷ [])
+            (λ booted. send_items booted (hello_of booted s ∷ [])) rowed
       ]) (rowed_up ∙ up))
 
   -- it has a next boot
   pub boot_next : own.is_up ≡ false → length control.posts < 990_000
       → CanRestart own
-  unfolding AreTied
+  unfolding RefineJournal
   boot_next down room =
-      let fit : NumbersFit setting journal = subst (NumbersFit setting) (sym tied.reached.written)
-      (fit_in_room setting tied.reached.steps tied.sound.net
-      (subst HasRoom tied.reached.written (omega (arith, tied.bag.many, room)))) in
+      let fit : NumbersFit setting journal = subst (NumbersFit setting)
+      (sym refines.reached.written)
+      (fit_in_room setting refines.reached.steps refines.sound.net
+      (subst HasRoom refines.reached.written (omega (arith, refines.bag.many, room)))) in
       subst CanRestart (sym own_is)
-      (asked_ties.restart setting journal s fit (own_up ∙ down))
+      (requirements_hold.restart setting journal s fit (own_up ∙ down))
 
   abbrev boot : ℕ
   boot = own.boot + 1
@@ -121,17 +123,17 @@ module _ (control : Control) (setting : Setting) (journal : List Item)
   boot_now : boot_of now s ≡ boot
   unfolding boot_of
   boot_now = ap (λ js. boot_of js s) (sym split)
-      ∙ ap (λ o. unwrap_or o 1) (last_told_append (tells_boot s) rowed (booted ∷ []))
+      ∙ ap (λ o. unwrap_or o 1) (last_given_append (gives_boot s) rowed (booted ∷ []))
       ∙ ap (λ b. unwrap_or (option_or (if b then Some boot else None)
-      (last_told (tells_boot s) rowed)) 1) (eq-eqb s s refl)
+      (last_given (gives_boot s) rowed)) 1) (eq-eqb s s refl)
 
   abbrev hello : Message
   hello = to_controller (Hello s boot)
 
   number_is : next_message now ≡ length control.posts + 1
-  unfolding AreTied
+  unfolding RefineJournal
   number_is = (messages_keep journal (item.Row row (Restart s) ∷ booted ∷ []) (refl, (refl, tt))).next
-      ∙ tied.bag.many
+      ∙ refines.bag.many
 
   pub boot_piece : own.is_up ≡ false → piece setting journal row (Restart s)
       ≡ item.Row row (Restart s) ∷ booted
@@ -140,13 +142,13 @@ module _ (control : Control) (setting : Setting) (journal : List Item)
   boot_piece down =
       ap (λ b. item.Row row (Restart s) ∷ elim b [
         | true ↦ nothing
-        | false ↦ put (item.Booted s (boot_of rowed s + 1) ∷ [])
-            (λ later. sends later (hello_of later s ∷ [])) rowed
+        | false ↦ items_then (item.Booted s (boot_of rowed s + 1) ∷ [])
+            (λ later. send_items later (hello_of later s ∷ [])) rowed
       ]) (rowed_up ∙ down)
-      ∙ ap (λ b. item.Row row (Restart s) ∷ put (item.Booted s (b + 1) ∷ [])
-      (λ later. sends later (hello_of later s ∷ [])) rowed)
+      ∙ ap (λ b. item.Row row (Restart s) ∷ items_then (item.Booted s (b + 1) ∷ [])
+      (λ later. send_items later (hello_of later s ∷ [])) rowed)
       ((switch_keeps setting s journal (item.Row row (Restart s) ∷ []) (refl, tt)).boot ∙ own_boot)
-      ∙ ap (λ js. item.Row row (Restart s) ∷ booted ∷ sends js (hello_of js s ∷ [])) split
+      ∙ ap (λ js. item.Row row (Restart s) ∷ booted ∷ send_items js (hello_of js s ∷ [])) split
       ∙ ap (λ k. item.Row row (Restart s) ∷ booted ∷ item.Sent k (hello_of now s) ∷ []) number_is
       ∙ ap (λ b. item.Row row (Restart s) ∷ booted
       ∷ item.Sent (length control.posts + 1) (to_controller (Hello s b)) ∷ []) boot_now
@@ -154,12 +156,12 @@ module _ (control : Control) (setting : Setting) (journal : List Item)
   -- a switch that is down serves not, nor does one that just booted
   serves_now : (x : ℕ) (b : Bool) → own.is_up ≡ false → (s == x) ≡ b
       → serves now x ≡ serves journal x
-  unfolding serves AreTied
+  unfolding serves RefineJournal
   serves_now x b down is =
       ap (λ js. serves js x) (sym split)
-      ∙ ap (λ o. unwrap_or o true) (last_told_append (tells_serving x) rowed (booted ∷ []))
+      ∙ ap (λ o. unwrap_or o true) (last_given_append (gives_serving x) rowed (booted ∷ []))
       ∙ ap (λ c. unwrap_or (option_or (if c then Some false else None)
-      (last_told (tells_serving x) rowed)) true) is
+      (last_given (gives_serving x) rowed)) true) is
       ∙ by_own b is
     where
       closed : (y : ℕ) → (s == y) ≡ true → serves journal y ≡ false
@@ -170,21 +172,21 @@ module _ (control : Control) (setting : Setting) (journal : List Item)
           by_test true e =
               let up : is_up journal y ≡ true =
               (serving_known journal (caused_known setting journal
-              (reached_known setting journal tied.sound tied.reached).caused)).up y e in
+              (reached_known setting journal refines.sound refines.reached).caused)).up y e in
               let no : is_up journal y ≡ false =
               subst (λ k. is_up journal k ≡ false) (eqb-true s y same) (own_up ∙ down) in
               absurd cc
 
       by_own : (c : Bool) → (s == x) ≡ c
           → unwrap_or (option_or (if c then Some false else None)
-          (last_told (tells_serving x) rowed)) true ≡ serves journal x
+          (last_given (gives_serving x) rowed)) true ≡ serves journal x
       by_own true same = sym (closed x same)
       by_own false other =
           (switch_keeps setting x journal (item.Row row (Restart s) ∷ []) (refl, tt)).serving
 
   up_now : (link : LinkRow) → is_up_link now link ≡ is_up_link journal link
   unfolding is_link_up
-  up_now link = ap (λ js. is_up_link js link) (sym split) ∙ search (last_told_append, append_assoc)
+  up_now link = ap (λ js. is_up_link js link) (sym split) ∙ search (last_given_append, append_assoc)
 
   near_now : own.is_up ≡ false → (q : ℕ) → near setting now q ≡ near setting journal q
   unfolding near
@@ -201,13 +203,13 @@ module _ (control : Control) (setting : Setting) (journal : List Item)
 
   caused_rowed : own.is_up ≡ false → HaveCauses (HasItemCause setting) [] rowed
   caused_rowed down = caused_first control setting journal switches before count row (Restart s)
-      [] (booted ∷ item.Sent (length control.posts + 1) hello ∷ []) tied may (boot_piece down)
+      [] (booted ∷ item.Sent (length control.posts + 1) hello ∷ []) refines may (boot_piece down)
 
-  own_now : own.is_up ≡ false → restarted own ≡ switch_of setting now s
+  own_now : own.is_up ≡ false → restarted_switch own ≡ switch_of setting now s
   own_now down =
-      ap restarted (own_is ∙ sym (kept_is setting s journal (item.Row row (Restart s) ∷ [])
+      ap restarted_switch (own_is ∙ sym (kept_is setting s journal (item.Row row (Restart s) ∷ [])
       (refl, tt) (refl, tt)))
-      ∙ sym (life_ties.restart setting rowed s (caused_rowed down))
+      ∙ sym (lives_refine.restart setting rowed s (caused_rowed down))
       ∙ ap (λ b. switch_of setting (rowed ++ item.Booted s (b + 1) ∷ []) s)
       ((switch_keeps setting s journal (item.Row row (Restart s) ∷ []) (refl, tt)).boot ∙ own_boot)
       ∙ ap (λ js. switch_of setting js s) split
@@ -215,7 +217,7 @@ module _ (control : Control) (setting : Setting) (journal : List Item)
   other_now : own.is_up ≡ false → (q : ℕ) → (s == q) ≡ false
       → switch_of setting now q ≡ switch_of setting journal q
   other_now down q other =
-      link_ties.relinked setting q journal row (Restart s) (booted ∷ []) (record {
+      links_refine.relinked setting q journal row (Restart s) (booted ∷ []) (record {
         in_step = (tt, tt);
         apart = (refl, (other, tt));
         calls = (refl, (refl, tt));
@@ -232,26 +234,28 @@ module _ (control : Control) (setting : Setting) (journal : List Item)
           none true = refl
           none false = refl
 
-  pub boot_tied : (changed : SwitchValue) → own.is_up ≡ false → changed ≡ restarted own
-      → AreTied setting (journal ++ items) (set switches s changed) before count
-      (record control { posts = control.posts ++ posted hello ∷ [] })
-  unfolding AreTied act_items act_posts
-  boot_tied changed down changed_is =
-      tied_told control control setting journal switches (set switches s changed) before count row
-      (Restart s) (booted ∷ []) (PostAct hello ∷ []) tied (record {
+  pub boot_refines : (changed : SwitchValue) → own.is_up ≡ false → changed ≡ restarted_switch own
+      → RefineJournal setting (journal ++ items) (set switches s changed) before count
+      (record control { posts = control.posts ++ new_post hello ∷ [] })
+  unfolding RefineJournal act_items act_posts
+  boot_refines changed down changed_is =
+      refines_told control control setting journal switches (set switches s changed) before count
+      row
+      (Restart s) (booted ∷ []) (PostAct hello ∷ []) refines (record {
         may = may;
         piece_is = boot_piece down;
         packet = λ i. (refl, (refl, tt));
         packets = (refl, (refl, tt));
         as_many = length-set switches s changed;
         each = λ q d below. one_changes setting journal now switches s q changed d (s == q) refl
-            boot_there (changed_is ∙ own_now down) (other_now down q) (tied.each q d below);
+            boot_there (changed_is ∙ own_now down) (other_now down q) (refines.each q d below);
         bag = bag_on journal (item.Row row (Restart s) ∷ booted ∷ []) control.posts
-            (refl, (refl, tt)) tied.bag;
+            (refl, (refl, tt)) refines.bag;
         number = refl;
         controller = steps_leave setting journal row (Restart s) control.controller
-            (reached_known setting journal tied.sound tied.reached).caused refl tied.controller;
-        up = λ q below. tied.up q below ∙ ap (λ rows. links_of rows q)
+            (reached_known setting journal refines.sound refines.reached).caused refl
+            refines.controller;
+        up = λ q below. refines.up q below ∙ ap (λ rows. links_of rows q)
             (sym (same_links now journal setting.net.links up_now));
-        usable = λ q below. tied.usable q below ∙ sym (near_now down q);
+        usable = λ q below. refines.usable q below ∙ sym (near_now down q);
       })

@@ -13,9 +13,9 @@ use Rattle.steps.specs.declared.step.Step.{Step}
 use Rattle.steps.specs.declared.step.Step.TheVariants.{Confirm, Deliver}
 use Rattle.update_machine.specs.Boots.{is_up}
 use Rattle.update_machine.specs.Deliveries.{after_hello, controller_items, delivery_items, is_new_boot, received_items}
-use Rattle.update_machine.specs.Marks.{current_mark, known_boot, said_to_controller}
+use Rattle.update_machine.specs.Marks.{current_mark, known_boot, body_to_controller}
 use Rattle.update_machine.specs.Messages.{is_deliverable, is_to_controller}
-use Rattle.update_machine.specs.Moves.{put}
+use Rattle.update_machine.specs.Moves.{items_then}
 use Rattle.update_machine.specs.Pieces.{confirm_items, deliver_items, nothing, piece}
 use Rattle.update_machine.specs.Setting.{Setting}
 use Rattle.update_machine.specs.Settling.{install_for, installs_to, settling, versions_from_current}
@@ -35,13 +35,13 @@ use Rattle.version_update.specs.declared.record.SwitchRecord.{SwitchRecord}
 use Rattle.controller.specs.Controller.{ControllerValue, KeptPlan, SettlesWith, first_controller, plans_from}
 use Rattle.controller.specs.Plan.{PlanValue}
 use Rattle.controller.specs.Sends as acts
-use Rattle.controller.specs.Sends.{NamesThere, marks_after, hearing, install_act, installs_after}
+use Rattle.controller.specs.Sends.{NamesThere, marks_after, hear_acts, install_act, installs_after}
 use Rattle.controller.specs.declared.sends.Act.{Act}
 use Rattle.controller.specs.declared.sends.Act.TheVariants.{Post}
-use Rattle.refinement.specs.Controller.{IsControllerOf, planned}
-use Rattle.refinement.specs.Written.{AreWritten, written}
+use Rattle.refinement.specs.Controller.{IsControllerOf, plan_to_keep}
+use Rattle.refinement.specs.Written.{AreWritten, written_items}
 use Rattle.refinement.proofs.Heard.{marks_over, marks_told}
-use Rattle.refinement.proofs.Kept.{marks_begun}
+use Rattle.refinement.proofs.KeptController.{marks_begun}
 use Rattle.refinement.proofs.Picked.{map_twice}
 use Rattle.refinement.proofs.Plans.{controller_on, plans_on, plans_stay, settles_with}
 use Rattle.refinement.proofs.Settled.{AreCaused, settled_boot, settling_caused}
@@ -49,13 +49,13 @@ use Rattle.refinement.proofs.Written.{posted, written_in_two}
 
 -- ---- the start
 
-pub begins : (setting : Setting) (plan : PlanValue) → plan ≡ (planned setting [] 1).plan
+pub begins : (setting : Setting) (plan : PlanValue) → plan ≡ (plan_to_keep setting [] 1).plan
     → IsControllerOf setting [] (first_controller (length setting.net.switches) plan)
 begins setting plan is = record {
   marks = marks_begun setting;
   plans = ap (λ (own : PlanValue). kept own) is
-      ∙ ap (λ c. map (planned setting []) (range_with_len c 1)) (sym start_laws.current)
-      ∙ ap (λ n. map (planned setting []) (range_with_len (current_mark []) n)) one;
+      ∙ ap (λ c. map (plan_to_keep setting []) (range_with_len c 1)) (sym start_laws.current)
+      ∙ ap (λ n. map (plan_to_keep setting []) (range_with_len (current_mark []) n)) one;
 }
   where
     kept : PlanValue → List KeptPlan
@@ -92,11 +92,11 @@ behind_two before one two items =
 pub are_written : (setting : Setting) (before : List Item) (one two : Item)
     (items : List Item) (acts : List Act) (new : ControllerValue)
     → let now = (before ++ one ∷ []) ++ two ∷ [] in
-    written now acts ≡ items → IsControllerOf setting (now ++ items) new
+    written_items now acts ≡ items → IsControllerOf setting (now ++ items) new
     → AreWritten setting before (one ∷ two ∷ []) acts new (one ∷ two ∷ items)
 are_written setting before one two items acts new same after = record {
   same = ap (λ more. one ∷ two ∷ more)
-      (sym same ∙ ap (λ js. written js acts) (append_assoc before (one ∷ []) (two ∷ [])));
+      (sym same ∙ ap (λ js. written_items js acts) (append_assoc before (one ∷ []) (two ∷ [])));
   after = subst (λ js. IsControllerOf setting js new) (sym (behind_two before one two items)) after;
 }
 
@@ -144,7 +144,7 @@ hello_written : (setting : Setting) (before one : List Item) (body : Body)
     → ((s boot : ℕ) → body ≡ Hello s boot
     → (takes_hello boot (record_of old s) ≡ is_new_boot before s boot)
     × (takes_hello boot (record_of old s) ≡ true → boot ≡ known_boot one s))
-    → written one (installs_after body old new) ≡ after_hello setting before body one
+    → written_items one (installs_after body old new) ≡ after_hello setting before body one
 unfolding installs_to
 hello_written setting before one (Hello s boot) old new have is told =
     let own = told s boot refl in
@@ -155,14 +155,15 @@ hello_written setting before one (Hello s boot) old new have is told =
     versions = versions_from_current one
 
     by_new : (b : Bool) → takes_hello boot (record_of old s) ≡ b
-        → written one (if b then map (install_act s boot) (plans_from new.marks.current new.plans)
+        → written_items one (if b then map (install_act s boot)
+        (plans_from new.marks.current new.plans)
         else []) ≡ elim b [ true ↦ installs_to setting s one | false ↦ [] ]
     by_new true e =
-        ap (written one)
+        ap (written_items one)
         (ap (map (install_act s boot))
         (plans_stay setting one new.plans new.marks.current have is.marks.current is.plans)
-        ∙ map_twice (planned setting one) (install_act s boot) versions
-        ∙ ap (λ b. map (λ v. install_act s b (planned setting one v)) versions)
+        ∙ map_twice (plan_to_keep setting one) (install_act s boot) versions
+        ∙ ap (λ b. map (λ v. install_act s b (plan_to_keep setting one v)) versions)
         ((told s boot refl).1 e)
         ∙ sym (map_twice (λ v. install_for setting one v s) Post versions))
         ∙ posted (map (λ v. install_for setting one v s) versions) one
@@ -210,13 +211,13 @@ module _ (setting : Setting) (before : List Item) (row n : ℕ) (body : Body)
   here_is : IsControllerOf setting here old
   here_is = row_on setting before row (Deliver n) old have is
 
-  said : said_to_controller here n ≡ Some body
+  said : body_to_controller here n ≡ Some body
   said = ap (λ o. elim o [
     | None ↦ None
     | Some message ↦ if is_to_controller message.to then Some message.body else None
   ]) (message_more before (item.Row row (Deliver n)) n ∙ sent)
 
-  heard_settles : (written now (acts.settling_acts (marks_after body old.marks) new.marks)
+  heard_settles : (written_items now (acts.settling_acts (marks_after body old.marks) new.marks)
       ≡ settling setting now) × IsControllerOf setting one new
   heard_settles = settles_with setting now (marks_after body old.marks) old.plans new now_have
       (marks_told setting here n body old.marks here_have said there here_is.marks)
@@ -235,7 +236,7 @@ module _ (setting : Setting) (before : List Item) (row n : ℕ) (body : Body)
             (subst (λ b. SettlesWith (marks_after b old.marks) old.plans new) e settles) below,
       )
 
-  heard_so : (written now (hearing body old.marks new)
+  heard_so : (written_items now (hear_acts body old.marks new)
       ≡ controller_items setting before body now)
       × IsControllerOf setting (now ++ controller_items setting before body now) new
   unfolding controller_items
@@ -270,7 +271,7 @@ deliver_piece setting before row n body may sent =
     ap (λ items. item.Row row (Deliver n) ∷ item.Delivered n ∷ items) (sym told)
     ∙ ap (λ b. item.Row row (Deliver n) ∷ elim b [
       | false ↦ nothing
-      | true ↦ put (item.Delivered n ∷ []) (delivery_items setting before n) here
+      | true ↦ items_then (item.Delivered n ∷ []) (delivery_items setting before n) here
     ]) (sym may)
 
 pub hears : (setting : Setting) (before : List Item) (row n : ℕ) (body : Body)
@@ -278,13 +279,13 @@ pub hears : (setting : Setting) (before : List Item) (row n : ℕ) (body : Body)
     → IsTrue (is_deliverable before n) → message_of before n ≡ Some (to_controller body)
     → NamesThere body old.marks → SettlesWith (marks_after body old.marks) old.plans new
     → AreWritten setting before (item.Row row (Deliver n) ∷ item.Delivered n ∷ [])
-    (hearing body old.marks new) new (piece setting before row (Deliver n))
+    (hear_acts body old.marks new) new (piece setting before row (Deliver n))
 hears setting before row n body old new have is may sent there settles =
     let so = heard_so setting before row n body old new have is sent there settles in
     subst (AreWritten setting before (item.Row row (Deliver n) ∷ item.Delivered n ∷ [])
-    (hearing body old.marks new) new) (deliver_piece setting before row n body may sent)
+    (hear_acts body old.marks new) new) (deliver_piece setting before row n body may sent)
     (are_written setting before (item.Row row (Deliver n)) (item.Delivered n) _
-    (hearing body old.marks new) new so.0 so.1)
+    (hear_acts body old.marks new) new so.0 so.1)
 
 -- ---- a switch that is over
 
@@ -301,7 +302,7 @@ confirms setting before row s old new have is down there settles =
     (acts.settling_acts (at_switch s after_over old.marks) new.marks) new (item.Row row (Confirm s)
     ∷ elim b [
       | true ↦ nothing
-      | false ↦ put (item.OverNow s ∷ []) (settling setting) here
+      | false ↦ items_then (item.OverNow s ∷ []) (settling setting) here
     ])) (sym still)
     (are_written setting before (item.Row row (Confirm s)) (item.OverNow s) (settling setting now)
     (acts.settling_acts (at_switch s after_over old.marks) new.marks) new so.0 so.1)
@@ -321,7 +322,7 @@ confirms setting before row s old new have is down there settles =
     here_is : IsControllerOf setting here old
     here_is = row_on setting before row (Confirm s) old have is
 
-    so : (written now (acts.settling_acts (at_switch s after_over old.marks) new.marks)
+    so : (written_items now (acts.settling_acts (at_switch s after_over old.marks) new.marks)
         ≡ settling setting now) × IsControllerOf setting (now ++ settling setting now) new
     so = settles_with setting now (at_switch s after_over old.marks) old.plans new
         (have_append (HasItemCause setting) [] here (item.OverNow s ∷ []) here_have (still, tt))

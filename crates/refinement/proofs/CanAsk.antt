@@ -9,17 +9,17 @@ use Rattle.net_file.specs.Owners.{AreOwners}
 use Rattle.net_file.specs.declared.ports.Ports.{Ports}
 use Rattle.switch_core.specs.Answering.{CanLookUp, IsAtAuthority}
 use Rattle.switch_core.specs.State.{SwitchValue, serves}
-use Rattle.switch_core.specs.Moving.{hopped}
+use Rattle.switch_core.specs.Moving.{hop_answer}
 use Rattle.switch_core.specs.declared.answers.HopEnd.TheVariants as hop
 use Rattle.refinement.specs.SwitchOf.{switch_of}
-use Rattle.refinement.proofs.Asked.{asked_ties}
+use Rattle.refinement.proofs.Asked.{requirements_hold}
 use Rattle.tunnel.specs.Moves.{here}
 use Rattle.update_machine.specs.LinkMasks.{near}
 use Rattle.update_machine.specs.Setting.{Setting}
 use Rattle.update_machine.specs.Versions.{plan_at}
 use Rattle.control_laws.specs.Authorities.{EndsAt}
 use Rattle.packet_laws.specs.Facts.{what_is_known}
-use Rattle.travelling.specs.declared.travelling.Traveller.{Traveller}
+use Rattle.travelling.specs.declared.travelling.Flight.{Flight}
 use Rattle.refinement.proofs.Arrivals.{IsAtEnd}
 use Rattle.refinement.proofs.Known.{Known}
 use Rattle.refinement.proofs.Moving.{Hops, arrives_at_end}
@@ -40,14 +40,14 @@ pub looks_up_as : (setting : Setting) (journal : List Item) (s : ℕ) (w : Switc
     → Known setting journal → s < length setting.net.switches
     → w ≡ switch_of setting journal s → CanLookUp w
 looks_up_as setting journal s w knows there own =
-    subst CanLookUp (sym own) (asked_ties.enter setting journal s knows.holds there)
+    subst CanLookUp (sym own) (requirements_hold.enter setting journal s knows.holds there)
 
 -- ---- a packet on its way
 
-pub stands_at : (setting : Setting) (journal : List Item) (i : ℕ) (t : Traveller)
+pub stands_at : (setting : Setting) (journal : List Item) (i : ℕ) (t : Flight)
     (standing : IsStanding setting journal i t) → here t.tunnel ≡ standing.switch
 stands_at setting journal i t standing =
-    ap (λ (u : Traveller). here u.tunnel) standing.is
+    ap (λ (u : Flight). here u.tunnel) standing.is
     ∙ got (what_is_known journal i).route (what_is_known journal i).hops standing.switch standing.stands.here
 
 -- at the end of its route, the switch is where its leg leads
@@ -64,7 +64,7 @@ ends_at setting journal s header (Seek version partition) end = record {
 ends_at setting journal s header (Exit port) end = end
 
 -- all that its switch must be to be asked
-pub record CanAsk (setting : Setting) (journal : List Item) (i : ℕ) (t : Traveller) (s near : ℕ)
+pub record CanAsk (setting : Setting) (journal : List Item) (i : ℕ) (t : Flight) (s near : ℕ)
     (w : SwitchValue) (ports : Ports) : Type 0 where
   pub standing : IsStanding setting journal i t
   pub at : s ≡ standing.switch
@@ -72,10 +72,10 @@ pub record CanAsk (setting : Setting) (journal : List Item) (i : ℕ) (t : Trave
       near ports
   pub serving : IsTrue (serves w)
   pub stamped : CanLookUp w
-  pub authority : (hopped w near t.tunnel).end ≡ hop.Arrive
+  pub authority : (hop_answer w near t.tunnel).end ≡ hop.Arrive
       → IsAtAuthority w t.tunnel.header t.tunnel.leg
 
-pub can_be_asked : (setting : Setting) (journal : List Item) (i : ℕ) (t : Traveller) (s mask : ℕ)
+pub can_be_asked : (setting : Setting) (journal : List Item) (i : ℕ) (t : Flight) (s mask : ℕ)
     (w : SwitchValue) (ports : Ports) → Known setting journal
     → AreOwners setting.net.switches ports → IsStanding setting journal i t
     → s ≡ here t.tunnel → w ≡ switch_of setting journal s → mask ≡ near setting journal s
@@ -100,14 +100,14 @@ can_be_asked setting journal i t s mask w ports knows owners standing at own usa
       serving = hops.sees.serving ∙ standing.stands.serving;
       stamped = looks_up_as setting journal s w knows there own;
       authority = λ arrive.
-          subst (λ (u : Traveller). IsAtAuthority w u.tunnel.header u.tunnel.leg)
+          subst (λ (u : Flight). IsAtAuthority w u.tunnel.header u.tunnel.leg)
           (sym standing.is)
           (subst (λ w. IsAtAuthority w standing.header standing.leg) (sym is_switch)
-          (asked_ties.arrive setting journal standing.switch standing.header standing.leg
+          (requirements_hold.arrive setting journal standing.switch standing.header standing.leg
           knows.tables knows.serving knows.holds standing.stands.there standing.stands.serving
           (ends_at setting journal standing.switch standing.header standing.leg
           (arrives_at_end setting journal 0 i standing.switch standing.header standing.ingress
           standing.leg w mask ports hops
-          (ap (λ (u : Traveller). (hopped w mask u.tunnel).end)
+          (ap (λ (u : Flight). (hop_answer w mask u.tunnel).end)
           (sym standing.is) ∙ arrive)))).authority);
     }

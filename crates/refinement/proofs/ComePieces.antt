@@ -12,7 +12,7 @@ use Rattle.switch_core.specs.declared.answers.Entered.{Entered}
 use Rattle.switch_core.specs.declared.answers.Entered.TheVariants as entered
 use Rattle.refinement.specs.Calls.{AreInStep}
 use Rattle.refinement.specs.SwitchOf.{switch_of}
-use Rattle.refinement.proofs.SwitchSteps.{call_ties}
+use Rattle.refinement.proofs.SwitchSteps.{calls_refine}
 use Rattle.update_machine.specs.Concerns.{NoneConcern, concerns_policies}
 use Rattle.update_machine.specs.Folds.{count_of}
 use Rattle.update_machine.specs.Packets.{is_packet}
@@ -20,16 +20,16 @@ use Rattle.update_machine.specs.Setting.{Setting}
 use Rattle.update_machine.specs.Ways.{targets_of}
 use Rattle.packet_laws.specs.OnWay.{IsUnknown}
 use Rattle.packet_laws.specs.Facts.{what_is_known}
-use Rattle.travelling.specs.declared.travelling.Traveller.{Traveller}
-use Rattle.world_log.specs.Writing.{answer_items, entered_items, entered_traveller}
+use Rattle.travelling.specs.declared.travelling.Flight.{Flight}
+use Rattle.world_log.specs.Writing.{answer_items, entered_items, entered_flight}
 use Rattle.travelling.specs.Travelling.{Standing}
-use Rattle.refinement.specs.Travellers.{traveller_in}
+use Rattle.refinement.specs.Flights.{flight_in}
 use Rattle.refinement.proofs.Goings.{GoesIn, entered_goes}
-use Rattle.refinement.proofs.Known.{Known, traveller_stays}
+use Rattle.refinement.proofs.Known.{Known, flight_stays}
 use Rattle.refinement.proofs.Later.{answer_later, later_packets}
 use Rattle.refinement.proofs.Others.{entered_other}
 use Rattle.refinement.proofs.Posting.{SendFrom, are_apart}
-use Rattle.refinement.proofs.FactsAlong.{Targets, by_targets, traveller_along, facts_along}
+use Rattle.refinement.proofs.FactsAlong.{Targets, by_targets, flight_along, facts_along}
 
 -- ---- one packet comes in, and then none
 
@@ -67,9 +67,9 @@ come_called setting journal row number q at what b sends is =
         ≡ (if at.switch == q then call_counted (switch_of setting journal q)
         else switch_of setting journal q)
     by_answer entered.Closed sends =
-        call_ties.closed setting journal row at.packet at.switch q at.header
+        calls_refine.closed setting journal row at.packet at.switch q at.header
     by_answer (entered.Answered what) sends =
-        call_ties.entered setting journal row at.packet at.switch q at.header
+        calls_refine.entered setting journal row at.packet at.switch q at.header
         (answer_items number at what) (answer_later number at what)
         ((are_apart number journal (item.Row row (PacketStep at.switch at.header)
         ∷ item.Entered at.packet at.switch at.header ∷ answer_items number at what) sends).known q)
@@ -77,15 +77,15 @@ come_called setting journal row number q at what b sends is =
 -- ---- the packets
 
 pub come_along : (setting : Setting) (journal : List Item) (row number : ℕ) (taken : Step) (targets : Targets)
-    (at : Standing) (answer : Entered) (kept : Option Traveller) (q : ℕ) (b : Bool)
+    (at : Standing) (answer : Entered) (kept : Option Flight) (q : ℕ) (b : Bool)
     → Known setting journal → (q == at.packet) ≡ b → IsUnknown (what_is_known journal at.packet)
     → (what_is_known journal at.packet).found ≡ at.down → GoesIn targets at answer
     → ((leg : Leg) → targets leg ≡ targets_of setting journal leg)
     → NoneConcern concerns_policies journal
     (item.Row row taken ∷ entered_items number at answer)
-    → kept ≡ traveller_in setting journal q
-    → (if b then entered_traveller answer else kept)
-    ≡ traveller_in setting (journal ++ item.Row row taken ∷ entered_items number at answer) q
+    → kept ≡ flight_in setting journal q
+    → (if b then entered_flight answer else kept)
+    ≡ flight_in setting (journal ++ item.Row row taken ∷ entered_items number at answer) q
 come_along setting journal row number taken targets at answer kept q true knows is unknown unmarked
     comes same none was =
     let first : Item = item.Row row taken in
@@ -94,11 +94,11 @@ come_along setting journal row number taken targets at answer kept q true knows 
     unmarked comes
     ∙ by_targets targets (targets_of setting journal) i
     (facts_along i journal (first ∷ entered_items number at answer) (what_is_known journal i)) (same _)
-    ∙ sym (traveller_along setting journal (first ∷ entered_items number at answer) i none)
-    ∙ ap (traveller_in setting (journal ++ first ∷ entered_items number at answer))
+    ∙ sym (flight_along setting journal (first ∷ entered_items number at answer) i none)
+    ∙ ap (flight_in setting (journal ++ first ∷ entered_items number at answer))
     (sym (eqb-true q i is))
 come_along setting journal row number taken targets at answer kept q false knows is unknown unmarked
     comes same none was =
     let other : (at.packet == q) ≡ false = grind (arith, nat_tests) in
-    was ∙ sym (traveller_stays setting journal (item.Row row taken ∷ entered_items number at answer)
+    was ∙ sym (flight_stays setting journal (item.Row row taken ∷ entered_items number at answer)
     q knows (refl, entered_other q number at answer other))

@@ -8,7 +8,7 @@ use Rattle.net_file.specs.declared.ports.Ports.{Ports}
 use Rattle.journal.specs.declared.item.Item.{Item}
 use Rattle.journal.specs.declared.item.Item.TheVariants as item
 use Rattle.steps.specs.declared.step.Step.{Step}
-use Rattle.switch_core.specs.Answering.{entered, incoming, looked_up}
+use Rattle.switch_core.specs.Answering.{enter_answer, incoming_packet, looked_up}
 use Rattle.switch_core.specs.Ends.{around}
 use Rattle.switch_core.specs.State.{SwitchValue, serves as serves_now}
 use Rattle.switch_core.specs.declared.answers.Entered.{Entered}
@@ -77,7 +77,7 @@ module _ (setting : Setting) (journal : List Item) (row i s : ℕ) (taken : Step
   abbrev packet : Packet
   packet = coming i header s
 
-  same_packet : incoming w i header ≡ packet
+  same_packet : incoming_packet w i header ≡ packet
   same_packet = ap (coming i header) comes.sees.number
 
   serving_begun : serves begun s ≡ serves journal s
@@ -108,7 +108,7 @@ module _ (setting : Setting) (journal : List Item) (row i s : ℕ) (taken : Step
   -- what its switch answers is what the journal's definitions say
   pub come_law : packet_items setting i s header (journal ++ item.Row row taken ∷ [])
       ≡ entered_items (next_message journal) (coming_in i header s) (entry w mask ports i header)
-  unfolding packet_items entered
+  unfolding packet_items enter_answer
   come_law = by_serving (serves journal s) refl
     where
       answer : Bool → Entered
@@ -125,11 +125,12 @@ module _ (setting : Setting) (journal : List Item) (row i s : ℕ) (taken : Step
           → items (serves begun s)
           ≡ entered_items (next_message journal) (coming_in i header s)
           (if serves_now w then entry_is.Answered (looked_up w (around mask ports)
-          (incoming w i header)) else entry_is.Closed)
+          (incoming_packet w i header)) else entry_is.Closed)
       by_serving false off =
           ap items (serving_begun ∙ off)
           ∙ ap (λ b. entered_items (next_message journal) (coming_in i header s)
-          (if b then entry_is.Answered (looked_up w (around mask ports) (incoming w i header))
+          (if b then entry_is.Answered (looked_up w (around mask ports)
+          (incoming_packet w i header))
           else entry_is.Closed)) (sym (comes.sees.serving ∙ off))
       by_serving true on =
           ap items (serving_begun ∙ on)
@@ -140,26 +141,29 @@ module _ (setting : Setting) (journal : List Item) (row i s : ℕ) (taken : Step
           ∙ ap (λ (p : Packet). entered_items (next_message journal) (coming_in i header s)
           (entry_is.Answered (looked_up w (around mask ports) p))) (sym same_packet)
           ∙ ap (λ b. entered_items (next_message journal) (coming_in i header s)
-          (if b then entry_is.Answered (looked_up w (around mask ports) (incoming w i header))
+          (if b then entry_is.Answered (looked_up w (around mask ports)
+          (incoming_packet w i header))
           else entry_is.Closed)) (sym (comes.sees.serving ∙ on))
 
   -- and it goes on by it
   pub come_goes : GoesIn (targets_of setting (looking journal row taken i s header))
       (coming_in i header s) (entry w mask ports i header)
-  unfolding entered
+  unfolding enter_answer
   come_goes = by_serving (serves journal s) refl
     where
       by_serving : (b : Bool) → serves journal s ≡ b
           → GoesIn (targets_of setting full) (coming_in i header s)
           (if serves_now w then entry_is.Answered (looked_up w (around mask ports)
-          (incoming w i header)) else entry_is.Closed)
+          (incoming_packet w i header)) else entry_is.Closed)
       by_serving false off =
           subst (λ b. GoesIn (targets_of setting full) (coming_in i header s)
-          (if b then entry_is.Answered (looked_up w (around mask ports) (incoming w i header))
+          (if b then entry_is.Answered (looked_up w (around mask ports)
+          (incoming_packet w i header))
           else entry_is.Closed)) (sym (comes.sees.serving ∙ off)) tt
       by_serving true on =
           subst (λ b. GoesIn (targets_of setting full) (coming_in i header s)
-          (if b then entry_is.Answered (looked_up w (around mask ports) (incoming w i header))
+          (if b then entry_is.Answered (looked_up w (around mask ports)
+          (incoming_packet w i header))
           else entry_is.Closed)) (sym (comes.sees.serving ∙ on))
           (subst (λ (p : Packet). GoesIn (targets_of setting full) (coming_in i header s)
           (entry_is.Answered (looked_up w (around mask ports) p))) (sym same_packet)

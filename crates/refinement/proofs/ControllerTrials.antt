@@ -25,15 +25,15 @@ use Rattle.controller.specs.Controller.{KeptPlan, first_controller}
 use Rattle.controller.specs.Plan.{PlanValue}
 use Rattle.controller.specs.Sends.{install_act}
 use Rattle.controller.specs.declared.sends.Act.TheVariants.{Current, Post, Retired}
-use Rattle.refinement.specs.Controller.{IsControllerOf, IsPlanOfNext, planned}
+use Rattle.refinement.specs.Controller.{IsControllerOf, IsPlanOfNext, plan_to_keep}
 use Rattle.refinement.specs.Marks.{IsKnown}
-use Rattle.refinement.specs.Written.{written}
+use Rattle.refinement.specs.Written.{written_items}
 use Rattle.refinement.proofs.Calls.{begins}
 
 -- ---- acts
 
 -- each message has the next number
-numbered : written (item.Sent 1 (to 0 (Stamp 1 1)) ∷ [])
+numbered : written_items (item.Sent 1 (to 0 (Stamp 1 1)) ∷ [])
     (Current 2 ∷ Post (to 0 (Stamp 1 2)) ∷ Retired 1 ∷ Post (to 1 (Stamp 1 2)) ∷ [])
     ≡ item.Current 2 ∷ item.Sent 2 (to 0 (Stamp 1 2)) ∷ item.Retired 1
     ∷ item.Sent 3 (to 1 (Stamp 1 2)) ∷ []
@@ -52,13 +52,13 @@ drops = record { policy = all_to Drop ∷ []; hosted = plan_q }
 abbrev plan_by : List Row → List Hosted → PlanValue
 plan_by policy hosted = record { policy = policy; hosted = hosted }
 
-of_first : (journal : List Item) → outs ≡ (planned open_net journal 1).plan
+of_first : (journal : List Item) → outs ≡ (plan_to_keep open_net journal 1).plan
 of_first journal =
     ap (λ policy. plan_by policy plan_p) (sym (first_policy journal))
     ∙ ap (plan_by (policy_at open_net journal 1)) (sym (first_plan journal))
 
 of_second : (items : List Item)
-    → drops ≡ (planned open_net (item.Submitted 2 2 ∷ items) 2).plan
+    → drops ≡ (plan_to_keep open_net (item.Submitted 2 2 ∷ items) 2).plan
 of_second items =
     ap (λ policy. plan_by policy plan_q) (sym (second_policy [] items tt))
     ∙ ap (plan_by (policy_at open_net (item.Submitted 2 2 ∷ items) 2))
@@ -100,12 +100,12 @@ not_begun is =
 abbrev submitted : List Item
 submitted = item.Submitted 2 2 ∷ []
 
-both_kept : map (planned open_net submitted) (versions_from_current submitted)
+both_kept : map (plan_to_keep open_net submitted) (versions_from_current submitted)
     ≡ (record { version = 1; plan = outs }) ∷ (record { version = 2; plan = drops }) ∷ []
 unfolding current_mark version_count
 both_kept =
     sym (ap (λ plan. both plan drops) (of_first submitted)
-    ∙ ap (both (planned open_net submitted 1).plan) (of_second []))
+    ∙ ap (both (plan_to_keep open_net submitted 1).plan) (of_second []))
   where
     both : PlanValue → PlanValue → List KeptPlan
     both one two =
@@ -114,7 +114,7 @@ both_kept =
 abbrev risen : List Item
 risen = submitted ++ item.Current 2 ∷ []
 
-one_kept : map (planned open_net risen) (versions_from_current risen)
+one_kept : map (plan_to_keep open_net risen) (versions_from_current risen)
     ≡ (record { version = 2; plan = drops }) ∷ []
 unfolding current_mark version_count
 one_kept = sym (ap alone (of_second (item.Current 2 ∷ [])))
@@ -145,7 +145,7 @@ nothing_late : after_hello open_net late (Hello 0 1) late ≡ []
 unfolding known_boot controller_heard message_of
 nothing_late = refl
 
-not_installed : written late (map (install_act 0 1) (first_controller 2 outs).plans)
+not_installed : written_items late (map (install_act 0 1) (first_controller 2 outs).plans)
     ≡ after_hello open_net late (Hello 0 1) late → ⊥
 unfolding next_message known_boot controller_heard message_of
 not_installed same = cc same
@@ -163,7 +163,7 @@ unfolding installs_to_all machine.is_over known_boot controller_heard message_of
 to_other_alone = ap (λ plan. item.Sent 1 (to 1 (Install 1 (tables_of plan 2 1))) ∷ [])
     (second_plan over [] (refl, tt))
 
-not_to_both : written later
+not_to_both : written_items later
     (map (λ s. install_act s 1 (record { version = 2; plan = drops })) (0 ∷ 1 ∷ []))
     ≡ installs_to_all open_net later → ⊥
 unfolding next_message

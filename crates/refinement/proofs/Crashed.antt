@@ -4,7 +4,7 @@ use Rattle.std.proofs.Common.{ℕ, ◌≡◌, ◌+◌, ◌-◌, ◌^◌, ◌<◌
 use Rattle.std.specs.Prelude.{◌&&◌, not, All}
 use Rattle.std.proofs.lemmas.List.{get_or_default, length-set}
 use Rattle.std.proofs.lemmas.List.Sums.{sum_by-cons}
-use Rattle.message_bag.specs.Posts.{posted}
+use Rattle.message_bag.specs.Posts.{new_post}
 use Rattle.controller.specs.declared.sends.Act.{Act}
 use Rattle.controller.specs.declared.sends.Act.TheVariants.{Post as PostAct}
 use Rattle.ctrl_msg.specs.declared.message.Message.{Message}
@@ -13,7 +13,7 @@ use Rattle.journal.specs.declared.item.Item.TheVariants as item
 use Rattle.net_file.specs.Owners.{links_of}
 use Rattle.net_file.specs.declared.net.LinkRow.{LinkRow}
 use Rattle.steps.specs.declared.step.Step.TheVariants.{Crash}
-use Rattle.switch_core.specs.Life.{crashed, near_changed}
+use Rattle.switch_core.specs.Life.{crashed_switch, near_changed}
 use Rattle.switch_core.specs.State.{SwitchValue}
 use Rattle.refinement.specs.Links.{LeavesSwitch}
 use Rattle.refinement.specs.SwitchOf.{switch_of}
@@ -25,30 +25,30 @@ use Rattle.update_machine.specs.Deliveries.{has_changed, link_changes}
 use Rattle.update_machine.specs.Folds.{count_of}
 use Rattle.update_machine.specs.Links.{is_link_up}
 use Rattle.update_machine.specs.Messages.{sent_from}
-use Rattle.update_machine.specs.Moves.{put}
+use Rattle.update_machine.specs.Moves.{items_then}
 use Rattle.update_machine.specs.Packets.{is_packet}
 use Rattle.update_machine.specs.Pieces.{crash_items, nothing, piece}
 use Rattle.update_machine.specs.Setting.{Setting}
 use Rattle.update_machine.specs.Travels.{packets_at}
 use Rattle.update_machine.specs.Ways.{targets_of}
 use Rattle.update_machine.specs.LinkMasks.{near}
-use Rattle.update_machine.proofs.CallerLemmas.{have_append, last_told_append, links_keep}
-use Rattle.refinement.specs.Linking.{AreRelinked, all_told, near_all}
+use Rattle.update_machine.proofs.CallerLemmas.{have_append, last_given_append, links_keep}
+use Rattle.refinement.specs.Linking.{AreRelinked, all_adverts_sent, near_all}
 use Rattle.steps.specs.Steps.{IsStep}
 use Rattle.world_log.specs.Sending.{MaySend, act_items}
-use Rattle.refinement.specs.Tied.{AreTied, Control, is_up_link, up_links}
-use Rattle.refinement.specs.Travellers.{traveller_in}
-use Rattle.travelling.specs.Travelling.{Travellers, WithoutAt, numbers_at, traveller}
+use Rattle.refinement.specs.Refinement.{RefineJournal, Control, is_up_link, up_links}
+use Rattle.refinement.specs.Flights.{flight_in}
+use Rattle.travelling.specs.Travelling.{Flights, WithoutAt, numbers_at, flight}
 use Rattle.refinement.proofs.ActItems.{SparesActs, acts_apart, acts_unnamed}
 use Rattle.refinement.proofs.Delivering.{nothing_happens}
-use Rattle.refinement.proofs.Losses.{losts_apart, losts_bring_none, losts_no_rows, traveller_lost}
+use Rattle.refinement.proofs.Losses.{losts_apart, losts_bring_none, losts_no_rows, flight_lost}
 use Rattle.refinement.proofs.OneItem.{grown}
 use Rattle.refinement.proofs.Posting.{bag_on}
 use Rattle.refinement.proofs.Standing.{among, among_numbers, numbers_are}
 use Rattle.refinement.proofs.Switches.{switch_is}
-use Rattle.refinement.proofs.Tying.{same_links}
-use Rattle.refinement.proofs.FactsAlong.{traveller_along, traveller_now}
-use Rattle.refinement.proofs.LinksChange.{one_relinks, one_advert, one_next, LinksChange, change_piece, change_may, change_tied}
+use Rattle.refinement.proofs.Refining.{same_links}
+use Rattle.refinement.proofs.FactsAlong.{flight_along, flight_now}
+use Rattle.refinement.proofs.LinksChange.{one_relinks, one_advert, one_next, LinksChange, change_piece, change_may, change_refines}
 
 -- ---- what it writes
 
@@ -59,7 +59,7 @@ unfolding piece crash_items
 down_piece setting journal row s down =
     ap (λ b. item.Row row (Crash s) ∷ elim b [
       | false ↦ nothing
-      | true ↦ put (item.Down s ∷ map item.Lost (packets_at journal s))
+      | true ↦ items_then (item.Down s ∷ map item.Lost (packets_at journal s))
           (link_changes setting journal) (journal ++ item.Row row (Crash s) ∷ [])
     ]) down
 
@@ -74,7 +74,8 @@ up_piece setting journal row s up =
     let first : List Item = item.Down s ∷ map item.Lost (packets_at journal s) in
     ap (λ b. item.Row row (Crash s) ∷ elim b [
       | false ↦ nothing
-      | true ↦ put first (link_changes setting journal) (journal ++ item.Row row (Crash s) ∷ [])
+      | true ↦ items_then first (link_changes setting journal)
+          (journal ++ item.Row row (Crash s) ∷ [])
     ]) up
     ∙ ap (λ js. item.Row row (Crash s) ∷ first ++ link_changes setting journal js)
     (append_assoc journal (item.Row row (Crash s) ∷ []) first)
@@ -98,16 +99,17 @@ same_switch switches s one other within one_at other_at =
 
 -- nothing happens where it is down
 pub stays_down : (control : Control) (setting : Setting) (journal : List Item)
-    (switches : List SwitchValue) (before : Travellers) (count row s : ℕ) (own : SwitchValue)
-    → AreTied setting journal switches before count control → IsStep setting.net (length setting.policies) (Crash s)
+    (switches : List SwitchValue) (before : Flights) (count row s : ℕ) (own : SwitchValue)
+    → RefineJournal setting journal switches before count control
+    → IsStep setting.net (length setting.policies) (Crash s)
     → own ≡ get_or switches s own → own.is_up ≡ false
     → (piece setting journal row (Crash s) ≡ item.Row row (Crash s) ∷ item.Nothing ∷ [])
-    × AreTied setting (grown journal row (Crash s) item.Nothing) switches before count control
-unfolding AreTied switch_of
-stays_down control setting journal switches before count row s own tied may own_at down =
-    nothing_happens control setting journal switches before count row (Crash s) tied may
+    × RefineJournal setting (grown journal row (Crash s) item.Nothing) switches before count control
+unfolding RefineJournal switch_of
+stays_down control setting journal switches before count row s own refines may own_at down =
+    nothing_happens control setting journal switches before count row (Crash s) refines may
     (λ q. refl) (down_piece setting journal row s (sym (ap (λ (w : SwitchValue). w.is_up)
-    (switch_is control setting journal switches before count s own tied may own_at)) ∙ down))
+    (switch_is control setting journal switches before count s own refines may own_at)) ∙ down))
 
 -- ---- links
 
@@ -115,14 +117,14 @@ stays_down control setting journal switches before count row s own tied may own_
 fallen_up : (journal : List Item) (row s : ℕ) (link : LinkRow)
     → is_up_link (grown journal row (Crash s) (item.Down s)) link ≡ is_up_link journal link
 unfolding is_link_up
-fallen_up journal row s link = search (last_told_append)
+fallen_up journal row s link = search (last_given_append)
 
 module _ (control : Control) (setting : Setting) (journal : List Item)
-    (switches : List SwitchValue) (before : Travellers) (count row s : ℕ)
+    (switches : List SwitchValue) (before : Flights) (count row s : ℕ)
     (own changed : SwitchValue)
-    (tied : AreTied setting journal switches before count control)
+    (refines : RefineJournal setting journal switches before count control)
     (may : IsStep setting.net (length setting.policies) (Crash s)) (within : s < length switches)
-    (own_at : own ≡ get_or switches s own) (changed_is : changed ≡ crashed own)
+    (own_at : own ≡ get_or switches s own) (changed_is : changed ≡ crashed_switch own)
     (up : own.is_up ≡ true) where
   abbrev packets : List ℕ
   packets = packets_at journal s
@@ -146,8 +148,8 @@ module _ (control : Control) (setting : Setting) (journal : List Item)
   split = append_assoc journal (item.Row row (Crash s) ∷ item.Down s ∷ []) losts
 
   own_is : own ≡ switch_of setting journal s
-  unfolding AreTied
-  own_is = own_at ∙ tied.each s own within
+  unfolding RefineJournal
+  own_is = own_at ∙ refines.each s own within
 
   was_up : is_up journal s ≡ true
   unfolding switch_of
@@ -160,8 +162,8 @@ module _ (control : Control) (setting : Setting) (journal : List Item)
       let whole : down ++ losts ≡ now =
       append_assoc begun (item.Down s ∷ []) losts
       ∙ append_assoc journal (item.Row row (Crash s) ∷ []) told in
-      changed_is ∙ ap crashed own_is
-      ∙ ap crashed (sym (kept_is setting s journal (item.Row row (Crash s) ∷ []) (refl, tt)
+      changed_is ∙ ap crashed_switch own_is
+      ∙ ap crashed_switch (sym (kept_is setting s journal (item.Row row (Crash s) ∷ []) (refl, tt)
       (refl, tt)))
       ∙ sym (crash_is setting begun s)
       ∙ sym (kept_is setting s down losts
@@ -214,7 +216,7 @@ module _ (control : Control) (setting : Setting) (journal : List Item)
 
   changes : LinksChange setting journal row (Crash s) told switches others control control.links
       control.posts
-  unfolding AreTied
+  unfolding RefineJournal
   changes = record {
     may = may;
     piece_is = up_piece setting journal row s was_up;
@@ -228,44 +230,44 @@ module _ (control : Control) (setting : Setting) (journal : List Item)
         refl,
         losts_apart concerns_messages (λ before k. refl) (begun ++ item.Down s ∷ []) packets,
       ),
-    ) tied.bag;
-    up = λ q below. tied.up q below ∙ ap (λ rows. links_of rows q) (sym same_up);
+    ) refines.bag;
+    up = λ q below. refines.up q below ∙ ap (λ rows. links_of rows q) (sym same_up);
     relinks = one_relinks control setting journal switches before count row (Crash s) told s
-        changed tied within leaves (sym crashed_is
+        changed refines within leaves (sym crashed_is
         ∙ sym (ap (λ b. if b then near_changed changed (near setting now s) else changed)
         unchanged));
     own = one_advert control setting journal switches before count row (Crash s) told s changed
-        tied within leaves
+        refines within leaves
         (λ changes. let clash : true ≡ false = sym changes ∙ unchanged in absurd cc);
   }
 
   abbrev messages : List Message
-  messages = all_told control.near (near_all control.links others) others
+  messages = all_adverts_sent control.near (near_all control.links others) others
 
   abbrev number : ℕ
   number = length control.posts + 1
 
   numbers : numbers_at before s ≡ packets
-  numbers = numbers_are control setting journal switches before count s tied
+  numbers = numbers_are control setting journal switches before count s refines
 
   pub crash_piece : piece setting journal row (Crash s)
       ≡ item.Row row (Crash s) ∷ item.Down s
       ∷ map item.Lost (numbers_at before s) ++ sent_from number messages
   crash_piece = change_piece control setting journal switches others before count row (Crash s)
-      told control.links control.posts tied changes
+      told control.links control.posts refines changes
       ∙ ap (λ all. item.Row row (Crash s) ∷ item.Down s
       ∷ map item.Lost all ++ sent_from number messages) (sym numbers)
 
   pub crash_may : length control.posts < 990_000
       → MaySend control.posts messages
   crash_may = change_may control setting journal switches others before count row (Crash s)
-      told control.links control.posts tied changes
+      told control.links control.posts refines changes
 
   -- each switch has a next number for its own advert
   pub crash_next : length control.posts < 990_000
       → All (λ (switch : SwitchValue). switch.seq < 2 ^ 32 - 1) others
   crash_next room = one_next control setting journal switches before count row (Crash s) told s
-      changed tied within leaves room (λ next.
+      changed refines within leaves room (λ next.
       subst (λ (w : SwitchValue). w.seq < 2 ^ 32 - 1) (sym changed_is) (omega arith))
 
   -- ---- the parts behind it
@@ -277,16 +279,16 @@ module _ (control : Control) (setting : Setting) (journal : List Item)
   all = item.Row row (Crash s) ∷ told ++ act_items number acts
 
   -- the packets on their way
-  left : (after : Travellers) → WithoutAt before s after → (i : ℕ)
-      → traveller after i ≡ traveller_in setting (journal ++ all) i
-  unfolding AreTied
+  left : (after : Flights) → WithoutAt before s after → (i : ℕ)
+      → flight after i ≡ flight_in setting (journal ++ all) i
+  unfolding RefineJournal
   left after without i =
       without i
-      ∙ ap (λ b. if b then None else traveller before i)
+      ∙ ap (λ b. if b then None else flight before i)
       (sym (among_numbers before s i) ∙ ap (among i) numbers)
       ∙ ap (λ o. if among i packets then None else o)
-      (tied.packet i ∙ traveller_now setting journal i)
-      ∙ sym (traveller_along setting journal all i
+      (refines.packet i ∙ flight_now setting journal i)
+      ∙ sym (flight_along setting journal all i
       (have_append (λ js one. concerns_policies js one ≡ false) journal
       (item.Row row (Crash s) ∷ told) (act_items number acts) (
         refl,
@@ -295,25 +297,25 @@ module _ (control : Control) (setting : Setting) (journal : List Item)
           losts_apart concerns_policies (λ before k. refl) (begun ++ item.Down s ∷ []) packets,
         ),
       ) (acts_apart concerns_policies spares_policies now number acts))
-      ∙ traveller_lost (targets_of setting journal) i journal
+      ∙ flight_lost (targets_of setting journal) i journal
       (item.Row row (Crash s) ∷ item.Down s ∷ []) packets (act_items number acts) _
       (refl, (refl, tt)) (acts_unnamed i number acts))
 
-  pub crash_tied : (others_now : List SwitchValue) (after : Travellers)
+  pub crash_refines : (others_now : List SwitchValue) (after : Flights)
       → AreRelinked control.near (near_all control.links others) others others_now
       → WithoutAt before s after
-      → AreTied setting (journal ++ (item.Row row (Crash s) ∷ item.Down s
+      → RefineJournal setting (journal ++ (item.Row row (Crash s) ∷ item.Down s
       ∷ map item.Lost (numbers_at before s) ++ sent_from number messages)) others_now after count
       (record control {
-        posts = control.posts ++ map posted messages;
+        posts = control.posts ++ map new_post messages;
         near = near_all control.links others;
       })
-  crash_tied others_now after are without =
-      subst (λ (losses : List ℕ). AreTied setting (journal ++ (item.Row row (Crash s)
+  crash_refines others_now after are without =
+      subst (λ (losses : List ℕ). RefineJournal setting (journal ++ (item.Row row (Crash s)
       ∷ item.Down s ∷ map item.Lost losses ++ sent_from number messages)) others_now after count
       (record control {
-        posts = control.posts ++ map posted messages;
+        posts = control.posts ++ map new_post messages;
         near = near_all control.links others;
       })) (sym numbers)
-      (change_tied control setting journal switches others before count row (Crash s) told
-      control.links control.posts tied changes others_now after are (left after without))
+      (change_refines control setting journal switches others before count row (Crash s) told
+      control.links control.posts refines changes others_now after are (left after without))

@@ -14,7 +14,7 @@ use Rattle.switch_core.specs.Ends.{around, next_of}
 use Rattle.switch_core.specs.State.{SwitchValue}
 use Rattle.switch_core.specs.declared.answers.Decision.{Decision}
 use Rattle.switch_core.specs.declared.packet.Packet.{Packet}
-use Rattle.update_machine.specs.Messages.{is_sending, next_message, sends, sent_from}
+use Rattle.update_machine.specs.Messages.{is_sending, next_message, send_items, sent_from}
 use Rattle.update_machine.specs.Moves.{AuthorityRule, authority_items, cache_items, end_items, header_at, in_turn, cache_rule as rule_message}
 use Rattle.update_machine.specs.Ways.{found_down}
 use Rattle.update_machine.specs.Setting.{Setting}
@@ -89,19 +89,19 @@ unfolding cache_items sent_from what_is_known
 sends_law setting journal s packet found is own =
     ap (λ (ingress : Option ℕ). elim (is_at s ingress) [
       | true ↦ []
-      | false ↦ sends journal (rule_message found (unwrap_or ingress 0)
+      | false ↦ send_items journal (rule_message found (unwrap_or ingress 0)
           (header_at journal packet.number) ∷ [])
     ]) is.came
     ∙ ap (λ header. elim (packet.ingress == s) [
       | true ↦ []
-      | false ↦ sends journal (rule_message found packet.ingress header ∷ [])
+      | false ↦ send_items journal (rule_message found packet.ingress header ∷ [])
     ]) (header_is journal packet.number packet.header is.entered)
     ∙ by_ingress (packet.ingress == s) refl
   where
     by_ingress : (b : Bool) → (packet.ingress == s) ≡ b
         → elim b [
           | true ↦ []
-          | false ↦ sends journal (rule_message found packet.ingress packet.header ∷ [])
+          | false ↦ send_items journal (rule_message found packet.ingress packet.header ∷ [])
         ]
         ≡ sent_from (next_message journal) (messages_in (told_by_rule s packet found))
     by_ingress true here =

@@ -18,30 +18,30 @@ use Rattle.policy_rules.proofs.CallerLemmas.{filter_more}
 use Rattle.journal.specs.declared.item.Item.{Item}
 use Rattle.journal.specs.declared.item.Item.TheVariants as item
 use Rattle.steps.specs.declared.step.Step.TheVariants.{Deliver}
-use Rattle.switch_core.specs.Hearing.{flood, with_message, is_news_here as is_news_at, opened, opened_by, replies, replies_to}
+use Rattle.switch_core.specs.Hearing.{flood, with_message, is_news_here as is_news_at, opening_stamp, opened_by, replies, replies_to}
 use Rattle.switch_core.specs.Life.{next_advert}
 use Rattle.switch_core.specs.State.{SwitchValue}
 use Rattle.switch_core.proofs.SwitchLaws.{heard_keeps}
 use Rattle.update_machine.specs.Adverts.{own_advert, own_seq}
-use Rattle.update_machine.specs.Boots.{boot_of, heard, is_for_boot, is_up, tells_boot, tells_up}
+use Rattle.update_machine.specs.Boots.{boot_of, heard, is_for_boot, is_up, gives_boot, gives_up}
 use Rattle.update_machine.specs.Concerns.{is_message_to}
 use Rattle.update_machine.specs.Deliveries.{advert_to, delivery_items, has_changed, is_news_to, link_changes, passed_on, received_items, switch_items}
 use Rattle.update_machine.specs.Laws.{LinksKeep}
 use Rattle.update_machine.specs.LinkMasks.{near}
-use Rattle.update_machine.specs.Messages.{sends, sent_from}
-use Rattle.update_machine.specs.Moves.{put}
+use Rattle.update_machine.specs.Messages.{send_items, sent_from}
+use Rattle.update_machine.specs.Moves.{items_then}
 use Rattle.update_machine.specs.Setting.{Setting}
 use Rattle.update_machine.specs.SwitchNumbers.{switches_of}
 use Rattle.update_machine.specs.Settling.{to_switch}
 use Rattle.update_machine.specs.Versions.{stamp_of}
 use Rattle.update_machine.specs.Links.{serves, message_of}
-use Rattle.update_machine.proofs.CallerLemmas.{last_told_append, links_keep}
+use Rattle.update_machine.proofs.CallerLemmas.{last_given_append, links_keep}
 use Rattle.control_laws.proofs.Grown.{heard_more, message_more}
 use Rattle.control_laws.proofs.Told.{each_weaker}
 use Rattle.control_laws.specs.Named.{BodiesNameThere, NamesOnlyThere}
 use Rattle.control_laws.proofs.NetLinks.{near_linked}
-use Rattle.refinement.specs.Hearing.{HearTies, IsSentTo, delivering}
-use Rattle.refinement.specs.Links.{relinked}
+use Rattle.refinement.specs.Hearing.{HearingRefines, IsSentTo, within_delivery}
+use Rattle.refinement.specs.Links.{relinked_switch}
 use Rattle.refinement.specs.SwitchOf.{switch_of}
 use Rattle.refinement.proofs.HeardMessages.{by_obeying, controller_shut, controller_silent, heard_is, is_meant, open_kept, opens_as, said_is}
 use Rattle.refinement.proofs.Items.{facts_opened}
@@ -71,12 +71,12 @@ rowed before row n = before ++ item.Row row (Deliver n) ∷ []
 
 -- the delivery behind its row, and what comes then
 delivering_is : (before : List Item) (row n : ℕ)
-    → delivering before row n [] ≡ rowed before row n ++ item.Delivered n ∷ []
+    → within_delivery before row n [] ≡ rowed before row n ++ item.Delivered n ∷ []
 delivering_is before row n = sym (append_assoc before (item.Row row (Deliver n) ∷ [])
     (item.Delivered n ∷ []))
 
 delivering_more : (before : List Item) (row n : ℕ) (next : Item)
-    → delivering before row n (next ∷ []) ≡ delivering before row n [] ++ next ∷ []
+    → within_delivery before row n (next ∷ []) ≡ within_delivery before row n [] ++ next ∷ []
 delivering_more before row n next = sym (append_assoc before
     (item.Row row (Deliver n) ∷ item.Delivered n ∷ []) (next ∷ []))
 
@@ -88,7 +88,7 @@ row_keeps setting before row n s =
 -- the switch behind the delivery in its step, open or closed as it was
 delivered_is : (setting : Setting) (before : List Item) (row n s : ℕ) (body : Body)
     → IsSentTo setting before n s body
-    → switch_of setting (delivering before row n []) s
+    → switch_of setting (within_delivery before row n []) s
     ≡ record (with_message (switch_of setting before s) n body) {
       is_open = (switch_of setting before s).is_open;
     }
@@ -104,8 +104,8 @@ delivered_is setting before row n s body is =
     (row_keeps setting before row n s)
 
 shut_is : (setting : Setting) (before : List Item) (row n s : ℕ) (body : Body)
-    → IsSentTo setting before n s body → opened (switch_of setting before s) body ≡ None
-    → switch_of setting (delivering before row n []) s
+    → IsSentTo setting before n s body → opening_stamp (switch_of setting before s) body ≡ None
+    → switch_of setting (within_delivery before row n []) s
     ≡ with_message (switch_of setting before s) n body
 shut_is setting before row n s body is shut =
     let switch : SwitchValue = switch_of setting before s in
@@ -123,17 +123,17 @@ same_boot : (before : List Item) (row n s stamp : ℕ)
     → boot_of (before ++ opening row n s stamp) s ≡ boot_of before s
 unfolding boot_of
 same_boot before row n s stamp =
-    ap (λ o. unwrap_or o 1) (last_told_append (tells_boot s) before (opening row n s stamp))
+    ap (λ o. unwrap_or o 1) (last_given_append (gives_boot s) before (opening row n s stamp))
 
 same_up : (before : List Item) (row n s stamp : ℕ)
     → is_up (before ++ opening row n s stamp) s ≡ is_up before s
 unfolding is_up
 same_up before row n s stamp =
-    ap (λ o. unwrap_or o true) (last_told_append (tells_up s) before (opening row n s stamp))
+    ap (λ o. unwrap_or o true) (last_given_append (gives_up s) before (opening row n s stamp))
 
 -- the links were kept until it opened
 kept_until : (setting : Setting) (before : List Item) (row n : ℕ)
-    → LinksKeep setting before (delivering before row n [])
+    → LinksKeep setting before (within_delivery before row n [])
 kept_until setting before row n =
     links_keep setting before (item.Row row (Deliver n) ∷ item.Delivered n ∷ [])
     (refl, (refl, tt))
@@ -141,7 +141,8 @@ kept_until setting before row n =
 opened_seq : (setting : Setting) (before : List Item) (row n s stamp : ℕ)
     → let now = before ++ opening row n s stamp in
     own_seq setting now s
-    ≡ own_seq setting (delivering before row n []) s + one_if (has_changed setting before now s)
+    ≡ own_seq setting (within_delivery before row n []) s + one_if
+    (has_changed setting before now s)
 opened_seq setting before row n s stamp =
     let now : List Item = before ++ opening row n s stamp in
     seq_more setting before row s (Deliver n) (item.Delivered n ∷ item.Opened s stamp ∷ [])
@@ -150,7 +151,7 @@ opened_seq setting before row n s stamp =
     (sym ((kept_until setting before row n).seq s))
 
 opened_facts : (setting : Setting) (before : List Item) (row n s stamp : ℕ)
-    → let here = delivering before row n [] in
+    → let here = within_delivery before row n [] in
     let now = before ++ opening row n s stamp in
     facts_of setting now s
     ≡ record (facts_of setting here s) {
@@ -159,7 +160,7 @@ opened_facts : (setting : Setting) (before : List Item) (row n s stamp : ℕ)
       links = near setting now s;
     }
 opened_facts setting before row n s stamp =
-    let here : List Item = delivering before row n [] in
+    let here : List Item = within_delivery before row n [] in
     let now : List Item = before ++ opening row n s stamp in
     let split : now ≡ here ++ item.Opened s stamp ∷ [] =
     delivering_more before row n (item.Opened s stamp) in
@@ -177,34 +178,36 @@ opened_facts setting before row n s stamp =
     }) (opened_seq setting before row n s stamp)
 
 stamp_behind : (setting : Setting) (before : List Item) (row n s stamp : ℕ) (body : Body)
-    → IsSentTo setting before n s body → opened (switch_of setting before s) body ≡ Some stamp
-    → stamp ≡ stamp_of (delivering before row n []) s
+    → IsSentTo setting before n s body → opening_stamp (switch_of setting before s) body
+    ≡ Some stamp
+    → stamp ≡ stamp_of (within_delivery before row n []) s
 stamp_behind setting before row n s stamp body is opens =
     (opens_as (switch_of setting before s) n stamp body opens).1
     ∙ ap (λ (switch : SwitchValue). switch.stamp)
     (sym (delivered_is setting before row n s body is))
-    ∙ stamp_shown setting (delivering before row n []) s
+    ∙ stamp_shown setting (within_delivery before row n []) s
 
 opening_is : (setting : Setting) (before : List Item) (row n s stamp : ℕ) (body : Body)
-    → IsSentTo setting before n s body → opened (switch_of setting before s) body ≡ Some stamp
-    → let now = delivering before row n (item.Opened s stamp ∷ []) in
+    → IsSentTo setting before n s body → opening_stamp (switch_of setting before s) body
+    ≡ Some stamp
+    → let now = within_delivery before row n (item.Opened s stamp ∷ []) in
     switch_of setting now s
-    ≡ relinked setting before now s (with_message (switch_of setting before s) n body)
+    ≡ relinked_switch setting before now s (with_message (switch_of setting before s) n body)
 opening_is setting before row n s stamp body is opens =
     by_facts setting now s _ (opened_facts setting before row n s stamp)
     ∙ relinks s (record w { serving = true }) _ _ _ _ (near setting now s)
     (has_changed setting before now s) same
-    ∙ ap (relinked setting before now s)
+    ∙ ap (relinked_switch setting before now s)
     (ap (λ (switch : SwitchValue). record switch { is_open = true })
     (sym (switch_is setting here s) ∙ delivered_is setting before row n s body is)
     ∙ ap (λ b. record heard_now { is_open = b })
     (sym (opens_as (switch_of setting before s) n stamp body opens).0))
   where
     here : List Item
-    here = delivering before row n []
+    here = within_delivery before row n []
 
     now : List Item
-    now = delivering before row n (item.Opened s stamp ∷ [])
+    now = within_delivery before row n (item.Opened s stamp ∷ [])
 
     w : SwitchFacts
     w = facts_of setting here s
@@ -220,7 +223,7 @@ opening_is setting before row n s stamp body is opens =
     ]
 
 opening_advert : (setting : Setting) (before : List Item) (row n s stamp : ℕ) (body : Body)
-    → let now = delivering before row n (item.Opened s stamp ∷ []) in
+    → let now = within_delivery before row n (item.Opened s stamp ∷ []) in
     IsTrue (has_changed setting before now s)
     → own_advert setting now s
     ≡ next_advert (with_message (switch_of setting before s) n body) (near setting now s)
@@ -234,7 +237,7 @@ opening_advert setting before row n s stamp body changes =
     ap (λ (s : SwitchValue). s.number) rest ∙ number_shown setting before s in
     let seq : own_seq setting now s ≡ (with_message switch n body).seq + 1 =
     opened_seq setting before row n s stamp
-    ∙ ap (λ b. own_seq setting (delivering before row n []) s + one_if b) changes
+    ∙ ap (λ b. own_seq setting (within_delivery before row n []) s + one_if b) changes
     ∙ ap (λ k. k + 1) ((kept_until setting before row n).seq s ∙ seq_shown setting before s
     ∙ sym (ap (λ (s : SwitchValue). s.seq) rest)) in
     advert_of setting now s ∙ rw (boot, seq, number) refl
@@ -311,7 +314,7 @@ passed_as setting before now s advert net same =
     ∙ ap (map (λ other. advert_to other advert)) (sym (neighbours_are setting before s net))
 
 -- by its body, which the switch obeys
-sends_nothing : (journal : List Item) → [] ≡ sends journal []
+sends_nothing : (journal : List Item) → [] ≡ send_items journal []
 unfolding sent_from
 sends_nothing journal = refl
 
@@ -320,13 +323,13 @@ obeyed_items : (setting : Setting) (before now : List Item) (s : ℕ) (body : Bo
     → is_for_boot (boot_of before s) body ≡ true
     → opened_by (switch_of setting before s) body ≡ None
     → switch_items setting before s body now
-    ≡ sends now (replies_to (switch_of setting before s) (near setting before s) body)
+    ≡ send_items now (replies_to (switch_of setting before s) (near setting before s) body)
 unfolding switch_items switch_of is_news_at
 obeyed_items setting before now s (Install boot tables) net same own shut =
-    ap (λ boot. sends now (to_controller (Installed s boot tables.version) ∷ []))
+    ap (λ boot. send_items now (to_controller (Installed s boot tables.version) ∷ []))
     (eqb-true boot (boot_of before s) own)
 obeyed_items setting before now s (Stamp boot version) net same own shut =
-    ap (λ boot. sends now (to_controller (Stamped s boot version) ∷ []))
+    ap (λ boot. send_items now (to_controller (Stamped s boot version) ∷ []))
     (eqb-true boot (boot_of before s) own)
 obeyed_items setting before now s (OpenAt boot version) net same own shut =
     by_open (serves before s) shut
@@ -334,25 +337,26 @@ obeyed_items setting before now s (OpenAt boot version) net same own shut =
     by_open : (b : Bool) → (if b then None else Some (max (stamp_of before s) version)) ≡ None
         → elim b [
           | true ↦ []
-          | false ↦ put (item.Opened s (stamp_of now s) ∷ []) (link_changes setting before) now
-        ] ≡ sends now []
+          | false ↦ items_then (item.Opened s (stamp_of now s) ∷ []) (link_changes setting before)
+              now
+        ] ≡ send_items now []
     by_open true shut = sends_nothing now
     by_open false shut = absurd cc
 obeyed_items setting before now s (Advertise advert) net same own shut =
     by_news (is_news_to setting before s advert)
   where
     by_news : (b : Bool) → elim b [
-      | true ↦ sends now (passed_on setting now s advert)
+      | true ↦ send_items now (passed_on setting now s advert)
       | false ↦ []
-    ] ≡ sends now (if b then flood (near setting before s) (Advertise advert) else [])
-    by_news true = ap (sends now) (passed_as setting before now s advert net same)
+    ] ≡ send_items now (if b then flood (near setting before s) (Advertise advert) else [])
+    by_news true = ap (send_items now) (passed_as setting before now s advert net same)
     by_news false = sends_nothing now
 obeyed_items setting before now s _ net same own shut = sends_nothing now
 
 obeyed_opens : (setting : Setting) (before now : List Item) (s stamp : ℕ) (body : Body)
     → stamp ≡ stamp_of now s → opened_by (switch_of setting before s) body ≡ Some stamp
     → switch_items setting before s body now
-    ≡ put (item.Opened s stamp ∷ []) (link_changes setting before) now
+    ≡ items_then (item.Opened s stamp ∷ []) (link_changes setting before) now
 unfolding switch_items switch_of
 obeyed_opens setting before now s stamp (OpenAt boot version) is opens =
     by_open (serves before s) opens
@@ -360,11 +364,12 @@ obeyed_opens setting before now s stamp (OpenAt boot version) is opens =
     by_open : (b : Bool) → (if b then None else Some (max (stamp_of before s) version)) ≡ Some stamp
         → elim b [
           | true ↦ []
-          | false ↦ put (item.Opened s (stamp_of now s) ∷ []) (link_changes setting before) now
-        ] ≡ put (item.Opened s stamp ∷ []) (link_changes setting before) now
+          | false ↦ items_then (item.Opened s (stamp_of now s) ∷ []) (link_changes setting before)
+              now
+        ] ≡ items_then (item.Opened s stamp ∷ []) (link_changes setting before) now
     by_open true opens = absurd cc
     by_open false opens =
-        ap (λ v. put (item.Opened s v ∷ []) (link_changes setting before) now) (sym is)
+        ap (λ v. items_then (item.Opened s v ∷ []) (link_changes setting before) now) (sym is)
 obeyed_opens setting before now s stamp _ is opens = absurd cc
 
 -- ---- the items of a delivery
@@ -393,9 +398,9 @@ items_are setting before now n s body sent =
     by_meant false = refl
 
 opened_as : (setting : Setting) (before : List Item) (s : ℕ) (body : Body)
-    → opened (switch_of setting before s) body
+    → opening_stamp (switch_of setting before s) body
     ≡ (if is_meant before s body then opened_by (switch_of setting before s) body else None)
-unfolding opened switch_of
+unfolding opening_stamp switch_of
 opened_as setting before s body =
     let switch : SwitchValue = switch_of setting before s in
     by_obeying switch body (is_up before s) (is_for_boot (boot_of before s) body)
@@ -412,18 +417,18 @@ replies_as setting before s mask body =
 
 shut_items : (setting : Setting) (before : List Item) (row n s : ℕ) (body : Body)
     → IsNet setting.net → IsSentTo setting before n s body
-    → opened (switch_of setting before s) body ≡ None
-    → delivery_items setting before n (delivering before row n [])
-    ≡ sends (delivering before row n [])
+    → opening_stamp (switch_of setting before s) body ≡ None
+    → delivery_items setting before n (within_delivery before row n [])
+    ≡ send_items (within_delivery before row n [])
     (replies (switch_of setting before s) (near setting before s) body)
 shut_items setting before row n s body net is shut =
     items_are setting before now n s body is.sent
     ∙ by_meant (is_up before s) (is_for_boot (boot_of before s) body) refl
     (sym (opened_as setting before s body) ∙ shut)
-    ∙ ap (sends now) (sym (replies_as setting before s (near setting before s) body))
+    ∙ ap (send_items now) (sym (replies_as setting before s (near setting before s) body))
   where
     now : List Item
-    now = delivering before row n []
+    now = within_delivery before row n []
 
     switch : SwitchValue
     switch = switch_of setting before s
@@ -431,33 +436,35 @@ shut_items setting before row n s body net is shut =
     by_meant : (up own : Bool) → is_for_boot (boot_of before s) body ≡ own
         → (if up && own then opened_by switch body else None) ≡ None
         → (if up && own then switch_items setting before s body now else [])
-        ≡ sends now (if up && own then replies_to switch (near setting before s) body else [])
+        ≡ send_items now (if up && own then replies_to switch (near setting before s) body else [])
     by_meant true true own shut = obeyed_items setting before now s body net
         ((kept_until setting before row n).near s) own shut
     by_meant true false own shut = sends_nothing now
     by_meant false own_is own shut = sends_nothing now
 
 opening_items : (setting : Setting) (before : List Item) (row n s stamp : ℕ) (body : Body)
-    → IsSentTo setting before n s body → opened (switch_of setting before s) body ≡ Some stamp
-    → delivery_items setting before n (delivering before row n [])
-    ≡ put (item.Opened s stamp ∷ []) (link_changes setting before) (delivering before row n [])
+    → IsSentTo setting before n s body → opening_stamp (switch_of setting before s) body
+    ≡ Some stamp
+    → delivery_items setting before n (within_delivery before row n [])
+    ≡ items_then (item.Opened s stamp ∷ []) (link_changes setting before)
+    (within_delivery before row n [])
 opening_items setting before row n s stamp body is opens =
     items_are setting before now n s body is.sent
     ∙ by_meant (is_meant before s body) (sym (opened_as setting before s body) ∙ opens)
   where
     now : List Item
-    now = delivering before row n []
+    now = within_delivery before row n []
 
     by_meant : (b : Bool)
         → (if b then opened_by (switch_of setting before s) body else None) ≡ Some stamp
         → (if b then switch_items setting before s body now else [])
-        ≡ put (item.Opened s stamp ∷ []) (link_changes setting before) now
+        ≡ items_then (item.Opened s stamp ∷ []) (link_changes setting before) now
     by_meant true mine = obeyed_opens setting before now s stamp body
         (stamp_behind setting before row n s stamp body is opens) mine
     by_meant false mine = absurd cc
 
-pub hear_ties : HearTies
-hear_ties = record {
+pub hearing_refines : HearingRefines
+hearing_refines = record {
   heard_but_open = λ setting before n s body is.
       heard_is setting before n s body is.sent (all_versioned setting before s is.names)
       (versioned setting before s body (is.names.sent n (to_switch s body) is.sent));

@@ -2,7 +2,7 @@
 use Rattle.std.proofs.Common.{ℕ, ◌≡◌, Bool, true, false, if◌then◌else◌, Option, Some, None, List, [], ◌∷◌, ◌++◌, refl, ap, sym, subst, ◌∙◌, append_assoc, length, rules}
 use Rattle.std.specs.Prelude.{IfSome, IsFalse, not, ◌&&◌, is_some, option_map}
 use Rattle.std.specs.Option.{option_and_then}
-use Rattle.message_bag.specs.Posts.{IsMessageOf, Post, framed, is_post_deliverable, remembered, with_forgotten}
+use Rattle.message_bag.specs.Posts.{IsMessageOf, Post, posted_frames, is_post_deliverable, remembered_frames, with_forgotten}
 use Rattle.message_bag.proofs.Framed.{known_by_frames}
 use Rattle.ctrl_msg.specs.declared.message.Message.{Message}
 use Rattle.journal.specs.declared.item.Item.{Item}
@@ -17,28 +17,28 @@ use Rattle.steps.specs.Steps.{IsStep}
 use Rattle.update_machine.specs.Setting.{Setting}
 use Rattle.update_machine.specs.Links.{message_of}
 use Rattle.update_machine.proofs.CallerLemmas.{message_keeps}
-use Rattle.refinement.specs.Tied.{AreTied, Control}
+use Rattle.refinement.specs.Refinement.{RefineJournal, Control}
 use Rattle.refinement.specs.Bags.{IsBagOf, post_in}
-use Rattle.travelling.specs.Travelling.{Travellers}
-use Rattle.refinement.proofs.OneItem.{grown, tied_one}
+use Rattle.travelling.specs.Travelling.{Flights}
+use Rattle.refinement.proofs.OneItem.{grown, refines_one}
 use Rattle.refinement.proofs.Posting.{bag_forgotten, bag_on, some_within}
-use Rattle.refinement.proofs.Tying.{switches_stay}
+use Rattle.refinement.proofs.Refining.{switches_stay}
 
 -- ---- what the bag says of a message
 
 abbrev flagged : Bool → Bool → Option Message → Option Post
 flagged was gone o =
-    option_map (λ (m : Message). (framed m, record { delivered = was; forgotten = gone })) o
+    option_map (λ (m : Message). (posted_frames m, record { delivered = was; forgotten = gone })) o
 
 pub deliverable_as : (journal : List Item) (posts : List Post) (n : ℕ) → IsBagOf journal posts
     → is_deliverable journal n ≡ is_post_deliverable posts n
 unfolding is_deliverable post_in
 deliverable_as journal posts n bag =
-    sym (ap (λ o. is_some (option_and_then remembered o)) (bag.each n)
+    sym (ap (λ o. is_some (option_and_then remembered_frames o)) (bag.each n)
     ∙ by_flag (message_of journal n) (was_delivered journal n) (is_forgotten journal n))
   where
     by_flag : (o : Option Message) (was gone : Bool)
-        → is_some (option_and_then remembered (flagged was gone o)) ≡ (is_some o && not gone)
+        → is_some (option_and_then remembered_frames (flagged was gone o)) ≡ (is_some o && not gone)
     by_flag None was gone = refl
     by_flag (Some m) was true = refl
     by_flag (Some m) was false = refl
@@ -49,15 +49,15 @@ pub sent_as : (journal : List Item) (posts : List Post) (n : ℕ) (message : Mes
 unfolding post_in
 sent_as journal posts n message bag is =
     by_flag (message_of journal n) (was_delivered journal n) (is_forgotten journal n)
-    (sym (ap (option_and_then remembered) (bag.each n)) ∙ is.frames_are)
+    (sym (ap (option_and_then remembered_frames) (bag.each n)) ∙ is.frames_are)
   where
     by_flag : (o : Option Message) (was gone : Bool)
-        → option_and_then remembered (flagged was gone o) ≡ Some (framed message)
+        → option_and_then remembered_frames (flagged was gone o) ≡ Some (posted_frames message)
         → o ≡ Some message
     by_flag None was gone none = absurd cc
     by_flag (Some m) was true none = absurd cc
     by_flag (Some m) was false some =
-        let same : framed m ≡ framed message = cc in
+        let same : posted_frames m ≡ posted_frames message = cc in
         ap Some (known_by_frames message m is.fits same)
 
 -- a message that was found
@@ -87,24 +87,25 @@ forget_piece setting journal row n =
 -- ---- a step that does nothing
 
 pub nothing_happens : (control : Control) (setting : Setting) (journal : List Item)
-    (switches : List SwitchValue) (before : Travellers) (count row : ℕ) (step : Step)
-    → AreTied setting journal switches before count control → IsStep setting.net (length setting.policies) step
+    (switches : List SwitchValue) (before : Flights) (count row : ℕ) (step : Step)
+    → RefineJournal setting journal switches before count control
+    → IsStep setting.net (length setting.policies) step
     → ((q : ℕ) → IsFalse (concerns_calls q journal (item.Row row step)))
     → piece setting journal row step ≡ item.Row row step ∷ nothing
     → (piece setting journal row step ≡ item.Row row step ∷ nothing)
-    × AreTied setting (grown journal row step item.Nothing) switches before count control
-unfolding AreTied
-nothing_happens control setting journal switches before count row step tied may uncalled is = (
+    × RefineJournal setting (grown journal row step item.Nothing) switches before count control
+unfolding RefineJournal
+nothing_happens control setting journal switches before count row step refines may uncalled is = (
   is,
-  tied_one control control.posts setting journal switches switches before count row step
-      item.Nothing tied (search (rules, switches_stay, bag_on)),
+  refines_one control control.posts setting journal switches switches before count row step
+      item.Nothing refines (search (rules, switches_stay, bag_on)),
 )
 
 -- ---- a message is forgotten
 
 module _ (control : Control) (setting : Setting) (journal : List Item)
-    (switches : List SwitchValue) (before : Travellers) (count row n : ℕ)
-    (tied : AreTied setting journal switches before count control)
+    (switches : List SwitchValue) (before : Flights) (count row n : ℕ)
+    (refines : RefineJournal setting journal switches before count control)
     (may : IsStep setting.net (length setting.policies) (Forget n)) where
   abbrev first : Item
   first = item.Row row (Forget n)
@@ -115,31 +116,32 @@ module _ (control : Control) (setting : Setting) (journal : List Item)
   -- by whether the bag has it
   piece_by : (b : Bool) → is_post_deliverable control.posts n ≡ b
       → piece setting journal row (Forget n) ≡ first ∷ (if b then one ∷ [] else nothing)
-  unfolding AreTied
+  unfolding RefineJournal
   piece_by b is = forget_piece setting journal row n
       ∙ ap (λ c. first ∷ (if c then one ∷ [] else nothing))
-      (deliverable_as journal control.posts n tied.bag ∙ is)
+      (deliverable_as journal control.posts n refines.bag ∙ is)
 
-  pub forgotten_tied : is_post_deliverable control.posts n ≡ true
+  pub forgotten_refines : is_post_deliverable control.posts n ≡ true
       → (piece setting journal row (Forget n) ≡ first ∷ one ∷ [])
-      × AreTied setting (grown journal row (Forget n) one) switches before count
+      × RefineJournal setting (grown journal row (Forget n) one) switches before count
       (record control { posts = with_forgotten control.posts n })
-  unfolding AreTied
-  forgotten_tied there =
+  unfolding RefineJournal
+  forgotten_refines there =
       let is = piece_by true there in
       let bag = subst (λ js. IsBagOf js (with_forgotten control.posts n))
       (append_assoc journal (first ∷ []) (one ∷ []))
       (bag_forgotten (journal ++ first ∷ []) control.posts n (some_within control.posts n there)
-      (bag_on journal (first ∷ []) control.posts (refl, tt) tied.bag)) in (
+      (bag_on journal (first ∷ []) control.posts (refl, tt) refines.bag)) in (
         is,
-        tied_one control (with_forgotten control.posts n) setting journal switches
-            switches before count row (Forget n) one tied (search (rules, switches_stay)),
+        refines_one control (with_forgotten control.posts n) setting journal switches
+            switches before count row (Forget n) one refines (search (rules, switches_stay)),
       )
 
   -- no such message may be forgotten
   pub unforgotten : is_post_deliverable control.posts n ≡ false
       → (piece setting journal row (Forget n) ≡ first ∷ nothing)
-      × AreTied setting (grown journal row (Forget n) item.Nothing) switches before count control
+      × RefineJournal setting (grown journal row (Forget n) item.Nothing) switches before count
+      control
   unforgotten none =
-      nothing_happens control setting journal switches before count row (Forget n) tied may
+      nothing_happens control setting journal switches before count row (Forget n) refines may
       (λ q. refl) (piece_by false none)

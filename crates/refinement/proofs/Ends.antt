@@ -17,7 +17,7 @@ use Rattle.switch_core.specs.declared.answers.Decision.{Decision as Decided}
 use Rattle.switch_core.specs.declared.answers.Next.TheVariants as next
 use Rattle.switch_core.specs.declared.packet.Packet.{Packet}
 use Rattle.tunnel.specs.Tunnel.{TunnelValue}
-use Rattle.update_machine.specs.Moves.{end_items, leaves as left, leg_items}
+use Rattle.update_machine.specs.Moves.{end_items, leaving_item as left, leg_items}
 use Rattle.update_machine.specs.Packets.{decision_of, header_in}
 use Rattle.update_machine.specs.Setting.{Setting}
 use Rattle.update_machine.specs.Ways.{found_down, no_switch, owner}

@@ -7,22 +7,22 @@ use Rattle.journal.specs.declared.item.Item.TheVariants as item
 use Rattle.steps.specs.declared.step.Step.TheVariants.{Expire}
 use Rattle.switch_core.specs.Life.{entry_expired}
 use Rattle.switch_core.specs.State.{SwitchValue}
-use Rattle.switch_table.specs.Cache.{CacheValue, expired}
+use Rattle.switch_table.specs.Cache.{CacheValue, after_expire}
 use Rattle.switch_table.specs.declared.cache.CacheEntry.{CacheEntry}
 use Rattle.refinement.specs.Life.{expired_by, message_at}
 use Rattle.refinement.specs.SwitchOf.{switch_of}
-use Rattle.refinement.proofs.Life.{expiry_is, life_ties}
+use Rattle.refinement.proofs.Life.{expiry_is, lives_refine}
 use Rattle.refinement.proofs.Links.{kept_is}
 use Rattle.update_machine.specs.Pieces.{piece}
 use Rattle.steps.specs.Steps.{IsStep}
 use Rattle.update_machine.specs.Setting.{Setting}
-use Rattle.refinement.specs.Tied.{AreTied, Control}
+use Rattle.refinement.specs.Refinement.{RefineJournal, Control}
 use Rattle.refinement.specs.Bags.{IsBagOf}
-use Rattle.travelling.specs.Travelling.{Travellers}
-use Rattle.refinement.proofs.OneItem.{WritesOne, grown, tied_one}
+use Rattle.travelling.specs.Travelling.{Flights}
+use Rattle.refinement.proofs.OneItem.{WritesOne, grown, refines_one}
 use Rattle.refinement.proofs.Posting.{bag_on}
 use Rattle.refinement.proofs.Switches.{switch_is, switch_there}
-use Rattle.refinement.proofs.Tying.{one_changes}
+use Rattle.refinement.proofs.Refining.{one_changes}
 
 -- what the step writes, by the number of the message that brought the entry
 abbrev expired_item : ℕ → ℕ → Option ℕ → Item
@@ -52,7 +52,7 @@ unfolding piece
 expire_piece setting journal row s place =
     let first : Item = item.Row row (Expire s place) in
     ap (λ items. first ∷ items)
-    (life_ties.expires setting (journal ++ first ∷ []) s place
+    (lives_refine.expires setting (journal ++ first ∷ []) s place
     ∙ ap (λ (w : SwitchValue). expired_by s place
     (option_map entry_message (slice_get w.cache.entries place)))
     (row_leaves setting journal row s place s)
@@ -69,7 +69,7 @@ none_removed (x ∷ xs) (suc i) none = ap (λ rest. x ∷ rest) (none_removed xs
 
 none_expired : (cache : CacheValue) (place : ℕ)
     → option_map entry_message (slice_get cache.entries place) ≡ None
-    → expired place cache ≡ cache
+    → after_expire place cache ≡ cache
 none_expired cache place none =
     ap (λ entries. record cache { entries = entries })
     (none_removed cache.entries place (by_entry (slice_get cache.entries place) none))
@@ -124,23 +124,25 @@ expired_writes control setting journal switches row s place changed None may bag
 expired_writes control setting journal switches row s place changed (Some message) may bag is each =
     search (rules, bag_on, length-set)
 
-pub expired_tied : (control : Control) (setting : Setting) (journal : List Item)
-    (switches : List SwitchValue) (before : Travellers) (count row s place : ℕ)
+pub expired_refines : (control : Control) (setting : Setting) (journal : List Item)
+    (switches : List SwitchValue) (before : Flights) (count row s place : ℕ)
     (own changed : SwitchValue) (found : Option ℕ)
-    → AreTied setting journal switches before count control → IsStep setting.net (length setting.policies) (Expire s place)
+    → RefineJournal setting journal switches before count control
+    → IsStep setting.net (length setting.policies) (Expire s place)
     → own ≡ get_or switches s own → changed ≡ entry_expired own place
     → found ≡ option_map (λ entry. entry.message) (slice_get own.cache.entries place)
     → (piece setting journal row (Expire s place)
     ≡ item.Row row (Expire s place) ∷ expired_item s place found ∷ [])
-    × AreTied setting (grown journal row (Expire s place) (expired_item s place found))
+    × RefineJournal setting (grown journal row (Expire s place) (expired_item s place found))
     (set switches s changed) before count control
-unfolding AreTied
-expired_tied control setting journal switches before count row s place own changed found tied may
+unfolding RefineJournal
+expired_refines control setting journal switches before count row s place own changed found refines
+    may
     own_at changed_is found_is =
     let there : s < length switches =
-    switch_there control setting journal switches before count s tied may.0 in
+    switch_there control setting journal switches before count s refines may.0 in
     let own_is : own ≡ switch_of setting journal s =
-    switch_is control setting journal switches before count s own tied may.0 own_at in
+    switch_is control setting journal switches before count s own refines may.0 own_at in
     let at : message_at setting journal s place ≡ found =
     ap (λ (w : SwitchValue). option_map entry_message (slice_get w.cache.entries place))
     (sym own_is) ∙ sym found_is in
@@ -149,13 +151,14 @@ expired_tied control setting journal switches before count row s place own chang
     expire_piece setting journal row s place
     ∙ ap (λ o. item.Row row (Expire s place) ∷ expired_item s place o ∷ []) at in (
       is,
-      tied_one control control.posts setting journal switches (set switches s changed) before
-          count row (Expire s place) (expired_item s place found) tied
-          (expired_writes control setting journal switches row s place changed found may tied.bag is
+      refines_one control control.posts setting journal switches (set switches s changed) before
+          count row (Expire s place) (expired_item s place found) refines
+          (expired_writes control setting journal switches row s place changed found may refines.bag
+          is
           (λ q d below. one_changes setting journal
           (grown journal row (Expire s place) (expired_item s place found)) switches s q changed d
           (s == q) refl there
           (changed_is ∙ ap (λ w. entry_expired w place) own_is
           ∙ expired_own setting journal row s place found at)
-          (expired_other setting journal row s q place found) (tied.each q d below))),
+          (expired_other setting journal row s q place found) (refines.each q d below))),
     )

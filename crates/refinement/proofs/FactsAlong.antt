@@ -12,8 +12,8 @@ use Rattle.update_machine.specs.Setting.{Setting}
 use Rattle.update_machine.proofs.CallerLemmas.{policies_keep}
 use Rattle.packet_laws.specs.Facts.{PacketFacts, is_of_packet, facts_after, what_is_known}
 use Rattle.packet_laws.proofs.PacketFacts.{facts_grow}
-use Rattle.refinement.specs.Travellers.{traveller_in, traveller_of}
-use Rattle.travelling.specs.declared.travelling.Traveller.{Traveller}
+use Rattle.refinement.specs.Flights.{flight_in, flight_of}
+use Rattle.travelling.specs.declared.travelling.Flight.{Flight}
 
 -- the facts of a packet behind these items
 abbrev pub facts_along : ℕ → List Item → List Item → PacketFacts → PacketFacts
@@ -47,8 +47,8 @@ same_targets setting before items none (Exit port) = refl
 -- ---- what is known of a packet
 
 -- what is known of a packet with these facts
-abbrev pub traveller_by : Targets → ℕ → PacketFacts → Option Traveller
-traveller_by targets i facts = if facts.travels then Some (record {
+abbrev pub flight_by : Targets → ℕ → PacketFacts → Option Flight
+flight_by targets i facts = if facts.travels then Some (record {
   tunnel = record {
     packet = i;
     header = unwrap_or facts.header
@@ -64,27 +64,27 @@ traveller_by targets i facts = if facts.travels then Some (record {
   rule = unwrap_or (option_map (λ decision. decision.rule) facts.decision) None;
 }) else None
 
-pub traveller_now : (setting : Setting) (journal : List Item) (i : ℕ)
-    → traveller_in setting journal i
-    ≡ traveller_by (targets_of setting journal) i (what_is_known journal i)
-unfolding traveller_in traveller_of what_is_known
-traveller_now setting journal i = refl
+pub flight_now : (setting : Setting) (journal : List Item) (i : ℕ)
+    → flight_in setting journal i
+    ≡ flight_by (targets_of setting journal) i (what_is_known journal i)
+unfolding flight_in flight_of what_is_known
+flight_now setting journal i = refl
 
 -- by the targets of its own leg alone
 pub by_targets : (one other : Targets) (i : ℕ) (facts : PacketFacts)
     → one (unwrap_or facts.leg (Exit 0)) ≡ other (unwrap_or facts.leg (Exit 0))
-    → traveller_by one i facts ≡ traveller_by other i facts
+    → flight_by one i facts ≡ flight_by other i facts
 by_targets one other i facts same = rw same refl
 
 -- behind items by which no policy comes
-pub traveller_along : (setting : Setting) (before items : List Item) (i : ℕ)
+pub flight_along : (setting : Setting) (before items : List Item) (i : ℕ)
     → NoneConcern concerns_policies before items
-    → traveller_in setting (before ++ items) i
-    ≡ traveller_by (targets_of setting before) i
+    → flight_in setting (before ++ items) i
+    ≡ flight_by (targets_of setting before) i
     (facts_along i before items (what_is_known before i))
-traveller_along setting before items i none =
-    traveller_now setting (before ++ items) i
-    ∙ ap (traveller_by (targets_of setting (before ++ items)) i) (facts_all i before items)
+flight_along setting before items i none =
+    flight_now setting (before ++ items) i
+    ∙ ap (flight_by (targets_of setting (before ++ items)) i) (facts_all i before items)
     ∙ by_targets (targets_of setting (before ++ items)) (targets_of setting before) i
     (facts_along i before items (what_is_known before i))
     (same_targets setting before items none _)

@@ -38,13 +38,13 @@ use Rattle.update_machine.specs.Versions.{stamp_of, tables_at}
 use Rattle.packet_laws.specs.OnWay.{IsUnknown}
 use Rattle.packet_laws.specs.Facts.{PacketFacts, facts_after}
 use Rattle.packet_laws.proofs.Lookups.{FindsTargets, redirect_found}
-use Rattle.world_log.specs.Writing.{answer_items, answer_traveller, cache_message, entered_items, entered_traveller, messages_in}
+use Rattle.world_log.specs.Writing.{answer_items, answer_flight, cache_message, entered_items, entered_flight, messages_in}
 use Rattle.travelling.specs.Travelling.{Standing}
 use Rattle.refinement.proofs.Legs.{at_switch}
 use Rattle.refinement.proofs.Looking.{IsAsked, targets_are, its_stamp}
 use Rattle.refinement.proofs.Others.{sends_unnamed}
 use Rattle.refinement.proofs.Own.{GoesOnward, IsSeen, decided_goes}
-use Rattle.refinement.proofs.FactsAlong.{Targets, traveller_by, facts_along}
+use Rattle.refinement.proofs.FactsAlong.{Targets, flight_by, facts_along}
 
 -- ---- once it is decided
 
@@ -190,9 +190,9 @@ by_way : (targets : Targets) (before : List Item) (number : ℕ) (at : Standing)
     (version partition : ℕ) (route : List ℕ) (facts : PacketFacts) → IsSeen at at.ingress facts
     → (let tunnel : TunnelValue = tunnel_begun at.packet at.header at.ingress (Seek version partition)
     (targets (Seek version partition)) route at.down in
-    answer_traveller (unwrap_or (option_map (λ decision. decision.version) facts.decision) 0)
+    answer_flight (unwrap_or (option_map (λ decision. decision.version) facts.decision) 0)
     (unwrap_or (option_map (λ decision. decision.rule) facts.decision) None) (answer.Seek tunnel)
-    ≡ traveller_by targets at.packet
+    ≡ flight_by targets at.packet
     (facts_along at.packet before (answer_items number at (answer.Seek tunnel)) facts))
 by_way targets before number at version partition route facts seen =
     let own : (at.packet == at.packet) ≡ true = eq-eqb _ _ refl in
@@ -201,8 +201,8 @@ by_way targets before number at version partition route facts seen =
 pub answer_goes : (targets : Targets) (before : List Item) (number : ℕ) (at : Standing)
     (version : ℕ) (rule : Option ℕ) (what : Answer) (facts : PacketFacts)
     → IsSeen at at.ingress facts → AreOfFacts version rule facts → IsComing targets at what
-    → answer_traveller version rule what
-    ≡ traveller_by targets at.packet
+    → answer_flight version rule what
+    ≡ flight_by targets at.packet
     (facts_along at.packet before (answer_items number at what) facts)
 answer_goes targets before number at version rule (answer.Decided decision cache onward) facts seen
     of comes =
@@ -210,8 +210,8 @@ answer_goes targets before number at version rule (answer.Decided decision cache
     (sent_from number (messages_in (cache_message at.ingress cache))) at at.ingress decision onward
     facts (sends_unnamed at.packet number (cache_message at.ingress cache)) seen comes
 answer_goes targets before number at version rule (answer.Seek tunnel) facts seen of comes =
-    let P : ℕ → Option ℕ → TunnelValue → Type 0 = λ v r t. answer_traveller v r (answer.Seek t)
-    ≡ traveller_by targets at.packet
+    let P : ℕ → Option ℕ → TunnelValue → Type 0 = λ v r t. answer_flight v r (answer.Seek t)
+    ≡ flight_by targets at.packet
     (facts_along at.packet before (answer_items number at (answer.Seek t)) facts) in
     subst (λ v. P v rule tunnel) (sym of.its_version)
     (subst (λ r. P (unwrap_or (option_map (λ decision. decision.version) facts.decision) 0) r
@@ -232,8 +232,8 @@ GoesIn targets at (entered.Answered what) =
 pub entered_goes : (targets : Targets) (before : List Item) (number : ℕ) (at : Standing)
     (what : Entered) (facts : PacketFacts) → IsUnknown facts → facts.found ≡ at.down
     → GoesIn targets at what
-    → entered_traveller what
-    ≡ traveller_by targets at.packet
+    → entered_flight what
+    ≡ flight_by targets at.packet
     (facts_along at.packet before (entered_items number at what) facts)
 entered_goes targets before number at entered.Closed facts unknown unmarked comes =
     rw unknown.travels refl
@@ -241,8 +241,8 @@ entered_goes targets before number at (entered.Answered what) facts unknown unma
     let own : (at.packet == at.packet) ≡ true = eq-eqb _ _ refl in
     let came : Item = item.Entered at.packet at.switch at.header in
     let seen : PacketFacts = facts_after (retired_mark before) came facts in
-    let P : Bool → Type 0 = λ b. answer_traveller 0 None what
-    ≡ traveller_by targets at.packet (facts_along at.packet (before ++ came ∷ [])
+    let P : Bool → Type 0 = λ b. answer_flight 0 None what
+    ≡ flight_by targets at.packet (facts_along at.packet (before ++ came ∷ [])
     (answer_items number at what)
     (if b then facts_after (retired_mark before) came facts else facts)) in
     subst P (sym own)

@@ -12,7 +12,7 @@ use Rattle.steps.specs.declared.step.Step.TheVariants.{Confirm}
 use Rattle.switch_core.specs.State.{SwitchValue}
 use Rattle.refinement.specs.SwitchOf.{switch_of}
 use Rattle.update_machine.specs.Boots.{is_up}
-use Rattle.update_machine.specs.Moves.{put}
+use Rattle.update_machine.specs.Moves.{items_then}
 use Rattle.update_machine.specs.Pieces.{confirm_items, nothing, piece}
 use Rattle.steps.specs.Steps.{IsStep}
 use Rattle.update_machine.specs.Setting.{Setting}
@@ -21,17 +21,17 @@ use Rattle.update_machine.proofs.CallerLemmas.{switch_keeps}
 use Rattle.version_update.specs.Marks.{at_switch}
 use Rattle.version_update.specs.Record.{after_over}
 use Rattle.world_log.specs.Sending.{MayNote, act_items, act_posts}
-use Rattle.refinement.specs.Tied.{AreTied, Control}
+use Rattle.refinement.specs.Refinement.{RefineJournal, Control}
 use Rattle.refinement.specs.Bags.{IsBagOf}
-use Rattle.travelling.specs.Travelling.{Travellers}
+use Rattle.travelling.specs.Travelling.{Flights}
 use Rattle.refinement.proofs.ActItems.{written_is}
 use Rattle.refinement.proofs.Delivering.{nothing_happens}
 use Rattle.refinement.proofs.Known.{reached_known}
 use Rattle.refinement.proofs.OneItem.{grown}
 use Rattle.refinement.proofs.Posting.{bag_on}
 use Rattle.refinement.proofs.Switches.{switch_is, switch_known}
-use Rattle.refinement.proofs.Told.{tied_told}
-use Rattle.refinement.proofs.Tying.{links_stay, switches_stay, up_stay}
+use Rattle.refinement.proofs.Told.{refines_told}
+use Rattle.refinement.proofs.Refining.{links_stay, switches_stay, up_stay}
 use Rattle.refinement.proofs.Sendable.{may_note}
 
 -- a switch is up as the journal says
@@ -41,26 +41,27 @@ unfolding switch_of
 up_as setting journal s = refl
 
 module _ (control : Control) (setting : Setting) (journal : List Item)
-    (switches : List SwitchValue) (before : Travellers) (count row s : ℕ) (own : SwitchValue)
-    (tied : AreTied setting journal switches before count control)
+    (switches : List SwitchValue) (before : Flights) (count row s : ℕ) (own : SwitchValue)
+    (refines : RefineJournal setting journal switches before count control)
     (may : IsStep setting.net (length setting.policies) (Confirm s)) (own_at : own ≡ get_or switches s own) where
   own_up : is_up journal s ≡ own.is_up
   own_up = sym (up_as setting journal s) ∙ ap (λ (w : SwitchValue). w.is_up)
-      (sym (switch_is control setting journal switches before count s own tied may own_at))
+      (sym (switch_is control setting journal switches before count s own refines may own_at))
 
   pub still_up : own.is_up ≡ true
       → (piece setting journal row (Confirm s) ≡ item.Row row (Confirm s) ∷ nothing)
-      × AreTied setting (grown journal row (Confirm s) item.Nothing) switches before count control
+      × RefineJournal setting (grown journal row (Confirm s) item.Nothing) switches before count
+      control
   unfolding piece confirm_items
   still_up up =
       let rowed : List Item = journal ++ item.Row row (Confirm s) ∷ [] in
       let here : is_up rowed s ≡ true =
       (switch_keeps setting s journal (item.Row row (Confirm s) ∷ []) (refl, tt)).up
       ∙ own_up ∙ up in
-      nothing_happens control setting journal switches before count row (Confirm s) tied may
+      nothing_happens control setting journal switches before count row (Confirm s) refines may
       (λ q. refl) (ap (λ b. item.Row row (Confirm s) ∷ elim b [
         | true ↦ nothing
-        | false ↦ put (item.OverNow s ∷ []) (machine.settling setting) rowed
+        | false ↦ items_then (item.OverNow s ∷ []) (machine.settling setting) rowed
       ]) here)
 
   module _ (new : ControllerValue) (down : own.is_up ≡ false)
@@ -73,16 +74,16 @@ module _ (control : Control) (setting : Setting) (journal : List Item)
     first = item.Row row (Confirm s) ∷ item.OverNow s ∷ []
 
     bag_behind : IsBagOf (journal ++ first) control.posts
-    unfolding AreTied
-    bag_behind = bag_on journal first control.posts (refl, (refl, tt)) tied.bag
+    unfolding RefineJournal
+    bag_behind = bag_on journal first control.posts (refl, (refl, tt)) refines.bag
 
     confirms_so : AreWritten setting journal first acts new
         (piece setting journal row (Confirm s))
-    unfolding AreTied
+    unfolding RefineJournal
     confirms_so = confirms setting journal row s control.controller new
-        (reached_known setting journal tied.sound tied.reached).caused tied.controller
+        (reached_known setting journal refines.sound refines.reached).caused refines.controller
         (own_up ∙ down)
-        (switch_known control setting journal switches before count s tied may) settles
+        (switch_known control setting journal switches before count s refines may) settles
 
     pub gone_piece : piece setting journal row (Confirm s) ≡ item.Row row (Confirm s)
         ∷ item.OverNow s ∷ act_items (length control.posts + 1) acts
@@ -90,14 +91,14 @@ module _ (control : Control) (setting : Setting) (journal : List Item)
         ∙ ap (λ items. first ++ items) (written_is (journal ++ first) acts
         ∙ ap (λ k. act_items k acts) bag_behind.many)
 
-    pub gone_tied : AreTied setting (journal ++ item.Row row (Confirm s) ∷ item.OverNow s
+    pub gone_refines : RefineJournal setting (journal ++ item.Row row (Confirm s) ∷ item.OverNow s
         ∷ act_items (length control.posts + 1) acts) switches before count
         (record control { controller = new; posts = control.posts ++ act_posts acts })
-    unfolding AreTied
-    gone_tied = tied_told control (record control { controller = new }) setting journal
-        switches switches before count row (Confirm s) (item.OverNow s ∷ []) acts tied
+    unfolding RefineJournal
+    gone_refines = refines_told control (record control { controller = new }) setting journal
+        switches switches before count row (Confirm s) (item.OverNow s ∷ []) acts refines
         (search (rules, gone_piece, bag_behind, confirms_so, switches_stay, links_stay, up_stay))
 
     pub gone_may : length control.posts < 990_000 → MayNote control.posts acts
     gone_may = may_note control setting journal switches before count row (Confirm s)
-        (item.OverNow s ∷ []) control.posts acts tied may gone_piece refl
+        (item.OverNow s ∷ []) control.posts acts refines may gone_piece refl

@@ -16,7 +16,7 @@ use Rattle.journal.specs.declared.item.Item.{Item}
 use Rattle.journal.specs.declared.item.Item.TheVariants as item
 use Rattle.update_machine.specs.Causes.{HaveCauses}
 use Rattle.update_machine.specs.Marks as machine
-use Rattle.update_machine.specs.Marks.{acked_stamp, hello_boot, installed_in, known_boot, open_version, opened_at, said_to_controller, stamped_in}
+use Rattle.update_machine.specs.Marks.{acked_stamp, hello_boot, installed_in, known_boot, open_version, opened_at, body_to_controller, stamped_in}
 use Rattle.update_machine.specs.Setting.{Setting}
 use Rattle.control_laws.specs.ItemCauses.{HasItemCause}
 use Rattle.control_laws.proofs.Facts.{fact_on}
@@ -34,7 +34,7 @@ use Rattle.version_update.specs.declared.record.SwitchRecord.{SwitchRecord}
 use Rattle.version_update.proofs.Acknowledged.{installed_acked}
 use Rattle.controller.specs.Sends.{NamesThere, marks_after}
 use Rattle.refinement.specs.Marks.{AreMarksOf, IsKnown}
-use Rattle.refinement.proofs.Kept.{StaysKnown, known_on, quiet_stays, stay_on, switch_on}
+use Rattle.refinement.proofs.KeptController.{StaysKnown, known_on, quiet_stays, stay_on, switch_on}
 use Rattle.refinement.proofs.Past.{acks_past}
 
 abbrev delivered : ℕ → Item
@@ -43,12 +43,12 @@ delivered n = item.Delivered n
 -- ---- facts behind a message that is told
 
 -- the boot that is known
-boot_told : (here : List Item) (n t : ℕ) (body : Body) → said_to_controller here n ≡ Some body
+boot_told : (here : List Item) (n t : ℕ) (body : Body) → body_to_controller here n ≡ Some body
     → known_boot (here ++ delivered n ∷ []) t ≡ raised (known_boot here t) (hello_boot t body)
 boot_told here n t body said = known_more here (delivered n) t
     ∙ ap (λ o. raised (known_boot here t) (option_and_then (hello_boot t) o)) said
 
-over_told : (here : List Item) (n t : ℕ) (body : Body) → said_to_controller here n ≡ Some body
+over_told : (here : List Item) (n t : ℕ) (body : Body) → body_to_controller here n ≡ Some body
     → machine.is_over (here ++ delivered n ∷ []) t
     ≡ (if option_map_or (λ boot. nat_lt (known_boot here t) boot) (hello_boot t body) false
     then false else machine.is_over here t)
@@ -57,13 +57,13 @@ over_told here n t body said = over_more here (delivered n) t
     (option_and_then (hello_boot t) o) false then false else machine.is_over here t) said
 
 tells_said : {X : Type 0} (reads : Body → Option X) (here : List Item) (n : ℕ) (body : Body)
-    → said_to_controller here n ≡ Some body
+    → body_to_controller here n ≡ Some body
     → tells reads here (delivered n) ≡ option_to_list (reads body)
 tells_said reads here n body said =
     ap (λ o. option_to_list (option_and_then reads o)) said
 
 -- in a boot that stays, what is acknowledged
-acked_told : (here : List Item) (n t v : ℕ) (body : Body) → said_to_controller here n ≡ Some body
+acked_told : (here : List Item) (n t v : ℕ) (body : Body) → body_to_controller here n ≡ Some body
     → known_boot (here ++ delivered n ∷ []) t ≡ known_boot here t
     → machine.has_acked (here ++ delivered n ∷ []) t v
     ≡ (machine.has_acked here t v
@@ -74,7 +74,7 @@ acked_told here n t v body said known =
     (tells_said (installed_in t (known_boot here t)) here n body said)
 
 -- and the acknowledged stamp
-stamp_told : (here : List Item) (n t : ℕ) (body : Body) → said_to_controller here n ≡ Some body
+stamp_told : (here : List Item) (n t : ℕ) (body : Body) → body_to_controller here n ≡ Some body
     → known_boot (here ++ delivered n ∷ []) t ≡ known_boot here t
     → acked_stamp (here ++ delivered n ∷ []) t
     ≡ fold max (acked_stamp here t) (option_to_list (stamped_in t (known_boot here t) body))
@@ -96,7 +96,7 @@ record AckStays (here after : List Item) (s : ℕ) : Type 0 where
   opened : opened_at after s ≡ opened_at here s
   member : machine.is_member after s ≡ machine.is_member here s
 
-ack_stays : (here : List Item) (n s : ℕ) (body : Body) → said_to_controller here n ≡ Some body
+ack_stays : (here : List Item) (n s : ℕ) (body : Body) → body_to_controller here n ≡ Some body
     → hello_boot s body ≡ None → AckStays here (here ++ delivered n ∷ []) s
 ack_stays here n s body said no_hello =
     let after : List Item = here ++ delivered n ∷ [] in
@@ -117,7 +117,7 @@ ack_stays here n s body said no_hello =
 
 -- ---- a body that tells nothing of a switch
 
-untold : (here : List Item) (n t : ℕ) (body : Body) → said_to_controller here n ≡ Some body
+untold : (here : List Item) (n t : ℕ) (body : Body) → body_to_controller here n ≡ Some body
     → hello_boot t body ≡ None → installed_in t (known_boot here t) body ≡ None
     → stamped_in t (known_boot here t) body ≡ None
     → StaysKnown here (here ++ delivered n ∷ []) t
@@ -138,7 +138,7 @@ untold here n t body said hello installed stamped =
 
 -- a hello that isn't of a greater boot
 late_hello : (here : List Item) (n s boot : ℕ)
-    → said_to_controller here n ≡ Some (Hello s boot) → nat_lt (known_boot here s) boot ≡ false
+    → body_to_controller here n ≡ Some (Hello s boot) → nat_lt (known_boot here s) boot ≡ false
     → StaysKnown here (here ++ delivered n ∷ []) s
 late_hello here n s boot said late =
     let body : Body = Hello s boot in
@@ -176,7 +176,7 @@ closed_now here n s boot are now later =
 
 -- and acknowledged nothing in it
 none_acked : (here : List Item) (n s boot v : ℕ) (body : Body)
-    → said_to_controller here n ≡ Some body → installed_in s boot body ≡ None
+    → body_to_controller here n ≡ Some body → installed_in s boot body ≡ None
     → known_boot (here ++ delivered n ∷ []) s ≡ boot → known_boot here s < boot
     → told_by (installed_in s boot) here ≡ []
     → machine.has_acked (here ++ delivered n ∷ []) s v ≡ false
@@ -190,7 +190,7 @@ none_acked here n s boot v body said silent now later none =
 
 new_hello : (setting : Setting) (here : List Item) (n s boot : ℕ)
     → HaveCauses (HasItemCause setting) [] here
-    → said_to_controller here n ≡ Some (Hello s boot) → nat_lt (known_boot here s) boot ≡ true
+    → body_to_controller here n ≡ Some (Hello s boot) → nat_lt (known_boot here s) boot ≡ true
     → IsKnown (here ++ delivered n ∷ []) s
     (record { boot = boot; phase = Joining; acked = 0; open_version = 0; acked_stamp = 0 })
 unfolding machine.is_member
@@ -224,7 +224,7 @@ new_hello setting here n s boot have said new =
 
 hello_known : (setting : Setting) (here : List Item) (n s boot : ℕ) (known : SwitchRecord)
     → HaveCauses (HasItemCause setting) [] here
-    → said_to_controller here n ≡ Some (Hello s boot) → IsKnown here s known
+    → body_to_controller here n ≡ Some (Hello s boot) → IsKnown here s known
     → IsKnown (here ++ delivered n ∷ []) s (hello_recorded boot known)
 hello_known setting here n s boot known have said is =
     by_taken (takes_hello boot known) refl
@@ -278,7 +278,7 @@ abbrev behind_delivery : List Item → ℕ → List Item
 behind_delivery here n = here ++ delivered n ∷ []
 
 installed_known : (here : List Item) (n s boot v : ℕ) (known : SwitchRecord) → 1 ≤ v
-    → said_to_controller here n ≡ Some (Installed s boot v) → IsKnown here s known
+    → body_to_controller here n ≡ Some (Installed s boot v) → IsKnown here s known
     → IsKnown (here ++ delivered n ∷ []) s (after_installed boot v known)
 installed_known here n s boot v known there said is = by_taken (takes_installed boot known) refl
   where
@@ -319,7 +319,7 @@ installed_known here n s boot v known there said is = by_taken (takes_installed 
         known_as here (behind_delivery here n) s known known stays is refl refl refl (acked false e) stamp
 
 stamped_known : (here : List Item) (n s boot v : ℕ) (known : SwitchRecord)
-    → said_to_controller here n ≡ Some (Stamped s boot v) → IsKnown here s known
+    → body_to_controller here n ≡ Some (Stamped s boot v) → IsKnown here s known
     → IsKnown (here ++ delivered n ∷ []) s (after_stamped boot v known)
 stamped_known here n s boot v known said is = by_taken (takes_stamped boot known) refl
   where
@@ -372,7 +372,7 @@ told_on setting here n s marks change others there own are =
 
 pub marks_told : (setting : Setting) (here : List Item) (n : ℕ) (body : Body)
     (marks : MarksValue) → HaveCauses (HasItemCause setting) [] here
-    → said_to_controller here n ≡ Some body → NamesThere body marks
+    → body_to_controller here n ≡ Some body → NamesThere body marks
     → AreMarksOf setting here marks
     → AreMarksOf setting (here ++ item.Delivered n ∷ []) (marks_after body marks)
 marks_told setting here n (Hello s boot) marks have said there are =

@@ -3,15 +3,15 @@ use Rattle.std.proofs.Common.{ℕ, ◌≡◌, ◌+◌, ◌<◌, ◌==◌, Bool, 
 use Rattle.std.specs.Prelude.{is_some, ◌||◌}
 use Rattle.std.specs.Option.{option_map_or}
 use Rattle.std.proofs.lemmas.List.{length-set}
-use Rattle.message_bag.specs.Posts.{IsMessageOf, Post, is_post_deliverable, posted, with_delivered, with_status}
-use Rattle.message_bag.specs.Deliveries.{delivered}
+use Rattle.message_bag.specs.Posts.{IsMessageOf, Post, is_post_deliverable, new_post, with_delivered, with_status}
+use Rattle.message_bag.specs.Deliveries.{delivered_status}
 use Rattle.message_bag.proofs.Numbered.{length_changed}
 use Rattle.refinement.specs.Written.{AreWritten}
 use Rattle.refinement.proofs.Calls.{hears}
 use Rattle.refinement.proofs.Resends.{names_there}
 use Rattle.refinement.proofs.Steps.{steps_leave}
 use Rattle.controller.specs.Controller.{ControllerValue, SettlesWith}
-use Rattle.controller.specs.Sends.{NamesThere, marks_after, hearing}
+use Rattle.controller.specs.Sends.{NamesThere, marks_after, hear_acts}
 use Rattle.controller.specs.declared.sends.Act.{Act}
 use Rattle.controller.specs.declared.sends.Act.TheVariants.{Post as PostAct}
 use Rattle.ctrl_msg.specs.declared.message.Message.{Message}
@@ -20,11 +20,11 @@ use Rattle.ctrl_msg.specs.declared.message.Receiver.TheVariants as receiver
 use Rattle.journal.specs.declared.item.Item.{Item}
 use Rattle.journal.specs.declared.item.Item.TheVariants as item
 use Rattle.steps.specs.declared.step.Step.TheVariants.{Deliver}
-use Rattle.switch_core.specs.Hearing.{with_message, opened, replies}
+use Rattle.switch_core.specs.Hearing.{with_message, opening_stamp, replies}
 use Rattle.switch_core.specs.State.{SwitchValue}
 use Rattle.refinement.specs.Hearing.{HearsShut}
 use Rattle.refinement.specs.SwitchOf.{switch_of}
-use Rattle.refinement.proofs.Delivered.{hear_ties}
+use Rattle.refinement.proofs.Delivered.{hearing_refines}
 use Rattle.refinement.proofs.Links.{kept_is}
 use Rattle.update_machine.specs.Concerns.{is_message_to, is_message_to_controller}
 use Rattle.update_machine.specs.Deliveries.{delivery_items}
@@ -38,17 +38,17 @@ use Rattle.update_machine.specs.Boots.{is_to_switch}
 use Rattle.update_machine.specs.Links.{message_of}
 use Rattle.update_machine.proofs.CallerLemmas.{message_keeps}
 use Rattle.world_log.specs.Sending.{MayNote, MaySend, act_items, act_posts}
-use Rattle.refinement.specs.Tied.{AreTied, Control}
+use Rattle.refinement.specs.Refinement.{RefineJournal, Control}
 use Rattle.refinement.specs.Bags.{IsBagOf}
-use Rattle.travelling.specs.Travelling.{Travellers}
+use Rattle.travelling.specs.Travelling.{Flights}
 use Rattle.world_log.proofs.Sends.{posts_as_acts, sent_as_acts}
 use Rattle.refinement.proofs.ActItems.{written_is}
 use Rattle.refinement.proofs.Delivering.{deliverable_as, nothing_happens, sent_as}
 use Rattle.refinement.proofs.Known.{reached_known}
 use Rattle.refinement.proofs.OneItem.{grown}
 use Rattle.refinement.proofs.Posting.{bag_delivered, bag_on, within_posts}
-use Rattle.refinement.proofs.Told.{IsTold, tied_told}
-use Rattle.refinement.proofs.Tying.{links_stay, one_changes, up_stay}
+use Rattle.refinement.proofs.Told.{IsTold, refines_told}
+use Rattle.refinement.proofs.Refining.{links_stay, one_changes, up_stay}
 use Rattle.refinement.proofs.Sendable.{may_note, may_send}
 
 -- ---- what a delivery writes
@@ -79,16 +79,18 @@ none_piece setting journal row n may = ap (delivered_if setting journal row n) m
 
 -- no such message may be delivered
 pub undelivered : (control : Control) (setting : Setting) (journal : List Item)
-    (switches : List SwitchValue) (before : Travellers) (count row n : ℕ)
-    → AreTied setting journal switches before count control → IsStep setting.net (length setting.policies) (Deliver n)
+    (switches : List SwitchValue) (before : Flights) (count row n : ℕ)
+    → RefineJournal setting journal switches before count control
+    → IsStep setting.net (length setting.policies) (Deliver n)
     → is_post_deliverable control.posts n ≡ false
     → (piece setting journal row (Deliver n) ≡ item.Row row (Deliver n) ∷ nothing)
-    × AreTied setting (grown journal row (Deliver n) item.Nothing) switches before count control
-unfolding AreTied
-undelivered control setting journal switches before count row n tied may none =
-    nothing_happens control setting journal switches before count row (Deliver n) tied may
+    × RefineJournal setting (grown journal row (Deliver n) item.Nothing) switches before count
+    control
+unfolding RefineJournal
+undelivered control setting journal switches before count row n refines may none =
+    nothing_happens control setting journal switches before count row (Deliver n) refines may
     (λ q. refl)
-    (none_piece setting journal row n (deliverable_as journal control.posts n tied.bag ∙ none))
+    (none_piece setting journal row n (deliverable_as journal control.posts n refines.bag ∙ none))
 
 -- ---- the message
 
@@ -101,32 +103,32 @@ pub record IsThere (setting : Setting) (journal : List Item) (posts : List Post)
   pub as_many : length (with_delivered posts n) ≡ length posts
 
 pub is_there : (control : Control) (setting : Setting) (journal : List Item)
-    (switches : List SwitchValue) (before : Travellers) (count row n : ℕ) (message : Message)
-    → AreTied setting journal switches before count control
+    (switches : List SwitchValue) (before : Flights) (count row n : ℕ) (message : Message)
+    → RefineJournal setting journal switches before count control
     → IsMessageOf control.posts n message
     → IsThere setting journal control.posts row n message
-unfolding AreTied
-is_there control setting journal switches before count row n message tied there = record {
-  sent = sent_as journal control.posts n message tied.bag there;
-  deliverable = deliverable_as journal control.posts n tied.bag ∙ ap is_some there.frames_are;
+unfolding RefineJournal
+is_there control setting journal switches before count row n message refines there = record {
+  sent = sent_as journal control.posts n message refines.bag there;
+  deliverable = deliverable_as journal control.posts n refines.bag ∙ ap is_some there.frames_are;
   bag = subst (λ js. IsBagOf js (with_delivered control.posts n))
       (append_assoc journal (item.Row row (Deliver n) ∷ []) (item.Delivered n ∷ []))
       (bag_delivered (journal ++ item.Row row (Deliver n) ∷ []) control.posts n
       (within_posts control.posts n _ there.frames_are)
-      (bag_on journal (item.Row row (Deliver n) ∷ []) control.posts (refl, tt) tied.bag));
-  as_many = length_changed (with_status delivered) control.posts n;
+      (bag_on journal (item.Row row (Deliver n) ∷ []) control.posts (refl, tt) refines.bag));
+  as_many = length_changed (with_status delivered_status) control.posts n;
 }
 
 -- it is delivered, and then more is written
 pub first_piece : (control : Control) (setting : Setting) (journal : List Item)
-    (switches : List SwitchValue) (before : Travellers) (count row n : ℕ) (message : Message)
-    → AreTied setting journal switches before count control
+    (switches : List SwitchValue) (before : Flights) (count row n : ℕ) (message : Message)
+    → RefineJournal setting journal switches before count control
     → IsMessageOf control.posts n message
     → piece setting journal row (Deliver n) ≡ item.Row row (Deliver n) ∷ item.Delivered n
     ∷ delivery_items setting journal n (grown journal row (Deliver n) (item.Delivered n))
-first_piece control setting journal switches before count row n message tied there =
+first_piece control setting journal switches before count row n message refines there =
     deliver_piece setting journal row n
-    (is_there control setting journal switches before count row n message tied there).deliverable
+    (is_there control setting journal switches before count row n message refines there).deliverable
 
 -- a row leaves a message
 pub row_keeps : (journal : List Item) (row n : ℕ)
@@ -153,38 +155,40 @@ as_told message to = ap (λ p. record { to = p; body = message.body }) to
 
 -- what it names is there
 pub names_known : (control : Control) (setting : Setting) (journal : List Item)
-    (switches : List SwitchValue) (before : Travellers) (count n : ℕ) (message : Message)
-    → AreTied setting journal switches before count control
+    (switches : List SwitchValue) (before : Flights) (count n : ℕ) (message : Message)
+    → RefineJournal setting journal switches before count control
     → IsMessageOf control.posts n message → message.to ≡ receiver.Controller
     → NamesThere message.body control.controller.marks
-unfolding AreTied
-names_known control setting journal switches before count n message tied there to =
+unfolding RefineJournal
+names_known control setting journal switches before count n message refines there to =
     names_there setting journal n message.body control.controller.marks
-    (reached_known setting journal tied.sound tied.reached).tables.names tied.controller.marks
-    (sent_as journal control.posts n message tied.bag there ∙ ap Some (as_told message to))
+    (reached_known setting journal refines.sound refines.reached).tables.names
+    refines.controller.marks
+    (sent_as journal control.posts n message refines.bag there ∙ ap Some (as_told message to))
 
 module _ (control : Control) (setting : Setting) (journal : List Item)
-    (switches : List SwitchValue) (before : Travellers) (count row n : ℕ) (message : Message)
-    (new : ControllerValue) (tied : AreTied setting journal switches before count control)
+    (switches : List SwitchValue) (before : Flights) (count row n : ℕ) (message : Message)
+    (new : ControllerValue) (refines : RefineJournal setting journal switches before count control)
     (may : IsStep setting.net (length setting.policies) (Deliver n)) (there : IsMessageOf control.posts n message)
     (to : message.to ≡ receiver.Controller)
     (settles : SettlesWith (marks_after message.body control.controller.marks)
     control.controller.plans new) where
   its : IsThere setting journal control.posts row n message
-  its = is_there control setting journal switches before count row n message tied there
+  its = is_there control setting journal switches before count row n message refines there
 
   abbrev acts : List Act
-  acts = hearing message.body control.controller.marks new
+  acts = hear_acts message.body control.controller.marks new
 
   abbrev first : List Item
   first = item.Row row (Deliver n) ∷ item.Delivered n ∷ []
 
   heard_so : AreWritten setting journal first acts new (piece setting journal row (Deliver n))
-  unfolding AreTied
+  unfolding RefineJournal
   heard_so = hears setting journal row n message.body control.controller new
-      (reached_known setting journal tied.sound tied.reached).caused tied.controller its.deliverable
+      (reached_known setting journal refines.sound refines.reached).caused refines.controller
+      its.deliverable
       (its.sent ∙ ap Some (as_told message to))
-      (names_known control setting journal switches before count n message tied there to) settles
+      (names_known control setting journal switches before count n message refines there to) settles
 
   pub control_piece : piece setting journal row (Deliver n)
       ≡ item.Row row (Deliver n) ∷ item.Delivered n ∷ act_items (length control.posts + 1) acts
@@ -197,30 +201,31 @@ module _ (control : Control) (setting : Setting) (journal : List Item)
         controller = new;
         posts = with_delivered control.posts n;
       })
-  unfolding AreTied
+  unfolding RefineJournal
   control_told =
       let each : (s : ℕ) (d : SwitchValue) → s < length switches → get_or switches s d
       ≡ switch_of setting (grown journal row (Deliver n) (item.Delivered n)) s =
-      λ s d below. tied.each s d below
+      λ s d below. refines.each s d below
       ∙ sym (not_to setting journal row n s message its.sent (ap (is_to_switch s) to)) in
       search (rules, control_piece, its.bag, its.as_many, heard_so.after, links_stay, up_stay)
 
-  pub control_tied : AreTied setting (journal ++ item.Row row (Deliver n) ∷ item.Delivered n
+  pub control_refines : RefineJournal setting (journal ++ item.Row row (Deliver n)
+      ∷ item.Delivered n
       ∷ act_items (length control.posts + 1) acts) switches before count
       (record control {
         controller = new;
         posts = with_delivered control.posts n ++ act_posts acts;
       })
-  control_tied = tied_told control
+  control_refines = refines_told control
       (record control { controller = new; posts = with_delivered control.posts n }) setting
-      journal switches switches before count row (Deliver n) (item.Delivered n ∷ []) acts tied
+      journal switches switches before count row (Deliver n) (item.Delivered n ∷ []) acts refines
       control_told
 
   -- and it may be written
   pub control_may : length control.posts < 990_000
       → MayNote (with_delivered control.posts n) acts
   control_may = may_note control setting journal switches before count row (Deliver n)
-      (item.Delivered n ∷ []) (with_delivered control.posts n) acts tied may control_piece
+      (item.Delivered n ∷ []) (with_delivered control.posts n) acts refines may control_piece
       its.as_many
 
 -- ---- at a switch that doesn't open
@@ -230,20 +235,20 @@ pub as_sent : (message : Message) (s : ℕ) → message.to ≡ receiver.Switch s
 as_sent message s to = ap (λ p. record { to = p; body = message.body }) to
 
 module _ (control : Control) (setting : Setting) (journal : List Item)
-    (switches : List SwitchValue) (before : Travellers) (count row n s : ℕ) (message : Message)
+    (switches : List SwitchValue) (before : Flights) (count row n s : ℕ) (message : Message)
     (own changed : SwitchValue) (mask : ℕ)
-    (tied : AreTied setting journal switches before count control)
+    (refines : RefineJournal setting journal switches before count control)
     (may : IsStep setting.net (length setting.policies) (Deliver n)) (there : IsMessageOf control.posts n message)
     (to : message.to ≡ receiver.Switch s) (within : s < length switches)
     (own_at : own ≡ get_or switches s own) (near_is : mask ≡ near setting journal s)
     (changed_is : changed ≡ with_message own n message.body)
-    (shut : opened own message.body ≡ None) where
+    (shut : opening_stamp own message.body ≡ None) where
   mine : IsThere setting journal control.posts row n message
-  mine = is_there control setting journal switches before count row n message tied there
+  mine = is_there control setting journal switches before count row n message refines there
 
   own_is : own ≡ switch_of setting journal s
-  unfolding AreTied
-  own_is = own_at ∙ tied.each s own within
+  unfolding RefineJournal
+  own_is = own_at ∙ refines.each s own within
 
   abbrev messages : List Message
   messages = replies own mask message.body
@@ -252,11 +257,11 @@ module _ (control : Control) (setting : Setting) (journal : List Item)
   reply_acts = map PostAct messages
 
   hears_shut : HearsShut setting journal n s message.body
-  unfolding AreTied
-  hears_shut = hear_ties.shut setting journal n s message.body tied.sound.net (record {
+  unfolding RefineJournal
+  hears_shut = hearing_refines.shut setting journal n s message.body refines.sound.net (record {
     sent = mine.sent ∙ ap Some (as_sent message s to);
-    names = (reached_known setting journal tied.sound tied.reached).tables.names;
-  }) (ap (λ w. opened w message.body) (sym own_is) ∙ shut)
+    names = (reached_known setting journal refines.sound refines.reached).tables.names;
+  }) (ap (λ w. opening_stamp w message.body) (sym own_is) ∙ shut)
 
   number_is : next_message (grown journal row (Deliver n) (item.Delivered n))
       ≡ length control.posts + 1
@@ -284,7 +289,7 @@ module _ (control : Control) (setting : Setting) (journal : List Item)
   shut_told : IsTold setting journal row (Deliver n) (item.Delivered n ∷ []) reply_acts switches
       (set switches s changed) control
       (record control { posts = with_delivered control.posts n })
-  unfolding AreTied
+  unfolding RefineJournal
   shut_told =
       let each : (q : ℕ) (d : SwitchValue) → q < length switches → get_or (set switches s changed) q d
       ≡ switch_of setting (grown journal row (Deliver n) (item.Delivered n)) q = λ q d below.
@@ -292,9 +297,10 @@ module _ (control : Control) (setting : Setting) (journal : List Item)
       changed d (s == q) refl within
       (changed_is ∙ ap (λ w. with_message w n message.body) own_is ∙ sym (hears_shut.record_of row))
       (λ other. not_to setting journal row n q message mine.sent
-      (ap (is_to_switch q) to ∙ other)) (tied.each q d below) in
+      (ap (is_to_switch q) to ∙ other)) (refines.each q d below) in
       let controller = steps_leave setting journal row (Deliver n) control.controller
-      (reached_known setting journal tied.sound tied.reached).caused not_controller tied.controller in
+      (reached_known setting journal refines.sound refines.reached).caused not_controller
+      refines.controller in
       search (rules, shut_piece_acts, mine.bag, mine.as_many, length-set, links_stay, up_stay)
 
   pub shut_piece : piece setting journal row (Deliver n)
@@ -303,24 +309,25 @@ module _ (control : Control) (setting : Setting) (journal : List Item)
       ∙ ap (λ items. item.Row row (Deliver n) ∷ item.Delivered n ∷ items)
       (sent_as_acts (length control.posts + 1) messages)
 
-  pub shut_tied : AreTied setting (journal ++ item.Row row (Deliver n) ∷ item.Delivered n
+  pub shut_refines : RefineJournal setting (journal ++ item.Row row (Deliver n) ∷ item.Delivered n
       ∷ sent_from (length control.posts + 1) messages) (set switches s changed) before count
-      (record control { posts = with_delivered control.posts n ++ map posted messages })
-  shut_tied = subst (λ items. AreTied setting (journal ++ item.Row row (Deliver n)
+      (record control { posts = with_delivered control.posts n ++ map new_post messages })
+  shut_refines = subst (λ items. RefineJournal setting (journal ++ item.Row row (Deliver n)
       ∷ item.Delivered n ∷ items) (set switches s changed) before count (record control {
-        posts = with_delivered control.posts n ++ map posted messages;
+        posts = with_delivered control.posts n ++ map new_post messages;
       })) (sent_as_acts (length control.posts + 1) messages)
-      (subst (λ posts. AreTied setting (journal ++ item.Row row (Deliver n)
+      (subst (λ posts. RefineJournal setting (journal ++ item.Row row (Deliver n)
       ∷ item.Delivered n ∷ act_items (length control.posts + 1) reply_acts) (set switches s changed)
       before count (record control { posts = with_delivered control.posts n ++ posts }))
       (posts_as_acts messages)
-      (tied_told control (record control { posts = with_delivered control.posts n }) setting
+      (refines_told control (record control { posts = with_delivered control.posts n }) setting
       journal switches (set switches s changed) before count row (Deliver n)
-      (item.Delivered n ∷ []) reply_acts tied shut_told))
+      (item.Delivered n ∷ []) reply_acts refines shut_told))
 
   pub shut_may : length control.posts < 990_000
       → MaySend (with_delivered control.posts n) messages
   shut_may room = may_send (with_delivered control.posts n) messages
       (may_note control setting journal switches before count row (Deliver n)
-      (item.Delivered n ∷ []) (with_delivered control.posts n) reply_acts tied may shut_piece_acts
+      (item.Delivered n ∷ []) (with_delivered control.posts n) reply_acts refines may
+      shut_piece_acts
       mine.as_many room)

@@ -11,11 +11,11 @@ use Rattle.ctrl_msg.specs.Kinds.{is_for_controller}
 use Rattle.failover.specs.Adverts.{after_hearing}
 use Rattle.journal.specs.declared.item.Item.{Item}
 use Rattle.journal.specs.declared.item.Item.TheVariants as item
-use Rattle.switch_core.specs.Hearing.{after_body, collected_to, with_message, informed, installed, is_news_here, obeys, opened, opened_by, raised_to, replies_to}
+use Rattle.switch_core.specs.Hearing.{after_body, collected_to, with_message, with_heard, with_installed, is_news_here, obeys, opening_stamp, opened_by, raised_to, replies_to}
 use Rattle.switch_core.specs.State.{SwitchValue, holds_version}
-use Rattle.switch_table.specs.Cache.{raised}
+use Rattle.switch_table.specs.Cache.{after_raise}
 use Rattle.switch_table.specs.declared.tables.Tables.{Tables}
-use Rattle.update_machine.specs.Boots.{boot_of, heard, is_for_boot, is_up, said_to}
+use Rattle.update_machine.specs.Boots.{boot_of, heard, is_for_boot, is_up, body_to_switch}
 use Rattle.update_machine.specs.Setting.{Setting}
 use Rattle.update_machine.specs.Settling.{to_switch}
 use Rattle.update_machine.specs.Links.{message_of}
@@ -80,8 +80,8 @@ obeyed_by switch n body up own is mine =
 -- a message that was sent to the switch says its body where it is meant
 pub said_is : (before : List Item) (s n : ℕ) (body : Body)
     → message_of before n ≡ Some (to_switch s body)
-    → said_to before s n ≡ (if is_meant before s body then Some body else None)
-said_is before s n body sent = rw (sent, eq-eqb s s refl, said_to) refl
+    → body_to_switch before s n ≡ (if is_meant before s body then Some body else None)
+said_is before s n body sent = rw (sent, eq-eqb s s refl, body_to_switch) refl
 
 -- ---- the record
 
@@ -139,7 +139,7 @@ or_kept false switch tables = refl
 
 kept_by : (switch : SwitchValue) (n : ℕ) (body : Body) → opened_by switch body ≡ None
     → (after_body switch n body).is_open ≡ switch.is_open
-unfolding installed raised_to collected_to informed
+unfolding with_installed raised_to collected_to with_heard
 kept_by switch n (Install boot tables) shut =
     or_kept (holds_version switch tables.version || nat_le tables.version switch.collected) switch
     tables
@@ -152,7 +152,7 @@ kept_by switch n (Stamp boot version) shut = by_test (nat_lt switch.stamp versio
   where
     by_test : (b : Bool) → (if b then record switch {
       stamp = version;
-      cache = raised version switch.cache;
+      cache = after_raise version switch.cache;
     } else switch).is_open ≡ switch.is_open
     by_test true = refl
     by_test false = refl
@@ -166,9 +166,9 @@ kept_by switch n (Advertise advert) shut = by_test (is_news_here switch advert)
 kept_by switch n _ shut = refl
 
 -- a switch that doesn't open is open or closed as before
-pub open_kept : (switch : SwitchValue) (n : ℕ) (body : Body) → opened switch body ≡ None
+pub open_kept : (switch : SwitchValue) (n : ℕ) (body : Body) → opening_stamp switch body ≡ None
     → (with_message switch n body).is_open ≡ switch.is_open
-unfolding with_message opened
+unfolding with_message opening_stamp
 open_kept switch n body shut = by_test (obeys switch body) shut
   where
     by_test : (b : Bool) → (if b then opened_by switch body else None) ≡ None
@@ -184,7 +184,7 @@ opens_by switch n stamp (OpenAt boot version) opens = (refl, by_open switch.is_o
     by_test : (b : Bool) → nat_lt switch.stamp version ≡ b → max switch.stamp version
         ≡ (if b then record switch {
           stamp = version;
-          cache = raised version switch.cache;
+          cache = after_raise version switch.cache;
         } else switch).stamp
     by_test true is = grind (arith, nat_tests)
     by_test false is = grind (arith, nat_tests)
@@ -192,7 +192,7 @@ opens_by switch n stamp (OpenAt boot version) opens = (refl, by_open switch.is_o
     by_open : (b : Bool) → (if b then None else Some (max switch.stamp version)) ≡ Some stamp
         → stamp ≡ (if nat_lt switch.stamp version then record switch {
           stamp = version;
-          cache = raised version switch.cache;
+          cache = after_raise version switch.cache;
         } else switch).stamp
     by_open true opens = absurd cc
     by_open false opens =
@@ -201,9 +201,10 @@ opens_by switch n stamp (OpenAt boot version) opens = (refl, by_open switch.is_o
 opens_by switch n stamp _ opens = absurd cc
 
 -- one that opens is open, with this stamp
-pub opens_as : (switch : SwitchValue) (n stamp : ℕ) (body : Body) → opened switch body ≡ Some stamp
+pub opens_as : (switch : SwitchValue) (n stamp : ℕ) (body : Body) → opening_stamp switch body
+    ≡ Some stamp
     → ((with_message switch n body).is_open ≡ true) × (stamp ≡ (with_message switch n body).stamp)
-unfolding with_message opened
+unfolding with_message opening_stamp
 opens_as switch n stamp body opens = by_test (obeys switch body) opens
   where
     by_test : (b : Bool) → (if b then opened_by switch body else None) ≡ Some stamp

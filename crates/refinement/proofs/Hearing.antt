@@ -10,12 +10,12 @@ use Rattle.std.proofs.lemmas.List.Elements.{filter_map-append}
 use Rattle.std.proofs.lemmas.List.Sums.{fold-append}
 use Rattle.ctrl_msg.specs.declared.message.Body.{Body}
 use Rattle.ctrl_msg.specs.declared.message.Body.TheVariants.{Install, OpenAt, Stamp, Collect, CacheRule, Advertise, Hello, Installed, Stamped}
-use Rattle.failover.specs.Adverts.{after_hearing, held, is_news, is_newer}
+use Rattle.failover.specs.Adverts.{after_hearing, held_advert, is_news, is_newer}
 use Rattle.failover.specs.declared.advert.Advert.{Advert}
 use Rattle.failover.proofs.Adverts.{after_no_news}
-use Rattle.switch_core.specs.Hearing.{after_body, collected_to, informed, installed, is_news_here, raised_to}
+use Rattle.switch_core.specs.Hearing.{after_body, collected_to, with_heard, with_installed, is_news_here, raised_to}
 use Rattle.switch_core.specs.State.{SwitchValue}
-use Rattle.switch_table.specs.Cache.{raised}
+use Rattle.switch_table.specs.Cache.{after_raise}
 use Rattle.switch_table.specs.declared.tables.Tables.{Tables}
 use Rattle.update_machine.specs.LinkMasks.{other_advert}
 use Rattle.update_machine.specs.Caches.{cache_after}
@@ -75,8 +75,8 @@ was s w stamp collected all others = filled s w stamp collected (above collected
 hears_tables : (s : ℕ) (w : SwitchFacts) (stamp collected boot : ℕ) (all : List Tables)
     (others : List (Option Advert)) (tables : Tables)
     → filled s w stamp collected (above collected (with_tables all tables)) others
-    ≡ installed (was s w stamp collected all others) tables
-unfolding installed
+    ≡ with_installed (was s w stamp collected all others) tables
+unfolding with_installed
 hears_tables s w stamp collected boot all others tables =
     by_mark (nat_le tables.version collected) refl
   where
@@ -102,8 +102,8 @@ hears_tables s w stamp collected boot all others tables =
         ap (λ list. filled s w stamp collected list others)
         (above_more collected all tables ∙ rw over refl)
 
-    held : Bool
-    held = is_some (find (λ other. other.version == tables.version) old)
+    held_advert : Bool
+    held_advert = is_some (find (λ other. other.version == tables.version) old)
 
     by_held : (past b : Bool) → kept (b || past) (tables ∷ [])
         ≡ (if b || past then filled s w stamp collected old others
@@ -124,18 +124,18 @@ hears_tables s w stamp collected boot all others tables =
     past_any false false = refl
 
     same : (past : Bool) → nat_le tables.version collected ≡ past
-        → kept (came || past) (tables ∷ []) ≡ kept (held || past) (tables ∷ [])
-    same true is = past_any came held
+        → kept (came || past) (tables ∷ []) ≡ kept (held_advert || past) (tables ∷ [])
+    same true is = past_any came held_advert
     same false is = ap (λ b. kept (b || false) (tables ∷ []))
         (sym (found_above collected tables.version (over_mark false is) all))
 
     by_mark : (past : Bool) → nat_le tables.version collected ≡ past
         → filled s w stamp collected (above collected (with_tables all tables)) others
-        ≡ (if held || nat_le tables.version collected
+        ≡ (if held_advert || nat_le tables.version collected
         then filled s w stamp collected old others
         else filled s w stamp collected (old ++ tables ∷ []) others)
     by_mark past is = rw is (by_came past (over_mark past is) came ∙ same past is
-        ∙ by_held past held)
+        ∙ by_held past held_advert)
 
 -- a greater stamp raises the cache
 hears_stamp : (s : ℕ) (w : SwitchFacts) (stamp collected version : ℕ) (tables : List Tables)
@@ -152,7 +152,8 @@ hears_stamp s w stamp collected version tables others = by_test (nat_lt stamp ve
           cache = cache_after stamp (max stamp version) 0 w.cache (Stamp 0 version);
         }) (max stamp version) collected tables others
         ≡ (if nat_lt stamp version
-        then filled s (record w { cache = raised version w.cache }) version collected tables others
+        then filled s (record w { cache = after_raise version w.cache }) version collected tables
+        others
         else filled s w stamp collected tables others)
     by_test true is =
         let greater : max stamp version ≡ version = grind (arith, nat_tests) in
@@ -168,10 +169,10 @@ hears_beside : (others : List (Option Advert)) (own : Option Advert) (s : ℕ) (
     → set (after_hearing others advert) s own ≡ after_hearing (set others s own) advert
 unfolding after_hearing is_news
 hears_beside others own s advert other =
-    let as_held : held (set others s own) advert.origin ≡ held others advert.origin =
+    let as_held : held_advert (set others s own) advert.origin ≡ held_advert others advert.origin =
     get_or-set_other others s advert.origin own None other in
     rw as_held (by_test (nat_lt advert.origin 64
-    && option_map_or (is_newer advert) (held others advert.origin) true))
+    && option_map_or (is_newer advert) (held_advert others advert.origin) true))
   where
     by_test : (b : Bool) → set (if b then set others advert.origin (Some advert) else others) s own
         ≡ (if b then set (set others s own) advert.origin (Some advert) else set others s own)
@@ -182,8 +183,8 @@ hears_advert : (s : ℕ) (w : SwitchFacts) (stamp collected : ℕ) (tables : Lis
     (others : List (Option Advert)) (advert : Advert)
     → filled s w stamp collected tables
     (option_map_or (after_hearing others) (other_advert s (Advertise advert)) others)
-    ≡ informed (filled s w stamp collected tables others) advert
-unfolding informed is_news_here
+    ≡ with_heard (filled s w stamp collected tables others) advert
+unfolding with_heard is_news_here
 hears_advert s w stamp collected tables others advert = by_origin (advert.origin == s) refl
   where
     switch : SwitchValue

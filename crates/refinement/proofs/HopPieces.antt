@@ -7,15 +7,15 @@ use Rattle.journal.specs.declared.item.Item.TheVariants as item
 use Rattle.net_file.specs.declared.ports.Ports.{Ports}
 use Rattle.steps.specs.declared.step.Step.TheVariants.{Hop}
 use Rattle.switch_core.specs.Ends.{around}
-use Rattle.switch_core.specs.Answering.{arrived}
-use Rattle.switch_core.specs.Moving.{link_found_down, hopped}
+use Rattle.switch_core.specs.Answering.{arrive_answer}
+use Rattle.switch_core.specs.Moving.{link_found_down, hop_answer}
 use Rattle.switch_core.specs.State.{SwitchValue, call_counted}
 use Rattle.switch_core.specs.declared.answers.HopEnd.{HopEnd}
 use Rattle.switch_core.specs.declared.answers.HopEnd.TheVariants as hop
 use Rattle.tunnel.specs.Moves.{next}
 use Rattle.refinement.specs.Calls.{AreInStep}
 use Rattle.refinement.specs.SwitchOf.{switch_of}
-use Rattle.refinement.proofs.SwitchSteps.{call_ties}
+use Rattle.refinement.proofs.SwitchSteps.{calls_refine}
 use Rattle.update_machine.specs.Concerns.{NoneConcern, concerns_known}
 use Rattle.update_machine.specs.Folds.{count_of}
 use Rattle.update_machine.specs.Handled.{stays_on_way}
@@ -28,19 +28,19 @@ use Rattle.update_machine.specs.Travels.{is_at, travels, travels_at}
 use Rattle.update_machine.specs.Ways.{targets_of}
 use Rattle.packet_laws.specs.Facts.{PacketFacts, what_is_known}
 use Rattle.packet_laws.proofs.PacketFacts.{facts_grow}
-use Rattle.world_log.specs.Packets.{arrival_items, ended_items, ended_switch, hop_written, hop_traveller, hopped_traveller, turned_items}
+use Rattle.world_log.specs.Packets.{arrival_items, ended_items, ended_switch, hop_written, hop_flight, hopped_flight, turned_items}
 use Rattle.travelling.specs.Travelling.{standing_at}
 use Rattle.world_log.proofs.Hopping.{hopped_same}
-use Rattle.travelling.specs.declared.travelling.Traveller.{Traveller}
-use Rattle.refinement.specs.Travellers.{traveller_in}
+use Rattle.travelling.specs.declared.travelling.Flight.{Flight}
+use Rattle.refinement.specs.Flights.{flight_in}
 use Rattle.refinement.proofs.CanAsk.{CanAsk}
-use Rattle.refinement.proofs.Known.{Known, traveller_stays}
+use Rattle.refinement.proofs.Known.{Known, flight_stays}
 use Rattle.refinement.proofs.Later.{arrived_later, hop_sends, later_packets}
 use Rattle.refinement.proofs.Moving.{hop_goes, hop_law, hop_stays, stays_by}
 use Rattle.refinement.proofs.OnWay.{IsStanding, on_leg}
 use Rattle.refinement.proofs.Others.{NoneName, arrived_other, none_more}
 use Rattle.refinement.proofs.Posting.{are_apart}
-use Rattle.refinement.proofs.FactsAlong.{traveller_along}
+use Rattle.refinement.proofs.FactsAlong.{flight_along}
 
 -- ---- what it writes
 
@@ -51,7 +51,7 @@ same_facts : (journal : List Item) (row i q : ℕ)
     → what_is_known (begun journal row i) q ≡ what_is_known journal q
 same_facts journal row i q = facts_grow q journal (item.Row row (Hop i))
 
-pub hop_piece : (setting : Setting) (journal : List Item) (row i : ℕ) (t : Traveller) (s near : ℕ)
+pub hop_piece : (setting : Setting) (journal : List Item) (row i : ℕ) (t : Flight) (s near : ℕ)
     (w : SwitchValue) (ports : Ports) → CanAsk setting journal i t s near w ports
     → piece setting journal row (Hop i)
     ≡ item.Row row (Hop i) ∷ hop_written (next_message journal) w near ports t
@@ -59,17 +59,17 @@ unfolding piece hop_items_of what_is_known
 hop_piece setting journal row i t s near w ports can =
     let new : List Item = begun journal row i in
     let same : what_is_known new i ≡ what_is_known journal i = same_facts journal row i i in
-    let tied : IsStanding setting journal i t = can.standing in
+    let refines : IsStanding setting journal i t = can.standing in
     ap (λ b. item.Row row (Hop i) ∷ elim b [
       | false ↦ nothing
       | true ↦ move_items setting i (unwrap_or (standing new i) 0) new
-    ]) (ap (λ (facts : PacketFacts). facts.travels) same ∙ tied.stands.on)
+    ]) (ap (λ (facts : PacketFacts). facts.travels) same ∙ refines.stands.on)
     ∙ ap (λ o. item.Row row (Hop i) ∷ move_items setting i (unwrap_or o 0) new)
-    (ap (λ (facts : PacketFacts). facts.stands) same ∙ tied.stands.stands)
+    (ap (λ (facts : PacketFacts). facts.stands) same ∙ refines.stands.stands)
     ∙ ap (λ items. item.Row row (Hop i) ∷ items)
-    (hop_law setting journal row i tied.switch tied.header tied.ingress tied.leg w
+    (hop_law setting journal row i refines.switch refines.header refines.ingress refines.leg w
     near ports can.hops
-    ∙ ap (hop_written (next_message journal) w near ports) (sym tied.is))
+    ∙ ap (hop_written (next_message journal) w near ports) (sym refines.is))
 
 -- a packet that doesn't travel
 pub left_piece : (setting : Setting) (journal : List Item) (row i : ℕ) → travels journal i ≡ false
@@ -91,21 +91,21 @@ turned_later i here (Some other) hop.Arrive route rest later = (tt, (tt, later))
 turned_later i here (Some other) (hop.Move next) route rest later = (tt, (tt, later))
 turned_later i here (Some other) (hop.Stuck cause) route rest later = (tt, later)
 
-ended_later : (number : ℕ) (w : SwitchValue) (near : ℕ) (ports : Ports) (t : Traveller)
+ended_later : (number : ℕ) (w : SwitchValue) (near : ℕ) (ports : Ports) (t : Flight)
     (end : HopEnd) → AreInStep (ended_items number w near ports t end)
 unfolding arrival_items
 ended_later number w near ports t hop.Arrive =
-    arrived_later number (standing_at w.number t) t (arrived w (around near ports) t.tunnel)
+    arrived_later number (standing_at w.number t) t (arrive_answer w (around near ports) t.tunnel)
 ended_later number w near ports t (hop.Move other) = (tt, tt)
 ended_later number w near ports t (hop.Stuck cause) = (tt, tt)
 
-pub hop_later : (number : ℕ) (w : SwitchValue) (near : ℕ) (ports : Ports) (t : Traveller)
+pub hop_later : (number : ℕ) (w : SwitchValue) (near : ℕ) (ports : Ports) (t : Flight)
     → AreInStep (hop_written number w near ports t)
 hop_later number w near ports t =
     turned_later t.tunnel.packet w.number (link_found_down near (next t.tunnel))
-    (hopped w near t.tunnel).end (hopped w near t.tunnel).tunnel.route _
-    (ended_later number (call_counted w) near ports (hopped_traveller w near t)
-    (hopped w near t.tunnel).end)
+    (hop_answer w near t.tunnel).end (hop_answer w near t.tunnel).tunnel.route _
+    (ended_later number (call_counted w) near ports (hopped_flight w near t)
+    (hop_answer w near t.tunnel).end)
 
 pub hop_packets : (row i : ℕ) (items : List Item) → AreInStep items
     → count_of is_packet (item.Row row (Hop i) ∷ items) ≡ 0
@@ -132,7 +132,7 @@ calls_of_hop setting journal items row i s k end b later stays none on stands is
     let at : travels_at journal k i ≡ b =
     ap (λ x. x && is_at k (standing journal i)) on
     ∙ ap (is_at k) stands ∙ is in
-    call_ties.hopped setting journal row i k items later none
+    calls_refine.hopped setting journal row i k items later none
     ∙ ap (λ x. if x then (if stays_on_way items then call_counted w else call_counted (call_counted w)) else w) at
     ∙ ap (λ x. if b then (if x then call_counted w else call_counted (call_counted w)) else w) stays
     ∙ ap (λ (u : SwitchValue). if b then u else w) (hopped_by w end)
@@ -146,30 +146,31 @@ turned_other q i here (Some two) hop.Arrive route other = (other, (other, tt))
 turned_other q i here (Some two) (hop.Move next) route other = (other, (other, tt))
 turned_other q i here (Some two) (hop.Stuck cause) route other = (other, tt)
 
-ended_other : (q number : ℕ) (w : SwitchValue) (near : ℕ) (ports : Ports) (t : Traveller)
+ended_other : (q number : ℕ) (w : SwitchValue) (near : ℕ) (ports : Ports) (t : Flight)
     (end : HopEnd) → (t.tunnel.packet == q) ≡ false
     → NoneName q (ended_items number w near ports t end)
 unfolding arrival_items
 ended_other q number w near ports t hop.Arrive other =
-    arrived_other q number (standing_at w.number t) t (arrived w (around near ports) t.tunnel) other
+    arrived_other q number (standing_at w.number t) t (arrive_answer w (around near ports) t.tunnel)
+    other
 ended_other q number w near ports t (hop.Move two) other = (other, tt)
 ended_other q number w near ports t (hop.Stuck cause) other = (other, tt)
 
-pub hop_other : (q number : ℕ) (w : SwitchValue) (near : ℕ) (ports : Ports) (t : Traveller)
+pub hop_other : (q number : ℕ) (w : SwitchValue) (near : ℕ) (ports : Ports) (t : Flight)
     → (t.tunnel.packet == q) ≡ false → NoneName q (hop_written number w near ports t)
 hop_other q number w near ports t other =
-    let m = hopped w near t.tunnel in
+    let m = hop_answer w near t.tunnel in
     none_more q
     (turned_items t.tunnel.packet w.number (link_found_down near (next t.tunnel)) m.end m.tunnel.route)
-    (ended_items number (call_counted w) near ports (hopped_traveller w near t) m.end)
+    (ended_items number (call_counted w) near ports (hopped_flight w near t) m.end)
     (turned_other q t.tunnel.packet w.number (link_found_down near (next t.tunnel)) m.end
     m.tunnel.route other)
-    (ended_other q number (call_counted w) near ports (hopped_traveller w near t) m.end
+    (ended_other q number (call_counted w) near ports (hopped_flight w near t) m.end
     (ap (λ k. k == q) (hopped_same w near t.tunnel).packet ∙ other))
 
 -- ---- the packet and its switch
 
-module _ (setting : Setting) (journal : List Item) (row i : ℕ) (t : Traveller) (s near : ℕ)
+module _ (setting : Setting) (journal : List Item) (row i : ℕ) (t : Flight) (s near : ℕ)
     (w : SwitchValue) (ports : Ports) (can : CanAsk setting journal i t s near w ports) where
   abbrev number : ℕ
   number = next_message journal
@@ -181,38 +182,38 @@ module _ (setting : Setting) (journal : List Item) (row i : ℕ) (t : Traveller)
   all = item.Row row (Hop i) ∷ items
 
   abbrev end : HopEnd
-  end = (hopped w near t.tunnel).end
+  end = (hop_answer w near t.tunnel).end
 
   -- the packet itself
-  pub hop_own : hop_traveller w near ports t ≡ traveller_in setting (journal ++ all) i
+  pub hop_own : hop_flight w near ports t ≡ flight_in setting (journal ++ all) i
   hop_own =
-      let tied : IsStanding setting journal i t = can.standing in
-      subst (λ (u : Traveller). hop_traveller w near ports u ≡ traveller_in setting
-      (journal ++ item.Row row (Hop i) ∷ hop_written number w near ports u) i) (sym tied.is)
-      (hop_goes setting journal row i tied.switch tied.header tied.ingress tied.leg
+      let refines : IsStanding setting journal i t = can.standing in
+      subst (λ (u : Flight). hop_flight w near ports u ≡ flight_in setting
+      (journal ++ item.Row row (Hop i) ∷ hop_written number w near ports u) i) (sym refines.is)
+      (hop_goes setting journal row i refines.switch refines.header refines.ingress refines.leg
       w near ports can.hops
-      ∙ sym (traveller_along setting journal
+      ∙ sym (flight_along setting journal
       (item.Row row (Hop i) ∷ hop_written number w near ports
-      (on_leg (targets_of setting journal) i (what_is_known journal i) tied.header
-      tied.ingress tied.leg)) i (
+      (on_leg (targets_of setting journal) i (what_is_known journal i) refines.header
+      refines.ingress refines.leg)) i (
         refl,
         (are_apart number (begun journal row i)
             (hop_written number w near ports (on_leg (targets_of setting journal) i
-            (what_is_known journal i) tied.header tied.ingress tied.leg))
+            (what_is_known journal i) refines.header refines.ingress refines.leg))
             (hop_sends number w near ports (on_leg (targets_of setting journal) i
-            (what_is_known journal i) tied.header tied.ingress tied.leg)).0).policies,
+            (what_is_known journal i) refines.header refines.ingress refines.leg)).0).policies,
       )))
 
   stays : stays_on_way items ≡ stays_by end
   stays =
-      let tied : IsStanding setting journal i t = can.standing in
-      subst (λ (u : Traveller). stays_on_way (hop_written number w near ports u)
-      ≡ stays_by (hopped w near u.tunnel).end) (sym tied.is)
-      (hop_stays setting journal row i tied.switch tied.header tied.ingress tied.leg
+      let refines : IsStanding setting journal i t = can.standing in
+      subst (λ (u : Flight). stays_on_way (hop_written number w near ports u)
+      ≡ stays_by (hop_answer w near u.tunnel).end) (sym refines.is)
+      (hop_stays setting journal row i refines.switch refines.header refines.ingress refines.leg
       w near ports can.hops)
 
   pub hop_is_packet : t.tunnel.packet ≡ i
-  hop_is_packet = ap (λ (u : Traveller). u.tunnel.packet) can.standing.is
+  hop_is_packet = ap (λ (u : Flight). u.tunnel.packet) can.standing.is
 
   pub hop_called : (k : ℕ) (b : Bool) → (s == k) ≡ b
       → switch_of setting (journal ++ all) k
@@ -228,7 +229,7 @@ module _ (setting : Setting) (journal : List Item) (row i : ℕ) (t : Traveller)
       can.standing.stands.on (can.standing.stands.stands ∙ ap Some (sym can.at)) is
 
   pub hop_others : Known setting journal → (q : ℕ) → (i == q) ≡ false
-      → traveller_in setting (journal ++ all) q ≡ traveller_in setting journal q
+      → flight_in setting (journal ++ all) q ≡ flight_in setting journal q
   hop_others knows q apart =
-      traveller_stays setting journal all q knows
+      flight_stays setting journal all q knows
       (refl, hop_other q number w near ports t (ap (λ k. k == q) hop_is_packet ∙ apart))

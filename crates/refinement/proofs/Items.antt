@@ -5,16 +5,16 @@ use Rattle.std.proofs.lemmas.Bool.{eq-eqb, or_parts}
 use Rattle.ctrl_msg.specs.declared.message.Body.{Body}
 use Rattle.journal.specs.declared.item.Item.{Item}
 use Rattle.journal.specs.declared.item.Item.TheVariants as item
-use Rattle.switch_table.specs.Cache.{expired}
+use Rattle.switch_table.specs.Cache.{after_expire}
 use Rattle.update_machine.specs.Adverts.{own_seq}
-use Rattle.update_machine.specs.Boots.{boot_of, changes_heard, heard, is_up, said_to, tells_boot, tells_up}
+use Rattle.update_machine.specs.Boots.{boot_of, changes_heard, heard, is_up, body_to_switch, gives_boot, gives_up}
 use Rattle.update_machine.specs.Caches.{cache_after, cache_of, changes_cache}
 use Rattle.update_machine.specs.Concerns.{NoneConcern, concerns_known, concerns_links, concerns_switch}
 use Rattle.update_machine.specs.Handled.{handled_count}
 use Rattle.update_machine.specs.LinkMasks.{near}
 use Rattle.update_machine.specs.Setting.{Setting}
 use Rattle.update_machine.specs.Versions.{stamp_of}
-use Rattle.update_machine.specs.Links.{serves, tells_serving}
+use Rattle.update_machine.specs.Links.{serves, gives_serving}
 use Rattle.update_machine.proofs.CallerLemmas.{calls_stay, fewer, folded_append, links_keep, switch_keeps}
 use Rattle.control_laws.proofs.Grown.{boot_more, heard_more, serving_more, up_more}
 use Rattle.refinement.proofs.Hearing.{heard_facts}
@@ -60,9 +60,9 @@ pub facts_more : (setting : Setting) (before : List Item) (next : Item) (s : ℕ
     → let now = before ++ next ∷ [] in
     facts_of setting now s
     ≡ record {
-      boot = unwrap_or (tells_boot s next) (boot_of before s);
-      up = unwrap_or (tells_up s next) (is_up before s);
-      serving = unwrap_or (tells_serving s next) (serves before s);
+      boot = unwrap_or (gives_boot s next) (boot_of before s);
+      up = unwrap_or (gives_up s next) (is_up before s);
+      serving = unwrap_or (gives_serving s next) (serves before s);
       bodies = changes_heard s before (heard before s) next;
       cache = changes_cache s before (cache_of setting before s) next;
       seq = own_seq setting now s;
@@ -87,7 +87,7 @@ stamp_is journal s = refl
 
 -- a message that says nothing to the switch leaves its facts, and a body that is said is heard
 pub facts_delivered : (setting : Setting) (before : List Item) (s n : ℕ) (said : Option Body)
-    → said_to before s n ≡ said
+    → body_to_switch before s n ≡ said
     → let w = facts_of setting before s in
     facts_of setting (before ++ item.Delivered n ∷ []) s
     ≡ option_map_or (λ body. heard_facts n body (w.up && w.boot == 1) w) said w
@@ -157,7 +157,7 @@ facts_opened setting before s v =
 pub facts_expired : (setting : Setting) (before : List Item) (s place message : ℕ)
     → facts_of setting (before ++ item.Expired s place message ∷ []) s
     ≡ record (facts_of setting before s) {
-      cache = expired place (cache_of setting before s);
+      cache = after_expire place (cache_of setting before s);
     }
 facts_expired setting before s place message =
     let next : Item = item.Expired s place message in

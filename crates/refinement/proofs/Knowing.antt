@@ -21,11 +21,11 @@ use Rattle.update_machine.specs.Adverts.{is_cut_off, route_from}
 use Rattle.update_machine.specs.Caches.{lookup_at}
 use Rattle.update_machine.specs.Boots.{boot_of, heard, is_up}
 use Rattle.update_machine.specs.Setting.{Setting}
-use Rattle.update_machine.specs.Versions.{collects, holds_version as holds_in, installs, stamp_of, policy_at, tables_at, version_count, plan_at}
+use Rattle.update_machine.specs.Versions.{collects_version, holds_version as holds_in, installs_version, stamp_of, policy_at, tables_at, version_count, plan_at}
 use Rattle.update_machine.proofs.CallerLemmas.{begins_planned, first_plan_stays, version_is_planned}
 use Rattle.control_laws.proofs.Sends.{each_kept}
 use Rattle.control_laws.specs.Planned.{BringsTables}
-use Rattle.refinement.specs.Knowing.{KnowTies, TablesAreKnown}
+use Rattle.refinement.specs.Knowing.{KnowledgeRefines, TablesAreKnown}
 use Rattle.refinement.specs.SwitchOf.{switch_of, tables_in, with_tables}
 use Rattle.refinement.proofs.Tables.{with_each}
 use Rattle.refinement.proofs.SwitchFacts.{all_by, came_by, first_tables, stamp_shown, switch_is}
@@ -58,12 +58,13 @@ with_one v all tables =
 
 came_as : (v : ℕ) (all : List Tables) (bodies : List Body)
     → list_any (of_version v) (fold with_tables all (filter_map tables_in bodies))
-    ≡ (list_any (of_version v) all || list_any (installs v) bodies)
+    ≡ (list_any (of_version v) all || list_any (installs_version v) bodies)
 came_as v all [] = sym (or-false (list_any (of_version v) all))
 came_as v all (Install boot tables ∷ bodies) =
     came_as v (with_tables all tables) bodies
-    ∙ ap (λ b. b || list_any (installs v) bodies) (with_one v all tables)
-    ∙ or_assoc (list_any (of_version v) all) (tables.version == v) (list_any (installs v) bodies)
+    ∙ ap (λ b. b || list_any (installs_version v) bodies) (with_one v all tables)
+    ∙ or_assoc (list_any (of_version v) all) (tables.version == v)
+    (list_any (installs_version v) bodies)
 came_as v all (_ ∷ bodies) = came_as v all bodies
 
 all_came : (tables : Tables) (first : Bool) (bodies : List Body) (v : ℕ) → tables.version ≡ 1
@@ -71,8 +72,8 @@ all_came : (tables : Tables) (first : Bool) (bodies : List Body) (v : ℕ) → t
 all_came tables first bodies v one =
     came_as v (if first then tables ∷ [] else []) bodies
     ∙ or_comm (list_any (of_version v) (if first then tables ∷ [] else []))
-    (list_any (installs v) bodies)
-    ∙ ap (λ b. list_any (installs v) bodies || b) (begun first)
+    (list_any (installs_version v) bodies)
+    ∙ ap (λ b. list_any (installs_version v) bodies || b) (begun first)
   where
     begun : (b : Bool) → list_any (of_version v) (if b then tables ∷ [] else []) ≡ (v == 1 && b)
     begun true = or-false (tables.version == v) ∙ turned
@@ -123,7 +124,7 @@ twice false b = refl
 holds_facts : (journal : List Item) (s v : ℕ)
     → holds_in journal s v
     ≡ (came_by (is_up journal s && boot_of journal s == 1) (heard journal s) v
-    && not (list_any (collects v) (heard journal s)))
+    && not (list_any (collects_version v) (heard journal s)))
 unfolding holds_in
 holds_facts journal s v = refl
 
@@ -132,11 +133,12 @@ pub held_shown : (setting : Setting) (journal : List Item) (s v : ℕ)
 held_shown setting journal s v =
     let first : Bool = is_up journal s && boot_of journal s == 1 in
     let bodies : List Body = heard journal s in
-    let kept : ℕ → Bool = λ u. came_by first bodies u && not (list_any (collects u) bodies) in
+    let kept : ℕ → Bool = λ u. came_by first bodies u
+    && not (list_any (collects_version u) bodies) in
     ap (λ (switch : SwitchValue). holds_version switch v) (switch_is setting journal s)
     ∙ found_in kept v (all_by (first_tables setting s) first bodies)
     ∙ ap (λ b. b && kept v) (all_came (first_tables setting s) first bodies v refl)
-    ∙ twice (came_by first bodies v) (not (list_any (collects v) bodies))
+    ∙ twice (came_by first bodies v) (not (list_any (collects_version v) bodies))
     ∙ sym (holds_facts journal s v)
 
 -- ---- plans
@@ -202,7 +204,7 @@ all_planned setting journal s known =
     subst (All P) (sym (ap (λ (switch : SwitchValue). switch.tables) (switch_is setting journal s)))
     (All-from_recursion P _ (each_kept P
     (λ tables. came_by first bodies tables.version
-    && not (list_any (collects tables.version) bodies))
+    && not (list_any (collects_version tables.version) bodies))
     (all_by (first_tables setting s) first bodies)
     (with_each P (if first then first_tables setting s ∷ [] else []) (filter_map tables_in bodies)
     (begun first)
@@ -250,9 +252,9 @@ held_are setting journal s v known =
 
 -- ---- what it knows
 
-pub know_ties : KnowTies
+pub knowledge_refines : KnowledgeRefines
 unfolding switch_of lookup_at route_from is_cut_off
-know_ties = record {
+knowledge_refines = record {
   held = held_shown;
   tables = held_are;
   lookup = λ setting journal s header known holds.

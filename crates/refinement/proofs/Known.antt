@@ -25,15 +25,15 @@ use Rattle.control_laws.proofs.Planned.{tables_planned, versions_planned}
 use Rattle.control_laws.proofs.Serving.{serving_hold}
 use Rattle.packet_laws.specs.OnWay.{IsOnLeg, IsOnWay}
 use Rattle.packet_laws.specs.Facts.{PacketFacts, what_is_known}
-use Rattle.packet_laws.specs.Kept.{AllKept}
+use Rattle.packet_laws.specs.KeptFacts.{AllKept}
 use Rattle.packet_laws.specs.Rest.{IsServed}
 use Rattle.packet_laws.proofs.AllKept.{Before, all_kept}
 use Rattle.packet_laws.proofs.Here.{travels_in}
 use Rattle.packet_laws.proofs.Reached.{reached_settled}
 use Rattle.packet_laws.proofs.Rests.{IsSettled, switches_of_all}
-use Rattle.refinement.specs.Travellers.{traveller_in}
+use Rattle.refinement.specs.Flights.{flight_in}
 use Rattle.refinement.proofs.Others.{NoneName, unnamed}
-use Rattle.refinement.proofs.FactsAlong.{by_targets, traveller_by, traveller_now, facts_all}
+use Rattle.refinement.proofs.FactsAlong.{by_targets, flight_by, flight_now, facts_all}
 
 -- ---- the laws
 
@@ -125,19 +125,19 @@ leg_targets setting journal items facts (Seek version partition) knows on leg =
 leg_targets setting journal items facts (Exit port) knows on leg = refl
 
 -- whatever items come that name no packet, also new versions: packets stay on their way
-pub traveller_stays : (setting : Setting) (journal items : List Item) (i : ℕ)
+pub flight_stays : (setting : Setting) (journal items : List Item) (i : ℕ)
     → Known setting journal → NoneName i items
-    → traveller_in setting (journal ++ items) i ≡ traveller_in setting journal i
-traveller_stays setting journal items i knows none =
-    traveller_now setting (journal ++ items) i
-    ∙ ap (traveller_by (targets_of setting (journal ++ items)) i)
+    → flight_in setting (journal ++ items) i ≡ flight_in setting journal i
+flight_stays setting journal items i knows none =
+    flight_now setting (journal ++ items) i
+    ∙ ap (flight_by (targets_of setting (journal ++ items)) i)
     (facts_all i journal items ∙ unnamed i journal items (what_is_known journal i) none)
     ∙ by_travels (what_is_known journal i).travels refl
-    ∙ sym (traveller_now setting journal i)
+    ∙ sym (flight_now setting journal i)
   where
     by_travels : (b : Bool) → (what_is_known journal i).travels ≡ b
-        → traveller_by (targets_of setting (journal ++ items)) i (what_is_known journal i)
-        ≡ traveller_by (targets_of setting journal) i (what_is_known journal i)
+        → flight_by (targets_of setting (journal ++ items)) i (what_is_known journal i)
+        ≡ flight_by (targets_of setting journal) i (what_is_known journal i)
     by_travels false off = rw off refl
     by_travels true on =
         let way : IsOnWay setting journal (what_is_known journal i) =

@@ -2,21 +2,21 @@
 -- in, and what they send.
 use Rattle.std.proofs.Common.{ℕ, ◌≡◌, ◌+◌, false, Option, Some, None, cond, List, [], ◌∷◌, ◌++◌, refl, ap, map, arith}
 use Rattle.std.proofs.lemmas.List.Sums.{sum_by-cons}
-use Rattle.message_bag.specs.Posts.{Post, posted}
+use Rattle.message_bag.specs.Posts.{Post, new_post}
 use Rattle.ctrl_msg.specs.declared.message.Message.{Message}
 use Rattle.net_file.specs.declared.ports.Ports.{Ports}
 use Rattle.policy_rules.specs.declared.packet.Leg.{Leg}
 use Rattle.policy_rules.specs.declared.packet.Leg.TheVariants.{Seek, Exit}
 use Rattle.journal.specs.declared.item.Item.{Item}
 use Rattle.journal.specs.declared.item.Item.TheVariants as item
-use Rattle.switch_core.specs.Answering.{arrived}
+use Rattle.switch_core.specs.Answering.{arrive_answer}
 use Rattle.switch_core.specs.Ends.{around}
-use Rattle.switch_core.specs.Moving.{link_found_down, hopped}
+use Rattle.switch_core.specs.Moving.{link_found_down, hop_answer}
 use Rattle.switch_core.specs.State.{SwitchValue, call_counted}
 use Rattle.switch_core.specs.declared.answers.Answer.{Answer}
 use Rattle.switch_core.specs.declared.answers.Answer.TheVariants as answer
 use Rattle.switch_core.specs.declared.answers.Arrived.{Arrived}
-use Rattle.switch_core.specs.declared.answers.Arrived.TheVariants as arrived
+use Rattle.switch_core.specs.declared.answers.Arrived.TheVariants as arrive_answer
 use Rattle.switch_core.specs.declared.answers.Decision.{Decision}
 use Rattle.switch_core.specs.declared.answers.Entered.{Entered}
 use Rattle.switch_core.specs.declared.answers.Entered.TheVariants as entered
@@ -31,10 +31,10 @@ use Rattle.update_machine.specs.Messages.{sent_from}
 use Rattle.update_machine.specs.Moves.{takes_route}
 use Rattle.update_machine.specs.Packets.{is_packet}
 use Rattle.refinement.specs.Calls.{AreInStep, IsInStep}
-use Rattle.world_log.specs.Packets.{arrival_items, arrival_posts, ended_items, ended_posts, hop_written, hop_posts, hopped_traveller, turned_items}
+use Rattle.world_log.specs.Packets.{arrival_items, arrival_posts, ended_items, ended_posts, hop_written, hop_posts, hopped_flight, turned_items}
 use Rattle.travelling.specs.Travelling.{standing_at, Standing}
 use Rattle.world_log.specs.Writing.{answer_items, answer_posts, arrived_items, arrived_posts, cache_message, decided_items, end_item, entered_items, entered_posts, messages_in}
-use Rattle.travelling.specs.declared.travelling.Traveller.{Traveller}
+use Rattle.travelling.specs.declared.travelling.Flight.{Flight}
 use Rattle.refinement.proofs.Posting.{SendFrom, posts_in}
 
 -- they bring no packet in
@@ -79,10 +79,10 @@ answer_later number at (answer.Seek tunnel) =
     (route_later at.packet tunnel.leg tunnel.route, tt)
 answer_later number at (answer.Stuck cause leg) = (tt, tt)
 
-pub arrived_later : (number : ℕ) (at : Standing) (t : Traveller) (what : Arrived)
+pub arrived_later : (number : ℕ) (at : Standing) (t : Flight) (what : Arrived)
     → AreInStep (arrived_items number at t.version t.rule what)
-arrived_later number at t (arrived.Out port) = (tt, tt)
-arrived_later number at t (arrived.Answered what) = answer_later number at what
+arrived_later number at t (arrive_answer.Out port) = (tt, tt)
+arrived_later number at t (arrive_answer.Answered what) = answer_later number at what
 
 -- ---- none moves the packet on
 
@@ -105,14 +105,14 @@ unfolding sent_from
 decided_still number at decision None onward = end_still at decision onward
 decided_still number at decision (Some message) onward = end_still at decision onward
 
-pub arrived_still : (number : ℕ) (at : Standing) (t : Traveller) (what : Arrived)
+pub arrived_still : (number : ℕ) (at : Standing) (t : Flight) (what : Arrived)
     → stays_on_way (arrived_items number at t.version t.rule what) ≡ false
-arrived_still number at t (arrived.Out port) = refl
-arrived_still number at t (arrived.Answered (answer.Decided decision cache onward)) =
+arrived_still number at t (arrive_answer.Out port) = refl
+arrived_still number at t (arrive_answer.Answered (answer.Decided decision cache onward)) =
     decided_still number at decision (cache_message at.ingress cache) onward
-arrived_still number at t (arrived.Answered (answer.Seek tunnel)) =
+arrived_still number at t (arrive_answer.Answered (answer.Seek tunnel)) =
     route_still at.packet tunnel.leg tunnel.route
-arrived_still number at t (arrived.Answered (answer.Stuck cause leg)) = refl
+arrived_still number at t (arrive_answer.Answered (answer.Stuck cause leg)) = refl
 
 -- ---- what is sent
 
@@ -137,12 +137,12 @@ decided_sends : (number : ℕ) (at : Standing) (decision : Decision) (message : 
     (onward : Next)
     → (let items : List Item =
     decided_items at decision (sent_from number (messages_in message)) onward in
-    SendFrom number items × (posts_in items ≡ map posted (messages_in message)))
+    SendFrom number items × (posts_in items ≡ map new_post (messages_in message)))
 unfolding sent_from
 decided_sends number at decision None onward = end_sends number at decision onward
 decided_sends number at decision (Some message) onward =
     let rest = end_sends (number + 1) at decision onward in
-    ((refl, rest.0), ap (λ posts. posted message ∷ posts) rest.1)
+    ((refl, rest.0), ap (λ posts. new_post message ∷ posts) rest.1)
 
 -- the message of the answer, under this number
 abbrev pub SendPosts : ℕ → List Item → List Post → Type 0
@@ -161,10 +161,10 @@ pub entered_sends : (number : ℕ) (at : Standing) (what : Entered)
 entered_sends number at entered.Closed = (tt, refl)
 entered_sends number at (entered.Answered what) = answer_sends number at what
 
-arrived_sends : (number : ℕ) (at : Standing) (t : Traveller) (what : Arrived)
+arrived_sends : (number : ℕ) (at : Standing) (t : Flight) (what : Arrived)
     → SendPosts number (arrived_items number at t.version t.rule what) (arrived_posts at what)
-arrived_sends number at t (arrived.Out port) = (tt, refl)
-arrived_sends number at t (arrived.Answered what) = answer_sends number at what
+arrived_sends number at t (arrive_answer.Out port) = (tt, refl)
+arrived_sends number at t (arrive_answer.Answered what) = answer_sends number at what
 
 turned_sends : (number i here : ℕ) (found : Option ℕ) (end : HopEnd) (route : List ℕ)
     (rest : List Item) (posts : List Post) → SendPosts number rest posts
@@ -174,22 +174,22 @@ turned_sends number i here (Some other) hop.Arrive route rest posts sends = send
 turned_sends number i here (Some other) (hop.Move next) route rest posts sends = sends
 turned_sends number i here (Some other) (hop.Stuck cause) route rest posts sends = sends
 
-ended_sends : (number : ℕ) (switch : SwitchValue) (near : ℕ) (ports : Ports) (t : Traveller)
+ended_sends : (number : ℕ) (switch : SwitchValue) (near : ℕ) (ports : Ports) (t : Flight)
     (end : HopEnd)
     → SendPosts number (ended_items number switch near ports t end)
     (ended_posts switch near ports t end)
 unfolding arrival_items arrival_posts
 ended_sends number switch near ports t hop.Arrive =
     arrived_sends number (standing_at switch.number t) t
-    (arrived switch (around near ports) t.tunnel)
+    (arrive_answer switch (around near ports) t.tunnel)
 ended_sends number switch near ports t (hop.Move other) = (tt, refl)
 ended_sends number switch near ports t (hop.Stuck cause) = (tt, refl)
 
-pub hop_sends : (number : ℕ) (switch : SwitchValue) (near : ℕ) (ports : Ports) (t : Traveller)
+pub hop_sends : (number : ℕ) (switch : SwitchValue) (near : ℕ) (ports : Ports) (t : Flight)
     → SendFrom number (hop_written number switch near ports t)
     × (posts_in (hop_written number switch near ports t) ≡ hop_posts switch near ports t)
 hop_sends number switch near ports t =
     turned_sends number t.tunnel.packet switch.number (link_found_down near (next_switch t.tunnel))
-    (hopped switch near t.tunnel).end (hopped switch near t.tunnel).tunnel.route _ _
-    (ended_sends number (call_counted switch) near ports (hopped_traveller switch near t)
-    (hopped switch near t.tunnel).end)
+    (hop_answer switch near t.tunnel).end (hop_answer switch near t.tunnel).tunnel.route _ _
+    (ended_sends number (call_counted switch) near ports (hopped_flight switch near t)
+    (hop_answer switch near t.tunnel).end)

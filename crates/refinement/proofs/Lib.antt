@@ -16,7 +16,7 @@ mod Planned
 pub mod Spelled
 pub mod Picked
 pub mod Written
-pub mod Kept
+pub mod KeptController
 pub mod Past
 pub mod Heard
 pub mod Settled
@@ -46,10 +46,10 @@ pub mod Moving
 pub mod CanAsk
 pub mod ComePieces
 pub mod HopPieces
-pub mod Ties
+pub mod StepLaws
 pub mod Switches
 pub mod Losing
-pub mod Tying
+pub mod Refining
 pub mod Firsts
 pub mod ActItems
 pub mod Told
@@ -69,7 +69,7 @@ pub mod Losses
 pub mod Crashed
 pub mod Starting
 pub mod Asking
-pub mod HopTie
+pub mod HopRefines
 pub mod Incoming
 pub mod OneItem
 pub mod Delivering

@@ -5,9 +5,9 @@ use Rattle.std.proofs.lemmas.Bool.{eq-eqb, ne_eqb}
 use Rattle.failover.specs.Adverts.{no_adverts}
 use Rattle.journal.specs.declared.item.Item.{Item}
 use Rattle.journal.specs.declared.item.Item.TheVariants as item
-use Rattle.switch_core.specs.Life.{crashed, entry_expired, restarted}
+use Rattle.switch_core.specs.Life.{crashed_switch, entry_expired, restarted_switch}
 use Rattle.switch_core.specs.State.{SwitchValue}
-use Rattle.switch_table.specs.Cache.{cleared}
+use Rattle.switch_table.specs.Cache.{after_clear}
 use Rattle.switch_table.specs.declared.cache.CacheEntry.{CacheEntry}
 use Rattle.update_machine.specs.Adverts.{has_change, own_seq}
 use Rattle.update_machine.specs.Boots.{boot_of, is_up}
@@ -24,7 +24,7 @@ use Rattle.control_laws.proofs.Facts.{fact_on}
 use Rattle.control_laws.proofs.Grown.{boot_more, up_more}
 use Rattle.control_laws.proofs.OwnAdverts.{seq_is}
 use Rattle.control_laws.proofs.Numbers.{began_on, down_none, none_counted, steps_past}
-use Rattle.refinement.specs.Life.{LifeTies, expired_by, message_at}
+use Rattle.refinement.specs.Life.{LivesRefine, expired_by, message_at}
 use Rattle.refinement.specs.SwitchOf.{switch_of}
 use Rattle.refinement.proofs.Items.{facts_expired, facts_more}
 use Rattle.refinement.proofs.SwitchFacts.{SwitchFacts, by_facts, switch_by, switch_in, switch_is, facts_of}
@@ -38,7 +38,7 @@ blank w boot up links = record {
   up = up;
   serving = false;
   bodies = [];
-  cache = cleared w.cache;
+  cache = after_clear w.cache;
   seq = 0;
   links = links;
   handled = w.handled;
@@ -55,9 +55,9 @@ none_set s = same_set None 64 s
 -- behind its first boot it is as a switch that crashed, but for its boot and whether it is up
 forgets : (setting : Setting) (s : ℕ) (w : SwitchFacts) (boot : ℕ) (up : Bool) (links : ℕ)
     → switch_in setting s (blank w boot up links) false
-    ≡ record (crashed (switch_by setting s w)) { boot = boot; is_up = up }
+    ≡ record (crashed_switch (switch_by setting s w)) { boot = boot; is_up = up }
 forgets setting s w boot up links =
-    ap (λ adverts. record (crashed (switch_by setting s w)) {
+    ap (λ adverts. record (crashed_switch (switch_by setting s w)) {
       boot = boot;
       is_up = up;
       database = adverts;
@@ -66,7 +66,8 @@ forgets setting s w boot up links =
 -- ---- a crash
 
 pub crash_is : (setting : Setting) (journal : List Item) (s : ℕ)
-    → switch_of setting (journal ++ item.Down s ∷ []) s ≡ crashed (switch_of setting journal s)
+    → switch_of setting (journal ++ item.Down s ∷ []) s
+    ≡ crashed_switch (switch_of setting journal s)
 crash_is setting journal s =
     let next : Item = item.Down s in
     let now : List Item = journal ++ next ∷ [] in
@@ -78,7 +79,7 @@ crash_is setting journal s =
     ∙ rw (own, down_none setting now s up, calls_stay s journal (next ∷ []) (refl, tt)) refl in
     by_facts setting now s _ facts
     ∙ forgets setting s (facts_of setting journal s) (boot_of journal s) false (near setting now s)
-    ∙ ap crashed (sym (switch_is setting journal s))
+    ∙ ap crashed_switch (sym (switch_is setting journal s))
 
 -- ---- a boot
 
@@ -93,7 +94,7 @@ first_boot setting journal have s =
 pub restart_is : (setting : Setting) (journal : List Item) (s : ℕ)
     → HaveCauses (HasItemCause setting) [] journal
     → switch_of setting (journal ++ item.Booted s (boot_of journal s + 1) ∷ []) s
-    ≡ restarted (switch_of setting journal s)
+    ≡ restarted_switch (switch_of setting journal s)
 restart_is setting journal s have =
     let next : Item = item.Booted s (boot_of journal s + 1) in
     let now : List Item = journal ++ next ∷ [] in
@@ -123,7 +124,7 @@ restart_is setting journal s have =
     (near setting now s))) later
     ∙ forgets setting s (facts_of setting journal s) (boot_of journal s + 1) true
     (near setting now s)
-    ∙ ap restarted (sym (switch_is setting journal s))
+    ∙ ap restarted_switch (sym (switch_is setting journal s))
 
 -- ---- a timeout
 
@@ -149,8 +150,8 @@ expires_as setting journal s place =
     by_entry None = refl
     by_entry (Some entry) = refl
 
-pub life_ties : LifeTies
-life_ties = record {
+pub lives_refine : LivesRefine
+lives_refine = record {
   crash = crash_is;
   restart = λ setting journal s have. restart_is setting journal s have;
   expiry = expiry_is;

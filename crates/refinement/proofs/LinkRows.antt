@@ -8,7 +8,7 @@ use Rattle.std.specs.List.{list_any}
 use Rattle.std.proofs.lemmas.Bool.{and_parts}
 use Rattle.std.proofs.lemmas.Bool.Decides.{nat_tests}
 use Rattle.ctrl_msg.specs.declared.message.Message.{Message}
-use Rattle.message_bag.specs.Posts.{posted}
+use Rattle.message_bag.specs.Posts.{new_post}
 use Rattle.journal.specs.declared.item.Item.{Item}
 use Rattle.journal.specs.declared.item.Item.TheVariants as item
 use Rattle.base.specs.Masks.{has}
@@ -22,25 +22,25 @@ use Rattle.steps.specs.Steps.{HasLink, IsStep}
 use Rattle.steps.specs.declared.step.Step.{Step}
 use Rattle.switch_core.specs.Life.{next_advert}
 use Rattle.switch_core.specs.State.{SwitchValue}
-use Rattle.refinement.specs.Links.{LeavesSwitch, relinked}
-use Rattle.refinement.proofs.Links.{link_ties}
+use Rattle.refinement.specs.Links.{LeavesSwitch, relinked_switch}
+use Rattle.refinement.proofs.Links.{links_refine}
 use Rattle.update_machine.specs.Concerns.{concerns_calls}
 use Rattle.update_machine.specs.Deliveries.{link_changes}
-use Rattle.update_machine.specs.Links.{is_link_up, tells_link}
-use Rattle.update_machine.specs.Folds.{last_told}
+use Rattle.update_machine.specs.Links.{is_link_up, gives_link}
+use Rattle.update_machine.specs.Folds.{last_given}
 use Rattle.update_machine.specs.Messages.{sent_from}
-use Rattle.update_machine.specs.Moves.{put}
+use Rattle.update_machine.specs.Moves.{items_then}
 use Rattle.update_machine.specs.Pieces.{link_items, nothing, piece}
 use Rattle.update_machine.specs.Setting.{Setting}
 use Rattle.update_machine.specs.LinkMasks.{near}
-use Rattle.update_machine.proofs.CallerLemmas.{last_told_append}
-use Rattle.refinement.specs.Linking.{AreRelinked, SetsLink, all_told, link_step, near_all}
-use Rattle.refinement.specs.Tied.{AreTied, Control, is_up_link, up_links}
-use Rattle.travelling.specs.Travelling.{Travellers}
+use Rattle.update_machine.proofs.CallerLemmas.{last_given_append}
+use Rattle.refinement.specs.Linking.{AreRelinked, SetsLink, all_adverts_sent, link_step, near_all}
+use Rattle.refinement.specs.Refinement.{RefineJournal, Control, is_up_link, up_links}
+use Rattle.travelling.specs.Travelling.{Flights}
 use Rattle.refinement.proofs.Delivering.{nothing_happens}
 use Rattle.refinement.proofs.OneItem.{grown}
 use Rattle.refinement.proofs.Posting.{bag_on}
-use Rattle.refinement.proofs.LinksChange.{LinksChange, change_piece, change_may, unmoved, change_tied}
+use Rattle.refinement.proofs.LinksChange.{LinksChange, change_piece, change_may, unmoved, change_refines}
 use Rattle.world_log.specs.Sending.{MaySend}
 
 -- ---- links that are up
@@ -113,13 +113,13 @@ up_behind : (journal : List Item) (row : ℕ) (step : Step) (one two s k : ℕ) 
     s k ≡ (if joins s k (record { one = one; two = two }) then up else is_link_up journal s k)
 unfolding is_link_up
 up_behind journal row step one two s k up =
-    let tells : Item → Option Bool = tells_link (min s k) (max s k) in
-    ap (λ o. unwrap_or o true) (last_told_append tells journal
+    let tells : Item → Option Bool = gives_link (min s k) (max s k) in
+    ap (λ o. unwrap_or o true) (last_given_append tells journal
     (item.Row row step ∷ item.LinkIs (min one two) (max one two) up ∷ []))
     ∙ ap (λ b. unwrap_or (option_or (option_or (if b then Some up else None) None)
-    (last_told tells journal)) true)
+    (last_given tells journal)) true)
     (same_ends one two s k)
-    ∙ by_test (joins s k (record { one = one; two = two })) (last_told tells journal)
+    ∙ by_test (joins s k (record { one = one; two = two })) (last_given tells journal)
   where
     by_test : (b : Bool) (was : Option Bool)
         → unwrap_or (option_or (option_or (if b then Some up else None) None) was) true
@@ -158,7 +158,8 @@ link_piece setting journal row one two false = refl
 abbrev items_if : Setting → List Item → List Item → ℕ → ℕ → Bool → Bool → List Item
 items_if setting before journal one two up same = elim same [
   | true ↦ nothing
-  | false ↦ put (item.LinkIs (min one two) (max one two) up ∷ []) (link_changes setting before)
+  | false ↦ items_then (item.LinkIs (min one two) (max one two) up ∷ [])
+      (link_changes setting before)
       journal
 ]
 
@@ -183,8 +184,8 @@ other_items setting before journal one two up other =
 -- ---- the tie
 
 module _ (control : Control) (setting : Setting) (journal : List Item)
-    (switches : List SwitchValue) (before : Travellers) (count row one two : ℕ) (up : Bool)
-    (tied : AreTied setting journal switches before count control)
+    (switches : List SwitchValue) (before : Flights) (count row one two : ℕ) (up : Bool)
+    (refines : RefineJournal setting journal switches before count control)
     (may : IsStep setting.net (length setting.policies) (link_step up one two)) where
   abbrev step : Step
   step = link_step up one two
@@ -194,37 +195,37 @@ module _ (control : Control) (setting : Setting) (journal : List Item)
 
   -- its ends are switches
   pub ends_below : (one < 64) × (two < 64)
-  unfolding AreTied
+  unfolding RefineJournal
   ends_below =
       let back : HasLink setting.net two one =
       link_laws.both_ways setting.net.links two one ∙ linked in (
         omega (
           arith,
-          link_laws.below setting.net two one tied.sound.net back,
-          tied.sound.net.few_switches,
+          link_laws.below setting.net two one refines.sound.net back,
+          refines.sound.net.few_switches,
         ),
         omega (
           arith,
-          link_laws.below setting.net one two tied.sound.net linked,
-          tied.sound.net.few_switches,
+          link_laws.below setting.net one two refines.sound.net linked,
+          refines.sound.net.few_switches,
         ),
       )
 
   -- the mask of one end has the other one where the link is up
   end_is : has (get_or control.links one 0) two ≡ is_link_up journal one two
-  unfolding AreTied
+  unfolding RefineJournal
   end_is =
-      ap (λ mask. has mask two) (tied.up one ends_below.0)
+      ap (λ mask. has mask two) (refines.up one ends_below.0)
       ∙ has_mask (are_linked (up_links setting journal) one) two ends_below.1
       ∙ up_linked setting journal one two
       ∙ ap (λ b. b && is_link_up journal one two) linked
 
   -- nothing happens where it is so already
-  pub same_tied : beq (has (get_or control.links one 0) two) up ≡ true
+  pub same_refines : beq (has (get_or control.links one 0) two) up ≡ true
       → (piece setting journal row step ≡ item.Row row step ∷ nothing)
-      × AreTied setting (grown journal row step item.Nothing) switches before count control
-  same_tied same =
-      nothing_happens control setting journal switches before count row step tied may
+      × RefineJournal setting (grown journal row step item.Nothing) switches before count control
+  same_refines same =
+      nothing_happens control setting journal switches before count row step refines may
       (λ q. uncalled journal q row one two up) (link_piece setting journal row one two up
       ∙ ap (λ items. item.Row row step ∷ items)
       (same_items setting journal (journal ++ item.Row row step ∷ []) one two up
@@ -291,11 +292,11 @@ module _ (control : Control) (setting : Setting) (journal : List Item)
 
     up_now : (s k : ℕ) → s < 64 → k < 64
         → has (get_or links s 0) k ≡ are_linked (up_links setting now) s k
-    unfolding AreTied
+    unfolding RefineJournal
     up_now s k small below =
         sets s k small below
         ∙ ap (λ b. if joins s k link then up else b)
-        (ap (λ mask. has mask k) (tied.up s small)
+        (ap (λ mask. has mask k) (refines.up s small)
         ∙ has_mask (are_linked (up_links setting journal) s) k below
         ∙ up_linked setting journal s k)
         ∙ by_end (joins s k link) (are_linked setting.net.links s k) (is_link_up journal s k)
@@ -306,7 +307,7 @@ module _ (control : Control) (setting : Setting) (journal : List Item)
 
     changes : LinksChange setting journal row step told switches switches control links
         control.posts
-    unfolding AreTied
+    unfolding RefineJournal
     changes = record {
       may = may;
       piece_is = piece_so;
@@ -314,39 +315,40 @@ module _ (control : Control) (setting : Setting) (journal : List Item)
       none_come = refl;
       as_many = refl;
       number = refl;
-      bag = bag_on journal (item.Row row step ∷ told) control.posts (refl, (refl, tt)) tied.bag;
+      bag = bag_on journal (item.Row row step ∷ told) control.posts (refl, (refl, tt)) refines.bag;
       up = λ q below. mask_of_is (get_or links q 0) (are_linked (up_links setting now) q) (fit q)
           (λ k small. up_now q k below small);
-      relinks = λ q d below. link_ties.relinked setting q journal row step told (leaves q)
-          ∙ ap (relinked setting journal now q) (sym (tied.each q d below));
+      relinks = λ q d below. links_refine.relinked setting q journal row step told (leaves q)
+          ∙ ap (relinked_switch setting journal now q) (sym (refines.each q d below));
       own = λ q d below changes.
-          link_ties.advert setting q journal row step told (leaves q) changes
-          ∙ ap (λ w. next_advert w (near setting now q)) (sym (tied.each q d below));
+          links_refine.advert setting q journal row step told (leaves q) changes
+          ∙ ap (λ w. next_advert w (near setting now q)) (sym (refines.each q d below));
     }
 
     abbrev messages : List Message
-    messages = all_told control.near (near_all links switches) switches
+    messages = all_adverts_sent control.near (near_all links switches) switches
 
     pub set_piece : piece setting journal row step
         ≡ item.Row row step ∷ first ∷ sent_from (length control.posts + 1) messages
     set_piece = change_piece control setting journal switches switches before count row step told
-        links control.posts tied changes
+        links control.posts refines changes
 
     pub set_may : length control.posts < 990_000
         → MaySend control.posts messages
     set_may = change_may control setting journal switches switches before count row step told
-        links control.posts tied changes
+        links control.posts refines changes
 
     -- the parts behind the step, where these are the switches
-    pub set_tied : (others : List SwitchValue)
+    pub set_refines : (others : List SwitchValue)
         → AreRelinked control.near (near_all links switches) switches others
-        → AreTied setting (journal ++ item.Row row step ∷ first
+        → RefineJournal setting (journal ++ item.Row row step ∷ first
         ∷ sent_from (length control.posts + 1) messages) others before count (record control {
           links = links;
           near = near_all links switches;
-          posts = control.posts ++ map posted messages;
+          posts = control.posts ++ map new_post messages;
         })
-    set_tied others are = change_tied control setting journal switches switches before count row
-        step told links control.posts tied changes others before are
+    set_refines others are = change_refines control setting journal switches switches before count
+        row
+        step told links control.posts refines changes others before are
         (unmoved control setting journal switches switches before count row step told links
-        control.posts tied changes (λ i. (refl, (refl, tt))))
+        control.posts refines changes (λ i. (refl, (refl, tt))))

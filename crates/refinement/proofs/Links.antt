@@ -16,14 +16,14 @@ use Rattle.update_machine.specs.Concerns.{NoneConcern, concerns_calls, concerns_
 use Rattle.update_machine.specs.Deliveries.{has_changed}
 use Rattle.update_machine.specs.Handled.{handled_count}
 use Rattle.update_machine.specs.LinkMasks.{near}
-use Rattle.update_machine.specs.Messages.{next_message, sends, sent_from}
+use Rattle.update_machine.specs.Messages.{next_message, send_items, sent_from}
 use Rattle.update_machine.specs.Setting.{Setting}
 use Rattle.update_machine.specs.Steps.{StepItems, steps_in}
 use Rattle.update_machine.proofs.CallerLemmas.{calls_stay, switch_keeps}
 use Rattle.control_laws.proofs.OwnAdverts.{seq_is}
 use Rattle.control_laws.proofs.Numbers.{down_none}
 use Rattle.refinement.specs.Calls.{NoRows}
-use Rattle.refinement.specs.Links.{LeavesSwitch, LinkTies, relinked}
+use Rattle.refinement.specs.Links.{LeavesSwitch, LinksRefine, relinked_switch}
 use Rattle.refinement.specs.SwitchOf.{switch_of}
 use Rattle.refinement.proofs.Items.{facts_kept}
 use Rattle.refinement.proofs.SwitchSteps.{steps_more}
@@ -163,7 +163,7 @@ unchanged setting before now s up none = by_up (is_up now s) refl none
 relink_is : (setting : Setting) (s : ℕ) (before : List Item) (row : ℕ) (step : Step)
     (items : List Item) → LeavesSwitch s before row step items
     → let now = before ++ item.Row row step ∷ items in
-    switch_of setting now s ≡ relinked setting before now s (switch_of setting before s)
+    switch_of setting now s ≡ relinked_switch setting before now s (switch_of setting before s)
 relink_is setting s before row step items leaves =
     let now : List Item = before ++ item.Row row step ∷ items in
     let w : SwitchFacts = facts_of setting before s in
@@ -171,7 +171,7 @@ relink_is setting s before row step items leaves =
     by_facts setting now s _ (facts_relinked setting s before row step items leaves)
     ∙ relinks s w _ _ _ _ (near setting now s) (has_changed setting before now s)
     (unchanged setting before now s own.up)
-    ∙ ap (relinked setting before now s) (sym (switch_is setting before s))
+    ∙ ap (relinked_switch setting before now s) (sym (switch_is setting before s))
 
 advert_is : (setting : Setting) (s : ℕ) (before : List Item) (row : ℕ) (step : Step)
     (items : List Item) → LeavesSwitch s before row step items
@@ -212,16 +212,16 @@ sent_apart concerns none (message ∷ messages) before n = (
   sent_apart concerns none messages (before ++ item.Sent n message ∷ []) (n + 1),
 )
 
-pub link_ties : LinkTies
+pub links_refine : LinksRefine
 unfolding held_adverts switch_of
-link_ties = record {
+links_refine = record {
   kept = kept_is;
   relinked = relink_is;
   advert = advert_is;
   held = λ setting journal s. refl;
   told = λ setting before now s. refl;
   sent = λ setting before messages s.
-      kept_is setting s before (sends before messages)
+      kept_is setting s before (send_items before messages)
       (sent_apart (concerns_known s) (λ js n message. refl) messages before (next_message before))
       (sent_apart (concerns_calls s) (λ js n message. refl) messages before (next_message before));
 }

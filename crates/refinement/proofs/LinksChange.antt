@@ -4,7 +4,7 @@ use Rattle.std.proofs.Common.{ℕ, ◌≡◌, ◌+◌, ◌-◌, ◌^◌, ◌<◌
 use Rattle.std.specs.Prelude.{IsFalse, All}
 use Rattle.std.specs.List.{flat_map}
 use Rattle.std.proofs.lemmas.List.{get_or-set_other, get_or-set_same, length-set}
-use Rattle.message_bag.specs.Posts.{Post, posted}
+use Rattle.message_bag.specs.Posts.{Post, new_post}
 use Rattle.control_laws.proofs.Openings.{caused_known, serving_known}
 use Rattle.control_laws.specs.ItemCauses.{HasItemCause}
 use Rattle.control_laws.proofs.Facts.{have_front}
@@ -14,8 +14,8 @@ use Rattle.ctrl_msg.specs.declared.message.Message.{Message}
 use Rattle.journal.specs.declared.item.Item.{Item}
 use Rattle.journal.specs.declared.item.Item.TheVariants as item
 use Rattle.refinement.specs.Bags.{IsBagOf}
-use Rattle.refinement.specs.Travellers.{traveller_in}
-use Rattle.refinement.proofs.Known.{reached_known, reached_more, traveller_stays}
+use Rattle.refinement.specs.Flights.{flight_in}
+use Rattle.refinement.proofs.Known.{reached_known, reached_more, flight_stays}
 use Rattle.refinement.proofs.Others.{NoneName, none_more}
 use Rattle.refinement.proofs.Posting.{bag_sends}
 use Rattle.base.specs.Masks.{has}
@@ -29,11 +29,11 @@ use Rattle.steps.specs.declared.step.Step.{Step}
 use Rattle.switch_core.specs.Life.{next_advert}
 use Rattle.switch_core.specs.State.{SwitchValue}
 use Rattle.refinement.specs.Asked.{HasNextSeq}
-use Rattle.refinement.specs.Links.{LeavesSwitch, relinked}
+use Rattle.refinement.specs.Links.{LeavesSwitch, relinked_switch}
 use Rattle.refinement.specs.SwitchOf.{switch_of}
-use Rattle.refinement.proofs.Asked.{asked_ties}
-use Rattle.refinement.proofs.Links.{link_ties}
-use Rattle.travelling.specs.Travelling.{Travellers, traveller}
+use Rattle.refinement.proofs.Asked.{requirements_hold}
+use Rattle.refinement.proofs.Links.{links_refine}
+use Rattle.travelling.specs.Travelling.{Flights, flight}
 use Rattle.update_machine.specs.Adverts.{own_advert}
 use Rattle.update_machine.specs.Causes.{HaveCauses}
 use Rattle.update_machine.specs.Deliveries.{has_changed, link_changes, messages_of}
@@ -46,59 +46,60 @@ use Rattle.update_machine.specs.Pieces.{piece}
 use Rattle.update_machine.specs.Setting.{Setting}
 use Rattle.update_machine.specs.SwitchNumbers.{switches_of}
 use Rattle.update_machine.proofs.CallerLemmas.{count_of_append}
-use Rattle.refinement.specs.Linking.{AreRelinked, all_told, near_all}
+use Rattle.refinement.specs.Linking.{AreRelinked, all_adverts_sent, near_all}
 use Rattle.world_log.specs.Sending.{MaySend, act_items, act_posts}
 use Rattle.world_log.proofs.Sends.{posts_as_acts, sent_as_acts}
-use Rattle.refinement.specs.Tied.{AreTied, AreUp, AreUsable, Control, up_links}
+use Rattle.refinement.specs.Refinement.{RefineJournal, AreUp, AreUsable, Control, up_links}
 use Rattle.refinement.proofs.ActItems.{acts_bring_none, acts_posted, acts_send, acts_unnamed}
 use Rattle.refinement.proofs.Relinked.{CanRelink, near_now, switches_now, told_now, up_ends}
 use Rattle.refinement.proofs.Told.{acts_leave, links_left}
-use Rattle.refinement.proofs.Tying.{controller_stays, tied_taken}
+use Rattle.refinement.proofs.Refining.{controller_stays, refines_taken}
 use Rattle.refinement.proofs.Sendable.{may_note, may_send}
 
 -- so have those behind the row
 pub caused_first : (control : Control) (setting : Setting) (journal : List Item)
-    (switches : List SwitchValue) (before : Travellers) (count row : ℕ) (step : Step)
-    (first rest : List Item) → AreTied setting journal switches before count control
+    (switches : List SwitchValue) (before : Flights) (count row : ℕ) (step : Step)
+    (first rest : List Item) → RefineJournal setting journal switches before count control
     → IsStep setting.net (length setting.policies) step
     → piece setting journal row step ≡ item.Row row step ∷ first ++ rest
     → HaveCauses (HasItemCause setting) [] (journal ++ item.Row row step ∷ first)
-unfolding AreTied
-caused_first control setting journal switches before count row step first rest tied may is =
+unfolding RefineJournal
+caused_first control setting journal switches before count row step first rest refines may is =
     have_front (HasItemCause setting) [] (journal ++ item.Row row step ∷ first) rest
     (subst (HaveCauses (HasItemCause setting) [])
     (ap (λ items. journal ++ items) is
     ∙ sym (append_assoc journal (item.Row row step ∷ first) rest))
-    (reached_known setting (journal ++ piece setting journal row step) tied.sound
-    (reached_more setting journal row step tied.reached may)).caused)
+    (reached_known setting (journal ++ piece setting journal row step) refines.sound
+    (reached_more setting journal row step refines.reached may)).caused)
 
 -- each switch has a next number for its own advert
 pub next_left : (control : Control) (setting : Setting) (journal : List Item)
-    (switches : List SwitchValue) (before : Travellers) (count : ℕ)
-    → AreTied setting journal switches before count control → length control.posts < 990_000
+    (switches : List SwitchValue) (before : Flights) (count : ℕ)
+    → RefineJournal setting journal switches before count control → length control.posts < 990_000
     → (q : ℕ) → q < length switches → HasNextSeq (switch_of setting journal q)
-unfolding AreTied
-next_left control setting journal switches before count tied room q below =
-    let fit : NumbersFit setting journal = subst (NumbersFit setting) (sym tied.reached.written)
-    (fit_in_room setting tied.reached.steps tied.sound.net
-    (subst HasRoom tied.reached.written (omega (arith, tied.bag.many, room)))) in
-    asked_ties.near_changed setting journal q fit (omega (arith, below, tied.many))
+unfolding RefineJournal
+next_left control setting journal switches before count refines room q below =
+    let fit : NumbersFit setting journal = subst (NumbersFit setting) (sym refines.reached.written)
+    (fit_in_room setting refines.reached.steps refines.sound.net
+    (subst HasRoom refines.reached.written (omega (arith, refines.bag.many, room)))) in
+    requirements_hold.near_changed setting journal q fit (omega (arith, below, refines.many))
 
 pub numbers_left : (control : Control) (setting : Setting) (journal : List Item)
-    (switches : List SwitchValue) (before : Travellers) (count : ℕ)
-    → AreTied setting journal switches before count control → length control.posts < 990_000
+    (switches : List SwitchValue) (before : Flights) (count : ℕ)
+    → RefineJournal setting journal switches before count control → length control.posts < 990_000
     → All (λ (switch : SwitchValue). switch.seq < 2 ^ 32 - 1) switches
-unfolding AreTied
-numbers_left control setting journal switches before count tied room = λ q d below.
-    subst (λ (w : SwitchValue). w.seq < 2 ^ 32 - 1) (sym (tied.each q d below))
-    (next_left control setting journal switches before count tied room q below).now
+unfolding RefineJournal
+numbers_left control setting journal switches before count refines room = λ q d below.
+    subst (λ (w : SwitchValue). w.seq < 2 ^ 32 - 1) (sym (refines.each q d below))
+    (next_left control setting journal switches before count refines room q below).now
 
 -- ---- one switch is another one behind the first items, and the others hear nothing
 
 module _ (control : Control) (setting : Setting) (journal : List Item)
-    (switches : List SwitchValue) (before : Travellers) (count row : ℕ) (step : Step)
+    (switches : List SwitchValue) (before : Flights) (count row : ℕ) (step : Step)
     (first : List Item) (s : ℕ) (changed : SwitchValue)
-    (tied : AreTied setting journal switches before count control) (within : s < length switches)
+    (refines : RefineJournal setting journal switches before count control)
+    (within : s < length switches)
     (leaves : (q : ℕ) → (s == q) ≡ false → LeavesSwitch q journal row step first) where
   abbrev behind : List Item
   behind = journal ++ item.Row row step ∷ first
@@ -111,25 +112,26 @@ module _ (control : Control) (setting : Setting) (journal : List Item)
 
   stays : (q : ℕ) (d : SwitchValue) → (s == q) ≡ false → q < length switches
       → switch_of setting journal q ≡ get_or with_one q d
-  unfolding AreTied
-  stays q d is below = sym (tied.each q d below)
+  unfolding RefineJournal
+  stays q d is below = sym (refines.each q d below)
       ∙ sym (get_or-set_other switches s q changed d (λ e. let own : (s == q) ≡ true =
       ap (λ k. s == k) e ∙ eq-eqb s s refl in absurd cc))
 
-  pub one_relinks : switch_of setting behind s ≡ relinked setting journal behind s changed
+  pub one_relinks : switch_of setting behind s ≡ relinked_switch setting journal behind s changed
       → (q : ℕ) (d : SwitchValue) → q < length switches
-      → switch_of setting behind q ≡ relinked setting journal behind q (get_or with_one q d)
+      → switch_of setting behind q ≡ relinked_switch setting journal behind q (get_or with_one q d)
   one_relinks own q d below = by_switch (s == q) refl
     where
       by_switch : (b : Bool) → (s == q) ≡ b
-          → switch_of setting behind q ≡ relinked setting journal behind q (get_or with_one q d)
+          → switch_of setting behind q ≡ relinked_switch setting journal behind q
+          (get_or with_one q d)
       by_switch true is =
           subst (λ k. switch_of setting behind k
-          ≡ relinked setting journal behind k (get_or with_one k d)) (eqb-true s q is)
-          (own ∙ ap (relinked setting journal behind s) (sym (here d)))
+          ≡ relinked_switch setting journal behind k (get_or with_one k d)) (eqb-true s q is)
+          (own ∙ ap (relinked_switch setting journal behind s) (sym (here d)))
       by_switch false is =
-          link_ties.relinked setting q journal row step first (leaves q is)
-          ∙ ap (relinked setting journal behind q) (stays q d is below)
+          links_refine.relinked setting q journal row step first (leaves q is)
+          ∙ ap (relinked_switch setting journal behind q) (stays q d is below)
 
   pub one_advert : (has_changed setting journal behind s ≡ true
       → own_advert setting behind s ≡ next_advert changed (near setting behind s))
@@ -146,7 +148,7 @@ module _ (control : Control) (setting : Setting) (journal : List Item)
           ≡ next_advert (get_or with_one k d) (near setting behind k)) (eqb-true s q is)
           (λ changes. own changes ∙ ap (λ w. next_advert w (near setting behind s)) (sym (here d)))
       by_switch false is = λ changes.
-          link_ties.advert setting q journal row step first (leaves q is) changes
+          links_refine.advert setting q journal row step first (leaves q is) changes
           ∙ ap (λ w. next_advert w (near setting behind q)) (stays q d is below)
 
   pub one_next : length control.posts < 990_000
@@ -158,7 +160,7 @@ module _ (control : Control) (setting : Setting) (journal : List Item)
       by_switch q d (s == q) refl there
     where
       next : (q : ℕ) → q < length switches → HasNextSeq (switch_of setting journal q)
-      next = next_left control setting journal switches before count tied room
+      next = next_left control setting journal switches before count refines room
 
       by_switch : (q : ℕ) (d : SwitchValue) (b : Bool) → (s == q) ≡ b → q < length switches
           → (get_or with_one q d).seq < 2 ^ 32 - 1
@@ -186,16 +188,16 @@ pub record LinksChange (setting : Setting) (journal : List Item) (row : ℕ) (st
   pub up : AreUp setting (journal ++ item.Row row step ∷ first) links
   pub relinks : (q : ℕ) (d : SwitchValue) → q < length switches
       → switch_of setting (journal ++ item.Row row step ∷ first) q
-      ≡ relinked setting journal (journal ++ item.Row row step ∷ first) q (get_or others q d)
+      ≡ relinked_switch setting journal (journal ++ item.Row row step ∷ first) q (get_or others q d)
   pub own : (q : ℕ) (d : SwitchValue) → q < length switches
       → has_changed setting journal (journal ++ item.Row row step ∷ first) q ≡ true
       → own_advert setting (journal ++ item.Row row step ∷ first) q
       ≡ next_advert (get_or others q d) (near setting (journal ++ item.Row row step ∷ first) q)
 
 module _ (control : Control) (setting : Setting) (journal : List Item)
-    (switches others : List SwitchValue) (before : Travellers) (count row : ℕ) (step : Step)
+    (switches others : List SwitchValue) (before : Flights) (count row : ℕ) (step : Step)
     (first : List Item) (links : List ℕ) (posts : List Post)
-    (tied : AreTied setting journal switches before count control)
+    (refines : RefineJournal setting journal switches before count control)
     (changes : LinksChange setting journal row step first switches others control links
     posts) where
   abbrev now : List Item
@@ -205,7 +207,7 @@ module _ (control : Control) (setting : Setting) (journal : List Item)
   any = switch_of setting journal 0
 
   abbrev messages : List Message
-  messages = all_told control.near (near_all links others) others
+  messages = all_adverts_sent control.near (near_all links others) others
 
   abbrev acts : List Act
   acts = map PostAct messages
@@ -214,17 +216,17 @@ module _ (control : Control) (setting : Setting) (journal : List Item)
   number = length control.posts + 1
 
   can : CanRelink setting journal now links control.near others
-  unfolding AreTied
+  unfolding RefineJournal
   can =
       let caused = caused_first control setting journal switches before count row step first
-      (link_changes setting journal now) tied changes.may changes.piece_is in record {
-        many = changes.as_many ∙ tied.many;
-        few = tied.sound.net.few_switches;
+      (link_changes setting journal now) refines changes.may changes.piece_is in record {
+        many = changes.as_many ∙ refines.many;
+        few = refines.sound.net.few_switches;
         up = λ q k small below. ap (λ mask. has mask k) (changes.up q small)
             ∙ has_mask (are_linked (up_links setting now) q) k below;
-        within = λ q k linked. up_ends setting now q k tied.sound.net linked;
-        had_is = λ q below. tied.usable q
-            (omega (arith, below, changes.as_many, tied.many, tied.sound.net.few_switches));
+        within = λ q k linked. up_ends setting now q k refines.sound.net linked;
+        had_is = λ q below. refines.usable q
+            (omega (arith, below, changes.as_many, refines.many, refines.sound.net.few_switches));
         serving = λ q serving. (serving_known now (caused_known setting now caused)).up q serving;
         relinks = λ q d below. changes.relinks q d (omega (arith, below, changes.as_many));
         own = λ q d below. changes.own q d (omega (arith, below, changes.as_many));
@@ -241,7 +243,7 @@ module _ (control : Control) (setting : Setting) (journal : List Item)
 
   pub change_piece : piece setting journal row step ≡ item.Row row step ∷ first
       ++ sent_from (length control.posts + 1)
-      (all_told control.near (near_all links others) others)
+      (all_adverts_sent control.near (near_all links others) others)
   change_piece = changes.piece_is ∙ ap (λ items. item.Row row step ∷ first ++ items) changes_are
 
   acts_piece : piece setting journal row step
@@ -250,9 +252,9 @@ module _ (control : Control) (setting : Setting) (journal : List Item)
       (sym (sent_as_acts number messages))
 
   pub change_may : length control.posts < 990_000
-      → MaySend posts (all_told control.near (near_all links others) others)
+      → MaySend posts (all_adverts_sent control.near (near_all links others) others)
   change_may room = may_send posts messages (may_note control setting journal switches before count
-      row step first posts acts tied changes.may acts_piece changes.number room)
+      row step first posts acts refines changes.may acts_piece changes.number room)
 
   -- ---- the parts behind it
 
@@ -267,30 +269,31 @@ module _ (control : Control) (setting : Setting) (journal : List Item)
 
   -- the packets on their way, where none is named
   pub unmoved : ((i : ℕ) → NoneName i (item.Row row step ∷ first)) → (i : ℕ)
-      → traveller before i ≡ traveller_in setting (journal ++ (item.Row row step ∷ first
+      → flight before i ≡ flight_in setting (journal ++ (item.Row row step ∷ first
       ++ act_items (length control.posts + 1)
-      (map PostAct (all_told control.near (near_all links others) others)))) i
-  unfolding AreTied
-  unmoved none i = tied.packet i
-      ∙ sym (traveller_stays setting journal all i
-      (reached_known setting journal tied.sound tied.reached)
+      (map PostAct (all_adverts_sent control.near (near_all links others) others)))) i
+  unfolding RefineJournal
+  unmoved none i = refines.packet i
+      ∙ sym (flight_stays setting journal all i
+      (reached_known setting journal refines.sound refines.reached)
       (none_more i (item.Row row step ∷ first) (act_items number acts) (none i)
       (acts_unnamed i number acts)))
 
-  pub change_tied : (later : List SwitchValue) (after : Travellers)
+  pub change_refines : (later : List SwitchValue) (after : Flights)
       → AreRelinked control.near (near_all links others) others later
-      → ((i : ℕ) → traveller after i ≡ traveller_in setting (journal ++ (item.Row row step ∷ first
+      → ((i : ℕ) → flight after i ≡ flight_in setting (journal ++ (item.Row row step ∷ first
       ++ act_items (length control.posts + 1)
-      (map PostAct (all_told control.near (near_all links others) others)))) i)
-      → AreTied setting (journal ++ (item.Row row step ∷ first
+      (map PostAct (all_adverts_sent control.near (near_all links others) others)))) i)
+      → RefineJournal setting (journal ++ (item.Row row step ∷ first
       ++ sent_from (length control.posts + 1)
-      (all_told control.near (near_all links others) others))) later after count
+      (all_adverts_sent control.near (near_all links others) others))) later after count
       (record control {
         links = links;
         near = near_all links others;
-        posts = posts ++ map posted (all_told control.near (near_all links others) others);
+        posts = posts ++ map new_post (all_adverts_sent control.near (near_all links others)
+            others);
       })
-  change_tied later after are travels =
+  change_refines later after are travels =
       let left = links_left setting now number acts links (near_all links others) changes.up
       (near_now setting journal now links control.near others any can) in
       let with : List Post → Control = λ bag. record control {
@@ -298,12 +301,14 @@ module _ (control : Control) (setting : Setting) (journal : List Item)
         near = near_all links others;
         posts = bag;
       } in
-      subst (λ rest. AreTied setting (journal ++ (item.Row row step ∷ first ++ rest)) later after
-      count (with (posts ++ map posted messages))) (sent_as_acts number messages)
-      (subst (λ more. AreTied setting (journal ++ all) later after count (with (posts ++ more)))
+      subst (λ rest. RefineJournal setting (journal ++ (item.Row row step ∷ first ++ rest)) later
+      after
+      count (with (posts ++ map new_post messages))) (sent_as_acts number messages)
+      (subst (λ more. RefineJournal setting (journal ++ all) later after count
+      (with (posts ++ more)))
       (posts_as_acts messages)
-      (tied_taken control (with (posts ++ act_posts acts)) setting journal switches later before
-      after count count row step items tied (record {
+      (refines_taken control (with (posts ++ act_posts acts)) setting journal switches later before
+      after count count row step items refines (record {
         may = changes.may;
         piece_is = acts_piece;
         as_many = are.as_many ∙ changes.as_many;
@@ -313,7 +318,7 @@ module _ (control : Control) (setting : Setting) (journal : List Item)
             ∙ ap (λ js. switch_of setting js q) split;
         travels = travels;
         controller = controller_stays control setting journal switches before count row step items
-            tied acts_piece changes.not_told;
+            refines acts_piece changes.not_told;
         bag = subst (λ js. IsBagOf js (posts ++ act_posts acts)) split
             (subst (λ more. IsBagOf (now ++ act_items number acts) (posts ++ more))
             (acts_posted number acts)

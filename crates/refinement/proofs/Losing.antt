@@ -13,14 +13,14 @@ use Rattle.steps.specs.Steps.{IsStep}
 use Rattle.update_machine.specs.Setting.{Setting}
 use Rattle.packet_laws.specs.Facts.{what_is_known}
 use Rattle.packet_laws.proofs.PacketFacts.{facts_grow}
-use Rattle.refinement.specs.Tied.{AreTied, Control, Tied}
-use Rattle.refinement.specs.Travellers.{traveller_in}
-use Rattle.travelling.specs.Travelling.{Travellers, WithOne, traveller}
-use Rattle.refinement.proofs.Known.{Known, reached_known, traveller_stays}
+use Rattle.refinement.specs.Refinement.{RefineJournal, Control, Refinement}
+use Rattle.refinement.specs.Flights.{flight_in}
+use Rattle.travelling.specs.Travelling.{Flights, WithOne, flight}
+use Rattle.refinement.proofs.Known.{Known, reached_known, flight_stays}
 use Rattle.refinement.proofs.Delivering.{nothing_happens}
 use Rattle.refinement.proofs.OneItem.{grown}
-use Rattle.refinement.proofs.Tying.{switches_stay, tied_silent}
-use Rattle.refinement.proofs.FactsAlong.{traveller_along}
+use Rattle.refinement.proofs.Refining.{switches_stay, refines_silent}
+use Rattle.refinement.proofs.FactsAlong.{flight_along}
 
 -- a row tells nothing of a packet
 pub travels_on : (journal : List Item) (row i : ℕ) (step : Step)
@@ -30,8 +30,8 @@ travels_on journal row i step = ap (λ facts. facts.travels)
     (facts_grow i journal (item.Row row step))
 
 pub travels_as : (setting : Setting) (journal : List Item) (i : ℕ)
-    → is_some (traveller_in setting journal i) ≡ travels journal i
-unfolding traveller_in
+    → is_some (flight_in setting journal i) ≡ travels journal i
+unfolding flight_in
 travels_as setting journal i = by_case (travels journal i) _
   where
     by_case : {X : Type 0} (b : Bool) (x : X) → is_some (if b then Some x else None) ≡ b
@@ -55,57 +55,60 @@ lose_piece setting journal row i =
     by_case false = refl
 
 -- of the packets, it is gone
-gone : (setting : Setting) (journal : List Item) (row i : ℕ) (before : Travellers) (q : ℕ)
+gone : (setting : Setting) (journal : List Item) (row i : ℕ) (before : Flights) (q : ℕ)
     (b : Bool) → Known setting journal → (q == i) ≡ b
-    → traveller before q ≡ traveller_in setting journal q
-    → (if b then None else traveller before q)
-    ≡ traveller_in setting (journal ++ item.Row row (Lose i) ∷ item.Lost i ∷ []) q
+    → flight before q ≡ flight_in setting journal q
+    → (if b then None else flight before q)
+    ≡ flight_in setting (journal ++ item.Row row (Lose i) ∷ item.Lost i ∷ []) q
 gone setting journal row i before q true knows is was =
     let same : (i == q) ≡ true = grind (arith, nat_tests) in
-    sym (traveller_along setting journal (item.Row row (Lose i) ∷ item.Lost i ∷ []) q
+    sym (flight_along setting journal (item.Row row (Lose i) ∷ item.Lost i ∷ []) q
     (refl, (refl, tt)) ∙ rw same refl)
 gone setting journal row i before q false knows is was =
     let other : (i == q) ≡ false = grind (arith, nat_tests) in
-    was ∙ sym (traveller_stays setting journal (item.Row row (Lose i) ∷ item.Lost i ∷ []) q knows
+    was ∙ sym (flight_stays setting journal (item.Row row (Lose i) ∷ item.Lost i ∷ []) q knows
     (refl, (other, tt)))
 
 pub lost : (control : Control) (setting : Setting) (journal : List Item)
-    (switches : List SwitchValue) (before after : Travellers) (count row i : ℕ)
-    → AreTied setting journal switches before count control → IsStep setting.net (length setting.policies) (Lose i)
-    → is_some (traveller before i) ≡ true → WithOne before i None after
+    (switches : List SwitchValue) (before after : Flights) (count row i : ℕ)
+    → RefineJournal setting journal switches before count control
+    → IsStep setting.net (length setting.policies) (Lose i)
+    → is_some (flight before i) ≡ true → WithOne before i None after
     → (piece setting journal row (Lose i) ≡ item.Row row (Lose i) ∷ item.Lost i ∷ [])
-    × AreTied setting (journal ++ item.Row row (Lose i) ∷ item.Lost i ∷ []) switches after count
+    × RefineJournal setting (journal ++ item.Row row (Lose i) ∷ item.Lost i ∷ []) switches after
+    count
     control
-unfolding AreTied
-lost control setting journal switches before after count row i tied may travelling without =
+unfolding RefineJournal
+lost control setting journal switches before after count row i refines may travelling without =
     let on : travels journal i ≡ true =
-    sym (ap is_some (tied.packet i) ∙ travels_as setting journal i) ∙ travelling in
+    sym (ap is_some (refines.packet i) ∙ travels_as setting journal i) ∙ travelling in
     let is : piece setting journal row (Lose i) ≡ item.Row row (Lose i) ∷ item.Lost i ∷ [] =
     lose_piece setting journal row i
     ∙ ap (λ b. item.Row row (Lose i) ∷ (if b then item.Lost i ∷ [] else nothing)) on in (
       is,
-      tied_silent control setting journal switches switches before after count count row (Lose i)
-          (item.Lost i ∷ []) tied (record {
+      refines_silent control setting journal switches switches before after count count row (Lose i)
+          (item.Lost i ∷ []) refines (record {
             may = may;
             piece_is = is;
             not_told = refl;
             sends = tt;
             as_many = refl;
             each = switches_stay control setting journal switches before count
-                (item.Row row (Lose i) ∷ item.Lost i ∷ []) tied (λ s. (refl, (refl, tt)))
+                (item.Row row (Lose i) ∷ item.Lost i ∷ []) refines (λ s. (refl, (refl, tt)))
                 (λ s. (refl, (refl, tt)));
             travels = λ q. without q
                 ∙ gone setting journal row i before q (q == i)
-                (reached_known setting journal tied.sound tied.reached) refl (tied.packet q);
+                (reached_known setting journal refines.sound refines.reached) refl
+                (refines.packet q);
           }) (omega arith) refl,
     )
 
 -- of a packet that didn't travel, nothing changes
-stayed : (before : Travellers) (i q : ℕ) (b : Bool) → (q == i) ≡ b
-    → is_some (traveller before i) ≡ false
-    → (if b then None else traveller before q) ≡ traveller before q
+stayed : (before : Flights) (i q : ℕ) (b : Bool) → (q == i) ≡ b
+    → is_some (flight before i) ≡ false
+    → (if b then None else flight before q) ≡ flight before q
 stayed before i q true is resting =
-    sym (none_there (traveller before q) (ap (λ k. is_some (traveller before k)) (eqb-true _ _ is)
+    sym (none_there (flight before q) (ap (λ k. is_some (flight before k)) (eqb-true _ _ is)
     ∙ resting))
   where
     none_there : {X : Type 0} (o : Option X) → is_some o ≡ false → o ≡ None
@@ -114,18 +117,19 @@ stayed before i q true is resting =
 stayed before i q false is resting = refl
 
 pub not_lost : (control : Control) (setting : Setting) (journal : List Item)
-    (switches : List SwitchValue) (before after : Travellers) (count row i : ℕ)
-    → AreTied setting journal switches before count control → IsStep setting.net (length setting.policies) (Lose i)
-    → is_some (traveller before i) ≡ false → WithOne before i None after
+    (switches : List SwitchValue) (before after : Flights) (count row i : ℕ)
+    → RefineJournal setting journal switches before count control
+    → IsStep setting.net (length setting.policies) (Lose i)
+    → is_some (flight before i) ≡ false → WithOne before i None after
     → (piece setting journal row (Lose i) ≡ item.Row row (Lose i) ∷ item.Nothing ∷ [])
-    × AreTied setting (grown journal row (Lose i) item.Nothing) switches after count control
-unfolding AreTied
-not_lost control setting journal switches before after count row i tied may resting without =
+    × RefineJournal setting (grown journal row (Lose i) item.Nothing) switches after count control
+unfolding RefineJournal
+not_lost control setting journal switches before after count row i refines may resting without =
     let off : travels journal i ≡ false =
-    sym (ap is_some (tied.packet i) ∙ travels_as setting journal i) ∙ resting in
+    sym (ap is_some (refines.packet i) ∙ travels_as setting journal i) ∙ resting in
     let still : (piece setting journal row (Lose i) ≡ item.Row row (Lose i) ∷ nothing)
-    × Tied setting (grown journal row (Lose i) item.Nothing) switches before count control =
-    nothing_happens control setting journal switches before count row (Lose i) tied may
+    × Refinement setting (grown journal row (Lose i) item.Nothing) switches before count control =
+    nothing_happens control setting journal switches before count row (Lose i) refines may
     (λ q. refl) (lose_piece setting journal row i
     ∙ ap (λ b. item.Row row (Lose i) ∷ (if b then item.Lost i ∷ [] else nothing)) off) in (
       still.0,

@@ -12,7 +12,7 @@ use Rattle.update_machine.specs.Packets.{is_packet}
 use Rattle.packet_laws.specs.Facts.{PacketFacts, facts_after}
 use Rattle.refinement.proofs.Others.{NoneName, unnamed}
 use Rattle.refinement.proofs.Standing.{among}
-use Rattle.refinement.proofs.FactsAlong.{Targets, traveller_by, facts_along}
+use Rattle.refinement.proofs.FactsAlong.{Targets, flight_by, facts_along}
 
 -- what losses don't concern stays
 pub losts_apart : (concerns : List Item → Item → Bool)
@@ -74,20 +74,20 @@ facts_lost i before (k ∷ packets) more facts none =
         ∙ sym (rw e refl)
 
 -- a packet is gone where it is among them, behind items that don't name it
-pub traveller_lost : (targets : Targets) (i : ℕ) (before first : List Item) (packets : List ℕ)
+pub flight_lost : (targets : Targets) (i : ℕ) (before first : List Item) (packets : List ℕ)
     (more : List Item) (facts : PacketFacts) → NoneName i first → NoneName i more
-    → traveller_by targets i (facts_along i before (first ++ map item.Lost packets ++ more) facts)
-    ≡ (if among i packets then None else traveller_by targets i facts)
-traveller_lost targets i before [] packets more facts none last =
-    ap (traveller_by targets i) (facts_lost i before packets more facts last)
+    → flight_by targets i (facts_along i before (first ++ map item.Lost packets ++ more) facts)
+    ≡ (if among i packets then None else flight_by targets i facts)
+flight_lost targets i before [] packets more facts none last =
+    ap (flight_by targets i) (facts_lost i before packets more facts last)
     ∙ by_among (among i packets)
   where
-    by_among : (b : Bool) → traveller_by targets i (if b then ended facts else facts)
-        ≡ (if b then None else traveller_by targets i facts)
+    by_among : (b : Bool) → flight_by targets i (if b then ended facts else facts)
+        ≡ (if b then None else flight_by targets i facts)
     by_among true = refl
     by_among false = refl
-traveller_lost targets i before (one ∷ first) packets more facts none last =
-    ap (λ b. traveller_by targets i (facts_along i (before ++ one ∷ [])
+flight_lost targets i before (one ∷ first) packets more facts none last =
+    ap (λ b. flight_by targets i (facts_along i (before ++ one ∷ [])
     (first ++ map item.Lost packets ++ more)
     (if b then facts_after (retired_mark before) one facts else facts))) none.0
-    ∙ traveller_lost targets i (before ++ one ∷ []) first packets more facts none.1 last
+    ∙ flight_lost targets i (before ++ one ∷ []) first packets more facts none.1 last

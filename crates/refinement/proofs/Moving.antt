@@ -14,9 +14,9 @@ use Rattle.policy_rules.specs.declared.packet.Leg.TheVariants.{Seek, Exit}
 use Rattle.journal.specs.declared.item.Item.{Item}
 use Rattle.journal.specs.declared.item.Item.TheVariants as item
 use Rattle.steps.specs.declared.step.Step.TheVariants.{Hop}
-use Rattle.switch_core.specs.Answering.{arrived, arrived_on}
+use Rattle.switch_core.specs.Answering.{arrive_answer, arrived_on}
 use Rattle.switch_core.specs.Ends.{around, cause_of}
-use Rattle.switch_core.specs.Moving.{Moved, link_found_down as found_by, hopped, hopped_to, moved, moved_along, rerouted_here}
+use Rattle.switch_core.specs.Moving.{Moved, link_found_down as found_by, hop_answer, hopped_to, move_answer, moved_along, rerouted_here}
 use Rattle.switch_core.specs.State.{SwitchValue, call_counted}
 use Rattle.switch_core.specs.declared.answers.Arrived.{Arrived}
 use Rattle.switch_core.specs.declared.answers.HopEnd.{HopEnd}
@@ -31,7 +31,7 @@ use Rattle.update_machine.specs.Causes.{HaveCauses}
 use Rattle.update_machine.specs.Handled.{stays_on_way}
 use Rattle.update_machine.specs.LinkMasks.{near}
 use Rattle.update_machine.specs.Messages.{next_message}
-use Rattle.update_machine.specs.Moves.{arrive_items, cause_at, go_on, move_items, put, reroute_by, reroute_items, route_for, stuck_on}
+use Rattle.update_machine.specs.Moves.{arrive_items, cause_at, go_on, move_items, items_then, reroute_by, reroute_items, route_for, stuck_on}
 use Rattle.update_machine.specs.Ways.{found_down, next_switch, no_switch, owner, targets_of}
 use Rattle.update_machine.specs.Setting.{Setting}
 use Rattle.update_machine.specs.Travels.{leg_of}
@@ -45,12 +45,12 @@ use Rattle.packet_laws.specs.Stages.{stage_of}
 use Rattle.packet_laws.proofs.AllKept.{knows}
 use Rattle.packet_laws.proofs.Ends.{last_here, one_target}
 use Rattle.packet_laws.proofs.Here.{found_in, next_in}
-use Rattle.packet_laws.proofs.Kept.{Knows}
+use Rattle.packet_laws.proofs.KeptFacts.{Knows}
 use Rattle.packet_laws.proofs.Routes.{IsWay, route_way}
-use Rattle.world_log.specs.Packets.{arrival, arrival_items, ended_items, ended_traveller, hop_written, hop_traveller, turned_items}
+use Rattle.world_log.specs.Packets.{arrival, arrival_items, ended_items, ended_flight, hop_written, hop_flight, turned_items}
 use Rattle.travelling.specs.Travelling.{standing_at, Standing}
 use Rattle.world_log.specs.Writing.{arrived_items}
-use Rattle.travelling.specs.declared.travelling.Traveller.{Traveller}
+use Rattle.travelling.specs.declared.travelling.Flight.{Flight}
 use Rattle.refinement.proofs.Arrivals.{IsAtEnd, arrival_goes, arrive_comes, arrive_law, at_end_on, end_of_route, ours_of}
 use Rattle.refinement.proofs.Goings.{AreOfFacts}
 use Rattle.refinement.proofs.Known.{before_of}
@@ -59,7 +59,7 @@ use Rattle.refinement.proofs.Legs.{at_switch, cause_law}
 use Rattle.refinement.proofs.Looking.{IsAsked}
 use Rattle.refinement.proofs.OnWay.{Stands, got, on_leg, on_route_of, tunnel_on}
 use Rattle.refinement.proofs.Seeing.{Sees, sees_counted, sees_one}
-use Rattle.refinement.proofs.FactsAlong.{Targets, by_targets, same_targets, traveller_by, facts_along}
+use Rattle.refinement.proofs.FactsAlong.{Targets, by_targets, same_targets, flight_by, facts_along}
 
 leg_in_facts : (journal : List Item) (i : ℕ) → leg_of journal i ≡ (what_is_known journal i).leg
 unfolding what_is_known
@@ -119,10 +119,10 @@ module _ (setting : Setting) (journal : List Item) (row i s : ℕ) (header : Hea
   abbrev down : ℕ → List ℕ
   down two = with_link facts.found s two
 
-  abbrev at_place : List ℕ → ℕ → List ℕ → Traveller
+  abbrev at_place : List ℕ → ℕ → List ℕ → Flight
   at_place route k found = on_route_of targets i facts header ingress leg route k found
 
-  abbrev t : Traveller
+  abbrev t : Flight
   t = at_place facts.route facts.hops facts.found
 
   abbrev number : ℕ
@@ -243,9 +243,9 @@ module _ (setting : Setting) (journal : List Item) (row i s : ℕ) (header : Hea
       → Stays now → AreNow now ws found → IsAtEnd setting now s header leg
       → arrive_items setting i s now
       ≡ arrival_items number (call_counted w) mask ports (at_place route k found)
-  unfolding arrival_items arrived
+  unfolding arrival_items arrive_answer
   arrival_is now ws route k found stays are end =
-      let u : Traveller = at_place route k found in
+      let u : Flight = at_place route k found in
       let what : Arrived = arrived_on (call_counted w) (around mask ports) (packet found) leg in
       arrive_law setting now s (call_counted w) mask ports (packet found)
       (asked_now now ws found stays are) u leg
@@ -258,11 +258,11 @@ module _ (setting : Setting) (journal : List Item) (row i s : ℕ) (header : Hea
   arrival_goes_on : (now : List Item) (ws : PacketFacts) (route : List ℕ) (k : ℕ)
       (found : List ℕ) → Stays now → AreNow now ws found
       → arrival (call_counted w) mask ports (at_place route k found)
-      ≡ traveller_by targets i (facts_along i now
+      ≡ flight_by targets i (facts_along i now
       (arrival_items number (call_counted w) mask ports (at_place route k found)) ws)
-  unfolding arrival arrival_items arrived
+  unfolding arrival arrival_items arrive_answer
   arrival_goes_on now ws route k found stays are =
-      let u : Traveller = at_place route k found in
+      let u : Flight = at_place route k found in
       let what : Arrived = arrived_on (call_counted w) (around mask ports) (packet found) leg in
       let at : Standing = at_switch s (packet found) in
       arrival_goes (targets_of setting now) now number at u what ws
@@ -272,7 +272,7 @@ module _ (setting : Setting) (journal : List Item) (row i s : ℕ) (header : Hea
       (asked_now now ws found stays are) leg)
       ∙ by_targets (targets_of setting now) targets i
       (facts_along i now (arrived_items number at u.version u.rule what) ws) (stays.leads _)
-      ∙ ap (λ s. traveller_by targets i
+      ∙ ap (λ s. flight_by targets i
       (facts_along i now (arrived_items number (standing_at s u) u.version u.rule what) ws))
       (sym hops.sees.number)
 
@@ -280,13 +280,13 @@ module _ (setting : Setting) (journal : List Item) (row i s : ℕ) (header : Hea
       → stays_on_way (arrival_items number (call_counted w) mask ports (at_place route k found)) ≡ false
   unfolding arrival_items
   arrival_stays route k found =
-      let u : Traveller = at_place route k found in
+      let u : Flight = at_place route k found in
       arrived_still number (standing_at (call_counted w).number u) u
-      (arrived (call_counted w) (around mask ports) u.tunnel)
+      (arrive_answer (call_counted w) (around mask ports) u.tunnel)
 
   -- ---- what a hop comes to
 
-  abbrev moved_to : Moved → Traveller
+  abbrev moved_to : Moved → Flight
   moved_to m = record t { tunnel = m.tunnel }
 
   abbrev written : ℕ → Option ℕ → Moved → List Item
@@ -298,8 +298,8 @@ module _ (setting : Setting) (journal : List Item) (row i s : ℕ) (header : Hea
   abbrev Outcome : ℕ → Option ℕ → Moved → Type 0
   Outcome at found m =
       (move_items setting i s begun ≡ written at found m)
-      × (ended_traveller (call_counted w) mask ports (moved_to m) m.end
-      ≡ traveller_by targets i (facts_along i begun (written at found m) facts))
+      × (ended_flight (call_counted w) mask ports (moved_to m) m.end
+      ≡ flight_by targets i (facts_along i begun (written at found m) facts))
       × (stays_on_way (written at found m) ≡ stays_by m.end)
 
   abbrev move_by : Option ℕ → List Item
@@ -307,7 +307,7 @@ module _ (setting : Setting) (journal : List Item) (row i s : ℕ) (header : Hea
     | None ↦ arrive_items setting i s begun
     | Some next ↦ elim (has (near setting begun s) next) [
       | true ↦ item.Hopped i next ∷ []
-      | false ↦ put (item.FoundDown i s next ∷ []) (reroute_items setting i s) begun
+      | false ↦ items_then (item.FoundDown i s next ∷ []) (reroute_items setting i s) begun
     ]
   ]
 
@@ -326,7 +326,7 @@ module _ (setting : Setting) (journal : List Item) (row i s : ℕ) (header : Hea
   are_begun = search (rules, facts_begun)
 
   -- it is at the end of its route
-  arrives : next t.tunnel ≡ None → Outcome s None (moved t.tunnel None)
+  arrives : next t.tunnel ≡ None → Outcome s None (move_answer t.tunnel None)
   arrives last = (
     moves_are None last
         ∙ arrival_is begun facts facts.route facts.hops facts.found stays_begun are_begun
@@ -338,12 +338,12 @@ module _ (setting : Setting) (journal : List Item) (row i s : ℕ) (header : Hea
 
   -- it moves over a link that is usable
   moves : (two : ℕ) → next t.tunnel ≡ Some two → has mask two ≡ true
-      → Outcome s None (moved t.tunnel (Some two))
+      → Outcome s None (move_answer t.tunnel (Some two))
   moves two goes usable = (
     moves_are (Some two) goes
         ∙ ap (λ b. elim b [
           | true ↦ item.Hopped i two ∷ []
-          | false ↦ put (item.FoundDown i s two ∷ []) (reroute_items setting i s) begun
+          | false ↦ items_then (item.FoundDown i s two ∷ []) (reroute_items setting i s) begun
         ]) (links_are two true usable),
     search (rules, own i),
     refl,
@@ -366,8 +366,8 @@ module _ (setting : Setting) (journal : List Item) (row i s : ℕ) (header : Hea
   found_is two goes off = ap (found_by mask) goes ∙ rw off refl
 
   blocked_is : (two : ℕ) → next t.tunnel ≡ Some two → has mask two ≡ false
-      → hopped w mask t.tunnel ≡ moved_along w mask (tunnel_down two) (route_down two leg)
-  unfolding hopped rerouted_here
+      → hop_answer w mask t.tunnel ≡ moved_along w mask (tunnel_down two) (route_down two leg)
+  unfolding hop_answer rerouted_here
   blocked_is two goes off =
       let along : ℕ → ℕ → Moved = λ n k. moved_along w mask
       (tunnel_on targets i header ingress leg facts.route facts.hops (with_link facts.found n two))
@@ -388,7 +388,7 @@ module _ (setting : Setting) (journal : List Item) (row i s : ℕ) (header : Hea
   abbrev reroute_by_route : ℕ → Option (List ℕ) → List Item
   reroute_by_route two o = elim o [
     | None ↦ stuck_on setting (met two) i s leg ∷ []
-    | Some route ↦ put (item.Rerouted i route ∷ []) (go_on setting i s) (met two)
+    | Some route ↦ items_then (item.Rerouted i route ∷ []) (go_on setting i s) (met two)
   ]
 
   reroutes : (two : ℕ) (o : Option (List ℕ)) → route_down two leg ≡ o
@@ -408,7 +408,7 @@ module _ (setting : Setting) (journal : List Item) (row i s : ℕ) (header : Hea
       moves_are (Some two) goes
       ∙ ap (λ b. elim b [
         | true ↦ item.Hopped i two ∷ []
-        | false ↦ put (item.FoundDown i s two ∷ []) (reroute_items setting i s) begun
+        | false ↦ items_then (item.FoundDown i s two ∷ []) (reroute_items setting i s) begun
       ]) (links_are two false off)
       ∙ ap (λ more. item.FoundDown i s two ∷ more) (reroutes two o is)
 
@@ -449,7 +449,7 @@ module _ (setting : Setting) (journal : List Item) (row i s : ℕ) (header : Hea
   detours : (two : ℕ) (route : List ℕ) (other : ℕ) → next t.tunnel ≡ Some two
       → has mask two ≡ false → route_down two leg ≡ Some route → slice_get route 1 ≡ Some other
       → Outcome s (Some two)
-      (moved (record (tunnel_down two) { route = route; place = 0 }) (Some other))
+      (move_answer (record (tunnel_down two) { route = route; place = 0 }) (Some other))
   detours two route other goes off is on = (
     blocked_items two (Some route) goes off is
         ∙ ap (λ o. item.FoundDown i s two ∷ item.Rerouted i route ∷ go_by two route o)
@@ -500,7 +500,7 @@ module _ (setting : Setting) (journal : List Item) (row i s : ℕ) (header : Hea
   arrives_there : (two : ℕ) (route : List ℕ) → next t.tunnel ≡ Some two
       → has mask two ≡ false → route_down two leg ≡ Some route → slice_get route 1 ≡ None
       → Outcome s (Some two)
-      (moved (record (tunnel_down two) { route = route; place = 0 }) None)
+      (move_answer (record (tunnel_down two) { route = route; place = 0 }) None)
   arrives_there two route goes off is last =
       let now : List Item = turned two route in
       let items : List Item =
@@ -514,7 +514,7 @@ module _ (setting : Setting) (journal : List Item) (row i s : ℕ) (header : Hea
             ((stays_turned two route).at_end (ends_there two route leg hops.stands.on_leg is last))),
         arrival_goes_on now (facts_turned two route) route 0 (down two) (stays_turned two route)
             (are_turned two route)
-            ∙ ap (traveller_by targets i) (sym (turned_along two route items)),
+            ∙ ap (flight_by targets i) (sym (turned_along two route items)),
         arrival_stays route 0 (down two),
       )
 
@@ -528,33 +528,33 @@ module _ (setting : Setting) (journal : List Item) (row i s : ℕ) (header : Hea
     where
       by_next : (o : Option ℕ) → slice_get route 1 ≡ o
           → Outcome s (Some two)
-          (moved (record (tunnel_down two) { route = route; place = 0 }) o)
+          (move_answer (record (tunnel_down two) { route = route; place = 0 }) o)
       by_next None last = arrives_there two route goes off is last
       by_next (Some other) on = detours two route other goes off is on
 
   by_outcome : (found : Option ℕ) (m : Moved) → found_by mask (next t.tunnel) ≡ found
-      → hopped w mask t.tunnel ≡ m → Outcome s found m
-      → Outcome w.number (found_by mask (next t.tunnel)) (hopped w mask t.tunnel)
+      → hop_answer w mask t.tunnel ≡ m → Outcome s found m
+      → Outcome w.number (found_by mask (next t.tunnel)) (hop_answer w mask t.tunnel)
   by_outcome found m found_it moved_it outcome =
-      subst (λ n. Outcome n (found_by mask (next t.tunnel)) (hopped w mask t.tunnel))
+      subst (λ n. Outcome n (found_by mask (next t.tunnel)) (hop_answer w mask t.tunnel))
       (sym hops.sees.number)
-      (subst (λ f. Outcome s f (hopped w mask t.tunnel)) (sym found_it)
+      (subst (λ f. Outcome s f (hop_answer w mask t.tunnel)) (sym found_it)
       (subst (Outcome s found) (sym moved_it) outcome))
 
   none_found : (o : Option ℕ) → next t.tunnel ≡ o → found_by mask (next t.tunnel) ≡ None
-      → hopped w mask t.tunnel ≡ moved t.tunnel o
-  unfolding hopped
-  none_found o is none = ap (hopped_to w mask t.tunnel) none ∙ ap (moved t.tunnel) is
+      → hop_answer w mask t.tunnel ≡ move_answer t.tunnel o
+  unfolding hop_answer
+  none_found o is none = ap (hopped_to w mask t.tunnel) none ∙ ap (move_answer t.tunnel) is
 
-  outcome : Outcome w.number (found_by mask (next t.tunnel)) (hopped w mask t.tunnel)
+  outcome : Outcome w.number (found_by mask (next t.tunnel)) (hop_answer w mask t.tunnel)
   outcome = by_next (next t.tunnel) refl
     where
       by_link : (two : ℕ) (b : Bool) → next t.tunnel ≡ Some two → has mask two ≡ b
-          → Outcome w.number (found_by mask (next t.tunnel)) (hopped w mask t.tunnel)
+          → Outcome w.number (found_by mask (next t.tunnel)) (hop_answer w mask t.tunnel)
       by_link two true goes usable =
           let none : found_by mask (next t.tunnel) ≡ None =
           ap (found_by mask) goes ∙ rw usable refl in
-          by_outcome None (moved t.tunnel (Some two)) none (none_found (Some two) goes none)
+          by_outcome None (move_answer t.tunnel (Some two)) none (none_found (Some two) goes none)
           (moves two goes usable)
       by_link two false goes off =
           by_outcome (Some two) (moved_along w mask (tunnel_down two) (route_down two leg))
@@ -562,18 +562,20 @@ module _ (setting : Setting) (journal : List Item) (row i s : ℕ) (header : Hea
           (by_route two (route_down two leg) goes off refl)
 
       by_next : (o : Option ℕ) → next t.tunnel ≡ o
-          → Outcome w.number (found_by mask (next t.tunnel)) (hopped w mask t.tunnel)
+          → Outcome w.number (found_by mask (next t.tunnel)) (hop_answer w mask t.tunnel)
       by_next None last =
           let none : found_by mask (next t.tunnel) ≡ None = ap (found_by mask) last in
-          by_outcome None (moved t.tunnel None) none (none_found None last none) (arrives last)
+          by_outcome None (move_answer t.tunnel None) none (none_found None last none)
+          (arrives last)
       by_next (Some two) goes = by_link two (has mask two) goes refl
 
   -- where it arrives its switch is asked once more
-  pub arrives_at_end : (hopped w mask (on_leg (targets_of setting journal) i (what_is_known journal i)
+  pub arrives_at_end : (hop_answer w mask (on_leg (targets_of setting journal) i
+      (what_is_known journal i)
       header ingress leg).tunnel).end ≡ hop.Arrive → IsAtEnd setting journal s header leg
   arrives_at_end arrive = by_next (next t.tunnel) refl
     where
-      ended : (m : Moved) → hopped w mask t.tunnel ≡ m → m.end ≡ hop.Arrive
+      ended : (m : Moved) → hop_answer w mask t.tunnel ≡ m → m.end ≡ hop.Arrive
       ended m is = ap (λ (m : Moved). m.end) (sym is) ∙ arrive
 
       by_link : (two : ℕ) (b : Bool) → next t.tunnel ≡ Some two → has mask two ≡ b
@@ -582,7 +584,7 @@ module _ (setting : Setting) (journal : List Item) (row i s : ℕ) (header : Hea
           let none : found_by mask (next t.tunnel) ≡ None =
           ap (found_by mask) goes ∙ rw usable refl in
           let clash : hop.Move two ≡ hop.Arrive =
-          ended (moved t.tunnel (Some two)) (none_found (Some two) goes none) in
+          ended (move_answer t.tunnel (Some two)) (none_found (Some two) goes none) in
           absurd cc
       by_link two false goes off =
           by_way (route_down two leg) refl
@@ -592,9 +594,10 @@ module _ (setting : Setting) (journal : List Item) (row i s : ℕ) (header : Hea
           by_turn route None is last = ends_there two route leg hops.stands.on_leg is last
           by_turn route (Some other) is on =
               let clash : hop.Move other ≡ hop.Arrive =
-              ended (moved (record (tunnel_down two) { route = route; place = 0 }) (Some other))
+              ended (move_answer (record (tunnel_down two) { route = route; place = 0 })
+              (Some other))
               (blocked_is two goes off ∙ ap (moved_along w mask (tunnel_down two)) is
-              ∙ ap (moved (record (tunnel_down two) { route = route; place = 0 })) on) in
+              ∙ ap (move_answer (record (tunnel_down two) { route = route; place = 0 })) on) in
               absurd cc
 
           by_way : (o : Option (List ℕ)) → route_down two leg ≡ o
@@ -619,9 +622,9 @@ module _ (setting : Setting) (journal : List Item) (row i s : ℕ) (header : Hea
   hop_law = outcome.0
 
   -- where the packet is then
-  pub hop_goes : hop_traveller w mask ports
+  pub hop_goes : hop_flight w mask ports
       (on_leg (targets_of setting journal) i (what_is_known journal i) header ingress leg)
-      ≡ traveller_by (targets_of setting journal) i
+      ≡ flight_by (targets_of setting journal) i
       (facts_along i (journal ++ item.Row row (Hop i) ∷ [])
       (hop_written (next_message journal) w mask ports
       (on_leg (targets_of setting journal) i (what_is_known journal i) header ingress leg))
@@ -631,6 +634,7 @@ module _ (setting : Setting) (journal : List Item) (row i s : ℕ) (header : Hea
   -- and whether its switch is called once or twice
   pub hop_stays : stays_on_way (hop_written (next_message journal) w mask ports
       (on_leg (targets_of setting journal) i (what_is_known journal i) header ingress leg))
-      ≡ stays_by (hopped w mask (on_leg (targets_of setting journal) i (what_is_known journal i) header
+      ≡ stays_by (hop_answer w mask (on_leg (targets_of setting journal) i (what_is_known journal i)
+      header
       ingress leg).tunnel).end
   hop_stays = outcome.2

@@ -14,9 +14,9 @@ use Rattle.packet_laws.specs.OnWay.{IsOnLeg, IsOnWay}
 use Rattle.packet_laws.specs.Facts.{PacketFacts, what_is_known}
 use Rattle.packet_laws.specs.Rest.{IsServed}
 use Rattle.packet_laws.proofs.Here.{some_same}
-use Rattle.travelling.specs.declared.travelling.Traveller.{Traveller}
+use Rattle.travelling.specs.declared.travelling.Flight.{Flight}
 use Rattle.refinement.proofs.Known.{Known, Travels, travels_known}
-use Rattle.refinement.proofs.FactsAlong.{Targets, traveller_by}
+use Rattle.refinement.proofs.FactsAlong.{Targets, flight_by}
 
 -- its tunnel, at this place of this route, with these links found down
 abbrev pub tunnel_on : Targets → ℕ → Header → ℕ → Leg → List ℕ → ℕ → List ℕ → TunnelValue
@@ -33,28 +33,28 @@ tunnel_on targets i header ingress leg route place down = record {
 
 -- what is known of it with these facts, wherever it stands
 abbrev pub on_route_of : Targets → ℕ → PacketFacts → Header → ℕ → Leg → List ℕ → ℕ → List ℕ
-    → Traveller
+    → Flight
 on_route_of targets i facts header ingress leg route place down = record {
   tunnel = tunnel_on targets i header ingress leg route place down;
   version = unwrap_or (option_map (λ decision. decision.version) facts.decision) 0;
   rule = unwrap_or (option_map (λ decision. decision.rule) facts.decision) None;
 }
 
-abbrev pub on_leg : Targets → ℕ → PacketFacts → Header → ℕ → Leg → Traveller
+abbrev pub on_leg : Targets → ℕ → PacketFacts → Header → ℕ → Leg → Flight
 on_leg targets i facts header ingress leg =
     on_route_of targets i facts header ingress leg facts.route facts.hops facts.found
 
 pub known_by : (targets : Targets) (i : ℕ) (facts : PacketFacts) (header : Header) (ingress : ℕ)
     (leg : Leg) → facts.travels ≡ true → facts.header ≡ Some header
     → facts.ingress ≡ Some ingress → facts.leg ≡ Some leg
-    → traveller_by targets i facts ≡ Some (on_leg targets i facts header ingress leg)
+    → flight_by targets i facts ≡ Some (on_leg targets i facts header ingress leg)
 known_by targets i facts header ingress leg on its came takes = rw (on, its, came, takes) refl
 
-travels_by : (targets : Targets) (i : ℕ) (facts : PacketFacts) (t : Traveller)
-    → traveller_by targets i facts ≡ Some t → facts.travels ≡ true
+travels_by : (targets : Targets) (i : ℕ) (facts : PacketFacts) (t : Flight)
+    → flight_by targets i facts ≡ Some t → facts.travels ≡ true
 travels_by targets i facts t is = by_case facts.travels _ t is
   where
-    by_case : (b : Bool) (x t : Traveller) → (if b then Some x else None) ≡ Some t → b ≡ true
+    by_case : (b : Bool) (x t : Flight) → (if b then Some x else None) ≡ Some t → b ≡ true
     by_case true x t is = refl
     by_case false x t is = absurd cc
 
@@ -80,7 +80,7 @@ pub record Stands (setting : Setting) (journal : List Item) (i s : ℕ) (header 
   pub here : slice_get (what_is_known journal i).route (what_is_known journal i).hops ≡ Some s
 
 -- a packet of the table, as the journal tells of it
-pub record IsStanding (setting : Setting) (journal : List Item) (i : ℕ) (t : Traveller) : Type 0
+pub record IsStanding (setting : Setting) (journal : List Item) (i : ℕ) (t : Flight) : Type 0
   where
     pub switch : ℕ
     pub header : Header
@@ -97,9 +97,9 @@ serves_here setting journal i s served stands =
     some_same (what_is_known journal i).stands served.switch s served.stands stands in
     rw (sym same) served.serving
 
-pub standing_by : (setting : Setting) (journal : List Item) (i : ℕ) (t : Traveller)
+pub standing_by : (setting : Setting) (journal : List Item) (i : ℕ) (t : Flight)
     → Known setting journal
-    → traveller_by (targets_of setting journal) i (what_is_known journal i) ≡ Some t
+    → flight_by (targets_of setting journal) i (what_is_known journal i) ≡ Some t
     → IsStanding setting journal i t
 standing_by setting journal i t knows by =
     let facts : PacketFacts = what_is_known journal i in
@@ -127,7 +127,7 @@ standing_by setting journal i t knows by =
         on_leg = way.on_leg;
         here = way.stands;
       };
-      is = some_same (traveller_by targets i facts) t
+      is = some_same (flight_by targets i facts) t
           (on_leg targets i facts way.under_way.header way.under_way.ingress way.leg) by
           (known_by targets i facts way.under_way.header way.under_way.ingress way.leg on
           way.under_way.entered way.under_way.came way.takes);

@@ -13,12 +13,12 @@ use Rattle.update_machine.specs.Packets.{is_packet}
 use Rattle.update_machine.specs.Pieces.{piece}
 use Rattle.steps.specs.Steps.{IsStep}
 use Rattle.update_machine.specs.Setting.{Setting}
-use Rattle.refinement.specs.Tied.{AreTied, Control}
+use Rattle.refinement.specs.Refinement.{RefineJournal, Control}
 use Rattle.refinement.specs.Bags.{IsBagOf}
-use Rattle.travelling.specs.Travelling.{Travellers}
-use Rattle.refinement.proofs.Known.{reached_known, traveller_stays}
+use Rattle.travelling.specs.Travelling.{Flights}
+use Rattle.refinement.proofs.Known.{reached_known, flight_stays}
 use Rattle.refinement.proofs.Others.{NoneName}
-use Rattle.refinement.proofs.Tying.{links_stay, tied_taken, up_stay}
+use Rattle.refinement.proofs.Refining.{links_stay, refines_taken, up_stay}
 
 -- the journal behind the step
 abbrev pub grown : List Item → ℕ → Step → Item → List Item
@@ -40,28 +40,28 @@ pub record WritesOne (setting : Setting) (journal : List Item) (row : ℕ) (step
       → get_or others s d ≡ switch_of setting (grown journal row step one) s
   pub bag : IsBagOf (grown journal row step one) posts
 
-pub tied_one : (control : Control) (posts : List Post) (setting : Setting) (journal : List Item)
-    (switches others : List SwitchValue) (before : Travellers) (count row : ℕ) (step : Step)
-    (one : Item) → AreTied setting journal switches before count control
+pub refines_one : (control : Control) (posts : List Post) (setting : Setting) (journal : List Item)
+    (switches others : List SwitchValue) (before : Flights) (count row : ℕ) (step : Step)
+    (one : Item) → RefineJournal setting journal switches before count control
     → WritesOne setting journal row step one switches others posts
-    → AreTied setting (grown journal row step one) others before count
+    → RefineJournal setting (grown journal row step one) others before count
     (record control { posts = posts })
-unfolding AreTied
-tied_one control posts setting journal switches others before count row step one tied writes =
+unfolding RefineJournal
+refines_one control posts setting journal switches others before count row step one refines writes =
     let items : List Item = item.Row row step ∷ one ∷ [] in
-    tied_taken control (record control { posts = posts }) setting journal switches others before
-    before count count row step (one ∷ []) tied (record {
+    refines_taken control (record control { posts = posts }) setting journal switches others before
+    before count count row step (one ∷ []) refines (record {
       may = writes.may;
       piece_is = writes.piece_is;
       as_many = writes.as_many;
       each = writes.each;
-      travels = λ i. tied.packet i ∙ sym (traveller_stays setting journal items i
-          (reached_known setting journal tied.sound tied.reached) (writes.apart i));
+      travels = λ i. refines.packet i ∙ sym (flight_stays setting journal items i
+          (reached_known setting journal refines.sound refines.reached) (writes.apart i));
       controller = items_leave setting journal items control.controller
-          (reached_known setting journal tied.sound tied.reached).caused writes.not_told
-          tied.controller;
+          (reached_known setting journal refines.sound refines.reached).caused writes.not_told
+          refines.controller;
       bag = writes.bag;
-      up = up_stay control setting journal switches before count items tied writes.no_links;
-      usable = links_stay control setting journal switches before count items tied
+      up = up_stay control setting journal switches before count items refines writes.no_links;
+      usable = links_stay control setting journal switches before count items refines
           writes.no_links;
     }) (omega (arith, writes.as_before))

@@ -4,7 +4,7 @@ use Rattle.std.proofs.Common.{ℕ, ◌≡◌, ◌+◌, ◌-◌, ◌^◌, ◌<◌
 use Rattle.std.specs.Prelude.{All}
 use Rattle.std.specs.Option.{option_map_or}
 use Rattle.std.proofs.lemmas.List.{length-set}
-use Rattle.message_bag.specs.Posts.{IsMessageOf, Post, posted, with_delivered}
+use Rattle.message_bag.specs.Posts.{IsMessageOf, Post, new_post, with_delivered}
 use Rattle.ctrl_msg.specs.declared.message.Message.{Message}
 use Rattle.ctrl_msg.specs.declared.message.Receiver.TheVariants as receiver
 use Rattle.journal.specs.declared.item.Item.{Item}
@@ -12,13 +12,13 @@ use Rattle.journal.specs.declared.item.Item.TheVariants as item
 use Rattle.net_file.specs.Owners.{links_of}
 use Rattle.net_file.specs.declared.net.LinkRow.{LinkRow}
 use Rattle.steps.specs.declared.step.Step.TheVariants.{Deliver}
-use Rattle.switch_core.specs.Hearing.{with_message, opened}
+use Rattle.switch_core.specs.Hearing.{with_message, opening_stamp}
 use Rattle.switch_core.specs.Life.{next_advert}
 use Rattle.switch_core.specs.State.{SwitchValue}
 use Rattle.refinement.specs.Hearing.{HearsOpening}
-use Rattle.refinement.specs.Links.{LeavesSwitch, relinked}
+use Rattle.refinement.specs.Links.{LeavesSwitch, relinked_switch}
 use Rattle.refinement.specs.SwitchOf.{switch_of}
-use Rattle.refinement.proofs.Delivered.{hear_ties}
+use Rattle.refinement.proofs.Delivered.{hearing_refines}
 use Rattle.update_machine.specs.Deliveries.{link_changes}
 use Rattle.update_machine.specs.Links.{is_link_up}
 use Rattle.update_machine.specs.Messages.{is_to_controller, sent_from}
@@ -27,17 +27,17 @@ use Rattle.steps.specs.Steps.{IsStep}
 use Rattle.update_machine.specs.Setting.{Setting}
 use Rattle.update_machine.specs.Boots.{is_to_switch}
 use Rattle.update_machine.specs.LinkMasks.{near}
-use Rattle.update_machine.proofs.CallerLemmas.{last_told_append}
-use Rattle.refinement.specs.Linking.{AreRelinked, all_told, near_all}
-use Rattle.refinement.specs.Tied.{AreTied, Control, is_up_link, up_links}
+use Rattle.update_machine.proofs.CallerLemmas.{last_given_append}
+use Rattle.refinement.specs.Linking.{AreRelinked, all_adverts_sent, near_all}
+use Rattle.refinement.specs.Refinement.{RefineJournal, Control, is_up_link, up_links}
 use Rattle.refinement.specs.Bags.{IsBagOf}
-use Rattle.travelling.specs.Travelling.{Travellers}
+use Rattle.travelling.specs.Travelling.{Flights}
 use Rattle.refinement.proofs.HeardBy.{IsThere, as_sent, deliver_piece, is_there, row_keeps}
 use Rattle.refinement.proofs.OneItem.{grown}
 use Rattle.refinement.proofs.Known.{reached_known}
 use Rattle.refinement.proofs.Posting.{bag_on}
-use Rattle.refinement.proofs.Tying.{same_links}
-use Rattle.refinement.proofs.LinksChange.{one_relinks, one_advert, one_next, LinksChange, change_piece, change_may, unmoved, change_tied}
+use Rattle.refinement.proofs.Refining.{same_links}
+use Rattle.refinement.proofs.LinksChange.{one_relinks, one_advert, one_next, LinksChange, change_piece, change_may, unmoved, change_refines}
 use Rattle.world_log.specs.Sending.{MaySend}
 
 -- links are up as before, where none is told to be up or down
@@ -45,23 +45,23 @@ same_up : (journal : List Item) (row n s stamp : ℕ) (link : LinkRow)
     → is_up_link (grown journal row (Deliver n) (item.Delivered n) ++ item.Opened s stamp ∷ []) link
     ≡ is_up_link journal link
 unfolding is_link_up
-same_up journal row n s stamp link = search (last_told_append, append_assoc)
+same_up journal row n s stamp link = search (last_given_append, append_assoc)
 
 module _ (control : Control) (setting : Setting) (journal : List Item)
-    (switches : List SwitchValue) (before : Travellers) (count row n s stamp : ℕ)
+    (switches : List SwitchValue) (before : Flights) (count row n s stamp : ℕ)
     (message : Message) (own changed : SwitchValue)
-    (tied : AreTied setting journal switches before count control)
+    (refines : RefineJournal setting journal switches before count control)
     (may : IsStep setting.net (length setting.policies) (Deliver n))
     (there : IsMessageOf control.posts n message)
     (to : message.to ≡ receiver.Switch s) (within : s < length switches)
     (own_at : own ≡ get_or switches s own) (changed_is : changed ≡ with_message own n message.body)
-    (opens : opened own message.body ≡ Some stamp) where
+    (opens : opening_stamp own message.body ≡ Some stamp) where
   its : IsThere setting journal control.posts row n message
-  its = is_there control setting journal switches before count row n message tied there
+  its = is_there control setting journal switches before count row n message refines there
 
   own_is : own ≡ switch_of setting journal s
-  unfolding AreTied
-  own_is = own_at ∙ tied.each s own within
+  unfolding RefineJournal
+  own_is = own_at ∙ refines.each s own within
 
   changed_so : changed ≡ with_message (switch_of setting journal s) n message.body
   changed_so = changed_is ∙ ap (λ w. with_message w n message.body) own_is
@@ -77,11 +77,11 @@ module _ (control : Control) (setting : Setting) (journal : List Item)
       (item.Opened s stamp ∷ [])
 
   hears_open : HearsOpening setting journal n s message.body stamp
-  unfolding AreTied
-  hears_open = hear_ties.opening setting journal n s stamp message.body (record {
+  unfolding RefineJournal
+  hears_open = hearing_refines.opening setting journal n s stamp message.body (record {
     sent = its.sent ∙ ap Some (as_sent message s to);
-    names = (reached_known setting journal tied.sound tied.reached).tables.names;
-  }) (ap (λ w. opened w message.body) (sym own_is) ∙ opens)
+    names = (reached_known setting journal refines.sound refines.reached).tables.names;
+  }) (ap (λ w. opening_stamp w message.body) (sym own_is) ∙ opens)
 
   piece_so : piece setting journal row (Deliver n)
       ≡ item.Row row (Deliver n) ∷ told ++ link_changes setting journal now
@@ -117,7 +117,7 @@ module _ (control : Control) (setting : Setting) (journal : List Item)
 
   changes : LinksChange setting journal row (Deliver n) told switches others control
       control.links posts
-  unfolding AreTied
+  unfolding RefineJournal
   changes = record {
     may = may;
     piece_is = piece_so;
@@ -129,47 +129,49 @@ module _ (control : Control) (setting : Setting) (journal : List Item)
     bag = subst (λ js. IsBagOf js posts) split
         (bag_on (grown journal row (Deliver n) (item.Delivered n)) (item.Opened s stamp ∷ [])
         posts (refl, tt) its.bag);
-    up = λ q below. tied.up q below ∙ ap (λ rows. links_of rows q) (sym same);
+    up = λ q below. refines.up q below ∙ ap (λ rows. links_of rows q) (sym same);
     relinks = one_relinks control setting journal switches before count row (Deliver n) told s
-        changed tied within leaves
-        (hears_open.record_of row ∙ ap (relinked setting journal now s) (sym changed_so));
+        changed refines within leaves
+        (hears_open.record_of row ∙ ap (relinked_switch setting journal now s) (sym changed_so));
     own = one_advert control setting journal switches before count row (Deliver n) told s changed
-        tied within leaves (λ changes. hears_open.advert row changes
+        refines within leaves (λ changes. hears_open.advert row changes
         ∙ ap (λ w. next_advert w (near setting now s)) (sym changed_so));
   }
 
   abbrev messages : List Message
-  messages = all_told control.near (near_all control.links others) others
+  messages = all_adverts_sent control.near (near_all control.links others) others
 
   pub opening_piece : piece setting journal row (Deliver n)
       ≡ item.Row row (Deliver n) ∷ item.Delivered n ∷ item.Opened s stamp
       ∷ sent_from (length control.posts + 1) messages
   opening_piece = change_piece control setting journal switches others before count row
-      (Deliver n) told control.links posts tied changes
+      (Deliver n) told control.links posts refines changes
 
   pub opening_may : length control.posts < 990_000
       → MaySend (with_delivered control.posts n) messages
   opening_may = change_may control setting journal switches others before count row
-      (Deliver n) told control.links posts tied changes
+      (Deliver n) told control.links posts refines changes
 
   -- each switch has a next number for its own advert
   pub opening_next : length control.posts < 990_000
       → All (λ (switch : SwitchValue). switch.seq < 2 ^ 32 - 1) others
   opening_next room = one_next control setting journal switches before count row (Deliver n) told
-      s changed tied within leaves room
+      s changed refines within leaves room
       (λ next. subst (λ (w : SwitchValue). w.seq < 2 ^ 32 - 1) (sym changed_so)
       (next.then n message.body))
 
   -- the parts behind the step, where these are the switches
-  pub opening_tied : (relinked : List SwitchValue)
-      → AreRelinked control.near (near_all control.links others) others relinked
-      → AreTied setting (journal ++ item.Row row (Deliver n) ∷ item.Delivered n
-      ∷ item.Opened s stamp ∷ sent_from (length control.posts + 1) messages) relinked before count
+  pub opening_refines : (relinked_switch : List SwitchValue)
+      → AreRelinked control.near (near_all control.links others) others relinked_switch
+      → RefineJournal setting (journal ++ item.Row row (Deliver n) ∷ item.Delivered n
+      ∷ item.Opened s stamp ∷ sent_from (length control.posts + 1) messages) relinked_switch before
+      count
       (record control {
-        posts = with_delivered control.posts n ++ map posted messages;
+        posts = with_delivered control.posts n ++ map new_post messages;
         near = near_all control.links others;
       })
-  opening_tied relinked are = change_tied control setting journal switches others before count
-      row (Deliver n) told control.links posts tied changes relinked before are
+  opening_refines relinked_switch are = change_refines control setting journal switches others
+      before count
+      row (Deliver n) told control.links posts refines changes relinked_switch before are
       (unmoved control setting journal switches others before count row (Deliver n) told
-      control.links posts tied changes (λ i. (refl, (refl, (refl, tt)))))
+      control.links posts refines changes (λ i. (refl, (refl, (refl, tt)))))

@@ -20,7 +20,7 @@ use Rattle.update_machine.specs.Moves.{takes_route}
 use Rattle.packet_laws.specs.Facts.{PacketFacts, is_of_packet, facts_after}
 use Rattle.world_log.specs.Writing.{answer_items, arrived_items, cache_message, end_item, entered_items, messages_in}
 use Rattle.travelling.specs.Travelling.{Standing}
-use Rattle.travelling.specs.declared.travelling.Traveller.{Traveller}
+use Rattle.travelling.specs.declared.travelling.Flight.{Flight}
 use Rattle.refinement.proofs.FactsAlong.{facts_along}
 
 -- none of the items names the packet
@@ -90,8 +90,9 @@ entered_other q number at entered.Closed other = (refl, tt)
 entered_other q number at (entered.Answered what) other =
     (other, answer_other q number at what other)
 
-pub arrived_other : (q number : ℕ) (at : Standing) (traveller : Traveller) (what : Arrived)
-    → (at.packet == q) ≡ false → NoneName q (arrived_items number at traveller.version traveller.rule what)
-arrived_other q number at traveller (arrived.Out port) other = (other, tt)
-arrived_other q number at traveller (arrived.Answered what) other =
+pub arrived_other : (q number : ℕ) (at : Standing) (flight : Flight) (what : Arrived)
+    → (at.packet == q) ≡ false → NoneName q (arrived_items number at flight.version flight.rule
+    what)
+arrived_other q number at flight (arrived.Out port) other = (other, tt)
+arrived_other q number at flight (arrived.Answered what) other =
     answer_other q number at what other

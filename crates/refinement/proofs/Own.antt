@@ -1,4 +1,4 @@
--- What a switch's answer says of its own packet: the traveller that goes on.
+-- What a switch's answer says of its own packet: the packet in flight that goes on.
 use Rattle.std.proofs.Common.{ℕ, ◌≡◌, ◌==◌, true, if◌then◌else◌, Some, List, [], ◌∷◌, ◌++◌, refl, ap, sym, subst, ◌∙◌, eq-eqb}
 use Rattle.std.specs.Prelude.{⊤}
 use Rattle.policy_rules.specs.declared.packet.Leg.TheVariants.{Exit}
@@ -11,10 +11,10 @@ use Rattle.switch_core.specs.declared.answers.Next.TheVariants as next
 use Rattle.tunnel.specs.Moves.{tunnel_begun}
 use Rattle.tunnel.specs.Tunnel.{TunnelValue}
 use Rattle.packet_laws.specs.Facts.{PacketFacts}
-use Rattle.world_log.specs.Writing.{decided_items, decided_traveller, end_item}
+use Rattle.world_log.specs.Writing.{decided_items, decided_flight, end_item}
 use Rattle.travelling.specs.Travelling.{Standing}
 use Rattle.refinement.proofs.Others.{NoneName, unnamed_first}
-use Rattle.refinement.proofs.FactsAlong.{Targets, traveller_by, facts_along}
+use Rattle.refinement.proofs.FactsAlong.{Targets, flight_by, facts_along}
 
 -- the packet's facts as its switch decides it
 pub record IsSeen (at : Standing) (ingress : ℕ) (facts : PacketFacts) : Type 0 where
@@ -52,8 +52,8 @@ by_port : (targets : Targets) (before : List Item) (at : Standing) (ingress : �
     → IsSeen at ingress facts → decision.action ≡ action.Out port
     → (let tunnel : TunnelValue = tunnel_begun at.packet at.header ingress (Exit port)
     (targets (Exit port)) route at.down in
-    decided_traveller decision (next.Exit tunnel)
-    ≡ traveller_by targets at.packet (facts_along at.packet before
+    decided_flight decision (next.Exit tunnel)
+    ≡ flight_by targets at.packet (facts_along at.packet before
     (end_item at decision (next.Exit tunnel) ∷ []) (decided_facts decision facts)))
 by_port targets before at ingress decision route port facts seen acts =
     let own : (at.packet == at.packet) ≡ true = eq-eqb _ _ refl in
@@ -62,8 +62,8 @@ by_port targets before at ingress decision route port facts seen acts =
 end_goes : (targets : Targets) (before : List Item) (at : Standing) (ingress : ℕ)
     (decision : Decision) (onward : Next) (facts : PacketFacts)
     → IsSeen at ingress facts → GoesOnward targets at ingress decision onward
-    → decided_traveller decision onward
-    ≡ traveller_by targets at.packet (facts_along at.packet before
+    → decided_flight decision onward
+    ≡ flight_by targets at.packet (facts_along at.packet before
     (end_item at decision onward ∷ []) (decided_facts decision facts))
 end_goes targets before at ingress decision next.Dropped facts seen goes =
     let own : (at.packet == at.packet) ≡ true = eq-eqb _ _ refl in
@@ -75,8 +75,8 @@ end_goes targets before at ingress decision (next.Stuck cause) facts seen goes =
     let own : (at.packet == at.packet) ≡ true = eq-eqb _ _ refl in
     rw own refl
 end_goes targets before at ingress decision (next.Exit tunnel) facts seen goes =
-    let P : TunnelValue → Type 0 = λ t. decided_traveller decision (next.Exit t)
-    ≡ traveller_by targets at.packet (facts_along at.packet before
+    let P : TunnelValue → Type 0 = λ t. decided_flight decision (next.Exit t)
+    ≡ flight_by targets at.packet (facts_along at.packet before
     (end_item at decision (next.Exit t) ∷ []) (decided_facts decision facts)) in
     subst P (sym goes.2.is)
     (by_port targets before at ingress decision goes.2.route goes.0 facts seen goes.1)
@@ -86,8 +86,8 @@ pub decided_goes : (targets : Targets) (before sends : List Item) (at : Standing
     (decision : Decision) (onward : Next) (facts : PacketFacts)
     → NoneName at.packet sends → IsSeen at ingress facts
     → GoesOnward targets at ingress decision onward
-    → decided_traveller decision onward
-    ≡ traveller_by targets at.packet
+    → decided_flight decision onward
+    ≡ flight_by targets at.packet
     (facts_along at.packet before (decided_items at decision sends onward) facts)
 decided_goes targets before sends at ingress decision onward facts none seen goes =
     let own : (at.packet == at.packet) ≡ true = eq-eqb _ _ refl in
@@ -101,4 +101,4 @@ decided_goes targets before sends at ingress decision onward facts none seen goe
     ∙ unnamed_first at.packet (before ++ decided ∷ []) sends end (decided_facts decision facts)
     none in
     end_goes targets (before ++ decided ∷ [] ++ sends) at ingress decision onward facts seen goes
-    ∙ sym (ap (traveller_by targets at.packet) said)
+    ∙ sym (ap (flight_by targets at.packet) said)

@@ -5,7 +5,7 @@ use Rattle.ctrl_msg.specs.declared.message.Body.TheVariants.{Installed}
 use Rattle.ctrl_msg.specs.Kinds.{to_controller}
 use Rattle.journal.specs.declared.item.Item.{Item}
 use Rattle.journal.specs.declared.item.Item.TheVariants as item
-use Rattle.update_machine.specs.Marks.{controller_heard, installed_in, known_boot, said_to_controller}
+use Rattle.update_machine.specs.Marks.{controller_heard, installed_in, known_boot, body_to_controller}
 use Rattle.update_machine.specs.Setting.{Setting}
 use Rattle.update_machine.specs.Links.{message_of}
 use Rattle.update_machine.proofs.CallerLemmas.{start_laws}
@@ -47,10 +47,10 @@ sent_on setting before next s boot v n cause past is =
 told_one : (before : List Item) (next : Item) (s boot : ℕ) → AcksArePast before
     → known_boot before s < boot → tells (installed_in s boot) before next ≡ []
 told_one before (item.Delivered number) s boot past later =
-    by_told (option_and_then (installed_in s boot) (said_to_controller before number)) refl
+    by_told (option_and_then (installed_in s boot) (body_to_controller before number)) refl
   where
     by_told : (o : Option ℕ)
-        → option_and_then (installed_in s boot) (said_to_controller before number) ≡ o
+        → option_and_then (installed_in s boot) (body_to_controller before number) ≡ o
         → option_to_list o ≡ []
     by_told None e = refl
     by_told (Some v) e =

@@ -19,10 +19,10 @@ use Rattle.control_laws.proofs.Marks.{bounded}
 use Rattle.version_update.specs.Marks.{MarksValue}
 use Rattle.controller.specs.Controller.{ControllerValue, KeptPlan, SettlesWith, plans_from}
 use Rattle.controller.specs.Sends as acts
-use Rattle.refinement.specs.Controller.{IsControllerOf, planned}
+use Rattle.refinement.specs.Controller.{IsControllerOf, plan_to_keep}
 use Rattle.refinement.specs.Marks.{AreMarksOf}
-use Rattle.refinement.specs.Written.{written}
-use Rattle.refinement.proofs.Kept.{marks_on}
+use Rattle.refinement.specs.Written.{written_items}
+use Rattle.refinement.proofs.KeptController.{marks_on}
 use Rattle.refinement.proofs.Picked.{filter_made}
 use Rattle.refinement.proofs.Settled.{AreCaused, settles_so}
 
@@ -85,7 +85,7 @@ later_same f g to low (suc n) same =
 planned_on : (setting : Setting) (before items : List Item) (v : ℕ) → AreCaused setting before
     → current_mark before ≤ v
     → v < current_mark before + (version_count before + 1 - current_mark before)
-    → planned setting before v ≡ planned setting (before ++ items) v
+    → plan_to_keep setting before v ≡ plan_to_keep setting (before ++ items) v
 planned_on setting before items v have above below =
     ap (λ policy. of policy (plan_at setting before v))
     (sym (policy_stays setting before items v numbers first last))
@@ -110,18 +110,18 @@ pub plans_on : (setting : Setting) (before items : List Item) (plans : List Kept
     → AreCaused setting before
     → version_count (before ++ items) ≡ version_count before
     → current_mark (before ++ items) ≡ current_mark before
-    → plans ≡ map (planned setting before) (versions_from_current before)
-    → plans ≡ map (planned setting (before ++ items)) (versions_from_current (before ++ items))
+    → plans ≡ map (plan_to_keep setting before) (versions_from_current before)
+    → plans ≡ map (plan_to_keep setting (before ++ items)) (versions_from_current (before ++ items))
 plans_on setting before items plans have count current are =
     let after : List Item = before ++ items in
     are
-    ∙ mapped_same (planned setting before) (planned setting after) (current_mark before)
+    ∙ mapped_same (plan_to_keep setting before) (plan_to_keep setting after) (current_mark before)
     (version_count before + 1 - current_mark before)
     (λ v above below.
     planned_on setting before items v have above below)
-    ∙ ap (λ n. map (planned setting after)
+    ∙ ap (λ n. map (plan_to_keep setting after)
     (range_with_len (current_mark before) (n + 1 - current_mark before))) (sym count)
-    ∙ ap (λ c. map (planned setting after) (range_with_len c (version_count after + 1 - c)))
+    ∙ ap (λ c. map (plan_to_keep setting after) (range_with_len c (version_count after + 1 - c)))
     (sym current)
 
 -- one more version
@@ -129,10 +129,10 @@ pub plans_pushed : (setting : Setting) (before items : List Item) (plans : List 
     (kept : KeptPlan) → AreCaused setting before
     → version_count (before ++ items) ≡ version_count before + 1
     → current_mark (before ++ items) ≡ current_mark before
-    → kept ≡ planned setting (before ++ items) (version_count before + 1)
-    → plans ≡ map (planned setting before) (versions_from_current before)
+    → kept ≡ plan_to_keep setting (before ++ items) (version_count before + 1)
+    → plans ≡ map (plan_to_keep setting before) (versions_from_current before)
     → plans ++ kept ∷ []
-    ≡ map (planned setting (before ++ items)) (versions_from_current (before ++ items))
+    ≡ map (plan_to_keep setting (before ++ items)) (versions_from_current (before ++ items))
 plans_pushed setting before items plans kept have count current new are =
     let after : List Item = before ++ items in
     let low : ℕ = current_mark before in
@@ -141,14 +141,14 @@ plans_pushed setting before items plans kept have count current new are =
     let many : n + 1 ≡ version_count after + 1 - low = omega (arith, count, there) in
     ap (λ xs. xs ++ kept ∷ [])
     (are
-    ∙ mapped_same (planned setting before) (planned setting after) low n
+    ∙ mapped_same (plan_to_keep setting before) (plan_to_keep setting after) low n
     (λ v above below.
     planned_on setting before items v have above below))
-    ∙ ap (λ k. map (planned setting after) (range_with_len low n) ++ k ∷ []) new
-    ∙ sym (map-range_with_len_more (planned setting after) low n (version_count before + 1)
+    ∙ ap (λ k. map (plan_to_keep setting after) (range_with_len low n) ++ k ∷ []) new
+    ∙ sym (map-range_with_len_more (plan_to_keep setting after) low n (version_count before + 1)
     (omega (arith, there)))
-    ∙ ap (λ k. map (planned setting after) (range_with_len low k)) many
-    ∙ ap (λ c. map (planned setting after) (range_with_len c (version_count after + 1 - c)))
+    ∙ ap (λ k. map (plan_to_keep setting after) (range_with_len low k)) many
+    ∙ ap (λ c. map (plan_to_keep setting after) (range_with_len c (version_count after + 1 - c)))
     (sym current)
 
 -- those of the versions before a later current one are let go
@@ -157,9 +157,9 @@ later_plans : (setting : Setting) (before items : List Item) (plans : List KeptP
     → version_count (before ++ items) ≡ version_count before
     → current_mark before ≤ current_mark (before ++ items)
     → current_mark (before ++ items) ≤ version_count before
-    → plans ≡ map (planned setting before) (versions_from_current before)
+    → plans ≡ map (plan_to_keep setting before) (versions_from_current before)
     → plans_from (current_mark (before ++ items)) plans
-    ≡ map (planned setting (before ++ items)) (versions_from_current (before ++ items))
+    ≡ map (plan_to_keep setting (before ++ items)) (versions_from_current (before ++ items))
 later_plans setting before items plans have count rises bound are =
     let after : List Item = before ++ items in
     let to : ℕ = current_mark after in
@@ -168,25 +168,26 @@ later_plans setting before items plans have count rises bound are =
     let own : max to low ≡ to = omega (arith, rises) in
     let many : low + n - to ≡ version_count after + 1 - to = omega (arith, count, rises, bound) in
     ap (plans_from to) are
-    ∙ filter_made (planned setting before) (λ kept. nat_le to kept.version) (range_with_len low n)
-    ∙ later_same (planned setting before) (planned setting after) to low n
+    ∙ filter_made (plan_to_keep setting before) (λ kept. nat_le to kept.version)
+    (range_with_len low n)
+    ∙ later_same (plan_to_keep setting before) (plan_to_keep setting after) to low n
     (λ v above below.
     planned_on setting before items v have above below)
-    ∙ ap (λ k. map (planned setting after) (range_with_len k (low + n - k))) own
-    ∙ ap (λ k. map (planned setting after) (range_with_len to k)) many
+    ∙ ap (λ k. map (plan_to_keep setting after) (range_with_len k (low + n - k))) own
+    ∙ ap (λ k. map (plan_to_keep setting after) (range_with_len to k)) many
 
 -- none is let go twice
 pub plans_stay : (setting : Setting) (journal : List Item) (plans : List KeptPlan) (current : ℕ)
     → AreCaused setting journal → current ≡ current_mark journal
-    → plans ≡ map (planned setting journal) (versions_from_current journal)
-    → plans_from current plans ≡ map (planned setting journal) (versions_from_current journal)
+    → plans ≡ map (plan_to_keep setting journal) (versions_from_current journal)
+    → plans_from current plans ≡ map (plan_to_keep setting journal) (versions_from_current journal)
 plans_stay setting journal plans current have now are =
     let marks = bounded setting journal have in
     let same : journal ++ [] ≡ journal = append-nil journal in
     ap (λ c. plans_from c plans) (now ∙ sym (ap current_mark same))
     ∙ later_plans setting journal [] plans have (ap version_count same)
     (omega (arith, ap current_mark same)) (omega (arith, ap current_mark same, marks.there)) are
-    ∙ ap (λ js. map (planned setting js) (versions_from_current js)) same
+    ∙ ap (λ js. map (plan_to_keep setting js) (versions_from_current js)) same
 
 -- ---- a controller
 
@@ -204,9 +205,9 @@ controller_on setting before items controller have keeps is = record {
 pub settles_with : (setting : Setting) (now : List Item) (before : MarksValue)
     (plans : List KeptPlan) (new : ControllerValue) → AreCaused setting now
     → AreMarksOf setting now before
-    → plans ≡ map (planned setting now) (versions_from_current now)
+    → plans ≡ map (plan_to_keep setting now) (versions_from_current now)
     → SettlesWith before plans new
-    → (written now (acts.settling_acts before new.marks) ≡ settling setting now)
+    → (written_items now (acts.settling_acts before new.marks) ≡ settling setting now)
     × IsControllerOf setting (now ++ settling setting now) new
 settles_with setting now before plans new have marks are settles =
     let is = settles.marks.1 in

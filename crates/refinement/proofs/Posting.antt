@@ -4,19 +4,19 @@ use Rattle.std.specs.Prelude.{⊤, ◌||◌, IsFalse, is_some, nat_lt, option_ma
 use Rattle.std.specs.Option.{option_and_then, option_or}
 use Rattle.std.proofs.lemmas.Bool.Decides.{nat_tests}
 use Rattle.std.proofs.lemmas.Option.{slice_get_within}
-use Rattle.message_bag.specs.Deliveries.{delivered, forgotten}
-use Rattle.message_bag.specs.Numbered.{numbered, with_changed}
-use Rattle.message_bag.specs.Posts.{Post, framed, frames_posted, is_post_deliverable, posted, remembered, with_delivered, with_forgotten, with_status}
+use Rattle.message_bag.specs.Deliveries.{delivered_status, forgotten_status}
+use Rattle.message_bag.specs.Numbered.{item_numbered, with_changed}
+use Rattle.message_bag.specs.Posts.{Post, posted_frames, frames_posted, is_post_deliverable, new_post, remembered_frames, with_delivered, with_forgotten, with_status}
 use Rattle.message_bag.proofs.Numbered.{length_changed, numbered_changed, numbered_pushed}
 use Rattle.ctrl_msg.specs.declared.message.Message.{Message}
 use Rattle.journal.specs.declared.item.Item.{Item}
 use Rattle.journal.specs.declared.item.Item.TheVariants as item
 use Rattle.update_machine.specs.Concerns.{NoneConcern, concerns_known, concerns_links, concerns_message, concerns_messages, concerns_policies}
-use Rattle.update_machine.specs.Folds.{count_of, last_told}
+use Rattle.update_machine.specs.Folds.{count_of, last_given}
 use Rattle.update_machine.specs.Laws.{MessageKeeps}
 use Rattle.update_machine.specs.Messages.{is_forgotten, is_forgetting, is_delivery, is_sending, next_message, was_delivered}
-use Rattle.update_machine.specs.Links.{message_of, tells_message}
-use Rattle.update_machine.proofs.CallerLemmas.{count_of_append, last_told_append, fewer, message_keeps, messages_keep, start_laws, each_silent, next_sent}
+use Rattle.update_machine.specs.Links.{message_of, gives_message}
+use Rattle.update_machine.proofs.CallerLemmas.{count_of_append, last_given_append, fewer, message_keeps, messages_keep, start_laws, each_silent, next_sent}
 use Rattle.refinement.specs.Bags.{IsBagOf, post_in}
 
 -- ---- items that concern no message
@@ -74,13 +74,13 @@ sent_facts : (before : List Item) (n : ℕ) (message : Message)
     → message_of (before ++ item.Sent n message ∷ []) n ≡ Some message
 unfolding message_of
 sent_facts before n message =
-    last_told_append (tells_message n) before (item.Sent n message ∷ [])
+    last_given_append (gives_message n) before (item.Sent n message ∷ [])
     ∙ ap (λ b. option_or (if b then Some message else None)
-    (last_told (tells_message n) before)) (eq-eqb n n refl)
+    (last_given (gives_message n) before)) (eq-eqb n n refl)
 
 sent_post : (n : ℕ) (before : List Item) (posts : List Post) (message : Message) (b : Bool)
     → (n == length posts + 1) ≡ b → IsBagOf before posts
-    → (if b then Some (posted message) else numbered posts n)
+    → (if b then Some (new_post message) else item_numbered posts n)
     ≡ post_in (before ++ item.Sent (length posts + 1) message ∷ []) n
 unfolding post_in was_delivered is_forgotten
 sent_post n before posts message true is bag =
@@ -100,13 +100,13 @@ sent_post n before posts message false is bag =
     (other_number n (length posts + 1) is)))
 
 pub bag_sent : (before : List Item) (posts : List Post) (message : Message)
-    → BagGoesOn before posts (item.Sent (length posts + 1) message) (posts ++ posted message ∷ [])
+    → BagGoesOn before posts (item.Sent (length posts + 1) message) (posts ++ new_post message ∷ [])
 bag_sent before posts message bag =
     let k : ℕ = length posts + 1 in
     let sent : Item = item.Sent k message in
-    let more : length (posts ++ posted message ∷ []) ≡ k =
-    length-append posts (posted message ∷ []) in
-    let keeps : (n : ℕ) → length (posts ++ posted message ∷ []) < n
+    let more : length (posts ++ new_post message ∷ []) ≡ k =
+    length-append posts (new_post message ∷ []) in
+    let keeps : (n : ℕ) → length (posts ++ new_post message ∷ []) < n
     → MessageKeeps n before (before ++ sent ∷ []) =
     λ n past. number_on n before sent (ne_eqb k n (λ same. absurd (omega (
       arith,
@@ -116,7 +116,7 @@ bag_sent before posts message bag =
     ))))
     in record {
       many = omega (arith, next_sent before k message, bag.many, more);
-      each = λ n. numbered_pushed posts (posted message) n
+      each = λ n. numbered_pushed posts (new_post message) n
           ∙ sent_post n before posts message (n == k) refl bag;
       undelivered = λ n past. (keeps n past).delivered
           ∙ bag.undelivered n (omega (arith, more, past));
@@ -133,7 +133,7 @@ within_posts posts zero fs is = omega arith
 within_posts posts (suc place) fs is = by_post (slice_get posts place) refl is
   where
     by_post : (o : Option Post) → slice_get posts place ≡ o
-        → option_and_then remembered o ≡ Some fs → suc place ≤ length posts
+        → option_and_then remembered_frames o ≡ Some fs → suc place ≤ length posts
     by_post None e none = absurd cc
     by_post (Some post) e some = omega (arith, slice_get_within posts place post e)
 
@@ -155,10 +155,10 @@ ChangesOne change k before item =
 changed_post : (change : Post → Post) (k n : ℕ) (before : List Item) (posts : List Post)
     (item : Item) (b : Bool) → (n == k) ≡ b → ChangesOne change k before item
     → IsBagOf before posts
-    → (if b then option_map change (numbered posts n) else numbered posts n)
+    → (if b then option_map change (item_numbered posts n) else item_numbered posts n)
     ≡ post_in (before ++ item ∷ []) n
 changed_post change k n before posts item true is changes bag =
-    let P : ℕ → Type 0 = λ m. option_map change (numbered posts m)
+    let P : ℕ → Type 0 = λ m. option_map change (item_numbered posts m)
     ≡ post_in (before ++ item ∷ []) m in
     subst P (sym (eqb-true n k is)) (ap (option_map change) (bag.each k) ∙ sym changes.1)
 changed_post change k n before posts item false is changes bag =
@@ -188,15 +188,15 @@ bag_changed change k before posts item changes posted_it as_many bag =
 -- an item that sends no message raises flags of one
 bag_flagged : (change : Post → Post) (k : ℕ) (before : List Item) (posts : List Post)
     (item : Item) → ((n : ℕ) → (k == n) ≡ false → IsFalse (concerns_message n before item))
-    → tells_message k item ≡ None → is_sending item ≡ false
+    → gives_message k item ≡ None → is_sending item ≡ false
     → ((m : Message) → (
-      framed m,
+      posted_frames m,
       record {
         delivered = is_delivery k item || was_delivered before k;
         forgotten = is_forgetting k item || is_forgotten before k;
       },
     ) ≡ change (
-      framed m,
+      posted_frames m,
       record {
         delivered = was_delivered before k;
         forgotten = is_forgotten before k;
@@ -209,7 +209,7 @@ bag_flagged change k before posts item apart untold unsent flags posted_it bag =
     bag_changed change k before posts item (
       apart,
       rw (
-        last_told_append (tells_message k) before (item ∷ []),
+        last_given_append (gives_message k) before (item ∷ []),
         untold,
         flag_on (is_delivery k) before item,
         flag_on (is_forgetting k) before item,
@@ -217,13 +217,13 @@ bag_flagged change k before posts item apart untold unsent flags posted_it bag =
     ) posted_it (omega (arith, none, count_of_append is_sending before (item ∷ []))) bag
   where
     by_told : (o : Option Message) → option_map (λ (m : Message). (
-      framed m,
+      posted_frames m,
       record {
         delivered = is_delivery k item || was_delivered before k;
         forgotten = is_forgetting k item || is_forgotten before k;
       },
     )) o ≡ option_map change (option_map (λ (m : Message). (
-      framed m,
+      posted_frames m,
       record {
         delivered = was_delivered before k;
         forgotten = is_forgotten before k;
@@ -235,13 +235,15 @@ bag_flagged change k before posts item apart untold unsent flags posted_it bag =
 pub bag_delivered : (before : List Item) (posts : List Post) (k : ℕ) → k ≤ length posts
     → BagGoesOn before posts (item.Delivered k) (with_delivered posts k)
 bag_delivered before posts k =
-    bag_flagged (with_status delivered) k before posts (item.Delivered k) (λ n apart. apart) refl
+    bag_flagged (with_status delivered_status) k before posts (item.Delivered k) (λ n apart. apart)
+    refl
     refl (λ m. rw (eq-eqb k k refl) refl)
 
 pub bag_forgotten : (before : List Item) (posts : List Post) (k : ℕ) → k ≤ length posts
     → BagGoesOn before posts (item.Forgotten k) (with_forgotten posts k)
 bag_forgotten before posts k =
-    bag_flagged (with_status forgotten) k before posts (item.Forgotten k) (λ n apart. apart) refl
+    bag_flagged (with_status forgotten_status) k before posts (item.Forgotten k) (λ n apart. apart)
+    refl
     refl (λ m. rw (eq-eqb k k refl) refl)
 
 -- ---- items of packets
@@ -264,7 +266,7 @@ SendFrom number (_ ∷ items) = SendFrom number items
 -- what they post
 abbrev pub posts_in : List Item → List Post
 posts_in [] = []
-posts_in (item.Sent n message ∷ items) = posted message ∷ posts_in items
+posts_in (item.Sent n message ∷ items) = new_post message ∷ posts_in items
 posts_in (_ ∷ items) = posts_in items
 
 -- they concern no switch, no link and no policy
@@ -324,17 +326,17 @@ bag_sends number before [] posts of is bag =
 bag_sends number before (item.Sent n message ∷ items) posts of is bag =
     let at : n ≡ length posts + 1 = of.0 ∙ is ∙ bag.many in
     let sent : Item = item.Sent n message in
-    let one : IsBagOf (before ++ sent ∷ []) (posts ++ posted message ∷ []) =
-    subst (λ k. IsBagOf (before ++ item.Sent k message ∷ []) (posts ++ posted message ∷ []))
+    let one : IsBagOf (before ++ sent ∷ []) (posts ++ new_post message ∷ []) =
+    subst (λ k. IsBagOf (before ++ item.Sent k message ∷ []) (posts ++ new_post message ∷ []))
     (sym at) (bag_sent before posts message bag) in
     let rest : IsBagOf ((before ++ sent ∷ []) ++ items)
-    ((posts ++ posted message ∷ []) ++ posts_in items) =
-    bag_sends (number + 1) (before ++ sent ∷ []) items (posts ++ posted message ∷ []) of.1
+    ((posts ++ new_post message ∷ []) ++ posts_in items) =
+    bag_sends (number + 1) (before ++ sent ∷ []) items (posts ++ new_post message ∷ []) of.1
     (ap (λ k. k + 1) is ∙ sym (next_sent before n message)) one in
-    subst (λ js. IsBagOf js (posts ++ posted message ∷ posts_in items))
+    subst (λ js. IsBagOf js (posts ++ new_post message ∷ posts_in items))
     (append_assoc before (sent ∷ []) items)
     (subst (IsBagOf ((before ++ sent ∷ []) ++ items))
-    (append_assoc posts (posted message ∷ []) (posts_in items)) rest)
+    (append_assoc posts (new_post message ∷ []) (posts_in items)) rest)
 bag_sends number before (item.Delivered n ∷ items) posts of is bag = absurd of
 bag_sends number before (item.Forgotten n ∷ items) posts of is bag = absurd of
 bag_sends number before (item.Expired switch place message ∷ items) posts of is bag = absurd of
@@ -349,7 +351,7 @@ bag_sends number before (x ∷ items) posts of is bag =
 
 -- ---- the start
 
-none_posted : (n : ℕ) → numbered {X = Post} [] n ≡ None
+none_posted : (n : ℕ) → item_numbered {X = Post} [] n ≡ None
 none_posted zero = refl
 none_posted (suc place) = refl
 

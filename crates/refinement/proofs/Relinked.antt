@@ -19,9 +19,9 @@ use Rattle.net_file.specs.Joins.{are_linked, joins}
 use Rattle.policy_rules.proofs.CallerLemmas.{filter_more, range_more}
 use Rattle.switch_core.specs.Life.{near_changed, next_advert}
 use Rattle.switch_core.specs.State.{SwitchValue, serves}
-use Rattle.refinement.specs.Links.{relinked, tells}
+use Rattle.refinement.specs.Links.{relinked_switch, link_messages}
 use Rattle.refinement.specs.SwitchOf.{switch_of}
-use Rattle.refinement.proofs.Links.{link_ties}
+use Rattle.refinement.proofs.Links.{links_refine}
 use Rattle.update_machine.specs.Adverts.{own_advert}
 use Rattle.update_machine.specs.Boots.{is_up}
 use Rattle.update_machine.specs.Deliveries.{has_changed, messages_of}
@@ -29,8 +29,8 @@ use Rattle.update_machine.specs.Links.{is_usable, serves as serves_in}
 use Rattle.update_machine.specs.Setting.{Setting}
 use Rattle.update_machine.specs.SwitchNumbers.{switches_of}
 use Rattle.update_machine.specs.LinkMasks.{near, usable_links}
-use Rattle.refinement.specs.Tied.{is_up_link, up_links}
-use Rattle.refinement.specs.Linking.{AreRelinked, all_told, changes, near_all, near_by, serves_at, told_as, told_at, told_to}
+use Rattle.refinement.specs.Refinement.{is_up_link, up_links}
+use Rattle.refinement.specs.Linking.{AreRelinked, all_adverts_sent, links_change, near_all, near_by, serves_at, adverts_on_change, adverts_at, adverts_over}
 use Rattle.refinement.proofs.Relinking.{told_nothing}
 use Rattle.std.proofs.lemmas.List.Elements.{recursion_from_All}
 use Rattle.control_laws.proofs.NetLinks.{any_filter}
@@ -165,7 +165,7 @@ pub record CanRelink (setting : Setting) (before now : List Item) (links had : L
   pub had_is : (s : ℕ) → s < length switches → get_or had s 0 ≡ near setting before s
   pub serving : (s : ℕ) → serves_in now s ≡ true → is_up now s ≡ true
   pub relinks : (s : ℕ) (d : SwitchValue) → s < length switches
-      → switch_of setting now s ≡ relinked setting before now s (get_or switches s d)
+      → switch_of setting now s ≡ relinked_switch setting before now s (get_or switches s d)
   pub own : (s : ℕ) (d : SwitchValue) → s < length switches
       → has_changed setting before now s ≡ true
       → own_advert setting now s ≡ next_advert (get_or switches s d) (near setting now s)
@@ -237,7 +237,7 @@ module _ (setting : Setting) (before now : List Item) (links had : List ℕ)
   near_there s there = near_now s (omega (arith, there, can.many, can.few))
 
   changes_so : (s : ℕ) → s < length switches
-      → changes (get_or had s 0) (get_or (near_all links switches) s 0) (get_or switches s d)
+      → links_change (get_or had s 0) (get_or (near_all links switches) s 0) (get_or switches s d)
       ≡ has_changed setting before now s
   changes_so s there =
       ap (λ b. b && not (get_or had s 0 == get_or (near_all links switches) s 0)) (lives s there).0
@@ -260,7 +260,7 @@ module _ (setting : Setting) (before now : List Item) (links had : List ℕ)
 
   -- what a switch whose links changed tells
   told_changed : (s : ℕ) → s < length switches → has_changed setting before now s ≡ true
-      → told_as (length switches) (get_or had s 0) (get_or (near_all links switches) s 0)
+      → adverts_on_change (length switches) (get_or had s 0) (get_or (near_all links switches) s 0)
       (get_or switches s d) ≡ messages_of setting before now s
   told_changed s there changed =
       let w : SwitchValue = get_or switches s d in
@@ -268,39 +268,40 @@ module _ (setting : Setting) (before now : List Item) (links had : List ℕ)
       let is : switch_of setting now s ≡ near_changed w links_now =
       can.relinks s d there
       ∙ ap (λ b. if b then near_changed w links_now else w) changed in
-      let tell : ℕ → ℕ → List Message = λ had_s n. flat_map
-      (λ other. told_to (near_changed w n) (next_advert w n) (has had_s other) other)
+      let send_adverts : ℕ → ℕ → List Message = λ had_s n. flat_map
+      (λ other. adverts_over (near_changed w n) (next_advert w n) (has had_s other) other)
       (filter (has n) (switches_of setting)) in
-      ap (λ b. if b then flat_map (λ other. told_to
+      ap (λ b. if b then flat_map (λ other. adverts_over
       (near_changed w (get_or (near_all links switches) s 0))
       (next_advert w (get_or (near_all links switches) s 0)) (has (get_or had s 0) other) other)
       (filter (has (get_or (near_all links switches) s 0)) (range_with_len 0 (length switches)))
       else []) (changes_so s there ∙ changed)
-      ∙ ap (λ count. flat_map (λ other. told_to
+      ∙ ap (λ count. flat_map (λ other. adverts_over
       (near_changed w (get_or (near_all links switches) s 0))
       (next_advert w (get_or (near_all links switches) s 0)) (has (get_or had s 0) other) other)
       (filter (has (get_or (near_all links switches) s 0)) (range_with_len 0 count))) can.many
-      ∙ ap (λ n. tell (get_or had s 0) n) (near_there s there)
-      ∙ ap (λ h. tell h links_now) (can.had_is s there)
-      ∙ ap (λ own. tells setting (near setting before s) links_now own
+      ∙ ap (λ n. send_adverts (get_or had s 0) n) (near_there s there)
+      ∙ ap (λ h. send_adverts h links_now) (can.had_is s there)
+      ∙ ap (λ own. link_messages setting (near setting before s) links_now own
       (near_changed w links_now)) (sym (can.own s d there changed))
-      ∙ ap (λ switch. tells setting (near setting before s) links_now
+      ∙ ap (λ switch. link_messages setting (near setting before s) links_now
       (own_advert setting now s) switch) (sym is)
-      ∙ sym (link_ties.told setting before now s)
+      ∙ sym (links_refine.told setting before now s)
 
   told_here : (s : ℕ) → s < length switches
-      → told_at (length switches) had (near_all links switches) switches s
+      → adverts_at (length switches) had (near_all links switches) switches s
       ≡ (if has_changed setting before now s then messages_of setting before now s else [])
   told_here s there =
       ap (λ o. elim o [
         | None ↦ []
-        | Some switch ↦ told_as (length switches) (get_or had s 0)
+        | Some switch ↦ adverts_on_change (length switches) (get_or had s 0)
             (get_or (near_all links switches) s 0) switch
       ]) (slice_get-get_or switches s d there)
       ∙ by_test (has_changed setting before now s) refl
     where
       by_test : (b : Bool) → has_changed setting before now s ≡ b
-          → told_as (length switches) (get_or had s 0) (get_or (near_all links switches) s 0)
+          → adverts_on_change (length switches) (get_or had s 0)
+          (get_or (near_all links switches) s 0)
           (get_or switches s d) ≡ (if b then messages_of setting before now s else [])
       by_test true is = told_changed s there is
       by_test false is =
@@ -308,14 +309,14 @@ module _ (setting : Setting) (before now : List Item) (links had : List ℕ)
           (get_or (near_all links switches) s 0) (changes_so s there ∙ is)).1
 
   below : (n : ℕ) → n ≤ length switches
-      → flat_map (told_at (length switches) had (near_all links switches) switches)
+      → flat_map (adverts_at (length switches) had (near_all links switches) switches)
       (range_with_len 0 n)
       ≡ flat_map (messages_of setting before now)
       (filter (has_changed setting before now) (range_with_len 0 n))
   below zero there = refl
   below (suc n) there =
       let f : ℕ → List Message =
-      told_at (length switches) had (near_all links switches) switches in
+      adverts_at (length switches) had (near_all links switches) switches in
       let g : ℕ → List Message = messages_of setting before now in
       let p : ℕ → Bool = has_changed setting before now in
       let next : ◌≡◌ {A = ℕ} (suc n) (n + 1) = omega arith in
@@ -335,10 +336,10 @@ module _ (setting : Setting) (before now : List Item) (links had : List ℕ)
       one false = refl
 
   -- what all of them tell
-  pub told_now : all_told had (near_all links switches) switches
+  pub told_now : all_adverts_sent had (near_all links switches) switches
       ≡ flat_map (messages_of setting before now)
       (filter (has_changed setting before now) (switches_of setting))
-  unfolding all_told
+  unfolding all_adverts_sent
   told_now = below (length switches) (omega arith)
       ∙ ap (λ n. flat_map (messages_of setting before now)
       (filter (has_changed setting before now) (range_with_len 0 n))) can.many

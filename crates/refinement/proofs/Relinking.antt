@@ -13,7 +13,7 @@ use Rattle.std.proofs.lemmas.Option.{slice_get-get_or}
 use Rattle.ctrl_msg.specs.declared.message.Body.TheVariants.{Hello}
 use Rattle.ctrl_msg.specs.declared.message.Message.{Message}
 use Rattle.ctrl_msg.specs.Kinds.{to_controller}
-use Rattle.failover.specs.Adverts.{held}
+use Rattle.failover.specs.Adverts.{held_advert}
 use Rattle.failover.specs.declared.advert.Advert.{Advert}
 use Rattle.base.specs.Masks.{has, switches}
 use Rattle.base.specs.ComputedMasks.{only_if}
@@ -23,14 +23,14 @@ use Rattle.switch_core.specs.State.{SwitchValue, serves}
 use Rattle.switch_core.specs.Life.{near_changed, next_advert}
 use Rattle.refinement.specs.Links.{all_held}
 use Rattle.update_machine.specs.Deliveries.{advert_to}
-use Rattle.refinement.specs.Linking.{all_told, changes, near_where, relinked_as, serves_at, told_again, told_as, told_at, told_if, told_to}
+use Rattle.refinement.specs.Linking.{all_adverts_sent, links_change, near_where, relinked_as, serves_at, adverts_again, adverts_on_change, adverts_at, advert_if_held, adverts_over}
 
 -- ---- adverts
 
 -- what it tells of the origins below n
 unfoldable pub held_below : SwitchValue → ℕ → ℕ → List Message
 held_below switch other n =
-    map (advert_to other) (filter_map (held switch.database) (range_with_len 0 n))
+    map (advert_to other) (filter_map (held_advert switch.database) (range_with_len 0 n))
 
 pub held_none : (switch : SwitchValue) (other : ℕ) → held_below switch other 0 ≡ []
 unfolding held_below
@@ -38,25 +38,26 @@ held_none switch other = refl
 
 held_one : (switch : SwitchValue) (other n : ℕ)
     → held_below switch other (n + 1) ≡ held_below switch other n
-    ++ map (advert_to other) (filter_map (held switch.database) (n ∷ []))
+    ++ map (advert_to other) (filter_map (held_advert switch.database) (n ∷ []))
 unfolding held_below
 held_one switch other n =
-    ap (λ origins. map (advert_to other) (filter_map (held switch.database) origins))
+    ap (λ origins. map (advert_to other) (filter_map (held_advert switch.database) origins))
     (range_more 0 n n (omega arith))
     ∙ ap (map (advert_to other))
-    (filter_map-append (held switch.database) (range_with_len 0 n) (n ∷ []))
-    ∙ map-append (advert_to other) (filter_map (held switch.database) (range_with_len 0 n))
-    (filter_map (held switch.database) (n ∷ []))
+    (filter_map-append (held_advert switch.database) (range_with_len 0 n) (n ∷ []))
+    ∙ map-append (advert_to other) (filter_map (held_advert switch.database) (range_with_len 0 n))
+    (filter_map (held_advert switch.database) (n ∷ []))
 
 pub held_step : (switch : SwitchValue) (other n : ℕ)
     → held_below switch other (n + 1)
-    ≡ held_below switch other n ++ told_if other (held switch.database n)
+    ≡ held_below switch other n ++ advert_if_held other (held_advert switch.database n)
 held_step switch other n =
     held_one switch other n
-    ∙ ap (λ more. held_below switch other n ++ more) (by_one (held switch.database n) refl)
+    ∙ ap (λ more. held_below switch other n ++ more) (by_one (held_advert switch.database n) refl)
   where
-    by_one : (o : Option Advert) → held switch.database n ≡ o
-        → map (advert_to other) (filter_map (held switch.database) (n ∷ [])) ≡ told_if other o
+    by_one : (o : Option Advert) → held_advert switch.database n ≡ o
+        → map (advert_to other) (filter_map (held_advert switch.database) (n ∷ []))
+        ≡ advert_if_held other o
     by_one None e = rw e refl
     by_one (Some advert) e = rw e refl
 
@@ -71,23 +72,25 @@ held_all switch other = refl
 
 -- what the neighbours below n are told, where each is told this
 unfoldable pub near_below : (ℕ → List Message) → ℕ → ℕ → List Message
-near_below tell near n = flat_map tell (filter (has near) (range_with_len 0 n))
+near_below send_adverts near n = flat_map send_adverts (filter (has near) (range_with_len 0 n))
 
-pub near_none : (tell : ℕ → List Message) (near : ℕ) → near_below tell near 0 ≡ []
+pub near_none : (send_adverts : ℕ → List Message) (near : ℕ) → near_below send_adverts near 0 ≡ []
 unfolding near_below
-near_none tell near = refl
+near_none send_adverts near = refl
 
-pub near_step : (tell : ℕ → List Message) (near n : ℕ) → near_below tell near (n + 1)
-    ≡ near_below tell near n ++ (if has near n then tell n else [])
+pub near_step : (send_adverts : ℕ → List Message) (near n : ℕ)
+    → near_below send_adverts near (n + 1)
+    ≡ near_below send_adverts near n ++ (if has near n then send_adverts n else [])
 unfolding near_below
-near_step tell near n =
-    ap (flat_map tell) (filter_more (has near) n)
-    ∙ flat_map-append tell (filter (has near) (range_with_len 0 n))
+near_step send_adverts near n =
+    ap (flat_map send_adverts) (filter_more (has near) n)
+    ∙ flat_map-append send_adverts (filter (has near) (range_with_len 0 n))
     (cond (has near n) (n ∷ []) [])
-    ∙ ap (λ more. near_below tell near n ++ more) (by_test (has near n))
+    ∙ ap (λ more. near_below send_adverts near n ++ more) (by_test (has near n))
   where
-    by_test : (b : Bool) → flat_map tell (cond b (n ∷ []) []) ≡ (if b then tell n else [])
-    by_test true = append-nil (tell n)
+    by_test : (b : Bool) → flat_map send_adverts (cond b (n ∷ []) [])
+        ≡ (if b then send_adverts n else [])
+    by_test true = append-nil (send_adverts n)
     by_test false = refl
 
 pub ruleset near_steps = (common_steps, near_none, near_step)
@@ -95,7 +98,7 @@ pub ruleset near_steps = (common_steps, near_none, near_step)
 -- what it tells the neighbours below n of its links
 abbrev pub told_below : SwitchValue → Advert → ℕ → ℕ → ℕ → List Message
 told_below switch own had near n =
-    near_below (λ other. told_to switch own (has had other) other) near n
+    near_below (λ other. adverts_over switch own (has had other) other) near n
 
 -- and what it tells them again
 abbrev pub again_below : SwitchValue → ℕ → ℕ → List Message
@@ -104,23 +107,23 @@ again_below switch near n =
 
 pub again_all : (s count near : ℕ) (switch : SwitchValue) → switch.is_up ≡ true
     → to_controller (Hello s switch.boot) ∷ again_below switch near count
-    ≡ told_again s count near switch
+    ≡ adverts_again s count near switch
 unfolding near_below
 again_all s count near switch up = rw up refl
 
 pub again_none : (s count near : ℕ) (switch : SwitchValue) → switch.is_up ≡ false
-    → [] ≡ told_again s count near switch
+    → [] ≡ adverts_again s count near switch
 again_none s count near switch down = rw down refl
 
-pub told_all : (switch : SwitchValue) (count had near : ℕ) → changes had near switch ≡ true
+pub told_all : (switch : SwitchValue) (count had near : ℕ) → links_change had near switch ≡ true
     → told_below (near_changed switch near) (next_advert switch near) had near count
-    ≡ told_as count had near switch
+    ≡ adverts_on_change count had near switch
 unfolding near_below
 told_all switch count had near is = rw is refl
 
 pub told_nothing : (switch : SwitchValue) (count had near : ℕ)
-    → changes had near switch ≡ false
-    → (relinked_as had near switch ≡ switch) × (told_as count had near switch ≡ [])
+    → links_change had near switch ≡ false
+    → (relinked_as had near switch ≡ switch) × (adverts_on_change count had near switch ≡ [])
 told_nothing switch count had near is = (rw is refl, rw is refl)
 
 -- ---- switches
@@ -128,7 +131,7 @@ told_nothing switch count had near is = (rw is refl, rw is refl)
 -- what the switches below n tell
 unfoldable pub all_below : ℕ → List ℕ → List ℕ → List SwitchValue → ℕ → List Message
 all_below count had near all n =
-    flat_map (told_at count had near all) (range_with_len 0 n)
+    flat_map (adverts_at count had near all) (range_with_len 0 n)
 
 pub all_none : (count : ℕ) (had near : List ℕ) (all : List SwitchValue)
     → all_below count had near all 0 ≡ []
@@ -137,21 +140,21 @@ all_none count had near all = refl
 
 pub all_more : (count : ℕ) (had near : List ℕ) (all : List SwitchValue) (n : ℕ) (d : SwitchValue)
     → n < length all → all_below count had near all (n + 1) ≡ all_below count had near all n
-    ++ told_as count (get_or had n 0) (get_or near n 0) (get_or all n d)
+    ++ adverts_on_change count (get_or had n 0) (get_or near n 0) (get_or all n d)
 unfolding all_below
 all_more count had near all n d there =
-    let tell : ℕ → List Message = told_at count had near all in
-    ap (flat_map tell) (range_more 0 n n (omega arith))
-    ∙ flat_map-append tell (range_with_len 0 n) (n ∷ [])
-    ∙ ap (λ more. flat_map tell (range_with_len 0 n) ++ more) (append-nil (tell n)
+    let send_adverts : ℕ → List Message = adverts_at count had near all in
+    ap (flat_map send_adverts) (range_more 0 n n (omega arith))
+    ∙ flat_map-append send_adverts (range_with_len 0 n) (n ∷ [])
+    ∙ ap (λ more. flat_map send_adverts (range_with_len 0 n) ++ more) (append-nil (send_adverts n)
     ∙ ap (λ o. elim o [
       | None ↦ []
-      | Some switch ↦ told_as count (get_or had n 0) (get_or near n 0) switch
+      | Some switch ↦ adverts_on_change count (get_or had n 0) (get_or near n 0) switch
     ]) (slice_get-get_or all n d there))
 
 pub all_of_them : (had near : List ℕ) (all : List SwitchValue)
-    → all_below (length all) had near all (length all) ≡ all_told had near all
-unfolding all_below all_told
+    → all_below (length all) had near all (length all) ≡ all_adverts_sent had near all
+unfolding all_below all_adverts_sent
 all_of_them had near all = refl
 
 -- ---- masks

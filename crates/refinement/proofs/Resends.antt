@@ -13,7 +13,7 @@ use Rattle.update_machine.specs.Marks as machine
 use Rattle.update_machine.specs.Marks.{acked_stamp, current_mark, open_version, retired_mark}
 use Rattle.update_machine.specs.Links.{message_of}
 use Rattle.update_machine.specs.Setting.{Setting}
-use Rattle.update_machine.specs.Settling.{collect_for, install_for, open_for, resent_by_controller, resent_to_member, stamp_for, to_switch, unacked, versions_from_current}
+use Rattle.update_machine.specs.Settling.{collect_for, install_for, open_for, resent_by_controller, resent_to_member, stamp_for, to_switch, unacked_installs, versions_from_current}
 use Rattle.update_machine.specs.Versions.{version_count}
 use Rattle.control_laws.proofs.Marks.{bounded}
 use Rattle.control_laws.specs.Named.{BodiesNameThere}
@@ -24,10 +24,10 @@ use Rattle.version_update.specs.declared.record.Phase.TheVariants.{Joining, Memb
 use Rattle.version_update.specs.declared.record.SwitchRecord.{SwitchRecord}
 use Rattle.controller.specs.Controller.{ControllerValue}
 use Rattle.controller.specs.Sends as acts
-use Rattle.controller.specs.Sends.{NamesBoth, NamesThere, install_act, is_missing, missing_installs, resending, resending_to}
+use Rattle.controller.specs.Sends.{NamesBoth, NamesThere, install_act, is_missing, missing_installs, resend_acts, resend_acts_to}
 use Rattle.controller.specs.declared.sends.Act.{Act}
 use Rattle.controller.specs.declared.sends.Act.TheVariants.{Post}
-use Rattle.refinement.specs.Controller.{IsControllerOf, planned}
+use Rattle.refinement.specs.Controller.{IsControllerOf, plan_to_keep}
 use Rattle.refinement.specs.Marks.{AreMarksOf, IsKnown}
 use Rattle.refinement.proofs.Picked.{filter_made, map_twice, picked_same}
 use Rattle.refinement.proofs.Settled.{AreCaused}
@@ -91,7 +91,7 @@ module _ (setting : Setting) (journal : List Item) (s : ℕ) (controller : Contr
   lacks first v = is_missing known first v
 
   abbrev again : ℕ → Act
-  again v = install_act s known.boot (planned setting journal v)
+  again v = install_act s known.boot (plan_to_keep setting journal v)
 
   abbrev versions : List ℕ
   versions = versions_from_current journal
@@ -103,13 +103,14 @@ module _ (setting : Setting) (journal : List Item) (s : ℕ) (controller : Contr
       ap (λ plans. map (install_act s known.boot) (filter (λ kept. lacks first kept.version) plans))
       is.plans
       ∙ ap (map (install_act s known.boot))
-      (filter_made (planned setting journal) (λ kept. lacks first kept.version) versions)
-      ∙ map_twice (planned setting journal) (install_act s known.boot) (filter (lacks first) versions)
+      (filter_made (plan_to_keep setting journal) (λ kept. lacks first kept.version) versions)
+      ∙ map_twice (plan_to_keep setting journal) (install_act s known.boot)
+      (filter (lacks first) versions)
 
   -- of the versions from one on those that it didn't acknowledge
   from_on : IsFalse (machine.is_over journal s) → (first n : ℕ) → 1 ≤ first
       → map again (filter (lacks first) (range_with_len first n))
-      ≡ map Post (unacked setting journal s (range_with_len first n))
+      ≡ map Post (unacked_installs setting journal s (range_with_len first n))
   from_on none first n there =
       picked_same again (λ v. Post (install_for setting journal v s)) (lacks first)
       (λ v. not (machine.has_acked journal s v)) first n
@@ -117,7 +118,8 @@ module _ (setting : Setting) (journal : List Item) (s : ℕ) (controller : Contr
       let passes : nat_le first v ≡ true = grind (arith, nat_tests) in
       ap (λ b. b && not (has_acked known v)) passes
       ∙ ap not (own.acked none v (omega (arith, above, there))))
-      (λ v above below lacking. ap (λ boot. install_act s boot (planned setting journal v)) own.boot)
+      (λ v above below lacking. ap (λ boot. install_act s boot (plan_to_keep setting journal v))
+      own.boot)
       ∙ sym (map_twice (λ v. install_for setting journal v s) Post
       (filter (λ v. not (machine.has_acked journal s v)) (range_with_len first n)))
 
@@ -135,9 +137,9 @@ module _ (setting : Setting) (journal : List Item) (s : ℕ) (controller : Contr
       ∙ ap (λ b. map again (if b && not (has_acked known low) then low ∷ rest else rest)) fails
 
   to_member : IsTrue (machine.is_member journal s) → IsFalse (machine.is_over journal s)
-      → resending_to Member controller s ≡ map Post (resent_to_member setting journal s)
+      → resend_acts_to Member controller s ≡ map Post (resent_to_member setting journal s)
   to_member member none =
-      let first : List Message = unacked setting journal s
+      let first : List Message = unacked_installs setting journal s
       (range_with_len (low + 1) (version_count journal - low)) in
       let stamp : List Message = if nat_lt (acked_stamp journal s) low
       then stamp_for journal low s ∷ [] else [] in
@@ -182,7 +184,7 @@ module _ (setting : Setting) (journal : List Item) (s : ℕ) (controller : Contr
     | true ↦ []
     | false ↦ elim member [
       | true ↦ resent_to_member setting journal s
-      | false ↦ unacked setting journal s versions
+      | false ↦ unacked_installs setting journal s versions
     ]
   ]
 
@@ -195,7 +197,7 @@ module _ (setting : Setting) (journal : List Item) (s : ℕ) (controller : Contr
       ∙ ap (λ member. map Post (sent_by (machine.is_over journal s) member))
       (sym (ap is_member e) ∙ own.member)
 
-  by_phase : (phase : Phase) → known.phase ≡ phase → resending_to phase controller s
+  by_phase : (phase : Phase) → known.phase ≡ phase → resend_acts_to phase controller s
       ≡ map Post (resent_by_controller setting journal s)
   by_phase Over e = sent_in Over e
   by_phase Joining e =
@@ -212,7 +214,7 @@ module _ (setting : Setting) (journal : List Item) (s : ℕ) (controller : Contr
 pub resends : (setting : Setting) (journal : List Item) (s : ℕ) (controller : ControllerValue)
     → AreCaused setting journal → IsControllerOf setting journal controller
     → s < length controller.marks.switches
-    → resending controller s ≡ map Post (resent_by_controller setting journal s)
+    → resend_acts controller s ≡ map Post (resent_by_controller setting journal s)
 resends setting journal s controller have is there =
     by_phase setting journal s controller have is (is.marks.each s there)
     (record_of controller.marks s).phase refl

@@ -9,7 +9,7 @@ use Rattle.switch_core.specs.State.{SwitchValue, call_counted, held_tables, hold
 use Rattle.switch_table.specs.Lookup.{lookup_of}
 use Rattle.switch_table.specs.declared.tables.Tables.{Tables}
 use Rattle.refinement.specs.SwitchOf.{switch_of}
-use Rattle.refinement.proofs.Knowing.{know_ties}
+use Rattle.refinement.proofs.Knowing.{knowledge_refines}
 use Rattle.refinement.proofs.SwitchFacts.{stamp_shown, number_shown}
 use Rattle.refinement.proofs.Asked.{open_shown}
 use Rattle.update_machine.specs.Adverts.{is_cut_off, route_from}
@@ -63,19 +63,19 @@ sees setting journal s knows there =
       serving = open_shown setting journal s
           ∙ serving_of (is_up journal s) (serves_in journal s) (knows.serving.up s);
       stamp = stamp;
-      held = know_ties.held setting journal s;
-      tables = λ v. know_ties.tables setting journal s v knows.tables;
-      lookup = λ header serving. know_ties.lookup setting journal s header knows.tables
+      held = knowledge_refines.held setting journal s;
+      tables = λ v. knowledge_refines.tables setting journal s v knows.tables;
+      lookup = λ header serving. knowledge_refines.lookup setting journal s header knows.tables
           (knows.holds s there serving).stamp;
       stamped = λ serving.
           ap (λ o. unwrap_or o no_tables) (ap (held_tables w) stamp
-          ∙ know_ties.tables setting journal s (stamp_of journal s) knows.tables
+          ∙ knowledge_refines.tables setting journal s (stamp_of journal s) knows.tables
           ∙ ap (λ b. if b then Some (tables_at setting journal (stamp_of journal s) s) else None)
           (knows.holds s there serving).stamp);
       route = λ targets down. ap (λ n. route_of w.database n targets mask down) number
-          ∙ know_ties.route setting journal s targets down;
+          ∙ knowledge_refines.route setting journal s targets down;
       cut_off = λ target down. ap (λ n. is_isolated w.database n target mask down) number
-          ∙ know_ties.cut_off setting journal s target down;
+          ∙ knowledge_refines.cut_off setting journal s target down;
       usable = refl;
     }
 

@@ -4,7 +4,7 @@ use Rattle.std.specs.Prelude.{All}
 use Rattle.std.specs.List.{AllByRecursion}
 use Rattle.std.proofs.lemmas.List.{append-nil, length-map}
 use Rattle.std.proofs.lemmas.List.Elements.{All-from_recursion}
-use Rattle.message_bag.specs.Posts.{Post, posted}
+use Rattle.message_bag.specs.Posts.{Post, new_post}
 use Rattle.controller.specs.declared.sends.Act.{Act}
 use Rattle.controller.specs.declared.sends.Act.TheVariants as act
 use Rattle.ctrl_msg.specs.declared.message.Body.TheVariants.{Hello}
@@ -19,16 +19,16 @@ use Rattle.refinement.proofs.Spelled.{reached_spelled}
 use Rattle.steps.specs.Steps.{IsStep}
 use Rattle.steps.specs.declared.step.Step.{Step}
 use Rattle.switch_core.specs.State.{SwitchValue}
-use Rattle.travelling.specs.Travelling.{Travellers}
-use Rattle.update_machine.specs.Folds.{last_told}
-use Rattle.update_machine.specs.Links.{message_of, tells_message}
+use Rattle.travelling.specs.Travelling.{Flights}
+use Rattle.update_machine.specs.Folds.{last_given}
+use Rattle.update_machine.specs.Links.{message_of, gives_message}
 use Rattle.update_machine.specs.Pieces.{piece}
 use Rattle.update_machine.specs.Setting.{Setting}
-use Rattle.update_machine.proofs.CallerLemmas.{last_told_append}
+use Rattle.update_machine.proofs.CallerLemmas.{last_given_append}
 use Rattle.world_log.specs.Sending.{IsSpelled, MayNote, MaySend, act_items}
 use Rattle.world_log.proofs.Sends.{messages_spelled, posts_as_acts}
 use Rattle.refinement.proofs.Known.{reached_known, reached_more}
-use Rattle.refinement.specs.Tied.{AreTied, Control}
+use Rattle.refinement.specs.Refinement.{RefineJournal, Control}
 use Rattle.refinement.proofs.HearReady.{sends_few}
 use Rattle.refinement.proofs.Told.{acts_fit}
 
@@ -36,7 +36,7 @@ use Rattle.refinement.proofs.Told.{acts_fit}
 
 -- later numbers are other ones
 untold : (k number : ℕ) (acts : List Act) → k < number
-    → last_told (tells_message k) (act_items number acts) ≡ None
+    → last_given (gives_message k) (act_items number acts) ≡ None
 unfolding act_items
 untold k number [] below = refl
 untold k number (act.Current v ∷ acts) below = rw (untold k number acts below) refl
@@ -50,7 +50,7 @@ sent_there : (before : List Item) (number : ℕ) (message : Message) (acts : Lis
     ≡ Some message
 unfolding message_of
 sent_there before number message acts =
-    last_told_append (tells_message number) before
+    last_given_append (gives_message number) before
     (item.Sent number message ∷ act_items (number + 1) acts)
     ∙ rw (untold number (number + 1) acts (omega arith), eq-eqb number number refl) refl
 
@@ -79,30 +79,31 @@ acts_spelled before number (act.Post message ∷ acts) all = (
 
 -- the acts of a step, behind the first items, may be noted over posts as many as before
 pub may_note : (control : Control) (setting : Setting) (journal : List Item)
-    (switches : List SwitchValue) (before : Travellers) (count row : ℕ) (step : Step)
+    (switches : List SwitchValue) (before : Flights) (count row : ℕ) (step : Step)
     (first : List Item) (posts : List Post) (acts : List Act)
-    → AreTied setting journal switches before count control
+    → RefineJournal setting journal switches before count control
     → IsStep setting.net (length setting.policies) step
     → piece setting journal row step
     ≡ item.Row row step ∷ first ++ act_items (length control.posts + 1) acts
     → length posts ≡ length control.posts → length control.posts < 990_000
     → MayNote posts acts
-unfolding AreTied
-may_note control setting journal switches before count row step first posts acts tied may is
+unfolding RefineJournal
+may_note control setting journal switches before count row step first posts acts refines may is
     as_many room =
     let number = length control.posts + 1 in
     let begun : List Item = item.Row row step ∷ first in
     let spelled : AreSpelled (journal ++ (begun ++ act_items number acts)) =
     subst (λ items. AreSpelled (journal ++ items)) is
-    (reached_spelled setting (journal ++ piece setting journal row step) tied.sound
-    (reached_more setting journal row step tied.reached may)) in
+    (reached_spelled setting (journal ++ piece setting journal row step) refines.sound
+    (reached_more setting journal row step refines.reached may)) in
     record {
       few = omega (
         arith,
         as_many,
         room,
         acts_fit setting journal row step first number acts
-            (sends_few setting journal (reached_known setting journal tied.sound tied.reached)) is,
+            (sends_few setting journal (reached_known setting journal refines.sound
+            refines.reached)) is,
       );
       spelled = All-from_recursion IsSpelled acts (acts_spelled (journal ++ begun) number acts
           (subst AreSpelled (sym (append_assoc journal begun (act_items number acts))) spelled));
@@ -116,7 +117,7 @@ may_send posts messages may = record {
     arith,
     may.few,
     ap length (posts_as_acts messages),
-    length-map messages posted,
+    length-map messages new_post,
   );
   spelled = messages_spelled messages []
       (subst (λ acts. All IsSpelled acts) (sym (append-nil (map act.Post messages)))

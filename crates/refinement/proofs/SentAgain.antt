@@ -4,10 +4,10 @@ use Rattle.std.proofs.Common.{ℕ, ◌≡◌, ◌≢◌, ◌+◌, ◌<◌, ◌==
 use Rattle.std.specs.Prelude.{if◌then◌else◌}
 use Rattle.std.specs.List.{flat_map}
 use Rattle.message_bag.specs.Posts.{Post as BagPost}
-use Rattle.refinement.specs.Written.{AreWritten, resent}
+use Rattle.refinement.specs.Written.{AreWritten, acts_of_resend}
 use Rattle.refinement.proofs.Steps.{resends_nothing, resends_some}
 use Rattle.controller.specs.Controller.{ControllerValue}
-use Rattle.controller.specs.Sends.{resending}
+use Rattle.controller.specs.Sends.{resend_acts}
 use Rattle.controller.specs.declared.sends.Act.{Act}
 use Rattle.controller.specs.declared.sends.Act.TheVariants.{Post}
 use Rattle.ctrl_msg.specs.declared.message.Body.TheVariants.{Hello}
@@ -19,7 +19,7 @@ use Rattle.journal.specs.declared.item.Item.TheVariants as item
 use Rattle.steps.specs.declared.step.Step.TheVariants.{Resend}
 use Rattle.switch_core.specs.State.{SwitchValue}
 use Rattle.refinement.specs.SwitchOf.{switch_of}
-use Rattle.refinement.proofs.Links.{kept_is, link_ties}
+use Rattle.refinement.proofs.Links.{kept_is, links_refine}
 use Rattle.update_machine.specs.Adverts.{held_adverts}
 use Rattle.update_machine.specs.Boots.{boot_of, is_up}
 use Rattle.update_machine.specs.Deliveries.{advert_to, switches_in}
@@ -27,20 +27,20 @@ use Rattle.update_machine.specs.LinkMasks.{near}
 use Rattle.update_machine.specs.Pieces.{nothing, piece, resent_by_switch}
 use Rattle.update_machine.specs.Setting.{Setting}
 use Rattle.update_machine.proofs.CallerLemmas.{near_stays}
-use Rattle.refinement.specs.Linking.{told_again}
+use Rattle.refinement.specs.Linking.{adverts_again}
 use Rattle.steps.specs.Steps.{IsStep}
 use Rattle.world_log.specs.Sending.{MayNote, act_items, act_posts}
-use Rattle.refinement.specs.Tied.{AreTied, Control}
+use Rattle.refinement.specs.Refinement.{RefineJournal, Control}
 use Rattle.refinement.specs.Bags.{IsBagOf}
-use Rattle.travelling.specs.Travelling.{Travellers}
+use Rattle.travelling.specs.Travelling.{Flights}
 use Rattle.refinement.proofs.ActItems.{written_is}
 use Rattle.refinement.proofs.Delivering.{nothing_happens}
 use Rattle.refinement.proofs.Known.{reached_known}
 use Rattle.refinement.proofs.OneItem.{grown}
 use Rattle.refinement.proofs.Posting.{bag_on}
 use Rattle.refinement.proofs.Switches.{switch_is, switch_known}
-use Rattle.refinement.proofs.Told.{tied_told}
-use Rattle.refinement.proofs.Tying.{links_stay, up_stay}
+use Rattle.refinement.proofs.Told.{refines_told}
+use Rattle.refinement.proofs.Refining.{links_stay, up_stay}
 use Rattle.refinement.proofs.Sendable.{may_note}
 
 -- nothing is there to send, or something
@@ -54,14 +54,14 @@ some_there acts some e = let none : (length acts == 0) ≡ true = ap (λ xs. len
 
 -- what the calls made is what is to be sent
 pub acts_same : (controller : ControllerValue) (s n count near had : ℕ) (own : SwitchValue)
-    (told : List Message) (acts : List Act) → told ≡ told_again s n had own → n ≡ count
-    → had ≡ near → acts ≡ resending controller s
-    → map Post told ++ acts ≡ map Post (told_again s count near own) ++ resending controller s
+    (told : List Message) (acts : List Act) → told ≡ adverts_again s n had own → n ≡ count
+    → had ≡ near → acts ≡ resend_acts controller s
+    → map Post told ++ acts ≡ map Post (adverts_again s count near own) ++ resend_acts controller s
 acts_same controller s n count near had own told acts told_is count_is near_is acts_is =
     ap (λ more. map Post told ++ more) acts_is
-    ∙ ap (λ first. map Post first ++ resending controller s)
-    (told_is ∙ ap (λ k. told_again s k had own) count_is
-    ∙ ap (λ k. told_again s count k own) near_is)
+    ∙ ap (λ first. map Post first ++ resend_acts controller s)
+    (told_is ∙ ap (λ k. adverts_again s k had own) count_is
+    ∙ ap (λ k. adverts_again s count k own) near_is)
 
 -- what it tells these neighbours, where it holds these adverts
 abbrev told_by : SwitchValue → ℕ → List ℕ → List Advert → List Message
@@ -91,116 +91,118 @@ as_journal setting journal s neighbours adverts = by_test (is_up journal s)
     by_test false = refl
 
 -- the packets on their way stayed
-pub sent_tied : (setting : Setting) (journal : List Item) (switches : List SwitchValue)
-    (before after : Travellers) (count : ℕ) (control : Control) (posts bag : List BagPost)
+pub sent_refines : (setting : Setting) (journal : List Item) (switches : List SwitchValue)
+    (before after : Flights) (count : ℕ) (control : Control) (posts bag : List BagPost)
     → bag ≡ posts → after ≡ before
-    → AreTied setting journal switches before count (record control { posts = posts })
-    → AreTied setting journal switches after count (record control { posts = bag })
-sent_tied setting journal switches before after count control posts bag same stayed tied =
-    subst (λ all. AreTied setting journal switches after count (record control { posts = all }))
+    → RefineJournal setting journal switches before count (record control { posts = posts })
+    → RefineJournal setting journal switches after count (record control { posts = bag })
+sent_refines setting journal switches before after count control posts bag same stayed refines =
+    subst (λ all. RefineJournal setting journal switches after count
+    (record control { posts = all }))
     (sym same)
-    (subst (λ (moving : Travellers). AreTied setting journal switches moving count
-    (record control { posts = posts })) (sym stayed) tied)
+    (subst (λ (moving : Flights). RefineJournal setting journal switches moving count
+    (record control { posts = posts })) (sym stayed) refines)
 
 module _ (control : Control) (setting : Setting) (journal : List Item)
-    (switches : List SwitchValue) (before : Travellers) (count row s : ℕ) (own : SwitchValue)
-    (tied : AreTied setting journal switches before count control)
+    (switches : List SwitchValue) (before : Flights) (count row s : ℕ) (own : SwitchValue)
+    (refines : RefineJournal setting journal switches before count control)
     (may : IsStep setting.net (length setting.policies) (Resend s)) (own_at : own ≡ get_or switches s own) where
   abbrev rowed : List Item
   rowed = journal ++ item.Row row (Resend s) ∷ []
 
   abbrev messages : List Message
-  messages = told_again s (length switches) (get_or control.near s 0) own
+  messages = adverts_again s (length switches) (get_or control.near s 0) own
 
   abbrev acts : List Act
-  acts = map Post messages ++ resending control.controller s
+  acts = map Post messages ++ resend_acts control.controller s
 
   own_is : own ≡ switch_of setting rowed s
-  own_is = switch_is control setting journal switches before count s own tied may own_at
+  own_is = switch_is control setting journal switches before count s own refines may own_at
       ∙ sym (kept_is setting s journal (item.Row row (Resend s) ∷ []) (refl, tt) (refl, tt))
 
   near_is : get_or control.near s 0 ≡ near setting rowed s
-  unfolding AreTied
-  near_is = tied.usable s (omega (arith, may, tied.sound.net.few_switches))
+  unfolding RefineJournal
+  near_is = refines.usable s (omega (arith, may, refines.sound.net.few_switches))
       ∙ sym (near_stays setting s journal (item.Row row (Resend s) ∷ []) (refl, tt))
 
   -- what a switch tells again, as the journal says
-  by_switch : told_again s (length setting.net.switches) (near setting rowed s)
+  by_switch : adverts_again s (length setting.net.switches) (near setting rowed s)
       (switch_of setting rowed s) ≡ resent_by_switch setting rowed s
   by_switch =
       ap (told_by (switch_of setting rowed s) s (switches_in setting (near setting rowed s)))
-      (sym (link_ties.held setting rowed s))
+      (sym (links_refine.held setting rowed s))
       ∙ as_journal setting rowed s (switches_in setting (near setting rowed s))
       (held_adverts setting rowed s)
 
-  acts_are : acts ≡ resent setting rowed s control.controller
-  unfolding AreTied
-  acts_are = ap (λ told. map Post told ++ resending control.controller s)
-      (ap (λ n. told_again s n (get_or control.near s 0) own) tied.many
-      ∙ ap (λ n. told_again s (length setting.net.switches) n own) near_is
-      ∙ ap (told_again s (length setting.net.switches) (near setting rowed s)) own_is
+  acts_are : acts ≡ acts_of_resend setting rowed s control.controller
+  unfolding RefineJournal
+  acts_are = ap (λ told. map Post told ++ resend_acts control.controller s)
+      (ap (λ n. adverts_again s n (get_or control.near s 0) own) refines.many
+      ∙ ap (λ n. adverts_again s (length setting.net.switches) n own) near_is
+      ∙ ap (adverts_again s (length setting.net.switches) (near setting rowed s)) own_is
       ∙ by_switch)
 
   -- ---- nothing is sent
 
   pub silent : (length acts == 0) ≡ true
       → (piece setting journal row (Resend s) ≡ item.Row row (Resend s) ∷ nothing)
-      × AreTied setting (grown journal row (Resend s) item.Nothing) switches before count control
-  unfolding AreTied
+      × RefineJournal setting (grown journal row (Resend s) item.Nothing) switches before count
+      control
+  unfolding RefineJournal
   silent none =
-      nothing_happens control setting journal switches before count row (Resend s) tied may
+      nothing_happens control setting journal switches before count row (Resend s) refines may
       (λ q. refl) (resends_nothing setting journal row s control.controller
-      (reached_known setting journal tied.sound tied.reached).caused tied.controller
-      (switch_known control setting journal switches before count s tied may)
+      (reached_known setting journal refines.sound refines.reached).caused refines.controller
+      (switch_known control setting journal switches before count s refines may)
       (sym acts_are ∙ none_there acts none)).same
 
   -- ---- something is sent
 
   module _ (some : (length acts == 0) ≡ false) where
     bag_behind : IsBagOf rowed control.posts
-    unfolding AreTied
-    bag_behind = bag_on journal (item.Row row (Resend s) ∷ []) control.posts (refl, tt) tied.bag
+    unfolding RefineJournal
+    bag_behind = bag_on journal (item.Row row (Resend s) ∷ []) control.posts (refl, tt) refines.bag
 
     resent_so : AreWritten setting journal (item.Row row (Resend s) ∷ [])
-        (resent setting rowed s control.controller) control.controller
+        (acts_of_resend setting rowed s control.controller) control.controller
         (piece setting journal row (Resend s))
-    unfolding AreTied
+    unfolding RefineJournal
     resent_so = resends_some setting journal row s control.controller
-        (reached_known setting journal tied.sound tied.reached).caused tied.controller
-        (switch_known control setting journal switches before count s tied may)
+        (reached_known setting journal refines.sound refines.reached).caused refines.controller
+        (switch_known control setting journal switches before count s refines may)
         (λ e. some_there acts some (acts_are ∙ e))
 
     pub again_piece : piece setting journal row (Resend s)
         ≡ item.Row row (Resend s) ∷ act_items (length control.posts + 1) acts
     again_piece = resent_so.same
         ∙ ap (λ items. item.Row row (Resend s) ∷ items)
-        (written_is rowed (resent setting rowed s control.controller)
-        ∙ ap (λ k. act_items k (resent setting rowed s control.controller)) bag_behind.many
+        (written_is rowed (acts_of_resend setting rowed s control.controller)
+        ∙ ap (λ k. act_items k (acts_of_resend setting rowed s control.controller)) bag_behind.many
         ∙ ap (act_items (length control.posts + 1)) (sym acts_are))
 
-    pub again_tied : AreTied setting (journal ++ item.Row row (Resend s)
+    pub again_refines : RefineJournal setting (journal ++ item.Row row (Resend s)
         ∷ act_items (length control.posts + 1) acts) switches before count
         (record control { posts = control.posts ++ act_posts acts })
-    unfolding AreTied
-    again_tied = tied_told control control setting journal switches switches before count row
-        (Resend s) [] acts tied (record {
+    unfolding RefineJournal
+    again_refines = refines_told control control setting journal switches switches before count row
+        (Resend s) [] acts refines (record {
           may = may;
           piece_is = again_piece;
           packet = λ i. (refl, tt);
           packets = (refl, tt);
           as_many = refl;
-          each = λ q d below. tied.each q d below
+          each = λ q d below. refines.each q d below
               ∙ sym (kept_is setting q journal (item.Row row (Resend s) ∷ []) (refl, tt)
               (refl, tt));
           bag = bag_behind;
           number = refl;
           controller = resent_so.after;
           up = up_stay control setting journal switches before count
-              (item.Row row (Resend s) ∷ []) tied (refl, tt);
+              (item.Row row (Resend s) ∷ []) refines (refl, tt);
           usable = links_stay control setting journal switches before count
-              (item.Row row (Resend s) ∷ []) tied (refl, tt);
+              (item.Row row (Resend s) ∷ []) refines (refl, tt);
         })
 
     pub again_may : length control.posts < 990_000 → MayNote control.posts acts
     again_may = may_note control setting journal switches before count row (Resend s) []
-        control.posts acts tied may again_piece refl
+        control.posts acts refines may again_piece refl

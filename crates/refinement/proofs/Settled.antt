@@ -16,12 +16,12 @@ use Rattle.journal.specs.declared.item.Item.{Item}
 use Rattle.journal.specs.declared.item.Item.TheVariants as item
 use Rattle.update_machine.specs.Causes.{HaveCauses}
 use Rattle.update_machine.specs.Marks as machine
-use Rattle.update_machine.specs.Marks.{acked_stamp, controller_heard, current_mark, first_number, known_boot, least, next_current, next_retired, open_in, open_version, opened_at, retired_mark}
-use Rattle.update_machine.specs.Messages.{next_message, sends, sent_from}
-use Rattle.update_machine.specs.Moves.{put}
+use Rattle.update_machine.specs.Marks.{acked_stamp, controller_heard, current_mark, first_number, known_boot, least_number, next_current, next_retired, open_in, open_version, opened_at, retired_mark}
+use Rattle.update_machine.specs.Messages.{next_message, send_items, sent_from}
+use Rattle.update_machine.specs.Moves.{items_then}
 use Rattle.update_machine.specs.Setting.{Setting}
 use Rattle.update_machine.specs.SwitchNumbers.{switches_of}
-use Rattle.update_machine.specs.Settling.{current_items, open_for, open_items, opening, retired_items, settling, to_switch}
+use Rattle.update_machine.specs.Settling.{current_items, open_for, open_items, opening_switches, retired_items, settling, to_switch}
 use Rattle.update_machine.specs.Versions.{version_count}
 use Rattle.update_machine.proofs.CallerLemmas.{have_append}
 use Rattle.control_laws.specs.ItemCauses.{HasItemCause}
@@ -47,12 +47,12 @@ use Rattle.version_update.specs.declared.record.Phase.{Phase}
 use Rattle.version_update.specs.declared.record.Phase.TheVariants.{Joining, Member, Over}
 use Rattle.version_update.specs.declared.record.SwitchRecord.{SwitchRecord}
 use Rattle.controller.specs.Sends as acts
-use Rattle.controller.specs.Sends.{boot_recorded, tell, those}
+use Rattle.controller.specs.Sends.{boot_recorded, posts_to, switches_where}
 use Rattle.controller.specs.declared.sends.Act.{Act}
 use Rattle.controller.specs.declared.sends.Act.TheVariants.{Current, Post, Retired}
 use Rattle.refinement.specs.Marks.{AreMarksOf, IsKnown}
-use Rattle.refinement.specs.Written.{item_of, written}
-use Rattle.refinement.proofs.Kept.{current_on, known_on, marks_on, retired_on}
+use Rattle.refinement.specs.Written.{item_of, written_items}
+use Rattle.refinement.proofs.KeptController.{current_on, known_on, marks_on, retired_on}
 use Rattle.refinement.proofs.Picked.{any_picked, filter_made, map_twice, passing_is, picked_same}
 use Rattle.refinement.proofs.Written.{posted, written_in_three}
 
@@ -100,11 +100,11 @@ pub told_posted : (f : ℕ → Act) (g : ℕ → Message) (passes : SwitchRecord
     → length value.switches ≡ length setting.net.switches
     → ((s : ℕ) → s < length value.switches → passes (record_of value s) ≡ q s)
     → ((s : ℕ) → s < length value.switches → f s ≡ Post (g s))
-    → written journal (map f (those passes value.switches))
-    ≡ sends journal (map g (filter q (switches_of setting)))
+    → written_items journal (map f (switches_where passes value.switches))
+    ≡ send_items journal (map g (filter q (switches_of setting)))
 told_posted f g passes q setting journal value many tests makes =
     let p : ℕ → Bool = λ s. option_map_or passes (slice_get value.switches s) false in
-    ap (written journal)
+    ap (written_items journal)
     (ap (λ n. map f (filter p (range_with_len 0 n))) many
     ∙ picked_same f (λ s. Post (g s)) p q 0 (length setting.net.switches)
     (λ s above below.
@@ -119,10 +119,10 @@ told_posted f g passes q setting journal value many tests makes =
 pub leave_on : (setting : Setting) (journal : List Item) (value : MarksValue)
     (message : ℕ → Message) (switches : List ℕ)
     → ((s : ℕ) → ReopensAlone journal (message s)) → AreMarksOf setting journal value
-    → AreMarksOf setting (journal ++ sends journal (map message switches)) value
+    → AreMarksOf setting (journal ++ send_items journal (map message switches)) value
 leave_on setting journal value message switches leaves are =
-    marks_on setting journal (journal ++ sends journal (map message switches)) value
-    (leaves_keep journal (sends journal (map message switches))
+    marks_on setting journal (journal ++ send_items journal (map message switches)) value
+    (leaves_keep journal (send_items journal (map message switches))
     (sends_leave journal (map message switches)
     (each_map (ReopensAlone journal) message switches
     (each (λ s. ReopensAlone journal (message s)) leaves switches)))) are
@@ -156,26 +156,26 @@ abbrev SameBoots : List Item → MarksValue → ℕ → Type 0
 SameBoots journal after n = (s : ℕ) → s < n → boot_recorded after s ≡ known_boot journal s
 
 -- members are told of a mark
-abbrev told_to : (ℕ → Body) → List Item → ℕ → Message
-told_to body journal s = to_switch s (body (known_boot journal s))
+abbrev adverts_over : (ℕ → Body) → List Item → ℕ → Message
+adverts_over body journal s = to_switch s (body (known_boot journal s))
 
 -- a mark rises and members are told of it, or it stays
 abbrev risen_items : Setting → List Item → Item → (ℕ → Body) → Bool → List Item
 risen_items setting journal next body b = elim b [
   | false ↦ []
-  | true ↦ put (next ∷ []) (λ raised.
-      sends raised (map (told_to body journal) (machine.members setting journal))) journal
+  | true ↦ items_then (next ∷ []) (λ raised.
+      send_items raised (map (adverts_over body journal) (machine.members setting journal))) journal
 ]
 
 -- then the marks are the risen ones
 rises_by : (setting : Setting) (journal : List Item) (after value risen : MarksValue) (act : Act)
     (body : ℕ → Body)
     → AreMarksOf setting journal value → SameBoots journal after (length value.switches)
-    → ((s : ℕ) → ReopensAlone (journal ++ item_of journal act ∷ []) (told_to body journal s))
+    → ((s : ℕ) → ReopensAlone (journal ++ item_of journal act ∷ []) (adverts_over body journal s))
     → AreMarksOf setting (journal ++ item_of journal act ∷ []) risen
     → (b : Bool) → (b ≡ false → AreMarksOf setting journal risen)
-    → (written journal (if b
-    then act ∷ tell after body (those (λ known. is_member known.phase) value.switches)
+    → (written_items journal (if b
+    then act ∷ posts_to after body (switches_where (λ known. is_member known.phase) value.switches)
     else []) ≡ risen_items setting journal (item_of journal act) body b)
     × AreMarksOf setting (journal ++ risen_items setting journal (item_of journal act) body b) risen
 rises_by setting journal after value risen act body are boots leaves rises false stays = (
@@ -185,15 +185,15 @@ rises_by setting journal after value risen act body are boots leaves rises false
 rises_by setting journal after value risen act body are boots leaves rises true stays =
     let next : Item = item_of journal act in
     let raised : List Item = journal ++ next ∷ [] in
-    let message : ℕ → Message = told_to body journal in (
+    let message : ℕ → Message = adverts_over body journal in (
       ap (λ items. next ∷ items)
-          (told_posted (λ s. acts.post s (body (boot_recorded after s))) message
+          (told_posted (λ s. acts.post_act s (body (boot_recorded after s))) message
           (λ known. is_member known.phase) (machine.is_member journal) setting raised value are.many
           (λ s there. (are.each s there).member)
           (λ s there. ap (λ boot. Post (to_switch s (body boot))) (boots s there))),
       subst (λ js. AreMarksOf setting js risen)
           (append_assoc journal (next ∷ [])
-          (sends raised (map message (machine.members setting journal))))
+          (send_items raised (map message (machine.members setting journal))))
           (leave_on setting raised risen message (machine.members setting journal) leaves rises),
     )
 
@@ -203,13 +203,14 @@ rises_on : (setting : Setting) (journal : List Item) (after value : MarksValue)
     → low ≡ mark → high ≡ version → AreMarksOf setting journal value
     → SameBoots journal after (length value.switches)
     → ((s : ℕ) → ReopensAlone (journal ++ item_of journal (act version) ∷ [])
-    (told_to (body version) journal s))
+    (adverts_over (body version) journal s))
     → AreMarksOf setting (journal ++ item_of journal (act version) ∷ []) (risen version)
     → (nat_lt mark version ≡ false → AreMarksOf setting journal (risen version))
     → (let items = risen_items setting journal (item_of journal (act version)) (body version)
     (nat_lt mark version) in
-    (written journal (if nat_lt low high
-    then act high ∷ tell after (body high) (those (λ known. is_member known.phase) value.switches)
+    (written_items journal (if nat_lt low high
+    then act high ∷ posts_to after (body high)
+    (switches_where (λ known. is_member known.phase) value.switches)
     else []) ≡ items) × AreMarksOf setting (journal ++ items) (risen high))
 rises_on setting journal after value risen act body low high mark version low_is high_is are boots
     leaves rises stays =
@@ -220,7 +221,7 @@ raises_on : (setting : Setting) (now : List Item) (before after : MarksValue)
     → AreMarksOf setting now before → before.current ≤ after.current
     → after.current ≡ next_current setting now
     → SameBoots now after (length before.switches)
-    → (written now (acts.stamp_acts before after) ≡ current_items setting now)
+    → (written_items now (acts.stamp_acts before after) ≡ current_items setting now)
     × AreMarksOf setting (now ++ current_items setting now)
     (record before { current = after.current })
 unfolding current_items
@@ -374,14 +375,14 @@ opened_known one two s version value is low stay now most =
         let over : machine.is_over two s ≡ false = stay.over s ∙ parts.0 in
         let member : machine.is_member two s ≡ true =
         member_of two s over (ap (λ o. is_some o) opened) in
-        let opening : open_version two s ≡ version = ap (λ o. unwrap_or o 0) opened in
+        let opening_switches : open_version two s ≡ version = ap (λ o. unwrap_or o 0) opened in
         record {
           boot = is.boot ∙ sym (stay.known s);
           over = sym over;
           member = sym member;
           acked = λ none v first. is.acked parts.0 v first ∙ sym (acked v);
-          opened = λ is. sym opening;
-          stamp = λ is. omega (arith, opening, acked_stamp_opened two s, most);
+          opened = λ is. sym opening_switches;
+          stamp = λ is. omega (arith, opening_switches, acked_stamp_opened two s, most);
         }
     by_opens false e =
         let same : opened_at two s ≡ opened_at one s = now
@@ -411,11 +412,11 @@ opens_on : (setting : Setting) (one : List Item) (before after : MarksValue)
     → after.switches ≡ map (known.opened_record before.current) before.switches
     → SameBoots one after (length before.switches)
     → MarksAreBounded setting (one ++ open_items setting one)
-    → (written one (acts.opens before after) ≡ open_items setting one)
+    → (written_items one (acts.open_acts before after) ≡ open_items setting one)
     × AreMarksOf setting (one ++ open_items setting one) (record after { retired = before.retired })
 unfolding open_items
 opens_on setting one before after are low count current switches boots bounds = (
-  told_posted (λ s. acts.post s (OpenAt (boot_recorded after s) after.current))
+  told_posted (λ s. acts.post_act s (OpenAt (boot_recorded after s) after.current))
       (open_for one (current_mark one)) (opens_at after.current) test setting one before are.many
       (λ s there.
       ap (λ v. opens_at v (record_of before s)) (current ∙ are.current)
@@ -441,13 +442,14 @@ opens_on setting one before after are low count current switches boots bounds = 
     test s = machine.is_joining one s && machine.has_acked one s (current_mark one)
 
     two : List Item
-    two = one ++ sends one (map (open_for one (current_mark one)) (opening setting one))
+    two = one ++ send_items one (map (open_for one (current_mark one))
+        (opening_switches setting one))
 
     first : 1 ≤ current_mark one
     first = let is = are.current in omega (arith, low, is)
 
     stay : SentStay one two
-    stay = sent_stay (map (open_for one (current_mark one)) (opening setting one)) one
+    stay = sent_stay (map (open_for one (current_mark one)) (opening_switches setting one)) one
         (next_message one)
 
     long : length after.switches ≡ length before.switches
@@ -456,7 +458,7 @@ opens_on setting one before after are low count current switches boots bounds = 
     now : (s : ℕ) → s < length before.switches → opened_at two s
         ≡ option_or (opened_at one s) (some_if (test s) (current_mark one))
     now s below =
-        opened_many one one (next_message one) (current_mark one) s (opening setting one)
+        opened_many one one (next_message one) (current_mark one) s (opening_switches setting one)
         (λ t. refl)
         ∙ ap (λ b. option_or (opened_at one s) (some_if b (current_mark one)))
         (any_picked test s 0 (length setting.net.switches) (omega arith)
@@ -468,10 +470,10 @@ retires_same : (setting : Setting) (two : List Item) (value : MarksValue)
     → AreMarksOf setting two value → marks.retired_of value ≡ next_retired setting two
 unfolding next_retired
 retires_same setting two value are =
-    ap (λ xs. unwrap_or (least xs) value.current - 1)
+    ap (λ xs. unwrap_or (least_number xs) value.current - 1)
     (members_made (λ known. known.acked_stamp) (acked_stamp two) setting two value are
     (λ s is member. is.stamp member))
-    ∙ ap (λ c. unwrap_or (least (map (acked_stamp two) (machine.members setting two))) c - 1)
+    ∙ ap (λ c. unwrap_or (least_number (map (acked_stamp two) (machine.members setting two))) c - 1)
     are.current
 
 retires_on : (setting : Setting) (two : List Item) (before after : MarksValue)
@@ -479,7 +481,7 @@ retires_on : (setting : Setting) (two : List Item) (before after : MarksValue)
     → after.retired ≡ next_retired setting two
     → retired_mark two ≤ next_retired setting two
     → SameBoots two after (length after.switches)
-    → (written two (acts.collect_acts before after) ≡ retired_items setting two)
+    → (written_items two (acts.collect_acts before after) ≡ retired_items setting two)
     × AreMarksOf setting (two ++ retired_items setting two) after
 unfolding retired_items
 retires_on setting two before after are is least_is boots =
@@ -520,12 +522,13 @@ settling_caused setting now have =
 pub settles_so : (setting : Setting) (now : List Item) (before after : MarksValue)
     (answer : Settled) → AreCaused setting now → AreMarksOf setting now before
     → Settles before after answer
-    → (written now (acts.settling_acts before after) ≡ settling setting now)
+    → (written_items now (acts.settling_acts before after) ≡ settling setting now)
     × AreMarksOf setting (now ++ settling setting now) after
 unfolding settling
 settles_so setting now before after answer have are is = (
   written_in_three now (current_items setting) (open_items setting) (retired_items setting)
-      (acts.stamp_acts before after) (acts.opens before after) (acts.collect_acts before after) raises.0
+      (acts.stamp_acts before after) (acts.open_acts before after) (acts.collect_acts before after)
+      raises.0
       opens.0 retires.0,
   subst (λ js. AreMarksOf setting js after)
       (sym (in_three (current_items setting) (open_items setting) (retired_items setting) now))
@@ -552,7 +555,7 @@ settles_so setting now before after answer have are is = (
     boots : SameBoots now after (length before.switches)
     boots s there = settled_boot before after answer s is there ∙ (are.each s there).boot
 
-    raises : (written now (acts.stamp_acts before after) ≡ current_items setting now)
+    raises : (written_items now (acts.stamp_acts before after) ≡ current_items setting now)
         × AreMarksOf setting one (record before { current = after.current })
     raises = raises_on setting now before after are is.current.rises
         (rises_same setting now before after.current are is.current) boots
@@ -560,13 +563,13 @@ settles_so setting now before after answer have are is = (
     same : (s : ℕ) → s < length before.switches → known_boot one s ≡ known_boot now s
     same s there = sym (raises.1.each s there).boot ∙ (are.each s there).boot
 
-    opens : (written one (acts.opens before after) ≡ open_items setting one)
+    opens : (written_items one (acts.open_acts before after) ≡ open_items setting one)
         × AreMarksOf setting two (record after { retired = before.retired })
     opens = opens_on setting one (record before { current = after.current }) after raises.1 low
         is.count refl is.switches (λ s there. boots s there ∙ sym (same s there))
         (bounded setting two two_have)
 
-    retires : (written two (acts.collect_acts before after) ≡ retired_items setting two)
+    retires : (written_items two (acts.collect_acts before after) ≡ retired_items setting two)
         × AreMarksOf setting (two ++ retired_items setting two) after
     retires = retires_on setting two before after opens.1
         (is.retired ∙ retires_same setting two (record after { retired = before.retired }) opens.1)

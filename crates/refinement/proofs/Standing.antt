@@ -12,10 +12,10 @@ use Rattle.update_machine.specs.Setting.{Setting}
 use Rattle.update_machine.specs.Travels.{is_at, packets_at, travels, travels_at}
 use Rattle.packet_laws.specs.Facts.{what_is_known}
 use Rattle.packet_laws.proofs.Rests.{numbered, ways_of_all}
-use Rattle.refinement.specs.Tied.{AreTied, Control}
-use Rattle.refinement.specs.Travellers.{traveller_in, traveller_of}
-use Rattle.travelling.specs.Travelling.{Travellers, numbers_at, stands_at, traveller}
-use Rattle.travelling.specs.declared.travelling.Traveller.{Traveller}
+use Rattle.refinement.specs.Refinement.{RefineJournal, Control}
+use Rattle.refinement.specs.Flights.{flight_in, flight_of}
+use Rattle.travelling.specs.Travelling.{Flights, numbers_at, stands_at, flight}
+use Rattle.travelling.specs.declared.travelling.Flight.{Flight}
 use Rattle.travelling.proofs.Numbers.{beyond, none_between}
 use Rattle.refinement.proofs.Known.{Known, reached_known}
 use Rattle.refinement.proofs.OnWay.{IsStanding, got}
@@ -47,13 +47,13 @@ same_numbers test one other zero_fails none none_other =
 -- ---- the table
 
 -- a packet is among those that stand at the switch where it stands there
-pub among_numbers : (before : Travellers) (s i : ℕ)
-    → among i (numbers_at before s) ≡ stands_at s (traveller before i)
+pub among_numbers : (before : Flights) (s i : ℕ)
+    → among i (numbers_at before s) ≡ stands_at s (flight before i)
 unfolding numbers_at
 among_numbers before s i = by_test (test i) refl
   where
     test : ℕ → Bool
-    test = λ k. stands_at s (traveller before k)
+    test = λ k. stands_at s (flight before k)
 
     by_test : (b : Bool) → test i ≡ b
         → among i (filter test (range_with_len 0 (length before))) ≡ test i
@@ -69,27 +69,27 @@ among_numbers before s i = by_test (test i) refl
             absurd (let clash : true ≡ false = sym e ∙ beyond before s i past in cc)
 
 module _ (control : Control) (setting : Setting) (journal : List Item)
-    (switches : List SwitchValue) (before : Travellers) (count s : ℕ)
-    (tied : AreTied setting journal switches before count control) where
+    (switches : List SwitchValue) (before : Flights) (count s : ℕ)
+    (refines : RefineJournal setting journal switches before count control) where
   -- where a packet stands by its route, it stands by the journal
-  same_switch : (i : ℕ) → stands_at s (traveller before i) ≡ travels_at journal s i
-  unfolding AreTied traveller_in what_is_known
+  same_switch : (i : ℕ) → stands_at s (flight before i) ≡ travels_at journal s i
+  unfolding RefineJournal flight_in what_is_known
   same_switch i = by_travels (travels journal i) refl
     where
       by_travels : (b : Bool) → travels journal i ≡ b
-          → stands_at s (traveller before i) ≡ travels_at journal s i
+          → stands_at s (flight before i) ≡ travels_at journal s i
       by_travels false off =
-          let none : traveller before i ≡ None =
-          tied.packet i ∙ ap (λ b. if b then Some (traveller_of setting journal i) else None) off in
+          let none : flight before i ≡ None =
+          refines.packet i ∙ ap (λ b. if b then Some (flight_of setting journal i) else None) off in
           rw (none, off) refl
       by_travels true on =
-          let t : Traveller = traveller_of setting journal i in
-          let some : traveller before i ≡ Some t =
-          tied.packet i ∙ ap (λ b. if b then Some t else None) on in
+          let t : Flight = flight_of setting journal i in
+          let some : flight before i ≡ Some t =
+          refines.packet i ∙ ap (λ b. if b then Some t else None) on in
           let is : IsStanding setting journal i t =
-          standing_of control setting journal switches before count i t tied some in
+          standing_of control setting journal switches before count i t refines some in
           let here : get_or t.tunnel.route t.tunnel.place 0 ≡ is.switch =
-          ap (λ (u : Traveller). get_or u.tunnel.route u.tunnel.place 0) is.is
+          ap (λ (u : Flight). get_or u.tunnel.route u.tunnel.place 0) is.is
           ∙ got (what_is_known journal i).route (what_is_known journal i).hops is.switch is.stands.here in
           ap (stands_at s) some ∙ ap (λ k. k == s) here
           ∙ sym (ap (λ b. b && is_at s (standing journal i)) on
@@ -97,12 +97,13 @@ module _ (control : Control) (setting : Setting) (journal : List Item)
 
   -- so these are the packets that the journal says
   pub numbers_are : numbers_at before s ≡ packets_at journal s
-  unfolding AreTied numbers_at next_packet
+  unfolding RefineJournal numbers_at next_packet
   numbers_are =
-      let knows : Known setting journal = reached_known setting journal tied.sound tied.reached in
+      let knows : Known setting journal = reached_known setting journal refines.sound
+      refines.reached in
       let own = numbered setting journal (ways_of_all setting [] journal knows.settled.causes) in
       let many : ℕ = count_of is_packet journal in
-      filter_agree (λ i. stands_at s (traveller before i)) (travels_at journal s) same_switch
+      filter_agree (λ i. stands_at s (flight before i)) (travels_at journal s) same_switch
       (range_with_len 0 (length before))
       ∙ same_numbers (travels_at journal s) (length before) many
       (unnumbered 0 (travels journal 0) refl (λ on. absurd (omega (arith, (own 0 on).0))))

@@ -4,7 +4,7 @@ use Rattle.std.specs.Prelude.{Ok}
 use Rattle.std.specs.List.{range_with_len}
 use Rattle.std.proofs.lemmas.List.Elements.{All-nil}
 use Rattle.std.proofs.lemmas.List.FromFn.{get_or-map-range_with_len, length-map-range_with_len}
-use Rattle.refinement.specs.Controller.{IsControllerOf, planned}
+use Rattle.refinement.specs.Controller.{IsControllerOf, plan_to_keep}
 use Rattle.refinement.proofs.Calls.{begins}
 use Rattle.controller.specs.Controller.{ControllerValue, first_controller}
 use Rattle.controller.specs.Plan.{PlanValue}
@@ -25,8 +25,8 @@ use Rattle.update_machine.specs.Versions.{policy_at, plan_at}
 use Rattle.update_machine.proofs.CallerLemmas.{first_version_is, setting_begun, start_laws}
 use Rattle.refinement.specs.Linking.{AreNear}
 use Rattle.refinement.specs.Begun.{switch_begun}
-use Rattle.refinement.specs.Tied.{AreTied, is_up_link}
-use Rattle.refinement.specs.Travellers.{traveller_in}
+use Rattle.refinement.specs.Refinement.{RefineJournal, is_up_link}
+use Rattle.refinement.specs.Flights.{flight_in}
 use Rattle.refinement.proofs.Posting.{bag_begun}
 
 -- a switch before the first item
@@ -51,7 +51,7 @@ switch_first setting s there few =
 -- the controller's plan is that of the first version
 of_first : (net : Net) (policies : List (List Row)) (plan : PlanValue) → 1 ≤ length policies
     → plan.policy ≡ get_or policies 0 [] → plan_of (get_or policies 0 []) net ≡ Ok plan.hosted
-    → plan ≡ (planned (setting_of net policies) [] 1).plan
+    → plan ≡ (plan_to_keep (setting_of net policies) [] 1).plan
 of_first net policies plan some own is =
     let first = first_version_is net policies plan.hosted some is in
     ap (λ policy. of policy plan.hosted) (own ∙ sym first.0)
@@ -68,17 +68,17 @@ all_up (link ∷ links) =
     (start_laws.links link.one link.two)
     ∙ ap (λ rest. link ∷ rest) (all_up links)
 
-pub begun_tied : (net : Net) (policies : List (List Row)) (plan : PlanValue)
+pub begun_refines : (net : Net) (policies : List (List Row)) (plan : PlanValue)
     (switches : List SwitchValue) (controller : ControllerValue) (near : List ℕ) → IsNet net
     → 1 ≤ length policies → All IsPolicy policies
     → All (All (λ row. NamesOwnPort (setting_of net policies) row.action)) policies
     → plan.policy ≡ get_or policies 0 [] → plan_of (get_or policies 0 []) net ≡ Ok plan.hosted
     → switches ≡ map (switch_begun net plan.hosted) (range_with_len 0 (length net.switches))
     → controller ≡ first_controller (length net.switches) plan → AreNear net near
-    → AreTied (setting_of net policies) [] switches [] 0
+    → RefineJournal (setting_of net policies) [] switches [] 0
     (record { controller = controller; posts = []; links = near; near = near })
-unfolding AreTied traveller_in travels next_packet
-begun_tied net policies plan switches controller near sound some rows ports of_policy is made
+unfolding RefineJournal flight_in travels next_packet
+begun_refines net policies plan switches controller near sound some rows ports of_policy is made
     first_is masks =
     let setting : Setting = setting_of net policies in
     let own : IsSetting setting = setting_begun net policies plan.hosted sound some rows ports is in

@@ -17,7 +17,7 @@ use Rattle.control_laws.proofs.Others.{others_keep}
 use Rattle.controller.specs.Controller.{ControllerValue}
 use Rattle.controller.specs.declared.sends.Act.TheVariants.{Post}
 use Rattle.refinement.specs.Controller.{IsControllerOf}
-use Rattle.refinement.specs.Written.{AreWritten, resent, written}
+use Rattle.refinement.specs.Written.{AreWritten, acts_of_resend, written_items}
 use Rattle.refinement.proofs.Calls.{behind_row, row_on}
 use Rattle.refinement.proofs.Plans.{controller_on}
 use Rattle.refinement.proofs.Resends.{resends}
@@ -52,7 +52,7 @@ module _ (setting : Setting) (before : List Item) (row s : ℕ) (controller : Co
   abbrev messages : List Message
   messages = resent_by_switch setting here s ++ resent_by_controller setting here s
 
-  acts_are : resent setting here s controller ≡ map Post messages
+  acts_are : acts_of_resend setting here s controller ≡ map Post messages
   acts_are =
       ap (λ xs. map Post (resent_by_switch setting here s) ++ xs)
       (resends setting here s controller (behind_row setting before row (Resend s) have)
@@ -63,7 +63,7 @@ module _ (setting : Setting) (before : List Item) (row s : ℕ) (controller : Co
   after : IsControllerOf setting (before ++ piece setting before row (Resend s)) controller
   after = steps_leave setting before row (Resend s) controller have refl is
 
-  pub resends_nothing : resent setting here s controller ≡ []
+  pub resends_nothing : acts_of_resend setting here s controller ≡ []
       → AreWritten setting before (item.Row row (Resend s) ∷ item.Nothing ∷ []) [] controller
       (piece setting before row (Resend s))
   unfolding piece resend_items
@@ -78,17 +78,17 @@ module _ (setting : Setting) (before : List Item) (row s : ℕ) (controller : Co
       by_messages [] e = refl
       by_messages (message ∷ told) e = absurd cc
 
-  pub resends_some : resent setting here s controller ≢ []
+  pub resends_some : acts_of_resend setting here s controller ≢ []
       → AreWritten setting before (item.Row row (Resend s) ∷ [])
-      (resent setting here s controller) controller (piece setting before row (Resend s))
+      (acts_of_resend setting here s controller) controller (piece setting before row (Resend s))
   unfolding piece resend_items
   resends_some some = record {
     same = ap (λ items. item.Row row (Resend s) ∷ items)
-        (by_messages messages (λ e. some (acts_are ∙ e)) ∙ ap (written here) (sym acts_are));
+        (by_messages messages (λ e. some (acts_are ∙ e)) ∙ ap (written_items here) (sym acts_are));
     after = after;
   }
     where
       by_messages : (told : List Message) → map Post told ≢ []
-          → sends_or_nothing here told ≡ written here (map Post told)
+          → sends_or_nothing here told ≡ written_items here (map Post told)
       by_messages [] none = absurd (none refl)
       by_messages (message ∷ told) e = sym (posted (message ∷ told) here)

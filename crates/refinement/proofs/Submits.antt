@@ -10,7 +10,7 @@ use Rattle.steps.specs.declared.step.Step.{Step}
 use Rattle.steps.specs.declared.step.Step.TheVariants.{Update}
 use Rattle.update_machine.specs.Marks as machine
 use Rattle.update_machine.specs.Marks.{known_boot}
-use Rattle.update_machine.specs.Moves.{put}
+use Rattle.update_machine.specs.Moves.{items_then}
 use Rattle.update_machine.specs.Pieces.{piece, update_code, update_items}
 use Rattle.update_machine.specs.Setting.{Setting}
 use Rattle.update_machine.specs.SwitchNumbers.{switches_of}
@@ -28,15 +28,15 @@ use Rattle.version_update.specs.Record.{is_over}
 use Rattle.controller.specs.Controller.{ControllerValue, KeptPlan}
 use Rattle.controller.specs.Plan.{PlanValue}
 use Rattle.controller.specs.Sends as acts
-use Rattle.controller.specs.Sends.{boot_recorded, install_act, submitting, those}
+use Rattle.controller.specs.Sends.{boot_recorded, install_act, submit_acts, switches_where}
 use Rattle.controller.specs.Submit.{SubmitsPlan}
 use Rattle.controller.specs.declared.sends.Act.{Act}
 use Rattle.controller.specs.declared.sends.Act.TheVariants.{Post}
-use Rattle.refinement.specs.Controller.{IsControllerOf, IsPlanOfNext, planned}
+use Rattle.refinement.specs.Controller.{IsControllerOf, IsPlanOfNext, plan_to_keep}
 use Rattle.refinement.specs.Marks.{AreMarksOf}
-use Rattle.refinement.specs.Written.{AreWritten, written}
+use Rattle.refinement.specs.Written.{AreWritten, written_items}
 use Rattle.refinement.proofs.Calls.{are_written, behind_row, row_on}
-use Rattle.refinement.proofs.Kept.{count_on}
+use Rattle.refinement.proofs.KeptController.{count_on}
 use Rattle.refinement.proofs.Plans.{controller_on, plans_on, plans_pushed, settles_with}
 use Rattle.refinement.proofs.Settled.{AreCaused, leave_on, told_posted}
 use Rattle.refinement.proofs.Written.{written_in_two}
@@ -79,7 +79,8 @@ refused setting before row file code old have is coded =
     subst (λ o. AreWritten setting before items [] old (item.Row row (Update file) ∷ elim o [
       | Some code ↦ item.Refused file code ∷ []
       | None ↦
-          put (item.Submitted file (version_count here + 1) ∷ []) (submitted_items setting) here
+          items_then (item.Submitted file (version_count here + 1) ∷ []) (submitted_items setting)
+          here
     ])) (sym coded)
     (record {
       same = refl;
@@ -172,7 +173,7 @@ module _ (setting : Setting) (before : List Item) (row file : ℕ) (old new : Co
   own = next_is setting here file version plan.policy (caused_numbered setting here here_have)
       number here_of.policy
 
-  kept_is : kept ≡ planned setting now version
+  kept_is : kept ≡ plan_to_keep setting now version
   kept_is = ap (λ policy. make policy plan.hosted) (sym own.0)
       ∙ ap (make (policy_at setting now version)) (sym (own.1 ∙ ap hosted_in of.hosted))
     where
@@ -180,13 +181,13 @@ module _ (setting : Setting) (before : List Item) (row file : ℕ) (old new : Co
       make policy hosted =
           record { version = version; plan = record { policy = policy; hosted = hosted } }
 
-  now_plans : old.plans ++ kept ∷ [] ≡ map (planned setting now) (versions_from_current now)
+  now_plans : old.plans ++ kept ∷ [] ≡ map (plan_to_keep setting now) (versions_from_current now)
   now_plans = plans_pushed setting here (item.Submitted file version ∷ []) old.plans kept here_have
       (sym now_marks.count ∙ number) (current_more here (item.Submitted file version))
-      (kept_is ∙ ap (planned setting now) number) here_is.plans
+      (kept_is ∙ ap (plan_to_keep setting now) number) here_is.plans
 
-  installed : written now (map (λ s. install_act s (boot_recorded old.marks s) kept)
-      (those (λ known. not (is_over known.phase)) old.marks.switches))
+  installed : written_items now (map (λ s. install_act s (boot_recorded old.marks s) kept)
+      (switches_where (λ known. not (is_over known.phase)) old.marks.switches))
       ≡ installs_to_all setting now
   unfolding installs_to_all
   installed = told_posted (λ s. install_act s (boot_recorded old.marks s) kept)
@@ -212,7 +213,7 @@ module _ (setting : Setting) (before : List Item) (row file : ℕ) (old new : Co
       (have_append (HasItemCause setting) [] now (submitted_items setting now) now_have
       (submitted_have setting now)))
 
-  settled : (written one (acts.settling_acts (with_version old.marks) new.marks)
+  settled : (written_items one (acts.settling_acts (with_version old.marks) new.marks)
       ≡ settling setting one) × IsControllerOf setting (one ++ settling setting one) new
   settled = settles_with setting one (with_version old.marks) (old.plans ++ kept ∷ []) new one_have
       one_marks
@@ -222,11 +223,11 @@ module _ (setting : Setting) (before : List Item) (row file : ℕ) (old new : Co
 
   behind_row_written : AreWritten setting before
       (item.Row row (Update file) ∷ item.Submitted file version ∷ [])
-      (submitting old.marks plan new.marks) new
+      (submit_acts old.marks plan new.marks) new
       (item.Row row (Update file) ∷ item.Submitted file version ∷ submitted_items setting now)
   behind_row_written = are_written setting before (item.Row row (Update file))
       (item.Submitted file version) (submitted_items setting now)
-      (submitting old.marks plan new.marks) new
+      (submit_acts old.marks plan new.marks) new
       (written_in_two now (installs_to_all setting) (settling setting) _
       (acts.settling_acts (with_version old.marks) new.marks) installed settled.0)
       (subst (λ js. IsControllerOf setting js new)
@@ -240,16 +241,17 @@ module _ (setting : Setting) (before : List Item) (row file : ℕ) (old new : Co
 
   pub submits : AreWritten setting before
       (item.Row row (Update file) ∷ item.Submitted file (old.marks.count + 1) ∷ [])
-      (submitting old.marks plan new.marks) new (piece setting before row (Update file))
+      (submit_acts old.marks plan new.marks) new (piece setting before row (Update file))
   unfolding piece update_items
   submits =
       let first : List Item = item.Row row (Update file) ∷ item.Submitted file version ∷ [] in
-      let acts : List Act = submitting old.marks plan new.marks in
+      let acts : List Act = submit_acts old.marks plan new.marks in
       subst (λ o. AreWritten setting before first acts new (item.Row row (Update file) ∷ elim o [
         | Some code ↦ item.Refused file code ∷ []
-        | None ↦ put (item.Submitted file (version_count here + 1) ∷ []) (submitted_items setting)
+        | None ↦ items_then (item.Submitted file (version_count here + 1) ∷ [])
+            (submitted_items setting)
             here
       ])) (sym coded)
       (subst (λ k. AreWritten setting before first acts new (item.Row row (Update file)
-      ∷ put (item.Submitted file k ∷ []) (submitted_items setting) here)) number
+      ∷ items_then (item.Submitted file k ∷ []) (submitted_items setting) here)) number
       behind_row_written)

@@ -7,7 +7,7 @@ use Rattle.refinement.proofs.Steps.{items_leave}
 use Rattle.refinement.proofs.Submits.{submits, too_many_live, too_many_versions}
 use Rattle.controller.specs.Controller.{ControllerValue}
 use Rattle.controller.specs.Plan.{PlanValue}
-use Rattle.controller.specs.Sends.{submitting}
+use Rattle.controller.specs.Sends.{submit_acts}
 use Rattle.controller.specs.Submit.{SubmitsPlan}
 use Rattle.controller.specs.declared.sends.Act.{Act}
 use Rattle.journal.specs.declared.item.Item.{Item}
@@ -18,7 +18,7 @@ use Rattle.policy_rules.specs.declared.policy.Row.{Row}
 use Rattle.policy_rules.specs.Hosted.{NoPlan}
 use Rattle.steps.specs.declared.step.Step.TheVariants.{Update}
 use Rattle.switch_core.specs.State.{SwitchValue}
-use Rattle.update_machine.specs.Moves.{put}
+use Rattle.update_machine.specs.Moves.{items_then}
 use Rattle.update_machine.specs.Pieces.{piece, plan_code, update_code, update_items}
 use Rattle.steps.specs.Steps.{IsStep}
 use Rattle.update_machine.specs.Setting.{Setting, setting_of}
@@ -26,15 +26,15 @@ use Rattle.update_machine.specs.Settling.{submitted_items}
 use Rattle.update_machine.specs.Versions.{version_count}
 use Rattle.update_machine.proofs.CallerLemmas.{next_there, unplanned_code}
 use Rattle.world_log.specs.Sending.{MayNote, act_items, act_posts}
-use Rattle.refinement.specs.Tied.{AreTied, Control}
+use Rattle.refinement.specs.Refinement.{RefineJournal, Control}
 use Rattle.refinement.specs.Bags.{IsBagOf}
-use Rattle.travelling.specs.Travelling.{Travellers}
+use Rattle.travelling.specs.Travelling.{Flights}
 use Rattle.refinement.proofs.ActItems.{written_is}
 use Rattle.refinement.proofs.Known.{reached_known}
 use Rattle.refinement.proofs.OneItem.{grown}
 use Rattle.refinement.proofs.Posting.{bag_on}
-use Rattle.refinement.proofs.Told.{tied_told}
-use Rattle.refinement.proofs.Tying.{links_stay, switches_stay, up_stay}
+use Rattle.refinement.proofs.Told.{refines_told}
+use Rattle.refinement.proofs.Refining.{links_stay, switches_stay, up_stay}
 use Rattle.refinement.proofs.Sendable.{may_note}
 
 -- ---- the file of an update
@@ -68,35 +68,39 @@ refused_piece setting journal row file code is =
     let rowed : List Item = journal ++ item.Row row (Update file) ∷ [] in
     ap (λ o. item.Row row (Update file) ∷ elim o [
       | Some k ↦ item.Refused file k ∷ []
-      | None ↦ put (item.Submitted file (version_count rowed + 1) ∷ []) (submitted_items setting)
+      | None ↦ items_then (item.Submitted file (version_count rowed + 1) ∷ [])
+          (submitted_items setting)
           rowed
     ]) is
 
 -- ---- the tie
 
 module _ (control : Control) (setting : Setting) (journal : List Item)
-    (switches : List SwitchValue) (before : Travellers) (count row file : ℕ)
-    (tied : AreTied setting journal switches before count control)
+    (switches : List SwitchValue) (before : Flights) (count row file : ℕ)
+    (refines : RefineJournal setting journal switches before count control)
     (may : IsStep setting.net (length setting.policies) (Update file)) where
   abbrev first : Item → List Item
   first one = item.Row row (Update file) ∷ one ∷ []
 
   -- nothing is sent, and the controller stays
-  pub refused_tied : (code : ℕ)
+  pub refused_refines : (code : ℕ)
       → piece setting journal row (Update file)
       ≡ item.Row row (Update file) ∷ item.Refused file code ∷ []
-      → AreTied setting (grown journal row (Update file) (item.Refused file code)) switches before
+      → RefineJournal setting (grown journal row (Update file) (item.Refused file code)) switches
+      before
       count control
-  unfolding AreTied act_items act_posts
-  refused_tied code is =
+  unfolding RefineJournal act_items act_posts
+  refused_refines code is =
       let one : Item = item.Refused file code in
       let controller = subst (λ more. IsControllerOf setting (journal ++ more) control.controller)
       (sym is) (items_leave setting journal (first one) control.controller
-      (reached_known setting journal tied.sound tied.reached).caused (refl, (refl, tt)) tied.controller) in
-      subst (λ posts. AreTied setting (grown journal row (Update file) one) switches before count
+      (reached_known setting journal refines.sound refines.reached).caused (refl, (refl, tt))
+      refines.controller) in
+      subst (λ posts. RefineJournal setting (grown journal row (Update file) one) switches before
+      count
       (record control { posts = posts })) (append-nil control.posts)
-      (tied_told control control setting journal switches switches before count row (Update file)
-      (one ∷ []) [] tied (search (rules, switches_stay, bag_on, links_stay, up_stay)))
+      (refines_told control control setting journal switches switches before count row (Update file)
+      (one ∷ []) [] refines (search (rules, switches_stay, bag_on, links_stay, up_stay)))
 
   module _ (plan : PlanValue) (new : ControllerValue) (of_next : IsPlanOfNext setting journal file plan)
       (live : control.controller.marks.count - control.controller.marks.retired ≢ 8)
@@ -109,17 +113,18 @@ module _ (control : Control) (setting : Setting) (journal : List Item)
     one = item.Submitted file version
 
     abbrev acts : List Act
-    acts = submitting control.controller.marks plan new.marks
+    acts = submit_acts control.controller.marks plan new.marks
 
     bag_behind : IsBagOf (grown journal row (Update file) one) control.posts
-    unfolding AreTied
-    bag_behind = bag_on journal (first one) control.posts (refl, (refl, tt)) tied.bag
+    unfolding RefineJournal
+    bag_behind = bag_on journal (first one) control.posts (refl, (refl, tt)) refines.bag
 
     submits_so : AreWritten setting journal (first one) acts new
         (piece setting journal row (Update file))
-    unfolding AreTied
+    unfolding RefineJournal
     submits_so = submits setting journal row file control.controller new plan
-        (reached_known setting journal tied.sound tied.reached).caused tied.controller of_next live versions submitted
+        (reached_known setting journal refines.sound refines.reached).caused refines.controller
+        of_next live versions submitted
 
     pub submitted_piece : piece setting journal row (Update file)
         ≡ item.Row row (Update file) ∷ one ∷ act_items (length control.posts + 1) acts
@@ -127,37 +132,39 @@ module _ (control : Control) (setting : Setting) (journal : List Item)
         ∙ ap (λ items. first one ++ items) (written_is (journal ++ first one) acts
         ∙ ap (λ k. act_items k acts) bag_behind.many)
 
-    pub submitted_tied : AreTied setting (journal ++ item.Row row (Update file) ∷ one
+    pub submitted_refines : RefineJournal setting (journal ++ item.Row row (Update file) ∷ one
         ∷ act_items (length control.posts + 1) acts) switches before count
         (record control { controller = new; posts = control.posts ++ act_posts acts })
-    unfolding AreTied
-    submitted_tied = tied_told control (record control { controller = new }) setting journal
-        switches switches before count row (Update file) (one ∷ []) acts tied
+    unfolding RefineJournal
+    submitted_refines = refines_told control (record control { controller = new }) setting journal
+        switches switches before count row (Update file) (one ∷ []) acts refines
         (search (rules, submitted_piece, bag_behind, submits_so, switches_stay, links_stay, up_stay))
 
     -- and it may be written
     pub submitted_may : length control.posts < 990_000 → MayNote control.posts acts
     submitted_may = may_note control setting journal switches before count row (Update file)
-        (one ∷ []) control.posts acts tied may submitted_piece refl
+        (one ∷ []) control.posts acts refines may submitted_piece refl
 
 -- ---- what the marks refuse
 
 module _ (control : Control) (setting : Setting) (journal : List Item)
-    (switches : List SwitchValue) (before : Travellers) (count row file : ℕ) (plan : PlanValue)
-    (tied : AreTied setting journal switches before count control)
+    (switches : List SwitchValue) (before : Flights) (count row file : ℕ) (plan : PlanValue)
+    (refines : RefineJournal setting journal switches before count control)
     (of_next : IsPlanOfNext setting journal file plan) where
   pub live_piece : control.controller.marks.count - control.controller.marks.retired ≡ 8
       → piece setting journal row (Update file)
       ≡ item.Row row (Update file) ∷ item.Refused file 16 ∷ []
-  unfolding AreTied
+  unfolding RefineJournal
   live_piece live = (too_many_live setting journal row file control.controller plan
-      (reached_known setting journal tied.sound tied.reached).caused tied.controller of_next
+      (reached_known setting journal refines.sound refines.reached).caused refines.controller
+      of_next
       live).same
 
   pub versions_piece : control.controller.marks.count - control.controller.marks.retired ≢ 8
       → control.controller.marks.count ≡ 64 → piece setting journal row (Update file)
       ≡ item.Row row (Update file) ∷ item.Refused file 17 ∷ []
-  unfolding AreTied
+  unfolding RefineJournal
   versions_piece live many = (too_many_versions setting journal row file control.controller plan
-      (reached_known setting journal tied.sound tied.reached).caused tied.controller of_next live
+      (reached_known setting journal refines.sound refines.reached).caused refines.controller
+      of_next live
       many).same

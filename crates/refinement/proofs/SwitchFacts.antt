@@ -17,7 +17,7 @@ use Rattle.update_machine.specs.Handled.{handled_count}
 use Rattle.update_machine.specs.LinkMasks.{near, other_advert}
 use Rattle.update_machine.specs.Setting.{Setting}
 use Rattle.update_machine.specs.SwitchNumbers.{switches_of}
-use Rattle.update_machine.specs.Versions.{collects, greatest, holds_version, installs, stamp_in, stamp_of, tables_at}
+use Rattle.update_machine.specs.Versions.{collects_version, greatest_number, holds_version, installs_version, stamp_in, stamp_of, tables_at}
 use Rattle.update_machine.specs.Links.{serves}
 use Rattle.update_machine.proofs.CallerLemmas.{first_plan_stays}
 use Rattle.refinement.specs.SwitchOf.{collect_in, switch_of, tables_in, with_tables}
@@ -49,10 +49,11 @@ facts_of setting journal s = record {
 -- ---- what follows from what was heard, in the first boot or in a later one
 
 abbrev pub stamp_by : Bool → List Body → ℕ
-stamp_by first bodies = greatest ((if first then 1 ∷ [] else []) ++ filter_map stamp_in bodies)
+stamp_by first bodies = greatest_number ((if first then 1 ∷ [] else [])
+    ++ filter_map stamp_in bodies)
 
 abbrev pub collected_by : List Body → ℕ
-collected_by bodies = greatest (filter_map collect_in bodies)
+collected_by bodies = greatest_number (filter_map collect_in bodies)
 
 -- all tables that came, the first ones among them
 abbrev pub all_by : Tables → Bool → List Body → List Tables
@@ -60,12 +61,12 @@ all_by tables first bodies =
     fold with_tables (if first then tables ∷ [] else []) (filter_map tables_in bodies)
 
 abbrev pub came_by : Bool → List Body → ℕ → Bool
-came_by first bodies v = list_any (installs v) bodies || (v == 1 && first)
+came_by first bodies v = list_any (installs_version v) bodies || (v == 1 && first)
 
 abbrev pub tables_by : Tables → Bool → List Body → List Tables
 tables_by tables first bodies =
     filter (λ tables. came_by first bodies tables.version
-    && not (list_any (collects tables.version) bodies)) (all_by tables first bodies)
+    && not (list_any (collects_version tables.version) bodies)) (all_by tables first bodies)
 
 -- the adverts of others
 abbrev pub others_by : Setting → ℕ → Bool → List Body → List (Option Advert)

@@ -14,7 +14,7 @@ use Rattle.update_machine.specs.Travels.{travels_at}
 use Rattle.update_machine.specs.Setting.{Setting}
 use Rattle.update_machine.specs.Steps.{StepItems, changes_steps, steps_in}
 use Rattle.update_machine.proofs.CallerLemmas.{count_of_append, folded_append}
-use Rattle.refinement.specs.Calls.{AreInStep, CallTies, IsInStep, NoRow, NoRows}
+use Rattle.refinement.specs.Calls.{AreInStep, CallsRefine, IsInStep, NoRow, NoRows}
 use Rattle.refinement.specs.SwitchOf.{switch_of}
 use Rattle.refinement.proofs.Items.{facts_kept}
 use Rattle.refinement.proofs.SwitchFacts.{by_facts, switch_by, switch_is, facts_of}
@@ -227,8 +227,8 @@ went_on setting before row i t items all apart =
     by_test true at false stays = two_calls switch calls (calls_are ∙ rw (at, stays) refl)
     by_test false at c stays = no_call setting before t calls (calls_are ∙ rw at refl)
 
-pub call_ties : CallTies
-call_ties = record {
+pub calls_refine : CallsRefine
+calls_refine = record {
   entered = λ setting before row i s t header items all apart.
       came_in setting before row s t header (item.Entered i s header) items tt all refl apart;
   closed = λ setting before row i s t header.

@@ -8,7 +8,7 @@ use Rattle.std.proofs.Math.Bool.{or-false, or_assoc}
 use Rattle.ctrl_msg.specs.declared.message.Body.{Body}
 use Rattle.ctrl_msg.specs.declared.message.Body.TheVariants.{Install, Collect}
 use Rattle.switch_table.specs.declared.tables.Tables.{Tables}
-use Rattle.update_machine.specs.Versions.{collects, installs}
+use Rattle.update_machine.specs.Versions.{collects_version, installs_version}
 use Rattle.control_laws.proofs.Sends.{each_append}
 use Rattle.refinement.specs.SwitchOf.{collect_in, tables_in, with_tables}
 use Rattle.refinement.proofs.SwitchFacts.{all_by, came_by, collected_by, tables_by}
@@ -30,12 +30,13 @@ above mark all = filter (λ tables. nat_lt mark tables.version) all
 le_max : (v k c : ℕ) → nat_le v (max k c) ≡ (nat_le v k || nat_le v c)
 le_max v k c = grind (arith, nat_tests)
 
-collected_from : (v k : ℕ) (bodies : List Body) → (nat_le v k || list_any (collects v) bodies)
+collected_from : (v k : ℕ) (bodies : List Body)
+    → (nat_le v k || list_any (collects_version v) bodies)
     ≡ nat_le v (fold max k (filter_map collect_in bodies))
 collected_from v k [] = or-false (nat_le v k)
 collected_from v k (Collect boot c ∷ bodies) =
-    sym (or_assoc (nat_le v k) (nat_le v c) (list_any (collects v) bodies))
-    ∙ ap (λ b. b || list_any (collects v) bodies) (sym (le_max v k c))
+    sym (or_assoc (nat_le v k) (nat_le v c) (list_any (collects_version v) bodies))
+    ∙ ap (λ b. b || list_any (collects_version v) bodies) (sym (le_max v k c))
     ∙ collected_from v (max k c) bodies
 collected_from v k (_ ∷ bodies) = collected_from v k bodies
 
@@ -44,9 +45,10 @@ none_le v one = grind (arith, nat_tests)
 
 -- a version is collected exactly where it isn't above the mark
 collected_is : (v : ℕ) (bodies : List Body) → 1 ≤ v
-    → list_any (collects v) bodies ≡ nat_le v (collected_by bodies)
+    → list_any (collects_version v) bodies ≡ nat_le v (collected_by bodies)
 collected_is v bodies one =
-    ap (λ b. b || list_any (collects v) bodies) (sym (none_le v one)) ∙ collected_from v 0 bodies
+    ap (λ b. b || list_any (collects_version v) bodies) (sym (none_le v one))
+    ∙ collected_from v 0 bodies
 
 not_le : (v mark : ℕ) → not (nat_le v mark) ≡ nat_lt mark v
 not_le v mark = grind (arith, nat_tests)
@@ -68,18 +70,20 @@ with_each P all (tables ∷ more) have brought = with_each P (with_tables all ta
 
 -- of these bodies, all of which came
 brought_each : (first : Bool) (all bodies : List Body)
-    → ((v : ℕ) → list_any (installs v) bodies ≡ true → list_any (installs v) all ≡ true)
+    → ((v : ℕ) → list_any (installs_version v) bodies ≡ true → list_any (installs_version v) all
+    ≡ true)
     → AreVersioned bodies → AllByRecursion (HasCome first all) (filter_map tables_in bodies)
 brought_each first all [] among versioned = tt
 brought_each first all (Install boot tables ∷ bodies) among versioned =
     let v : ℕ = tables.version in (
       (
-        or_left (list_any (installs v) all) (v == 1 && first)
-            (among v (or_left (v == v) (list_any (installs v) bodies) (eq-eqb v v refl))),
+        or_left (list_any (installs_version v) all) (v == 1 && first)
+            (among v (or_left (v == v) (list_any (installs_version v) bodies) (eq-eqb v v refl))),
         versioned.0,
       ),
       brought_each first all bodies
-          (λ w there. among w (or_right (v == w) (list_any (installs w) bodies) there)) versioned.1,
+          (λ w there. among w (or_right (v == w) (list_any (installs_version w) bodies) there))
+          versioned.1,
     )
 brought_each first all (_ ∷ bodies) among versioned =
     brought_each first all bodies among versioned.1
@@ -95,7 +99,7 @@ all_came tables first bodies one versioned =
         → AllByRecursion (HasCome first bodies) (if b then tables ∷ [] else [])
     begun true is = (
       (
-        or_right (list_any (installs tables.version) bodies) (tables.version == 1 && first)
+        or_right (list_any (installs_version tables.version) bodies) (tables.version == 1 && first)
             (rw (one, is) refl),
         omega (arith, one),
       ),
@@ -119,9 +123,9 @@ pub tables_are : (tables : Tables) (first : Bool) (bodies : List Body) → table
 tables_are tables first bodies one versioned =
     filter_on (HasCome first bodies)
     (λ tables. came_by first bodies tables.version
-    && not (list_any (collects tables.version) bodies))
+    && not (list_any (collects_version tables.version) bodies))
     (λ tables. nat_lt (collected_by bodies) tables.version)
-    (λ each come. ap (λ b. b && not (list_any (collects each.version) bodies)) come.0
+    (λ each come. ap (λ b. b && not (list_any (collects_version each.version) bodies)) come.0
     ∙ ap not (collected_is each.version bodies come.1)
     ∙ not_le each.version (collected_by bodies))
     (all_by tables first bodies) (all_came tables first bodies one versioned)

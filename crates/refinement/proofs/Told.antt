@@ -20,14 +20,14 @@ use Rattle.steps.specs.Steps.{IsStep}
 use Rattle.update_machine.specs.Setting.{Setting}
 use Rattle.update_machine.proofs.CallerLemmas.{count_of_append, have_append, near_stays, packets_keep}
 use Rattle.world_log.specs.Sending.{act_items, act_posts}
-use Rattle.refinement.specs.Tied.{AreTied, AreUp, AreUsable, Control}
+use Rattle.refinement.specs.Refinement.{RefineJournal, AreUp, AreUsable, Control}
 use Rattle.refinement.specs.Bags.{IsBagOf}
-use Rattle.travelling.specs.Travelling.{Travellers}
+use Rattle.travelling.specs.Travelling.{Flights}
 use Rattle.refinement.proofs.ActItems.{SparesActs, acts_apart, acts_counted, acts_posted, acts_send, acts_unnamed}
-use Rattle.refinement.proofs.Known.{reached_known, reached_more, traveller_stays}
+use Rattle.refinement.proofs.Known.{reached_known, reached_more, flight_stays}
 use Rattle.refinement.proofs.Others.{NoneName, none_more}
 use Rattle.refinement.proofs.Posting.{bag_sends}
-use Rattle.refinement.proofs.Tying.{up_stays}
+use Rattle.refinement.proofs.Refining.{up_stays}
 
 -- the step of the row writes these items; they name no packet, and what is done leaves the
 -- switches, which are these behind the first items
@@ -106,9 +106,9 @@ links_left setting journal number acts links near up usable =
     )
 
 module _ (control later : Control) (setting : Setting) (journal : List Item)
-    (switches others : List SwitchValue) (travelling : Travellers) (count row : ℕ) (step : Step)
+    (switches others : List SwitchValue) (travelling : Flights) (count row : ℕ) (step : Step)
     (first : List Item) (acts : List Act)
-    (tied : AreTied setting journal switches travelling count control)
+    (refines : RefineJournal setting journal switches travelling count control)
     (told : IsTold setting journal row step first acts switches others control later) where
   abbrev number : ℕ
   number = length control.posts + 1
@@ -126,27 +126,28 @@ module _ (control later : Control) (setting : Setting) (journal : List Item)
   split = append_assoc journal begun (act_items number acts)
 
   -- what is told and done is tied to the longer journal
-  pub tied_told : AreTied setting (journal ++ (item.Row row step ∷ first ++ act_items number acts))
+  pub refines_told : RefineJournal setting (journal
+      ++ (item.Row row step ∷ first ++ act_items number acts))
       others travelling count (record later { posts = later.posts ++ act_posts acts })
-  unfolding AreTied
-  tied_told =
+  unfolding RefineJournal
+  refines_told =
       let linked = links_left setting (journal ++ begun) number acts later.links later.near told.up
       told.usable in record {
-        sound = tied.sound;
+        sound = refines.sound;
         reached = subst (λ more. IsReached setting (journal ++ more)) told.piece_is
-            (reached_more setting journal row step tied.reached told.may);
-        many = told.as_many ∙ tied.many;
+            (reached_more setting journal row step refines.reached told.may);
+        many = told.as_many ∙ refines.many;
         each = λ s d there. told.each s d (omega (arith, there, told.as_many))
             ∙ sym (acts_leave setting (journal ++ begun) number acts s)
             ∙ ap (λ js. switch_of setting js s) split;
-        packet = λ i. tied.packet i
-            ∙ sym (traveller_stays setting journal all i
-            (reached_known setting journal tied.sound tied.reached)
+        packet = λ i. refines.packet i
+            ∙ sym (flight_stays setting journal all i
+            (reached_known setting journal refines.sound refines.reached)
             (none_more i begun (act_items number acts) (told.packet i)
             (acts_unnamed i number acts)));
         counted = (packets_keep journal all
             (all_apart concerns_packets spares_packets journal begun number acts
-            told.packets)).next ∙ tied.counted;
+            told.packets)).next ∙ refines.counted;
         controller = subst (λ more. IsControllerOf setting (journal ++ more) later.controller)
             told.piece_is told.controller;
         bag = subst (λ js. IsBagOf js (later.posts ++ act_posts acts)) split

@@ -5,47 +5,48 @@ use Rattle.controller.specs.declared.sends.Act.TheVariants.{Post}
 use Rattle.ctrl_msg.specs.declared.message.Message.{Message}
 use Rattle.journal.specs.declared.item.Item.{Item}
 use Rattle.journal.specs.declared.item.Item.TheVariants as item
-use Rattle.update_machine.specs.Messages.{next_message, sends, sent_from}
+use Rattle.update_machine.specs.Messages.{next_message, send_items, sent_from}
 use Rattle.update_machine.specs.Moves.{in_turn}
 use Rattle.update_machine.proofs.CallerLemmas.{next_sent}
-use Rattle.refinement.specs.Written.{item_of, written}
+use Rattle.refinement.specs.Written.{item_of, written_items}
 
 pub written_append : (journal : List Item) (xs ys : List Act)
-    → written journal (xs ++ ys)
-    ≡ written journal xs ++ written (journal ++ written journal xs) ys
-written_append journal [] ys = ap (λ js. written js ys) (sym (append-nil journal))
+    → written_items journal (xs ++ ys)
+    ≡ written_items journal xs ++ written_items (journal ++ written_items journal xs) ys
+written_append journal [] ys = ap (λ js. written_items js ys) (sym (append-nil journal))
 written_append journal (act ∷ xs) ys =
     let next : Item = item_of journal act in
     let here : List Item = journal ++ next ∷ [] in
     ap (λ items. next ∷ items)
     (written_append here xs ys
-    ∙ ap (λ js. written here xs ++ written js ys)
-    (append_assoc journal (next ∷ []) (written here xs)))
+    ∙ ap (λ js. written_items here xs ++ written_items js ys)
+    (append_assoc journal (next ∷ []) (written_items here xs)))
 
 -- acts of several parts write blocks in turn
 pub written_in_two : (journal : List Item) (a b : List Item → List Item) (xs ys : List Act)
     → let one = journal ++ a journal in
-    written journal xs ≡ a journal → written one ys ≡ b one
-    → written journal (xs ++ ys) ≡ in_turn (a ∷ b ∷ []) journal
+    written_items journal xs ≡ a journal → written_items one ys ≡ b one
+    → written_items journal (xs ++ ys) ≡ in_turn (a ∷ b ∷ []) journal
 written_in_two journal a b xs ys first second =
     let one : List Item = journal ++ a journal in
     written_append journal xs ys
-    ∙ ap (λ items. items ++ written (journal ++ items) ys) first
+    ∙ ap (λ items. items ++ written_items (journal ++ items) ys) first
     ∙ ap (λ items. a journal ++ items) (second ∙ sym (append-nil (b one)))
 
 pub written_in_three : (journal : List Item) (a b c : List Item → List Item)
     (xs ys zs : List Act) → let one = journal ++ a journal in let two = one ++ b one in
-    written journal xs ≡ a journal → written one ys ≡ b one → written two zs ≡ c two
-    → written journal (xs ++ ys ++ zs) ≡ in_turn (a ∷ b ∷ c ∷ []) journal
+    written_items journal xs ≡ a journal → written_items one ys ≡ b one → written_items two zs
+    ≡ c two
+    → written_items journal (xs ++ ys ++ zs) ≡ in_turn (a ∷ b ∷ c ∷ []) journal
 written_in_three journal a b c xs ys zs first second third =
     let one : List Item = journal ++ a journal in
-    ap (written journal) (append_assoc xs ys zs) ∙ written_append journal xs (ys ++ zs)
-    ∙ ap (λ items. items ++ written (journal ++ items) (ys ++ zs)) first
+    ap (written_items journal) (append_assoc xs ys zs) ∙ written_append journal xs (ys ++ zs)
+    ∙ ap (λ items. items ++ written_items (journal ++ items) (ys ++ zs)) first
     ∙ ap (λ items. a journal ++ items) (written_in_two one b c ys zs second third)
 
 -- messages are sent
 pub posted : (messages : List Message) (journal : List Item)
-    → written journal (map Post messages) ≡ sends journal messages
+    → written_items journal (map Post messages) ≡ send_items journal messages
 unfolding sent_from
 posted [] journal = refl
 posted (message ∷ messages) journal =

@@ -35,7 +35,7 @@ pub record CanRestart (switch : SwitchValue) : Type 0 where
   pub down : IsFalse switch.is_up
   pub boot : switch.boot < 2 ^ 32 - 1
 
-pub record AskedTies : Type 0 where
+pub record RequirementsHold : Type 0 where
   pub hear : (setting : Setting) (journal : List Item) (n s : ℕ) (body : Body) →
       TablesAreKnown setting journal → message_of journal n ≡ Some (to_switch s body) →
       IsSoundBody body

@@ -1,7 +1,7 @@
 -- What a journal says of the messages that were sent.
 use Rattle.std.specs.Prelude.{ℕ, ◌≡◌, ◌+◌, ◌<◌, false, Option, option_map, List, length}
-use Rattle.message_bag.specs.Numbered.{numbered}
-use Rattle.message_bag.specs.Posts.{Post, framed}
+use Rattle.message_bag.specs.Numbered.{item_numbered}
+use Rattle.message_bag.specs.Posts.{Post, posted_frames}
 use Rattle.journal.specs.declared.item.Item.{Item}
 use Rattle.update_machine.specs.Messages.{is_forgotten, next_message, was_delivered}
 use Rattle.update_machine.specs.Links.{message_of}
@@ -10,7 +10,7 @@ use Rattle.update_machine.specs.Links.{message_of}
 -- it
 unfoldable pub post_in : List Item → ℕ → Option Post
 post_in journal n = option_map (λ message. (
-  framed message,
+  posted_frames message,
   record {
     delivered = was_delivered journal n;
     forgotten = is_forgotten journal n;
@@ -21,6 +21,6 @@ post_in journal n = option_map (λ message. (
 -- does it tell a delivery or that it is forgotten
 pub record IsBagOf (journal : List Item) (posts : List Post) : Type 0 where
   pub many : next_message journal ≡ length posts + 1
-  pub each : (n : ℕ) → numbered posts n ≡ post_in journal n
+  pub each : (n : ℕ) → item_numbered posts n ≡ post_in journal n
   pub undelivered : (n : ℕ) → length posts < n → was_delivered journal n ≡ false
   pub remembered : (n : ℕ) → length posts < n → is_forgotten journal n ≡ false

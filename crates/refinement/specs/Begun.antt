@@ -6,12 +6,12 @@ use Rattle.controller.specs.Plan.{PlanValue}
 use Rattle.failover.specs.Adverts.{first_adverts}
 use Rattle.net_file.specs.Owners.{links_of}
 use Rattle.net_file.specs.declared.net.Net.{Net}
-use Rattle.switch_core.specs.State.{SwitchValue, begun}
+use Rattle.switch_core.specs.State.{SwitchValue, new_switch}
 use Rattle.switch_table.specs.Tables.{Hosted, tables_of}
 
 -- a switch as it begins its first boot with the tables of this plan
 abbrev pub switch_begun : Net → List Hosted → ℕ → SwitchValue
-switch_begun net plan s = begun s net.cache (tables_of plan 1 s)
+switch_begun net plan s = new_switch s net.cache (tables_of plan 1 s)
     (first_adverts (map (links_of net.links) (range_with_len 0 (length net.switches)))
     (length net.switches))
 

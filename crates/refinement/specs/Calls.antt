@@ -34,7 +34,7 @@ AreInStep (first ∷ items) = IsInStep first × AreInStep items
 -- what a step of packets makes of a switch, which hears nothing of other things: it is called once
 -- where a packet comes in there, and once or twice for a packet that stands there and goes on, by
 -- whether that arrives
-pub record CallTies : Type 0 where
+pub record CallsRefine : Type 0 where
   pub entered : (setting : Setting) (before : List Item) (row i s t : ℕ) (header : Header)
       (items : List Item) → AreInStep items →
       let all = item.Row row (Packet s header) ∷ item.Entered i s header ∷ items in

@@ -11,8 +11,8 @@ use Rattle.update_machine.specs.Versions.{next_policy, policy_at, plan_at}
 use Rattle.refinement.specs.Marks.{AreMarksOf}
 
 -- a version with its policy and its plan
-abbrev pub planned : Setting → List Item → ℕ → KeptPlan
-planned setting journal version = record {
+abbrev pub plan_to_keep : Setting → List Item → ℕ → KeptPlan
+plan_to_keep setting journal version = record {
   version = version;
   plan = record {
     policy = policy_at setting journal version;
@@ -25,7 +25,7 @@ planned setting journal version = record {
 pub record IsControllerOf (setting : Setting) (journal : List Item)
     (controller : ControllerValue) : Type 0 where
   pub marks : AreMarksOf setting journal controller.marks
-  pub plans : controller.plans ≡ map (planned setting journal) (versions_from_current journal)
+  pub plans : controller.plans ≡ map (plan_to_keep setting journal) (versions_from_current journal)
 
 -- the plan is that of the next version, if it is submitted with this file
 pub record IsPlanOfNext (setting : Setting) (journal : List Item) (file : ℕ) (plan : PlanValue)

@@ -5,19 +5,19 @@ use Rattle.net_file.specs.Net.{IsNet}
 use Rattle.journal.specs.declared.item.Item.{Item}
 use Rattle.journal.specs.declared.item.Item.TheVariants as item
 use Rattle.steps.specs.declared.step.Step.TheVariants.{Deliver}
-use Rattle.switch_core.specs.Hearing.{with_message, opened, replies}
+use Rattle.switch_core.specs.Hearing.{with_message, opening_stamp, replies}
 use Rattle.switch_core.specs.Life.{next_advert}
 use Rattle.update_machine.specs.Adverts.{own_advert}
 use Rattle.update_machine.specs.Concerns.{is_message_to}
 use Rattle.update_machine.specs.Deliveries.{delivery_items, has_changed, link_changes}
 use Rattle.update_machine.specs.LinkMasks.{near}
-use Rattle.update_machine.specs.Messages.{sends}
-use Rattle.update_machine.specs.Moves.{put}
+use Rattle.update_machine.specs.Messages.{send_items}
+use Rattle.update_machine.specs.Moves.{items_then}
 use Rattle.update_machine.specs.Setting.{Setting}
 use Rattle.update_machine.specs.Settling.{to_switch}
 use Rattle.update_machine.specs.Links.{message_of}
 use Rattle.control_laws.specs.Named.{BodiesNameThere}
-use Rattle.refinement.specs.Links.{relinked}
+use Rattle.refinement.specs.Links.{relinked_switch}
 use Rattle.refinement.specs.SwitchOf.{switch_of}
 
 -- the message of this number was sent to the switch, and says this: of whatever boot, and whether
@@ -28,34 +28,35 @@ pub record IsSentTo (setting : Setting) (before : List Item) (n s : ℕ) (body :
   pub names : BodiesNameThere setting before
 
 -- the journal within the step that delivers the message
-abbrev pub delivering : List Item → ℕ → ℕ → List Item → List Item
-delivering before row n items = before ++ item.Row row (Deliver n) ∷ item.Delivered n ∷ items
+abbrev pub within_delivery : List Item → ℕ → ℕ → List Item → List Item
+within_delivery before row n items = before ++ item.Row row (Deliver n) ∷ item.Delivered n ∷ items
 
 -- it hears the message and stays closed or open as it was
 pub record HearsShut (setting : Setting) (before : List Item) (n s : ℕ) (body : Body)
     : Type 0 where
-  pub record_of : (row : ℕ) → switch_of setting (delivering before row n []) s
+  pub record_of : (row : ℕ) → switch_of setting (within_delivery before row n []) s
       ≡ with_message (switch_of setting before s) n body
-  pub items : (row : ℕ) → delivery_items setting before n (delivering before row n [])
-      ≡ sends (delivering before row n [])
+  pub items : (row : ℕ) → delivery_items setting before n (within_delivery before row n [])
+      ≡ send_items (within_delivery before row n [])
       (replies (switch_of setting before s) (near setting before s) body)
 
 -- it hears the message and opens with this stamp, so that its own links may change too
 pub record HearsOpening (setting : Setting) (before : List Item) (n s : ℕ) (body : Body)
     (stamp : ℕ) : Type 0 where
   pub record_of : (row : ℕ) →
-      let now = delivering before row n (item.Opened s stamp ∷ []) in
+      let now = within_delivery before row n (item.Opened s stamp ∷ []) in
       switch_of setting now s
-      ≡ relinked setting before now s (with_message (switch_of setting before s) n body)
+      ≡ relinked_switch setting before now s (with_message (switch_of setting before s) n body)
   pub advert : (row : ℕ) →
-      let now = delivering before row n (item.Opened s stamp ∷ []) in
+      let now = within_delivery before row n (item.Opened s stamp ∷ []) in
       IsTrue (has_changed setting before now s) →
       own_advert setting now s
       ≡ next_advert (with_message (switch_of setting before s) n body) (near setting now s)
-  pub items : (row : ℕ) → delivery_items setting before n (delivering before row n [])
-      ≡ put (item.Opened s stamp ∷ []) (link_changes setting before) (delivering before row n [])
+  pub items : (row : ℕ) → delivery_items setting before n (within_delivery before row n [])
+      ≡ items_then (item.Opened s stamp ∷ []) (link_changes setting before)
+      (within_delivery before row n [])
 
-pub record HearTies : Type 0 where
+pub record HearingRefines : Type 0 where
   -- behind the delivery itself, which doesn't tell yet that the switch opens
   pub heard_but_open : (setting : Setting) (before : List Item) (n s : ℕ) (body : Body) →
       IsSentTo setting before n s body →
@@ -66,10 +67,10 @@ pub record HearTies : Type 0 where
   -- by whether it opens
   pub shut : (setting : Setting) (before : List Item) (n s : ℕ) (body : Body) →
       IsNet setting.net → IsSentTo setting before n s body →
-      opened (switch_of setting before s) body ≡ None → HearsShut setting before n s body
+      opening_stamp (switch_of setting before s) body ≡ None → HearsShut setting before n s body
   pub opening : (setting : Setting) (before : List Item) (n s stamp : ℕ) (body : Body) →
       IsSentTo setting before n s body →
-      opened (switch_of setting before s) body ≡ Some stamp →
+      opening_stamp (switch_of setting before s) body ≡ Some stamp →
       HearsOpening setting before n s body stamp
   -- what isn't to the switch leaves it
   pub other : (setting : Setting) (before : List Item) (n s : ℕ) →

@@ -22,7 +22,7 @@ pub record TablesAreKnown (setting : Setting) (journal : List Item) : Type 0 whe
   pub tables : TablesArePlanned setting journal
   pub names : BodiesNameThere setting journal
 
-pub record KnowTies : Type 0 where
+pub record KnowledgeRefines : Type 0 where
   -- which versions it has
   pub held : (setting : Setting) (journal : List Item) (s v : ℕ) →
       holds_version (switch_of setting journal s) v ≡ holds_in journal s v

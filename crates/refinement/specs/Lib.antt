@@ -12,7 +12,7 @@ pub mod Marks
 pub mod Controller
 pub mod Written
 pub mod Bags
-pub mod Travellers
-pub mod Ties
-pub mod Tied
+pub mod Flights
+pub mod PacketSteps
+pub mod Refinement
 pub mod Begun

@@ -2,7 +2,7 @@
 use Rattle.std.specs.Prelude.{ℕ, ◌≡◌, ◌+◌, Option, Some, None, option_map, List, [], ◌∷◌, ◌++◌, slice_get}
 use Rattle.journal.specs.declared.item.Item.{Item}
 use Rattle.journal.specs.declared.item.Item.TheVariants as item
-use Rattle.switch_core.specs.Life.{crashed, entry_expired, restarted}
+use Rattle.switch_core.specs.Life.{crashed_switch, entry_expired, restarted_switch}
 use Rattle.update_machine.specs.Boots.{boot_of}
 use Rattle.update_machine.specs.Causes.{HaveCauses}
 use Rattle.update_machine.specs.Pieces.{expire_items, nothing}
@@ -21,14 +21,15 @@ abbrev pub expired_by : ℕ → ℕ → Option ℕ → List Item
 expired_by s place None = nothing
 expired_by s place (Some message) = item.Expired s place message ∷ []
 
-pub record LifeTies : Type 0 where
+pub record LivesRefine : Type 0 where
   pub crash : (setting : Setting) (journal : List Item) (s : ℕ) →
-      switch_of setting (journal ++ item.Down s ∷ []) s ≡ crashed (switch_of setting journal s)
+      switch_of setting (journal ++ item.Down s ∷ []) s
+      ≡ crashed_switch (switch_of setting journal s)
   -- the boot is one that the switch was never in
   pub restart : (setting : Setting) (journal : List Item) (s : ℕ) →
       HaveCauses (HasItemCause setting) [] journal →
       switch_of setting (journal ++ item.Booted s (boot_of journal s + 1) ∷ []) s
-      ≡ restarted (switch_of setting journal s)
+      ≡ restarted_switch (switch_of setting journal s)
   pub expiry : (setting : Setting) (journal : List Item) (s place message : ℕ) →
       switch_of setting (journal ++ item.Expired s place message ∷ []) s
       ≡ entry_expired (switch_of setting journal s) place

@@ -60,61 +60,62 @@ near_all links switches = map (near_by links switches) (range_with_len 0 64)
 -- ---- what switches tell
 
 -- what the switch tells a neighbour, where it had a usable link to it before, or hadn't
-abbrev pub told_to : SwitchValue → Advert → Bool → ℕ → List Message
-told_to switch own had neighbour = elim had [
+abbrev pub adverts_over : SwitchValue → Advert → Bool → ℕ → List Message
+adverts_over switch own had neighbour = elim had [
   | true ↦ advert_to neighbour own ∷ []
   | false ↦ map (advert_to neighbour) (all_held switch)
 ]
 
 -- if it has a usable link to that
-abbrev pub told_near : SwitchValue → Advert → ℕ → ℕ → ℕ → List Message
-told_near switch own had near other =
-    if has near other then told_to switch own (has had other) other else []
+abbrev pub adverts_near : SwitchValue → Advert → ℕ → ℕ → ℕ → List Message
+adverts_near switch own had near other =
+    if has near other then adverts_over switch own (has had other) other else []
 
 -- one advert, if there is one
-abbrev pub told_if : ℕ → Option Advert → List Message
-told_if other None = []
-told_if other (Some advert) = advert_to other advert ∷ []
+abbrev pub advert_if_held : ℕ → Option Advert → List Message
+advert_if_held other None = []
+advert_if_held other (Some advert) = advert_to other advert ∷ []
 
 -- all that it holds, if it has a usable link to that
-abbrev pub told_all_near : SwitchValue → ℕ → ℕ → List Message
-told_all_near switch near other =
+abbrev pub adverts_all_near : SwitchValue → ℕ → ℕ → List Message
+adverts_all_near switch near other =
     if has near other then map (advert_to other) (all_held switch) else []
 
 -- what a switch that is up tells again: the controller its boot, and its neighbours among so many
 -- switches all that it holds
-abbrev pub told_again : ℕ → ℕ → ℕ → SwitchValue → List Message
-told_again s count near switch = if switch.is_up
+abbrev pub adverts_again : ℕ → ℕ → ℕ → SwitchValue → List Message
+adverts_again s count near switch = if switch.is_up
     then to_controller (Hello s switch.boot)
     ∷ flat_map (λ other. map (advert_to other) (all_held switch))
     (filter (has near) (range_with_len 0 count))
     else []
 
 -- it is up, and its usable links changed
-abbrev pub changes : ℕ → ℕ → SwitchValue → Bool
-changes had near switch = switch.is_up && not (had == near)
+abbrev pub links_change : ℕ → ℕ → SwitchValue → Bool
+links_change had near switch = switch.is_up && not (had == near)
 
 -- it makes its next advert then
 abbrev pub relinked_as : ℕ → ℕ → SwitchValue → SwitchValue
-relinked_as had near switch = if changes had near switch then near_changed switch near else switch
+relinked_as had near switch = if links_change had near switch then near_changed switch near
+    else switch
 
 -- and tells its neighbours among so many switches
-abbrev pub told_as : ℕ → ℕ → ℕ → SwitchValue → List Message
-told_as count had near switch = if changes had near switch
-    then flat_map (λ other. told_to (near_changed switch near) (next_advert switch near)
+abbrev pub adverts_on_change : ℕ → ℕ → ℕ → SwitchValue → List Message
+adverts_on_change count had near switch = if links_change had near switch
+    then flat_map (λ other. adverts_over (near_changed switch near) (next_advert switch near)
     (has had other) other) (filter (has near) (range_with_len 0 count))
     else []
 
-abbrev pub told_at : ℕ → List ℕ → List ℕ → List SwitchValue → ℕ → List Message
-told_at count had near switches s = elim (slice_get switches s) [
+abbrev pub adverts_at : ℕ → List ℕ → List ℕ → List SwitchValue → ℕ → List Message
+adverts_at count had near switches s = elim (slice_get switches s) [
   | None ↦ []
-  | Some switch ↦ told_as count (slice_index had s) (slice_index near s) switch
+  | Some switch ↦ adverts_on_change count (slice_index had s) (slice_index near s) switch
 ]
 
 -- all that is told, by ascending number of the switch that tells it
-unfoldable pub all_told : List ℕ → List ℕ → List SwitchValue → List Message
-all_told had near switches =
-    flat_map (told_at (length switches) had near switches)
+unfoldable pub all_adverts_sent : List ℕ → List ℕ → List SwitchValue → List Message
+all_adverts_sent had near switches =
+    flat_map (adverts_at (length switches) had near switches)
     (range_with_len 0 (length switches))
 
 -- each of these switches made its next advert if its links changed

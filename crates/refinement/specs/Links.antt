@@ -2,7 +2,7 @@
 -- router in OSPF makes a new advert of its own where its links changed (RFC 2328, section 12.4).
 use Rattle.std.specs.Prelude.{ℕ, ◌≡◌, true, false, if◌then◌else◌, List, [], ◌∷◌, ◌++◌, filter_map, map, IsTrue}
 use Rattle.std.specs.List.{flat_map}
-use Rattle.failover.specs.Adverts.{held}
+use Rattle.failover.specs.Adverts.{held_advert}
 use Rattle.ctrl_msg.specs.declared.message.Message.{Message}
 use Rattle.base.specs.Masks.{has, switches}
 use Rattle.failover.specs.declared.advert.Advert.{Advert}
@@ -15,7 +15,7 @@ use Rattle.update_machine.specs.Adverts.{held_adverts, own_advert}
 use Rattle.update_machine.specs.Concerns.{NoneConcern, concerns_calls, concerns_known, concerns_switch}
 use Rattle.update_machine.specs.Deliveries.{advert_to, has_changed, messages_of, switches_in}
 use Rattle.update_machine.specs.LinkMasks.{near}
-use Rattle.update_machine.specs.Messages.{sends}
+use Rattle.update_machine.specs.Messages.{send_items}
 use Rattle.update_machine.specs.Setting.{Setting}
 use Rattle.refinement.specs.Calls.{NoRows}
 use Rattle.refinement.specs.SwitchOf.{switch_of}
@@ -28,24 +28,24 @@ pub record LeavesSwitch (s : ℕ) (before : List Item) (row : ℕ) (step : Step)
   pub calls : NoneConcern (concerns_calls s) before (item.Row row step ∷ items)
 
 -- a switch whose links changed with the step, which was this before it
-abbrev pub relinked : Setting → List Item → List Item → ℕ → SwitchValue → SwitchValue
-relinked setting before now s switch =
+abbrev pub relinked_switch : Setting → List Item → List Item → ℕ → SwitchValue → SwitchValue
+relinked_switch setting before now s switch =
     if has_changed setting before now s then near_changed switch (near setting now s) else switch
 
 -- the adverts that it holds, by ascending origin
 abbrev pub all_held : SwitchValue → List Advert
-all_held switch = filter_map (held switch.database) switches
+all_held switch = filter_map (held_advert switch.database) switches
 
 -- what it tells of these links, once it had those: its own advert, and over a link that became
 -- usable all that it holds
-abbrev pub tells : Setting → ℕ → ℕ → Advert → SwitchValue → List Message
-tells setting had has_now own switch =
+abbrev pub link_messages : Setting → ℕ → ℕ → Advert → SwitchValue → List Message
+link_messages setting had has_now own switch =
     flat_map (λ neighbour. elim (has had neighbour) [
       | true ↦ advert_to neighbour own ∷ []
       | false ↦ map (advert_to neighbour) (all_held switch)
     ]) (switches_in setting has_now)
 
-pub record LinkTies : Type 0 where
+pub record LinksRefine : Type 0 where
   -- items that concern neither the switch, nor links, nor calls of it leave it
   pub kept : (setting : Setting) (s : ℕ) (before items : List Item) →
       NoneConcern (concerns_known s) before items → NoneConcern (concerns_calls s) before items →
@@ -54,7 +54,7 @@ pub record LinkTies : Type 0 where
   pub relinked : (setting : Setting) (s : ℕ) (before : List Item) (row : ℕ) (step : Step)
       (items : List Item) → LeavesSwitch s before row step items →
       let now = before ++ item.Row row step ∷ items in
-      switch_of setting now s ≡ relinked setting before now s (switch_of setting before s)
+      switch_of setting now s ≡ relinked_switch setting before now s (switch_of setting before s)
   -- the advert that it tells, and all that it holds
   pub advert : (setting : Setting) (s : ℕ) (before : List Item) (row : ℕ) (step : Step)
       (items : List Item) → LeavesSwitch s before row step items →
@@ -65,8 +65,9 @@ pub record LinkTies : Type 0 where
       held_adverts setting journal s ≡ all_held (switch_of setting journal s)
   pub told : (setting : Setting) (before now : List Item) (s : ℕ) →
       messages_of setting before now s
-      ≡ tells setting (near setting before s) (near setting now s) (own_advert setting now s)
+      ≡ link_messages setting (near setting before s) (near setting now s)
+      (own_advert setting now s)
       (switch_of setting now s)
   -- messages that are sent leave it
   pub sent : (setting : Setting) (before : List Item) (messages : List Message) (s : ℕ) →
-      switch_of setting (before ++ sends before messages) s ≡ switch_of setting before s
+      switch_of setting (before ++ send_items before messages) s ≡ switch_of setting before s

@@ -11,7 +11,7 @@ use Rattle.update_machine.specs.Boots.{boot_of, heard, is_in_first_boot, is_up}
 use Rattle.update_machine.specs.Caches.{cache_of}
 use Rattle.update_machine.specs.Handled.{handled_count}
 use Rattle.update_machine.specs.Setting.{Setting}
-use Rattle.update_machine.specs.Versions.{greatest, holds_version, stamp_of, tables_at}
+use Rattle.update_machine.specs.Versions.{greatest_number, holds_version, stamp_of, tables_at}
 use Rattle.update_machine.specs.Links.{serves}
 
 -- the version up to which a body tells the switch to drop tables: the greatest of its boot is kept
@@ -48,7 +48,7 @@ switch_of setting journal s = record {
   is_up = is_up journal s;
   is_open = serves journal s;
   stamp = stamp_of journal s;
-  collected = greatest (filter_map collect_in (heard journal s));
+  collected = greatest_number (filter_map collect_in (heard journal s));
   tables = tables_kept setting journal s;
   cache = cache_of setting journal s;
   database = adverts_known setting journal s;

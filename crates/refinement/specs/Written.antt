@@ -2,7 +2,7 @@
 -- under the next number. The notion is our own.
 use Rattle.std.specs.Prelude.{ℕ, ◌≡◌, List, [], ◌∷◌, ◌++◌, map}
 use Rattle.controller.specs.Controller.{ControllerValue}
-use Rattle.controller.specs.Sends.{resending}
+use Rattle.controller.specs.Sends.{resend_acts}
 use Rattle.controller.specs.declared.sends.Act.{Act}
 use Rattle.controller.specs.declared.sends.Act.TheVariants.{Current, Retired, Post}
 use Rattle.journal.specs.declared.item.Item.{Item}
@@ -18,19 +18,19 @@ item_of journal (Retired version) = item.Retired version
 item_of journal (Post message) = item.Sent (next_message journal) message
 
 -- what the acts write behind the journal, one after another
-abbrev pub written : List Item → List Act → List Item
-written journal [] = []
-written journal (act ∷ acts) =
-    item_of journal act ∷ written (journal ++ item_of journal act ∷ []) acts
+abbrev pub written_items : List Item → List Act → List Item
+written_items journal [] = []
+written_items journal (act ∷ acts) =
+    item_of journal act ∷ written_items (journal ++ item_of journal act ∷ []) acts
 
 -- at a resend the switch sends its messages, and then the controller
-abbrev pub resent : Setting → List Item → ℕ → ControllerValue → List Act
-resent setting journal s controller =
-    map Post (resent_by_switch setting journal s) ++ resending controller s
+abbrev pub acts_of_resend : Setting → List Item → ℕ → ControllerValue → List Act
+acts_of_resend setting journal s controller =
+    map Post (resent_by_switch setting journal s) ++ resend_acts controller s
 
 -- the items that stand behind the journal are these first ones and then what the acts write, and
 -- the controller is afterwards as the longer journal says
 pub record AreWritten (setting : Setting) (journal first : List Item) (acts : List Act)
     (new : ControllerValue) (items : List Item) : Type 0 where
-  pub same : items ≡ first ++ written (journal ++ first) acts
+  pub same : items ≡ first ++ written_items (journal ++ first) acts
   pub after : IsControllerOf setting (journal ++ items) new

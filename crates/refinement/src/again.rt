@@ -2,9 +2,9 @@
 ghost use Rattle.std.specs.Prelude.{◌≡◌, ◌<◌, ◌≤◌, ◌++◌, IfOk, OnOk};
 ghost use Rattle.ctrl_msg.specs.declared.message.Body.TheVariants.{Hello};
 ghost use Rattle.ctrl_msg.specs.Kinds.{to_controller};
-ghost use Rattle.refinement.specs.Linking.{told_again, told_all_near};
+ghost use Rattle.refinement.specs.Linking.{adverts_again, adverts_all_near};
 
-use crate::usable_links::tell_all;
+use crate::usable_links::send_all_held;
 use base::has;
 use ctrl_msg::{Body, Message, Receiver};
 use std::alloc::{AllocError, Global};
@@ -16,7 +16,7 @@ use switch_core::Switch;
 /// # Errors
 /// Want of memory alone.
 #[tactic(auto, using(crate::proofs::Relinking::near_steps))]
-pub fn told_again(
+pub fn adverts_again(
     alloc: Global,
     switch: &Switch,
     s: u32,
@@ -24,7 +24,7 @@ pub fn told_again(
     near: u64,
 ) -> Result<Vec<Message>, AllocError>
     requires { count ≤ 64 }
-    ensures { IfOk result (λ messages. messages.items ≡ told_again s count near switch.now) }
+    ensures { IfOk result (λ messages. messages.items ≡ adverts_again s count near switch.now) }
 {
     let mut messages = Vec::new(alloc);
     if !switch.is_up() {
@@ -32,13 +32,13 @@ pub fn told_again(
     }
     messages.push(hello(s, switch.boot()))?;
     for other in 0..count {
-        tell_neighbour(&mut messages, switch, near, other)?;
+        send_neighbour(&mut messages, switch, near, other)?;
     }
     Ok(messages)
 }
 
 // What the switch tells the other one again, if it has a usable link to that.
-fn tell_neighbour(
+fn send_neighbour(
     messages: &mut Vec<Message>,
     switch: &Switch,
     near: u64,
@@ -46,10 +46,10 @@ fn tell_neighbour(
 ) -> Result<(), AllocError>
     requires { other < 64 }
     ensures { OnOk result (messages.new.items
-        ≡ messages.old.items ++ told_all_near switch.now near other) }
+        ≡ messages.old.items ++ adverts_all_near switch.now near other) }
 {
     if has(near, other) {
-        tell_all(messages, switch, other)?;
+        send_all_held(messages, switch, other)?;
     }
     Ok(())
 }

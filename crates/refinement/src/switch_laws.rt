@@ -1,38 +1,38 @@
 //! The laws.
-ghost use Rattle.refinement.specs.Exports.{AskedTies, CallTies, HearTies, KnowTies, LifeTies, LinkTies};
+ghost use Rattle.refinement.specs.Exports.{RequirementsHold, CallsRefine, HearingRefines, KnowledgeRefines, LivesRefine, LinksRefine};
 
 /// Items that don't concern a switch leave its record. In a step that does nothing to the switch
 /// itself, whatever happens to links and to other switches, its record changes by its next advert
 /// where its usable links changed, and not at all otherwise.
 pub fn links_change_switches()
-    ensures { LinkTies }
+    ensures { LinksRefine }
 {}
 
 /// A message that is delivered to a switch is heard: of whatever boot, up or down, closed or open.
 /// What the journal says then are the switch's replies, or that it opens with its stamp.
 pub fn messages_are_heard()
-    ensures { HearTies }
+    ensures { HearingRefines }
 {}
 
 /// A switch that goes down and one that boots have forgotten what they learnt; a timeout takes one
 /// entry out of the cache.
 pub fn switches_forget()
-    ensures { LifeTies }
+    ensures { LivesRefine }
 {}
 
 /// The calls of a switch are counted: one for a packet that comes in, and one or two for a packet
 /// that stands there and goes on.
 pub fn calls_are_counted()
-    ensures { CallTies }
+    ensures { CallsRefine }
 {}
 
 /// A switch has the tables of the plans of its versions, and looks headers up, and finds routes, as
 /// the journal says.
 pub fn switches_know()
-    ensures { KnowTies }
+    ensures { KnowledgeRefines }
 {}
 
 /// What each call asks of its switch, the laws of versions, tables, boots and adverts give.
 pub fn calls_may_be_made()
-    ensures { AskedTies }
+    ensures { RequirementsHold }
 {}

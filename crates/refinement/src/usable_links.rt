@@ -4,7 +4,7 @@ ghost use Rattle.std.specs.Prelude.{ℕ, ◌≡◌, ◌-◌, ◌^◌, ◌<◌, �
 ghost use Rattle.base.specs.Masks.{has};
 ghost use Rattle.refinement.specs.Links.{all_held};
 ghost use Rattle.update_machine.specs.Deliveries.{advert_to};
-ghost use Rattle.refinement.specs.Linking.{AreRelinked, all_told, near_all, near_where, relinked_as, serves_at, told_as, told_if, told_near, told_to};
+ghost use Rattle.refinement.specs.Linking.{AreRelinked, all_adverts_sent, near_all, near_where, relinked_as, serves_at, adverts_on_change, advert_if_held, adverts_near, adverts_over};
 
 use base::{has, only_if};
 use ctrl_msg::{Body, Message, Receiver};
@@ -61,7 +61,7 @@ pub fn relink(
     ensures switches { OnOk result
         (AreRelinked had.now now.now switches.old.items switches.new.items) }
     ensures told { IfOk result (λ messages. messages.items
-        ≡ all_told had.now now.now switches.old.items) }
+        ≡ all_adverts_sent had.now now.now switches.old.items) }
 {
     let mut messages = Vec::new(alloc);
     let count = switches.len() as u32;
@@ -84,20 +84,20 @@ fn relink_one(
     requires next { switch.old.seq < 2 ^ 32 - 1 }
     ensures switch { switch.new ≡ relinked_as had near switch.old }
     ensures told { OnOk result (messages.new.items
-        ≡ messages.old.items ++ told_as count had near switch.old) }
+        ≡ messages.old.items ++ adverts_on_change count had near switch.old) }
 {
     if !switch.is_up() || had == near {
         return Ok(());
     }
     let own = switch.near_changed(near);
     for other in 0..count {
-        tell_near(messages, switch, &own, had, near, other)?;
+        send_near(messages, switch, &own, had, near, other)?;
     }
     Ok(())
 }
 
 // What the switch tells the other one, if it has a usable link to that.
-fn tell_near(
+fn send_near(
     messages: &mut Vec<Message>,
     switch: &Switch,
     own: &Advert,
@@ -107,16 +107,16 @@ fn tell_near(
 ) -> Result<(), AllocError>
     requires { other < 64 }
     ensures { OnOk result (messages.new.items
-        ≡ messages.old.items ++ told_near switch.now own.now had near other) }
+        ≡ messages.old.items ++ adverts_near switch.now own.now had near other) }
 {
     if has(near, other) {
-        tell(messages, switch, own, has(had, other), other)?;
+        send_adverts(messages, switch, own, has(had, other), other)?;
     }
     Ok(())
 }
 
 // Over a link that it had the switch tells its own advert, and over a new one all that it holds.
-fn tell(
+fn send_adverts(
     messages: &mut Vec<Message>,
     switch: &Switch,
     own: &Advert,
@@ -124,13 +124,13 @@ fn tell(
     other: u32,
 ) -> Result<(), AllocError>
     ensures { OnOk result (messages.new.items
-        ≡ messages.old.items ++ told_to switch.now own.now had other) }
+        ≡ messages.old.items ++ adverts_over switch.now own.now had other) }
 {
     if had {
         messages.push(advert_to(other, own))?;
         return Ok(());
     }
-    tell_all(messages, switch, other)
+    send_all_held(messages, switch, other)
 }
 
 /// The switch tells all adverts that it holds.
@@ -138,24 +138,28 @@ fn tell(
 /// # Errors
 /// Want of memory alone.
 #[tactic(auto, using(crate::proofs::Relinking::held_steps))]
-pub fn tell_all(messages: &mut Vec<Message>, switch: &Switch, other: u32) -> Result<(), AllocError>
+pub fn send_all_held(
+    messages: &mut Vec<Message>,
+    switch: &Switch,
+    other: u32,
+) -> Result<(), AllocError>
     ensures { OnOk result (messages.new.items
         ≡ messages.old.items ++ map (advert_to other) (all_held switch.now)) }
 {
     for origin in 0..64 {
-        tell_one(messages, other, switch.known(origin))?;
+        send_one(messages, other, switch.known(origin))?;
     }
     Ok(())
 }
 
 // The advert, if there is one, to this switch.
-fn tell_one(
+fn send_one(
     messages: &mut Vec<Message>,
     other: u32,
     advert: Option<Advert>,
 ) -> Result<(), AllocError>
     ensures { OnOk result (messages.new.items
-        ≡ messages.old.items ++ told_if other advert) }
+        ≡ messages.old.items ++ advert_if_held other advert) }
 {
     if let Some(advert) = advert {
         messages.push(advert_to(other, &advert))?;

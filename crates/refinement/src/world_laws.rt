@@ -5,18 +5,18 @@ ghost use Rattle.version_update.specs.Record.{after_over};
 ghost use Rattle.ctrl_msg.specs.Kinds.{to_controller};
 ghost use Rattle.ctrl_msg.specs.declared.message.Body.{Body};
 ghost use Rattle.ctrl_msg.specs.declared.message.Message.{Message};
-ghost use Rattle.controller.specs.Exports.{ControllerValue, NamesThere, PlanValue, SettlesWith, SubmitsPlan, first_controller, hearing, marks_after, resending, settling_acts, submitting};
+ghost use Rattle.controller.specs.Exports.{ControllerValue, NamesThere, PlanValue, SettlesWith, SubmitsPlan, first_controller, hear_acts, marks_after, resend_acts, settling_acts, submit_acts};
 ghost use Rattle.controller.specs.declared.sends.Act.{Act};
 ghost use Rattle.controller.specs.declared.sends.Act.TheVariants.{Post};
 ghost use Rattle.steps.specs.declared.step.Step.TheVariants.{Confirm, Deliver, Resend, Update};
 ghost use Rattle.journal.specs.declared.item.Item.TheVariants.{Row, Delivered, Nothing, OverNow, Refused, Submitted};
-ghost use Rattle.update_machine.specs.Exports.{HaveCauses, IsReached, IsSetting, Item, NoneConcern, Setting, Step, concerns_controller, is_deliverable, is_up, message_of, piece, resent_by_controller, sends};
+ghost use Rattle.update_machine.specs.Exports.{HaveCauses, IsReached, IsSetting, Item, NoneConcern, Setting, Step, concerns_controller, is_deliverable, is_up, message_of, piece, resent_by_controller, send_items};
 ghost use Rattle.control_laws.specs.Exports.{BodiesNameThere, HasItemCause, asks_controller};
-ghost use Rattle.refinement.specs.Exports.{AreMarksOf, AreSpelled, AreWritten, BagTies, ComeTies, HopTies, IsControllerOf, IsPlanOfNext, planned, resent, written};
+ghost use Rattle.refinement.specs.Exports.{AreMarksOf, AreSpelled, AreWritten, BagsRefine, EntriesRefine, HopsRefine, IsControllerOf, IsPlanOfNext, plan_to_keep, acts_of_resend, written_items};
 
 /// A controller begins as a journal without items says, where its plan is the first version's.
 pub fn controllers_begin()
-    ensures { (setting : Setting) (plan : PlanValue) → plan ≡ (planned setting [] 1).plan
+    ensures { (setting : Setting) (plan : PlanValue) → plan ≡ (plan_to_keep setting [] 1).plan
         → IsControllerOf setting [] (first_controller (length setting.net.switches) plan) }
 {}
 
@@ -30,7 +30,7 @@ pub fn controllers_submit()
         → old.marks.count ≢ 64 → SubmitsPlan old plan new
         → AreWritten setting before
         (Row row (Update file) ∷ Submitted file (old.marks.count + 1) ∷ [])
-        (submitting old.marks plan new.marks) new (piece setting before row (Update file)) }
+        (submit_acts old.marks plan new.marks) new (piece setting before row (Update file)) }
     ensures live { (setting : Setting) (before : List Item) (row file : ℕ)
         (old : ControllerValue) (plan : PlanValue)
         → HaveCauses (HasItemCause setting) [] before → IsControllerOf setting before old
@@ -56,7 +56,7 @@ pub fn controllers_hear()
         → message_of before number ≡ Some (to_controller body) → NamesThere body old.marks
         → SettlesWith (marks_after body old.marks) old.plans new
         → AreWritten setting before (Row row (Deliver number) ∷ Delivered number ∷ [])
-        (hearing body old.marks new) new (piece setting before row (Deliver number)) }
+        (hear_acts body old.marks new) new (piece setting before row (Deliver number)) }
     ensures there { (setting : Setting) (journal : List Item) (number : ℕ) (body : Body)
         (marks : MarksValue) → BodiesNameThere setting journal
         → AreMarksOf setting journal marks
@@ -80,19 +80,19 @@ pub fn controllers_resend()
     ensures messages { (setting : Setting) (journal : List Item) (s : ℕ)
         (controller : ControllerValue) → HaveCauses (HasItemCause setting) [] journal
         → IsControllerOf setting journal controller → s < length controller.marks.switches
-        → resending controller s ≡ map Post (resent_by_controller setting journal s) }
+        → resend_acts controller s ≡ map Post (resent_by_controller setting journal s) }
     ensures nothing { (setting : Setting) (before : List Item) (row s : ℕ)
         (controller : ControllerValue) → HaveCauses (HasItemCause setting) [] before
         → IsControllerOf setting before controller → s < length controller.marks.switches
-        → resent setting (before ++ Row row (Resend s) ∷ []) s controller ≡ []
+        → acts_of_resend setting (before ++ Row row (Resend s) ∷ []) s controller ≡ []
         → AreWritten setting before (Row row (Resend s) ∷ Nothing ∷ []) [] controller
         (piece setting before row (Resend s)) }
     ensures some { (setting : Setting) (before : List Item) (row s : ℕ)
         (controller : ControllerValue) → HaveCauses (HasItemCause setting) [] before
         → IsControllerOf setting before controller → s < length controller.marks.switches
-        → resent setting (before ++ Row row (Resend s) ∷ []) s controller ≢ []
+        → acts_of_resend setting (before ++ Row row (Resend s) ∷ []) s controller ≢ []
         → AreWritten setting before (Row row (Resend s) ∷ [])
-        (resent setting (before ++ Row row (Resend s) ∷ []) s controller) controller
+        (acts_of_resend setting (before ++ Row row (Resend s) ∷ []) s controller) controller
         (piece setting before row (Resend s)) }
 {}
 
@@ -113,30 +113,31 @@ pub fn others_leave_controllers()
 /// Acts of several parts write one part behind another, and messages write that they are sent.
 pub fn acts_write_in_turn()
     ensures parts { (journal : List Item) (first later : List Act)
-        → written journal (first ++ later)
-        ≡ written journal first ++ written (journal ++ written journal first) later }
+        → written_items journal (first ++ later)
+        ≡ written_items journal first ++ written_items (journal ++ written_items journal first)
+        later }
     ensures messages { (messages : List Message) (journal : List Item)
-        → written journal (map Post messages) ≡ sends journal messages }
+        → written_items journal (map Post messages) ≡ send_items journal messages }
 {}
 
 /// A packet comes in at a switch that is as the journal says: the switch may be asked, and its
 /// answer is what the step writes. The packet is then where the answer leaves it, and no other
 /// packet moves.
 pub fn packets_come_in()
-    ensures { ComeTies }
+    ensures { EntriesRefine }
 {}
 
 /// A packet on its way goes on from where it stands, or is at the end of its route: the switch may
 /// be asked there, and its answers are what the step writes. The packet is then where they leave
 /// it, and no other packet moves.
 pub fn packets_move_on()
-    ensures { HopTies }
+    ensures { HopsRefine }
 {}
 
 /// The posts of a bag are the messages of the journal, as messages are sent, delivered and
 /// forgotten, and whatever else happens.
 pub fn messages_are_kept()
-    ensures { BagTies }
+    ensures { BagsRefine }
 {}
 
 /// Each message that was sent in a network names switches below 64 and carries short lists, and its

@@ -16,10 +16,10 @@ use Rattle.update_machine.specs.Packets.{next_packet}
 use Rattle.update_machine.specs.Pieces.{piece}
 use Rattle.update_machine.specs.Setting.{Setting, IsSetting}
 use Rattle.update_machine.specs.Travels.{next_travelling}
-use Rattle.world.specs.State.{IsTied, WorldValue, comes_in, setting_at}
+use Rattle.world.specs.State.{RefinesJournal, WorldValue, comes_in, setting_at}
 use Rattle.replay.specs.Playing.{brought_in, next_step}
 use Rattle.replay.proofs.Small.{least_is_packet, least_is_small}
-use Rattle.replay.proofs.Ties.{reached_of, tie_of}
+use Rattle.replay.proofs.Refining.{reached_of, tie_of}
 
 -- so many packets an event brought in, which began or has yet to
 abbrev pub brought_so_far : Event → Bool → ℕ
@@ -83,15 +83,15 @@ nearer None n small rises = omega (arith, small)
 nearer (Some m) n small rises = omega (arith, small, rises m refl)
 
 pub asked : DrainsEnd → DeliveriesRise → (world : WorldValue) (row : ℕ) (event : Event)
-    (is_begun : Bool) (step : Step) → IsTied world
+    (is_begun : Bool) (step : Step) → RefinesJournal world
     → next_step event is_begun world.journal ≡ Some step
     → Asked (setting_at world) row event is_begun world.journal step
-asked hops rise world row (One own) true step tied is = cc is
-asked hops rise world row (One own) false step tied is =
+asked hops rise world row (One own) true step refines is = cc is
+asked hops rise world row (One own) false step refines is =
     let same : own ≡ step = cc is in
     subst (Asked (setting_at world) row (One own) false world.journal) same
     (record { may = λ may few room. may; none = refl; brought = refl; fewer = λ room. omega arith })
-asked hops rise world row Flush is_begun step tied is =
+asked hops rise world row Flush is_begun step refines is =
     let journal = world.journal in
     let at = found_by Deliver (next_waiting journal) step is in
     subst (Asked (setting_at world) row Flush is_begun journal) at.made (record {
@@ -107,17 +107,17 @@ asked hops rise world row Flush is_begun step tied is =
           (omega (arith, least_is_small journal at.number at.is room))
           (λ m is. rise (setting_at world) journal row at.number m at.is is));
     })
-asked hops rise world row Drain is_begun step tied is =
+asked hops rise world row Drain is_begun step refines is =
     let journal = world.journal in
     let at = found_by Hop (next_travelling journal) step is in
-    let whole = tie_of world tied in
+    let whole = tie_of world refines in
     subst (Asked (setting_at world) row Drain is_begun journal) at.made (record {
       may = λ may few room.
           omega (arith, few, least_is_packet journal at.number at.is);
       none = refl;
       brought = refl;
       fewer = λ room. hops (setting_at world) journal row at.number whole.sound
-          (reached_of world tied) at.is;
+          (reached_of world refines) at.is;
     })
 
 -- ---- packets that come in

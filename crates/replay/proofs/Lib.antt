@@ -3,4 +3,4 @@ pub mod Events
 mod Keeping
 mod Small
 mod Stepping
-mod Ties
+mod Refining

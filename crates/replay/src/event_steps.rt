@@ -56,7 +56,7 @@ pub fn take_steps<M: Meter>(
     while let Some(next) = next_of(world, event, is_begun) {
         drains_end();
         deliveries_rise();
-        world.tied();
+        world.refines();
         let before = world.journal().items().len();
         world.step(alloc, row, &next)?;
         note_left(board, &world.journal().items()[before..])?;

@@ -64,7 +64,7 @@ pub fn replay<M: Meter>(
         (IsPlanRefusal (plan_of (slice_index_or policies.items 0 []) net.now)) }
 {
     let world = World::begin(alloc, net, policies)?;
-    world.tied();
+    world.refines();
     let played = play(alloc, world, events, meters, net.port_mask())?;
     Ok(played)
 }
@@ -89,7 +89,7 @@ pub fn play<M: Meter>(
     ensures kept { IfOk result (λ played. map M.seen played.meters.items
         ≡ kept_meters ports (left_in played.journal) (map M.seen meters.items)) }
 {
-    world.tied();
+    world.refines();
     let mut world = world;
     let mut board = Board::new(meters, ports);
     let mut row = 0u32;

@@ -11,7 +11,7 @@ use Rattle.five_tuple.specs.Header.{IsHeader}
 use Rattle.policy_rules.specs.Repeats.{IsFirstRepeat, has_priority}
 use Rattle.policy_rules.specs.declared.policy.Action.TheVariants.{Drop, Out}
 use Rattle.steps.specs.Steps.{IsEvent}
-use Rattle.schedule.specs.Case.{IsPlayable, NamesPort, action_at, address_at, behind, below, change_events, drops, group_at, groups_from, header_drawn, packet_drawn, load_case, load_net, next_drawn, row_at, row_ends, rows_drawn}
+use Rattle.schedule.specs.Case.{IsPlayable, NamesPort, action_at, address_at, state_after, draw_below, change_events, drop_draw, group_at, groups_from, header_drawn, packet_drawn, load_case, load_net, next_drawn, row_at, row_ends, rows_drawn}
 use Rattle.schedule.proofs.Nets.{load_net_sound, port_owned}
 use Rattle.policy_rules.specs.declared.policy.Row.{Row}
 use Rattle.steps.specs.declared.step.Event.TheVariants.{Drain, Flush, One}
@@ -22,7 +22,7 @@ pub rows_more : (k x : ℕ) → rows_drawn (k + 1) x
 rows_more k x = ap (λ n. rows_drawn n x) (add-one k)
 
 pub groups_more : (k x : ℕ) → groups_from (k + 1) x
-    ≡ ((groups_from k x).0 ++ group_at (groups_from k x).1, behind 9 (groups_from k x).1)
+    ≡ ((groups_from k x).0 ++ group_at (groups_from k x).1, state_after 9 (groups_from k x).1)
 groups_more k x = ap (λ n. groups_from n x) (add-one k)
 
 -- ---- priorities
@@ -55,12 +55,13 @@ rows_distinct (suc k) x place d inside = go (nat_lt place k) refl (rows_distinct
         (slice_index_or ((rows_drawn k x).0 ++ row_at (k + 1) (rows_drawn k x).1 ∷ []) place
         d).priority ≡ false
     go true e earlier =
-        let below : place < length (rows_drawn k x).0 =
+        let draw_below : place < length (rows_drawn k x).0 =
         omega (arith, ltb-true place k e, rows_count k x) in
         rw (
           take-append-le place (rows_drawn k x).0 (row_at (k + 1) (rows_drawn k x).1 ∷ [])
-              (omega (arith, below)),
-          get_or-append (rows_drawn k x).0 (row_at (k + 1) (rows_drawn k x).1 ∷ []) d place below,
+              (omega (arith, draw_below)),
+          get_or-append (rows_drawn k x).0 (row_at (k + 1) (rows_drawn k x).1 ∷ []) d place
+              draw_below,
         )
         (earlier (ltb-true place k e))
     go false e earlier =
@@ -82,24 +83,24 @@ no_repeat k x place repeat =
 
 -- ---- events
 
-below_limit : (m x : ℕ) → 0 < m → below m x < m
+below_limit : (m x : ℕ) → 0 < m → draw_below m x < m
 below_limit m x some = mod_below (x / 65536) m some
 
 header_sound : (x : ℕ) → IsHeader (header_drawn x)
 header_sound x = record {
   src = address_fits x;
-  dst = address_fits (behind 3 x);
-  sport = omega (arith, below_limit 30000 (behind 7 x) (omega arith));
-  dport = omega (arith, below_limit 1024 (behind 8 x) (omega arith));
+  dst = address_fits (state_after 3 x);
+  sport = omega (arith, below_limit 30000 (state_after 7 x) (omega arith));
+  dport = omega (arith, below_limit 1024 (state_after 8 x) (omega arith));
   proto = omega arith;
 }
   where
     address_fits : (x : ℕ) → address_at x < 2 ^ 32
     address_fits x = omega (
       arith,
-      below_limit 4 (behind 1 x) (omega arith),
-      below_limit 256 (behind 2 x) (omega arith),
-      below_limit 256 (behind 3 x) (omega arith),
+      below_limit 4 (state_after 1 x) (omega arith),
+      below_limit 256 (state_after 2 x) (omega arith),
+      below_limit 256 (state_after 3 x) (omega arith),
     )
 
 group_may : (x : ℕ) → All (IsEvent load_net 2) (group_at x)
@@ -123,11 +124,12 @@ changes_may =
     (All-cons (IsEvent load_net 2) Flush [] tt (All-nil (IsEvent load_net 2)))))
 
 action_names : (x : ℕ) → NamesPort load_net (action_at x)
-action_names x = go (drops x == 0)
+action_names x = go (drop_draw x == 0)
   where
-    go : (b : Bool) → NamesPort load_net (cond b Drop (Out (below 8 (behind 2 x))))
+    go : (b : Bool) → NamesPort load_net (cond b Drop (Out (draw_below 8 (state_after 2 x))))
     go true = tt
-    go false = port_owned (below 8 (behind 2 x)) (below_limit 8 (behind 2 x) (omega arith))
+    go false = port_owned (draw_below 8 (state_after 2 x))
+        (below_limit 8 (state_after 2 x) (omega arith))
 
 ports_named : (k x : ℕ) → All (λ (row : Row). NamesPort load_net row.action) (rows_drawn k x).0
 ports_named zero x = All-nil (λ (row : Row). NamesPort load_net row.action)
@@ -135,7 +137,7 @@ ports_named (suc k) x =
     All-append (λ (row : Row). NamesPort load_net row.action) (rows_drawn k x).0
     (row_at (k + 1) (rows_drawn k x).1 ∷ []) (ports_named k x)
     (All-cons (λ (row : Row). NamesPort load_net row.action) (row_at (k + 1) (rows_drawn k x).1) []
-    (action_names (behind 4 (rows_drawn k x).1))
+    (action_names (state_after 4 (rows_drawn k x).1))
     (All-nil (λ (row : Row). NamesPort load_net row.action)))
 
 groups_count : (k x : ℕ) → length (groups_from k x).0 ≡ 3 * k

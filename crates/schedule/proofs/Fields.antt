@@ -3,7 +3,7 @@ use Rattle.std.proofs.Common.{ℕ, ◌≡◌, ◌∙◌, false, ◌&&◌, Some, 
 use Rattle.std.specs.Prelude.{◌≢◌, Err, bytes_eq, codes}
 use Rattle.std.proofs.Math.Bool.{and-true}
 use Rattle.csv.specs.Records.{field_at}
-use Rattle.csv_records.specs.Texts.{field, is_heading}
+use Rattle.csv_records.specs.Texts.{field_or_empty, is_heading}
 use Rattle.net_file.specs.declared.net.Net.{Net}
 use Rattle.schedule.specs.Kinds.{kind_of}
 use Rattle.schedule.specs.Rows.{event_of, event_with, schedule_heading}
@@ -14,8 +14,8 @@ use Rattle.schedule.specs.declared.kind.Kind.TheVariants as kind
 -- ---- the heading
 
 pub is_heading-two : (fields : List (List ℕ)) → length fields ≡ 2
-    → is_heading schedule_heading fields ≡ (bytes_eq (field fields 0) (codes "event")
-    && bytes_eq (field fields 1) (codes "arguments"))
+    → is_heading schedule_heading fields ≡ (bytes_eq (field_or_empty fields 0) (codes "event")
+    && bytes_eq (field_or_empty fields 1) (codes "arguments"))
 unfolding field_at
 is_heading-two (a ∷ b ∷ []) two = ap (λ last. bytes_eq a (codes "event") && last)
     (and-true (bytes_eq b (codes "arguments")))
@@ -35,7 +35,7 @@ unfolding kind_of
 no_keyword = refl
 
 pub event_of-no_kind : (net : Net) (files : ℕ) (fields : List (List ℕ))
-    → kind_of (field fields 0) ≡ None → event_of net files fields ≡ Err why.Kind
+    → kind_of (field_or_empty fields 0) ≡ None → event_of net files fields ≡ Err why.Kind
 unfolding field_at
 event_of-no_kind net files [] none = refl
 event_of-no_kind net files (keyword ∷ fields) none = rw none refl
@@ -43,7 +43,7 @@ event_of-no_kind net files (keyword ∷ fields) none = rw none refl
 -- ---- the width
 
 pub event_of-known : (net : Net) (files : ℕ) (fields : List (List ℕ)) (k : Kind)
-    → kind_of (field fields 0) ≡ Some k
+    → kind_of (field_or_empty fields 0) ≡ Some k
     → event_of net files fields ≡ event_with net files k (drop 1 fields)
 unfolding field_at
 event_of-known net files [] k is = cc (no_keyword, is)
@@ -53,39 +53,43 @@ none_behind : (fields : List (List ℕ)) → length fields ≡ 1 → drop 1 fiel
 none_behind (keyword ∷ []) one = refl
 none_behind _ one = absurd (omega arith)
 
-one_behind : (fields : List (List ℕ)) → length fields ≡ 2 → drop 1 fields ≡ field fields 1 ∷ []
+one_behind : (fields : List (List ℕ)) → length fields ≡ 2 → drop 1 fields ≡ field_or_empty fields 1
+    ∷ []
 unfolding field_at
 one_behind (keyword ∷ a ∷ []) two = refl
 one_behind _ two = absurd (omega arith)
 
-two_behind : (fields : List (List ℕ)) → length fields ≡ 3 → drop 1 fields ≡ field fields 1 ∷ field
+two_behind : (fields : List (List ℕ)) → length fields ≡ 3 → drop 1 fields ≡ field_or_empty fields 1
+    ∷ field_or_empty
     fields 2 ∷ []
 unfolding field_at
 two_behind (keyword ∷ a ∷ b ∷ []) three = refl
 two_behind _ three = absurd (omega arith)
 
 pub six_behind : (fields : List (List ℕ)) → length fields ≡ 7
-    → drop 1 fields ≡ field fields 1 ∷ field fields 2 ∷ field fields 3 ∷ field fields 4 ∷ field
-    fields 5 ∷ field fields 6 ∷ []
+    → drop 1 fields ≡ field_or_empty fields 1 ∷ field_or_empty fields 2 ∷ field_or_empty fields 3
+    ∷ field_or_empty fields 4 ∷ field_or_empty
+    fields 5 ∷ field_or_empty fields 6 ∷ []
 unfolding field_at
 six_behind (keyword ∷ a ∷ b ∷ c ∷ d ∷ e ∷ f ∷ []) seven = refl
 six_behind _ seven = absurd (omega arith)
 
 pub event_of-one : (net : Net) (files : ℕ) (fields : List (List ℕ)) (k : Kind)
-    → kind_of (field fields 0) ≡ Some k → length fields ≡ 1
+    → kind_of (field_or_empty fields 0) ≡ Some k → length fields ≡ 1
     → event_of net files fields ≡ event_with net files k []
 event_of-one net files fields k is one = event_of-known net files fields k is
     ∙ ap (event_with net files k) (none_behind fields one)
 
 pub event_of-two : (net : Net) (files : ℕ) (fields : List (List ℕ)) (k : Kind)
-    → kind_of (field fields 0) ≡ Some k → length fields ≡ 2
-    → event_of net files fields ≡ event_with net files k (field fields 1 ∷ [])
+    → kind_of (field_or_empty fields 0) ≡ Some k → length fields ≡ 2
+    → event_of net files fields ≡ event_with net files k (field_or_empty fields 1 ∷ [])
 event_of-two net files fields k is two = event_of-known net files fields k is
     ∙ ap (event_with net files k) (one_behind fields two)
 
 pub event_of-three : (net : Net) (files : ℕ) (fields : List (List ℕ)) (k : Kind)
-    → kind_of (field fields 0) ≡ Some k → length fields ≡ 3
-    → event_of net files fields ≡ event_with net files k (field fields 1 ∷ field fields 2 ∷ [])
+    → kind_of (field_or_empty fields 0) ≡ Some k → length fields ≡ 3
+    → event_of net files fields ≡ event_with net files k
+    (field_or_empty fields 1 ∷ field_or_empty fields 2 ∷ [])
 event_of-three net files fields k is three = event_of-known net files fields k is
     ∙ ap (event_with net files k) (two_behind fields three)
 
@@ -104,7 +108,7 @@ other_width net files kind.Packet (a ∷ b ∷ c ∷ d ∷ e ∷ f ∷ g ∷ mor
 other_width _ _ _ _ none one two six = refl
 
 pub event_of-other : (net : Net) (files : ℕ) (fields : List (List ℕ)) (k : Kind)
-    → kind_of (field fields 0) ≡ Some k
+    → kind_of (field_or_empty fields 0) ≡ Some k
     → length fields ≢ 1 → length fields ≢ 2 → length fields ≢ 3 → length fields ≢ 7
     → event_of net files fields ≡ Err why.Width
 unfolding field_at

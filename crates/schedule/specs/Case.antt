@@ -30,13 +30,13 @@ unfoldable pub next_drawn : ℕ → ℕ
 next_drawn x = (x * 1103515245 + 12345) % 2147483648
 
 -- the state behind so many draws
-abbrev pub behind : ℕ → ℕ → ℕ
-behind zero x = x
-behind (suc n) x = behind n (next_drawn x)
+abbrev pub state_after : ℕ → ℕ → ℕ
+state_after zero x = x
+state_after (suc n) x = state_after n (next_drawn x)
 
 -- the number below m that the draw gave which left this state
-abbrev pub below : ℕ → ℕ → ℕ
-below m x = x / 65536 % m
+abbrev pub draw_below : ℕ → ℕ → ℕ
+draw_below m x = x / 65536 % m
 
 -- ---- the network
 
@@ -48,13 +48,14 @@ room_of i = if i == 1 || i == 5 then 8192 else 0
 abbrev pub switch_row : ℕ → SwitchRow
 switch_row i = record { name = 110 ∷ (48 + i) ∷ []; ports = 2 ^ i; room = room_of i }
 
-abbrev pub link : ℕ → ℕ → LinkRow
-link one two = record { one = one; two = two }
+abbrev pub link_row : ℕ → ℕ → LinkRow
+link_row one two = record { one = one; two = two }
 
 -- a ring, and n0-n4 and n2-n6 across it
 abbrev pub load_links : List LinkRow
-load_links = link 0 1 ∷ link 1 2 ∷ link 2 3 ∷ link 3 4 ∷ link 4 5 ∷ link 5 6 ∷ link 6 7 ∷ link 0 7
-    ∷ link 0 4 ∷ link 2 6 ∷ []
+load_links = link_row 0 1 ∷ link_row 1 2 ∷ link_row 2 3 ∷ link_row 3 4 ∷ link_row 4 5 ∷ link_row 5 6
+    ∷ link_row 6 7 ∷ link_row 0 7
+    ∷ link_row 0 4 ∷ link_row 2 6 ∷ []
 
 abbrev pub load_net : Net
 load_net = record {
@@ -67,33 +68,38 @@ load_net = record {
 
 -- ---- the policies
 
-abbrev pub address : ℕ → ℕ → ℕ → ℕ → ℕ
-address a b c d = a * 2 ^ 24 + b * 2 ^ 16 + c * 2 ^ 8 + d
+abbrev pub address_of_bytes : ℕ → ℕ → ℕ → ℕ → ℕ
+address_of_bytes a b c d = a * 2 ^ 24 + b * 2 ^ 16 + c * 2 ^ 8 + d
 
 -- one draw says whether a row drops, and if it doesn't a second one its port
-abbrev pub drops : ℕ → ℕ
-drops x = below 4 (next_drawn x)
+abbrev pub drop_draw : ℕ → ℕ
+drop_draw x = draw_below 4 (next_drawn x)
 
 abbrev pub action_at : ℕ → Action
-action_at x = if drops x == 0 then Drop else Out (below 8 (behind 2 x))
+action_at x = if drop_draw x == 0 then Drop else Out (draw_below 8 (state_after 2 x))
 
 abbrev pub action_ends : ℕ → ℕ
-action_ends x = if drops x == 0 then next_drawn x else behind 2 x
+action_ends x = if drop_draw x == 0 then next_drawn x else state_after 2 x
 
 -- the row of this priority, that is drawn from the state x
 abbrev pub row_at : ℕ → ℕ → Row
 row_at priority x = record {
   priority = priority;
-  src = block_round (address 10 (below 4 (behind 1 x)) (below 256 (behind 2 x)) 0) 24;
-  dst = block_round (address 10 (below 4 (behind 3 x)) 0 0) 16;
+  src = block_round (address_of_bytes 10 (draw_below 4 (state_after 1 x))
+      (draw_below 256 (state_after 2 x)) 0) 24;
+  dst = block_round (address_of_bytes 10 (draw_below 4 (state_after 3 x)) 0 0) 16;
   sport = record { low = 0; high = 65535 };
-  dport = record { low = below 1024 (behind 4 x); high = below 1024 (behind 4 x) };
+  dport = record {
+    low = draw_below 1024 (state_after 4 x);
+    high = draw_below 1024
+        (state_after 4 x);
+  };
   proto = Is 6;
-  action = action_at (behind 4 x);
+  action = action_at (state_after 4 x);
 }
 
 abbrev pub row_ends : ℕ → ℕ
-row_ends x = action_ends (behind 4 x)
+row_ends x = action_ends (state_after 4 x)
 
 -- so many rows, whose priorities are their places from 1, and the state behind them
 abbrev pub rows_drawn : ℕ → ℕ → List Row × ℕ
@@ -105,21 +111,22 @@ rows_drawn (suc k) x =
 -- ---- the schedule
 
 abbrev pub address_at : ℕ → ℕ
-address_at x = address 10 (below 4 (behind 1 x)) (below 256 (behind 2 x)) (below 256 (behind 3 x))
+address_at x = address_of_bytes 10 (draw_below 4 (state_after 1 x))
+    (draw_below 256 (state_after 2 x)) (draw_below 256 (state_after 3 x))
 
 -- the header that is drawn from the state x
 abbrev pub header_drawn : ℕ → Header
 header_drawn x = header_of (record {
   src = address_at x;
-  dst = address_at (behind 3 x);
-  sport = 1024 + below 30000 (behind 7 x);
-  dport = below 1024 (behind 8 x);
+  dst = address_at (state_after 3 x);
+  sport = 1024 + draw_below 30000 (state_after 7 x);
+  dport = draw_below 1024 (state_after 8 x);
   proto = 6;
 })
 
 -- the switch is drawn before the header
 abbrev pub packet_drawn : ℕ → Step
-packet_drawn x = step.Packet (below 8 (next_drawn x)) (header_drawn (next_drawn x))
+packet_drawn x = step.Packet (draw_below 8 (next_drawn x)) (header_drawn (next_drawn x))
 
 -- a packet at a switch, which then goes its way, and what was sent is delivered
 abbrev pub group_at : ℕ → List Event
@@ -130,7 +137,7 @@ abbrev pub groups_from : ℕ → ℕ → List Event × ℕ
 groups_from zero x = ([], x)
 groups_from (suc k) x =
     let before = groups_from k x in
-    (before.0 ++ group_at before.1, behind 9 before.1)
+    (before.0 ++ group_at before.1, state_after 9 before.1)
 
 -- the second policy becomes the newest, and then the link n0-n1 fails
 abbrev pub change_events : List Event

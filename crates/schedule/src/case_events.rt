@@ -1,5 +1,5 @@
 ghost use Rattle.std.specs.Prelude.{◌≡◌, ◌++◌, ◌<◌, ◌^◌, IfOk, OnOk};
-ghost use Rattle.schedule.specs.Case.{address_at, behind, change_events, groups_from, header_drawn, packet_drawn};
+ghost use Rattle.schedule.specs.Case.{address_at, state_after, change_events, groups_from, header_drawn, packet_drawn};
 
 use crate::draws::{Draws, address};
 use five_tuple::{Fields, Header};
@@ -43,7 +43,7 @@ fn push_groups(events: &mut Vec<Event>, draws: &mut Draws, count: u32) -> Result
 
 fn draw_packet(draws: &mut Draws) -> Step
     ensures packet { result ≡ packet_drawn draws.old.state }
-    ensures state { draws.new.state ≡ behind 9 draws.old.state }
+    ensures state { draws.new.state ≡ state_after 9 draws.old.state }
 {
     let switch = draws.below(8);
     let header = draw_header(draws);
@@ -52,7 +52,7 @@ fn draw_packet(draws: &mut Draws) -> Step
 
 fn draw_header(draws: &mut Draws) -> Header
     ensures header { result ≡ header_drawn draws.old.state }
-    ensures state { draws.new.state ≡ behind 8 draws.old.state }
+    ensures state { draws.new.state ≡ state_after 8 draws.old.state }
 {
     let src = draw_address(draws);
     let dst = draw_address(draws);
@@ -69,7 +69,7 @@ fn draw_header(draws: &mut Draws) -> Header
 
 fn draw_address(draws: &mut Draws) -> u32
     ensures address { result ≡ address_at draws.old.state }
-    ensures state { draws.new.state ≡ behind 3 draws.old.state }
+    ensures state { draws.new.state ≡ state_after 3 draws.old.state }
     ensures fits { result < 2 ^ 32 }
 {
     let b = draws.below(4);

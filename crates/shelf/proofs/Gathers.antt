@@ -2,24 +2,26 @@
 use Rattle.std.proofs.Common.{ℕ, ◌≡◌, ◌+◌, Option, Result, Ok, Err, OnErr, List, ◌++◌, length, take, drop, ap, ◌∙◌, sym, arith}
 use Rattle.std.proofs.Math.Seq.{drop-append_seam, take-add, take-append_seam}
 use Rattle.std.proofs.lemmas.List.{length-append, length-drop, take-append-drop, take-append-le}
-use Rattle.shelf.specs.Sink.{gained, GainedPart}
+use Rattle.shelf.specs.Sink.{with_gained, GainedPart}
 use Rattle.shelf.specs.SinkWrites.{gained-gained, IsGathered}
 
 -- what waited was written, so that all is
 pub all_written : (text : List ℕ) (before now later : Option (List ℕ)) (waiting : List ℕ)
-    → IsGathered text before now waiting → later ≡ gained now waiting → later ≡ gained before text
+    → IsGathered text before now waiting → later ≡ with_gained now waiting → later
+    ≡ with_gained before text
 all_written text before now later waiting is more =
-    more ∙ ap (gained now) is.waits ∙ ap (λ b. gained b (drop is.written text)) is.gained
+    more ∙ ap (with_gained now) is.waits ∙ ap (λ b. with_gained b (drop is.written text)) is.gained
     ∙ gained-gained before (take is.written text) (drop is.written text)
-    ∙ ap (gained before) (take-append-drop is.written text)
+    ∙ ap (with_gained before) (take-append-drop is.written text)
 
 -- a piece waits alone
-pub waits_alone : (text piece : List ℕ) (before now : Option (List ℕ)) → now ≡ gained before text
+pub waits_alone : (text piece : List ℕ) (before now : Option (List ℕ)) → now
+    ≡ with_gained before text
     → IsGathered (text ++ piece) before now piece
 waits_alone text piece before now written = record {
   written = length text;
   within = omega (arith, length-append text piece);
-  gained = written ∙ ap (gained before) (sym (take-append_seam text piece));
+  gained = written ∙ ap (with_gained before) (sym (take-append_seam text piece));
   waits = sym (drop-append_seam text piece);
 }
 
@@ -33,10 +35,10 @@ part_written text before now later waiting is part =
     let fewer = part.1 in (
       n + k,
       omega (arith, fewer, ap length is.waits, length-drop n text, is.within),
-      part.2 ∙ ap (λ bytes. gained now (take k bytes)) is.waits
-          ∙ ap (λ b. gained b (take k (drop n text))) is.gained
+      part.2 ∙ ap (λ bytes. with_gained now (take k bytes)) is.waits
+          ∙ ap (λ b. with_gained b (take k (drop n text))) is.gained
           ∙ gained-gained before (take n text) (take k (drop n text))
-          ∙ ap (gained before) (sym (take-add n k text)),
+          ∙ ap (with_gained before) (sym (take-add n k text)),
     )
 
 pub part_if_failed : {T E : Type 0} (r : Result T E) (text : List ℕ)
@@ -54,5 +56,5 @@ part_longer text piece before now part =
     let fewer = part.1 in (
       n,
       omega (arith, fewer, length-append text piece),
-      part.2 ∙ ap (gained before) (sym (take-append-le n text piece (omega (arith, fewer)))),
+      part.2 ∙ ap (with_gained before) (sym (take-append-le n text piece (omega (arith, fewer)))),
     )

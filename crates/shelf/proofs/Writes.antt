@@ -2,15 +2,15 @@
 use Rattle.std.proofs.Common.{◌≡◌, ℕ, ◌+◌, ◌≤◌, Option, List, ◌++◌, length, take, drop, ap, sym, ◌∙◌, arith}
 use Rattle.std.proofs.lemmas.List.{take-take, length-take}
 use Rattle.std.proofs.Math.Seq.{take-add}
-use Rattle.shelf.specs.Sink.{gained}
+use Rattle.shelf.specs.Sink.{with_gained}
 use Rattle.shelf.specs.SinkWrites.{gained-gained}
 
 -- the first bytes, and then the first of a piece that begins behind them
 pub gained_more : (before : Option (List ℕ)) (bytes : List ℕ) (written rest most taken : ℕ)
     → taken ≤ length (take most (take rest (drop written bytes)))
-    → gained (gained before (take written bytes))
+    → with_gained (with_gained before (take written bytes))
     (take taken (take most (take rest (drop written bytes))))
-    ≡ gained before (take (written + taken) bytes)
+    ≡ with_gained before (take (written + taken) bytes)
 gained_more before bytes written rest most taken within =
     let others = drop written bytes in
     let of_piece : taken ≤ most = omega (arith, within, length-take most (take rest others)) in
@@ -19,5 +19,5 @@ gained_more before bytes written rest most taken within =
     let same = take-take taken most (take rest others) of_piece
     ∙ take-take taken rest others of_rest in
     gained-gained before (take written bytes) _
-    ∙ ap (gained before) (ap (λ (x : List ℕ). take written bytes ++ x) same
+    ∙ ap (with_gained before) (ap (λ (x : List ℕ). take written bytes ++ x) same
     ∙ sym (take-add written taken bytes))

@@ -1,6 +1,6 @@
 -- Faults that are ordered beforehand, and counts of many calls.
 use Rattle.std.specs.Prelude.{ℕ, Bool, if◌then◌else◌, List, Contains, zero, suc}
-use Rattle.shelf.specs.Sink.{counted}
+use Rattle.shelf.specs.Sink.{next_count}
 
 -- Faults that were ordered beforehand: the numbers of the calls that are to fail, counted from 1,
 -- how many calls there were, and how often a fault was counted. Both counts stand still at their
@@ -16,17 +16,17 @@ script_of failing = record { failing = failing; calls = 0; faults = 0 }
 
 -- the number of the next call is one of those that are to fail
 abbrev pub FailsNext : CallScript → Type 0
-FailsNext script = Contains script.failing (counted script.calls)
+FailsNext script = Contains script.failing (next_count script.calls)
 
 -- after one more call, which was a fault or not
 abbrev pub after_call : CallScript → Bool → CallScript
 after_call script fault = record {
   failing = script.failing;
-  calls = counted script.calls;
-  faults = if fault then counted script.faults else script.faults;
+  calls = next_count script.calls;
+  faults = if fault then next_count script.faults else script.faults;
 }
 
 -- so many more, or the last value
 abbrev pub counted_up : ℕ → ℕ → ℕ
 counted_up zero n = n
-counted_up (suc many) n = counted (counted_up many n)
+counted_up (suc many) n = next_count (counted_up many n)

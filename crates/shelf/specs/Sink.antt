@@ -3,12 +3,12 @@
 use Rattle.std.specs.Prelude.{◌≡◌, ◌<◌, ℕ, List, ◌++◌, length, take, Option, Some, None, ◌≤◌, ◌+◌, ◌-◌, ◌^◌, min}
 
 -- one more, or the last value
-abbrev pub counted : ℕ → ℕ
-counted n = min (n + 1) (2 ^ 64 - 1)
+abbrev pub next_count : ℕ → ℕ
+next_count n = min (n + 1) (2 ^ 64 - 1)
 
 -- the count rose, or stands at its last value
 abbrev pub Rose : ℕ → ℕ → Type 0
-Rose before now = counted before ≤ now
+Rose before now = next_count before ≤ now
 
 -- what contracts see of each sink: its bytes, where they are known, and how often it failed
 pub record SinkState : Type 0 where
@@ -16,10 +16,11 @@ pub record SinkState : Type 0 where
   pub faults : ℕ
 
 -- what is known of a sink once it gained a piece: where its bytes are known, these and the piece
-abbrev pub gained : Option (List ℕ) → List ℕ → Option (List ℕ)
-gained None piece = None
-gained (Some bytes) piece = Some (bytes ++ piece)
+abbrev pub with_gained : Option (List ℕ) → List ℕ → Option (List ℕ)
+with_gained None piece = None
+with_gained (Some bytes) piece = Some (bytes ++ piece)
 
 -- the sink gained some of these bytes from the front, and not all
 abbrev pub GainedPart : Option (List ℕ) → List ℕ → Option (List ℕ) → Type 0
-GainedPart before bytes now = (n : ℕ) × (n < length bytes) × (now ≡ gained before (take n bytes))
+GainedPart before bytes now = (n : ℕ) × (n < length bytes)
+    × (now ≡ with_gained before (take n bytes))

@@ -4,11 +4,11 @@ use Rattle.std.proofs.Common.{refl, ap, append_assoc}
 use Rattle.shelf.specs.declared.output.SinkError.{SinkError}
 use Rattle.shelf.specs.declared.output.SinkError.TheVariants.{Failed, NoMemory}
 use Rattle.shelf.specs.Scripts.{CallScript}
-use Rattle.shelf.specs.Sink.{SinkState, gained, GainedPart, Rose}
+use Rattle.shelf.specs.Sink.{SinkState, with_gained, GainedPart, Rose}
 
 -- two gains are one of the bytes together
 pub gained-gained : (before : Option (List ℕ)) (first next : List ℕ)
-    → gained (gained before first) next ≡ gained before (first ++ next)
+    → with_gained (with_gained before first) next ≡ with_gained before (first ++ next)
 gained-gained None first next = refl
 gained-gained (Some bytes) first next = ap Some (append_assoc bytes first next)
 
@@ -25,7 +25,7 @@ pub record IsGathered (text : List ℕ) (before now : Option (List ℕ)) (waitin
 -- behind a fault
 pub record IsAfterWrite (bytes : List ℕ) (takes_memory : Bool) (old new : SinkState)
     (result : Result (⊤) SinkError) : Type 0 where
-  pub whole : OnOk result (new.bytes ≡ gained old.bytes bytes)
+  pub whole : OnOk result (new.bytes ≡ with_gained old.bytes bytes)
   pub part : OnErr result (GainedPart old.bytes bytes new.bytes)
   pub faults : old.faults ≤ new.faults
   pub calm : result ≢ Err Failed → new.faults ≡ old.faults

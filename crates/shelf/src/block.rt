@@ -1,6 +1,6 @@
 //! Pieces of a text that are gathered before they are written.
 ghost use Rattle.std.specs.Prelude.{◌≡◌, ◌≢◌, ◌≤◌, ◌+◌, ◌++◌, [], List, Option, ℕ, IsOk, IsErrOf, OnErr, OnOk, length, IsTrue};
-ghost use Rattle.shelf.specs.Sink.{GainedPart, gained, Rose};
+ghost use Rattle.shelf.specs.Sink.{GainedPart, with_gained, Rose};
 ghost use Rattle.shelf.specs.SinkWrites.{IsAfterWrite, IsGathered};
 
 use crate::output::{Sink, SinkError, write_whole};
@@ -91,7 +91,7 @@ impl Block {
     pub fn finish<K: Sink>(self, sink: &mut K) -> Result<(), SinkError>
         ensures whole { (text : List ℕ) (before : Option (List ℕ))
             → IsGathered text before (K.state sink.old).bytes self
-            → OnOk result ((K.state sink.new).bytes ≡ gained before text) }
+            → OnOk result ((K.state sink.new).bytes ≡ with_gained before text) }
         ensures part { (text : List ℕ) (before : Option (List ℕ))
             → IsGathered text before (K.state sink.old).bytes self
             → OnErr result (GainedPart before text (K.state sink.new).bytes) }

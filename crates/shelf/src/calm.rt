@@ -1,6 +1,6 @@
 //! Files and bytes in memory that never fail.
 ghost use Rattle.std.specs.Prelude.{◌≡◌, ◌↔◌, [], Some, true, false, IfOk, IsErrOf};
-ghost use Rattle.shelf.specs.Sink.{counted};
+ghost use Rattle.shelf.specs.Sink.{next_count};
 
 use crate::output::{Sink, SinkError};
 use crate::source::{HeldFiles, Shelf, ShelfError};
@@ -43,7 +43,7 @@ impl Shelf for CalmShelf {
 
     fn read(&mut self, name: &str, limit: u64) -> Result<Vec<u8>, ShelfError>
         ensures no_fault { is_read_fault result ≡ false }
-        ensures after { self.new ≡ record self.old { reads = counted self.old.reads } }
+        ensures after { self.new ≡ record self.old { reads = next_count self.old.reads } }
         ensures content { IfOk result (λ content.
             HasFile self.old.files name.now limit content.items) }
         ensures missing { IsErrOf result ShelfError.Missing ↔ LacksFile self.old.files name.now }

@@ -1,6 +1,6 @@
 //! The sink of bytes, and a write of many bytes to it.
 ghost use Rattle.std.specs.Prelude.{◌≡◌, ◌≢◌, ◌≤◌, ◌<◌, Bool, IsTrue, [], length, take, IfOk, IsOk, OnErr, IsErrOf};
-ghost use Rattle.shelf.specs.Sink.{SinkState, gained, Rose};
+ghost use Rattle.shelf.specs.Sink.{SinkState, with_gained, Rose};
 ghost use Rattle.shelf.specs.declared.output.SinkError.TheVariants.{NoMemory};
 ghost use Rattle.shelf.specs.SinkWrites.{IsAfterWrite};
 
@@ -38,7 +38,7 @@ pub trait Sink {
     fn write(&mut self, piece: &[u8]) -> Result<u64, SinkError>
         ensures within { IfOk result (λ taken. taken ≤ length piece.now) }
         ensures taken { IfOk result (λ taken.
-            (state self.new).bytes ≡ gained (state self.old).bytes (take taken piece.now)) }
+            (state self.new).bytes ≡ with_gained (state self.old).bytes (take taken piece.now)) }
         ensures nothing_taken { OnErr result ((state self.new).bytes ≡ (state self.old).bytes) }
 
         ensures faults { (state self.old).faults ≤ (state self.new).faults }
@@ -56,9 +56,9 @@ pub trait Sink {
 }
 
 /// The most bytes that are given to one write.
-const PIECE_BYTES: usize = 65_536;
+const CHUNK_BYTES: usize = 65_536;
 
-/// Writes all the bytes, in pieces of at most 65,536 bytes, and takes no memory of its own.
+/// Writes all the bytes, in chunks of at most 65,536 bytes, and takes no memory of its own.
 ///
 /// At an error the sink gained the bytes of the writes before it. A write that takes nothing ends
 /// the call as a failed one does.
@@ -70,8 +70,8 @@ pub fn write_whole<K: Sink>(sink: &mut K, bytes: &[u8]) -> Result<(), SinkError>
     let mut written = 0;
     while written < bytes.len() {
         let rest = &bytes[written..];
-        let piece = &rest[..rest.len().min(PIECE_BYTES)];
-        let taken = sink.write(piece)?;
+        let chunk = &rest[..rest.len().min(CHUNK_BYTES)];
+        let taken = sink.write(chunk)?;
         if taken == 0 {
             return Err(SinkError::Failed);
         }

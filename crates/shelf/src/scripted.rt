@@ -1,6 +1,6 @@
 //! Files and bytes in memory, with calls that are ordered to fail.
 ghost use Rattle.std.specs.Prelude.{◌≡◌, ◌≤◌, ◌↔◌, ◌++◌, IsTrue, IfOk, OnErr, IsErrOf, Some, [], true, length, min, take};
-ghost use Rattle.shelf.specs.Sink.{counted};
+ghost use Rattle.shelf.specs.Sink.{next_count};
 ghost use Rattle.shelf.specs.Scripts.{script_of, FailsNext, after_call};
 
 use crate::output::{Sink, SinkError};
@@ -51,7 +51,7 @@ impl Script {
 
     /// Raises the count of faults.
     fn raise(&mut self)
-        ensures after { self.new ≡ record self.old { faults = counted self.old.faults } }
+        ensures after { self.new ≡ record self.old { faults = next_count self.old.faults } }
         ensures counts { self.old.faults ≤ self.new.faults }
     {
         self.faults = self.faults.saturating_add(1);

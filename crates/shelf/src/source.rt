@@ -2,7 +2,7 @@
 ghost use Rattle.std.specs.Prelude.{◌≡◌, ◌≤◌, ◌↔◌, IfOk, IsErrOf, false, find, length, string_bytes};
 ghost use Rattle.std.specs.Option.{ForSome, ForNone, option_copied};
 ghost use Rattle.std.specs.Str.{bytes_eq};
-ghost use Rattle.shelf.specs.Sink.{Rose, counted};
+ghost use Rattle.shelf.specs.Sink.{Rose, next_count};
 ghost use Rattle.shelf.specs.Shelf.{ShelfState, HasFile, LacksFile, HasLongerFile, IsNoFault, file_named, files_of, is_read_fault};
 ghost use Rattle.shelf.specs.declared.source.ShelfError.TheVariants.{NoMemory};
 
@@ -45,7 +45,7 @@ pub trait Shelf {
     /// Want of memory may be answered at any call.
     fn read(&mut self, name: &str, limit: u64) -> Result<Vec<u8>, ShelfError>
         ensures same_files { (state self.new).files ≡ (state self.old).files }
-        ensures reads { (state self.new).reads ≡ counted (state self.old).reads }
+        ensures reads { (state self.new).reads ≡ next_count (state self.old).reads }
         ensures faults { (state self.old).faults ≤ (state self.new).faults }
         ensures failed { IsErrOf result ShelfError.Failed
             → Rose (state self.old).faults (state self.new).faults }

@@ -3,7 +3,7 @@
 //! Nothing is known here of what a file holds or of what reaches a stream, so neither is known to
 //! contracts.
 ghost use Rattle.std.specs.Prelude.{◌≡◌, ◌≤◌, None, false, length, IfOk, ◌≢◌, if◌then◌else◌};
-ghost use Rattle.shelf.specs.Sink.{counted};
+ghost use Rattle.shelf.specs.Sink.{next_count};
 
 use crate::output::{Sink, SinkError};
 use crate::source::{Shelf, ShelfError};
@@ -80,8 +80,8 @@ impl<R: Files + AllocGlobal + Drop> Shelf for DiskShelf<R> {
 
     fn read(&mut self, name: &str, limit: u64) -> Result<Vec<u8>, ShelfError>
         ensures after { self.new ≡ record {
-          faults = (if is_refusal result then counted self.old.faults else self.old.faults);
-          reads = counted self.old.reads;
+          faults = (if is_refusal result then next_count self.old.faults else self.old.faults);
+          reads = next_count self.old.reads;
         } }
         ensures faults { self.old.faults ≤ self.new.faults }
         ensures within { IfOk result (λ content. length content.items ≤ limit) }
@@ -145,7 +145,7 @@ impl<W: Write + Drop> Sink for StdSink<W> {
         ensures within { IfOk result (λ taken. taken ≤ length piece.now) }
         ensures no_memory { result ≢ Err SinkError.NoMemory }
         ensures after { self.new
-            ≡ (if is_write_fault piece.now result then counted self.old else self.old) }
+            ≡ (if is_write_fault piece.now result then next_count self.old else self.old) }
         ensures faults { self.old ≤ self.new }
     {
         match write_through(&mut self.stream, piece) {

@@ -1,7 +1,7 @@
 ghost use Rattle.std.specs.Prelude.{◌≡◌, ◌≤◌, ◌<◌, ◌^◌, ◌++◌, OnOk, length};
 ghost use Rattle.lines.specs.Sizes.{IsAction, IsNumber, IsRule};
 ghost use Rattle.show_text.specs.Text.{with_line_feed, part_text, region_text, rule_lines, rule_text_of, targets_text};
-ghost use Rattle.lines.specs.Pushes.{pushed};
+ghost use Rattle.lines.specs.Pushes.{line_with};
 
 use lines::{Line, push_action, push_names, push_rule, push_word};
 use net_file::Net;
@@ -12,7 +12,7 @@ use ternary::Word;
 /// Adds the start of a partition's line.
 #[tactic(auto, using(lines::proofs::CallerLemmas::pushed_append))]
 pub fn push_region(entry: &mut Line, number: u64, region: &Word)
-    ensures { entry.new ≡ pushed entry.old (region_text number region.now) }
+    ensures { entry.new ≡ line_with entry.old (region_text number region.now) }
 {
     entry.push("part ");
     entry.push_number(number);
@@ -23,7 +23,7 @@ pub fn push_region(entry: &mut Line, number: u64, region: &Word)
 /// Adds a partition with the number of its rules.
 #[tactic(auto, using(lines::proofs::CallerLemmas::pushed_append))]
 pub fn push_part(entry: &mut Line, part: &Partition)
-    ensures text { entry.new ≡ pushed entry.old (part_text part.now) }
+    ensures text { entry.new ≡ line_with entry.old (part_text part.now) }
     ensures of_type { (part.now.number < 2 ^ 64) × (length part.now.rules < 2 ^ 64) }
 {
     push_region(entry, u64::from(part.number), &part.region);
@@ -34,7 +34,7 @@ pub fn push_part(entry: &mut Line, part: &Partition)
 /// Adds the names of targets, each behind a blank.
 #[tactic(auto, using(lines::proofs::CallerLemmas::pushed_append))]
 pub fn push_targets(entry: &mut Line, net: &Net, targets: &Targets)
-    ensures text { entry.new ≡ pushed entry.old (targets_text net.now targets.now) }
+    ensures text { entry.new ≡ line_with entry.old (targets_text net.now targets.now) }
     ensures few { length targets.now ≤ 4 }
 {
     entry.push(" targets");
@@ -44,7 +44,7 @@ pub fn push_targets(entry: &mut Line, net: &Net, targets: &Targets)
 // Adds what a rule's line says.
 #[tactic(auto, using(lines::proofs::CallerLemmas::pushed_append))]
 fn push_rule_text(entry: &mut Line, rule: &Rule)
-    ensures text { entry.new ≡ pushed entry.old (rule_text_of rule.now) }
+    ensures text { entry.new ≡ line_with entry.old (rule_text_of rule.now) }
     ensures of_type { IsNumber rule.now.rank × IsRule rule.now.rule × IsAction rule.now.action }
 {
     entry.push("  rank ");

@@ -2,7 +2,7 @@
 use Rattle.std.proofs.Common.{ℕ, ◌≡◌, ◌∙◌, true, false, List, refl, ap, sym, subst}
 use Rattle.failover.specs.Links.{no_links}
 use Rattle.five_tuple.specs.declared.header.Header.{Header}
-use Rattle.switch_core.specs.Answering.{entered, incoming, looked_up}
+use Rattle.switch_core.specs.Answering.{enter_answer, incoming_packet, looked_up}
 use Rattle.switch_core.specs.Deciding.{packet_with}
 use Rattle.switch_core.specs.Ends.{Site, are_isolated, cause_of, leave_by, next_of, set_out}
 use Rattle.switch_core.specs.State.{SwitchValue, call_counted, serves}
@@ -32,21 +32,21 @@ module _ (s after : SwitchValue) (site : Site) (number : ℕ) (header : Header)
   pub admitted : (ingress : ℕ) → after ≡ call_counted s → serves s ≡ true → ingress ≡ s.number →
       answer_of s site (packet_with number header ingress no_links) verdict
       ≡ looked_up s site (packet_with number header ingress no_links) →
-      entry.Answered (answer_of after site (incoming s number header) verdict)
-      ≡ entered s site (incoming s number header)
+      entry.Answered (answer_of after site (incoming_packet s number header) verdict)
+      ≡ enter_answer s site (incoming_packet s number header)
   admitted ingress is serving here looked =
-      ap entry.Answered (answer_counted s after site (incoming s number header) verdict is
+      ap entry.Answered (answer_counted s after site (incoming_packet s number header) verdict is
       ∙ subst (λ i. answer_of s site (packet_with number header i no_links) verdict
       ≡ looked_up s site (packet_with number header i no_links)) here looked)
-      ∙ sym (entry_by s site (incoming s number header) true serving)
+      ∙ sym (entry_by s site (incoming_packet s number header) true serving)
 
   -- and what is answered then
   pub answered : (answer : Answer) (ingress : ℕ) (down : List ℕ) → ingress ≡ s.number →
       down ≡ no_links →
       answer ≡ answer_of after site (packet_with number header ingress down) verdict →
-      entry.Answered (answer_of after site (incoming s number header) verdict)
-      ≡ entered s site (incoming s number header) →
-      entry.Answered answer ≡ entered s site (incoming s number header)
+      entry.Answered (answer_of after site (incoming_packet s number header) verdict)
+      ≡ enter_answer s site (incoming_packet s number header) →
+      entry.Answered answer ≡ enter_answer s site (incoming_packet s number header)
   answered answer ingress down here none is so =
       ap entry.Answered (is
       ∙ ap (λ i. answer_of after site (packet_with number header i down) verdict) here
@@ -55,5 +55,5 @@ module _ (s after : SwitchValue) (site : Site) (number : ℕ) (header : Header)
 
 -- at a switch that doesn't serve
 pub not_admitted : (s : SwitchValue) (site : Site) (packet : Packet) → serves s ≡ false →
-    entry.Closed ≡ entered s site packet
+    entry.Closed ≡ enter_answer s site packet
 not_admitted s site packet closed = sym (entry_by s site packet false closed)

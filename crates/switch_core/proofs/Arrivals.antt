@@ -9,7 +9,7 @@ use Rattle.policy_rules.specs.declared.rules.Partition.{Partition}
 use Rattle.tunnel.specs.Tunnel.{TunnelValue}
 use Rattle.switch_table.specs.declared.tables.Tables.{Tables}
 use Rattle.switch_core.specs.AnswerLaws.{IsRightAnswer, IsArriving, IsDecidedIn, IsEntry}
-use Rattle.switch_core.specs.Answering.{IsAtAuthority, arrived, arrived_on, decided_in, entered, looked_up, packet_of}
+use Rattle.switch_core.specs.Answering.{IsAtAuthority, arrive_answer, arrived_on, decided_in, enter_answer, looked_up, packet_of}
 use Rattle.switch_core.specs.Deciding.{IsFirstHit, place_of_first, no_part, own_part, part_numbered}
 use Rattle.switch_core.specs.Ends.{Site}
 use Rattle.switch_core.specs.State.{SwitchValue, held_tables, holds_version, serves}
@@ -23,15 +23,15 @@ use Rattle.switch_core.proofs.Held.{own_hit}
 -- ---- a packet comes in
 
 pub entry_by : (s : SwitchValue) (site : Site) (packet : Packet) (test : Bool) →
-    serves s ≡ test → entered s site packet
+    serves s ≡ test → enter_answer s site packet
     ≡ cond test (entry.Answered (looked_up s site packet)) entry.Closed
-unfolding entered
+unfolding enter_answer
 entry_by s site packet test is =
     ap (λ (b : Bool). cond b (entry.Answered (looked_up s site packet)) entry.Closed) is
 
 pub entry_is : (s : SwitchValue) (site : Site) (packet : Packet) →
-    IsEntry s site packet (entered s site packet)
-unfolding entered
+    IsEntry s site packet (enter_answer s site packet)
+unfolding enter_answer
 entry_is s site packet = record {
   closed = by_test (serves s);
   answered = λ ready. (
@@ -50,17 +50,17 @@ entry_is s site packet = record {
 -- ---- a packet is at the end of its route
 
 pub arrive_out : (s : SwitchValue) (site : Site) (t : TunnelValue) (port : ℕ) →
-    t.leg ≡ Exit port → arrived s site t ≡ arrival.Out port
-unfolding arrived
+    t.leg ≡ Exit port → arrive_answer s site t ≡ arrival.Out port
+unfolding arrive_answer
 arrive_out s site t port leg = ap (arrived_on s site (packet_of t)) leg
 
 -- by the tables of the leg's version, if they are held
 arrived_by : (s : SwitchValue) (site : Site) (t : TunnelValue) (version partition : ℕ)
     (held : Option Tables) → t.leg ≡ Seek version partition → held_tables s version ≡ held →
-    arrived s site t ≡ arrival.Answered
+    arrive_answer s site t ≡ arrival.Answered
     (option_map_or (decided_in s site (packet_of t) partition) held
     (looked_up s site (packet_of t)))
-unfolding arrived
+unfolding arrive_answer
 arrived_by s site t version partition held leg is =
     ap (arrived_on s site (packet_of t)) leg
     ∙ ap (λ (o : Option Tables). arrival.Answered
@@ -91,7 +91,7 @@ hit_on s t version partition tables arriving leg held =
 pub arrive_held : (s : SwitchValue) (site : Site) (t : TunnelValue) (version partition : ℕ)
     (tables : Tables) →
     IsArriving s t → t.leg ≡ Seek version partition → held_tables s version ≡ Some tables →
-    (answer : Answer) × (arrived s site t ≡ arrival.Answered answer)
+    (answer : Answer) × (arrive_answer s site t ≡ arrival.Answered answer)
     × IsDecidedIn s site (packet_of t) version tables partition answer
 unfolding decided_in
 arrive_held s site t version partition tables arriving leg held = (
@@ -109,7 +109,7 @@ none_held (Some tables) is = cc
 
 pub arrive_anew : (s : SwitchValue) (site : Site) (t : TunnelValue) (version partition : ℕ) →
     IsArriving s t → t.leg ≡ Seek version partition → IsFalse (holds_version s version) →
-    (answer : Answer) × (arrived s site t ≡ arrival.Answered answer)
+    (answer : Answer) × (arrive_answer s site t ≡ arrival.Answered answer)
     × IsRightAnswer s site (packet_of t) answer
 arrive_anew s site t version partition arriving leg gone = (
   looked_up s site (packet_of t),

@@ -26,7 +26,7 @@ use Rattle.switch_table.specs.declared.search.Found.TheVariants.{Cached, Authori
 use Rattle.switch_table.specs.declared.tables.Tables.{Tables}
 use Rattle.ctrl_msg.specs.declared.message.Body.{Body}
 use Rattle.switch_core.specs.AnswerLaws.{IsRightAnswer, IsArriving, IsByOwnRule, IsDecidedIn, IsDecision, IsReady, lookup_by_stamp, route_known, rule_to_cache, setting_out}
-use Rattle.switch_core.specs.Answering.{arrived, entered, looked_up, packet_of}
+use Rattle.switch_core.specs.Answering.{arrive_answer, enter_answer, looked_up, packet_of}
 use Rattle.switch_core.specs.Deciding.{by_entry, by_rule, own_part}
 use Rattle.switch_core.specs.Ends.{Site, cause_of, next_of}
 use Rattle.switch_core.specs.State.{SwitchValue, held_tables, stamp_tables}
@@ -140,7 +140,7 @@ by_lookup s site packet answer ready law = by_found (lookup_by_stamp s packet.he
 
 pub decided_on_entry : (s : SwitchValue) (site : Site) (packet : Packet) (decision : Decision)
     (cache : Option Body) (way : Next) → IsReady s packet.header →
-    entered s site packet ≡ entry.Answered (Decided decision cache way) →
+    enter_answer s site packet ≡ entry.Answered (Decided decision cache way) →
     IsDecision s site packet decision cache way
 decided_on_entry s site packet decision cache way ready is =
     let both : entry.Answered (looked_up s site packet)
@@ -152,14 +152,14 @@ decided_on_entry s site packet decision cache way ready is =
 
 pub decided_on_arrival : (s : SwitchValue) (site : Site) (t : TunnelValue) (decision : Decision)
     (cache : Option Body) (way : Next) → IsArriving s t →
-    arrived s site t ≡ arrival.Answered (Decided decision cache way) →
+    arrive_answer s site t ≡ arrival.Answered (Decided decision cache way) →
     IsDecision s site (packet_of t) decision cache way
 decided_on_arrival s site t decision cache way arriving is = by_leg t.leg refl
   where
     packet : Packet
     packet = packet_of t
 
-    by_answer : (answer : Answer) → arrived s site t ≡ arrival.Answered answer →
+    by_answer : (answer : Answer) → arrive_answer s site t ≡ arrival.Answered answer →
         IsSourced s site packet answer → IsDecision s site packet decision cache way
     by_answer answer came sourced =
         let both : arrival.Answered answer ≡ arrival.Answered (Decided decision cache way) =

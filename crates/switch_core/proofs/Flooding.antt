@@ -32,9 +32,9 @@ told_one near body n =
     ∙ map-append (for_switch body) (filter (has near) (range_with_len 0 n))
     (cond (has near n) (n ∷ []) [])
 
-pub told_near : (near : ℕ) (body : Body) (n : ℕ) → has near n ≡ true →
+pub adverts_near : (near : ℕ) (body : Body) (n : ℕ) → has near n ≡ true →
     told near body (n + 1) ≡ told near body n ++ record { to = Switch n; body = body } ∷ []
-told_near near body n is =
+adverts_near near body n is =
     told_one near body n ∙ ap (λ (b : Bool). told near body n
     ++ map (for_switch body) (cond b (n ∷ []) [])) is
 

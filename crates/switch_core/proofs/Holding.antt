@@ -7,7 +7,7 @@ use Rattle.failover.specs.declared.advert.Advert.{Advert}
 use Rattle.failover.specs.Adverts.{after_hearing, is_news}
 use Rattle.failover.proofs.Adverts.{after_no_news}
 use Rattle.switch_table.specs.declared.tables.Tables.{Tables}
-use Rattle.switch_core.specs.Hearing.{collected_to, informed, installed, is_news_here, raised_to}
+use Rattle.switch_core.specs.Hearing.{collected_to, with_heard, with_installed, is_news_here, raised_to}
 use Rattle.switch_core.specs.State.{SwitchValue, held_tables, holds_version}
 
 -- ---- tables
@@ -69,10 +69,10 @@ some_or None other is = cc
 some_or (Some tables) other is = refl
 
 pub held_once_installed : (s : SwitchValue) (tables : Tables) (version : ℕ) →
-    held_tables (installed s tables) version
+    held_tables (with_installed s tables) version
     ≡ option_or (held_tables s version)
     (cond ((tables.version == version) && nat_lt s.collected version) (Some tables) None)
-unfolding installed
+unfolding with_installed
 held_once_installed s tables version =
     by_tests (holds_version s tables.version) (nat_le tables.version s.collected)
     (tables.version == version) refl refl refl
@@ -104,9 +104,9 @@ unfolding raised_to
 stamp_once_raised s version = grind (arith, nat_tests)
 
 pub database_once_informed : (s : SwitchValue) (advert : Advert) →
-    (informed s advert).database
+    (with_heard s advert).database
     ≡ cond (advert.origin == s.number) s.database (after_hearing s.database advert)
-unfolding informed is_news_here
+unfolding with_heard is_news_here
 database_once_informed s advert =
     by_tests (advert.origin == s.number) (is_news s.database advert) refl
   where

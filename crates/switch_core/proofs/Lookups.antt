@@ -22,7 +22,7 @@ use Rattle.switch_table.specs.declared.search.Found.{Found}
 use Rattle.switch_table.specs.declared.search.Found.TheVariants.{Cached, Authority, Redirect}
 use Rattle.switch_table.specs.declared.tables.Tables.{Tables}
 use Rattle.switch_core.specs.AnswerLaws.{IsRightAnswer, IsDecidedIn, IsReady, lookup_by_stamp, route_known, setting_out}
-use Rattle.switch_core.specs.Answering.{IsUncached, answer_by, decided_at, entered, incoming, looked_up, seek_by}
+use Rattle.switch_core.specs.Answering.{IsUncached, answer_by, decided_at, enter_answer, incoming_packet, looked_up, seek_by}
 use Rattle.switch_core.specs.Deciding.{IsFirstHit, IsFound, by_entry, rule_for_cache, no_part, no_rule, own_part, part_numbered, rule_in}
 use Rattle.switch_core.specs.Ends.{Site, cause_of, next_of, set_out}
 use Rattle.switch_core.specs.State.{IsSwitch, SwitchValue, held_tables, holds_version, no_tables, serves, stamp_tables}
@@ -213,13 +213,13 @@ lookup_uncached s site packet here = by_found (lookup_by_stamp s packet.header)
         (set_out s site.near packet (SeekLeg (stamp_tables s).version partition) targets)
 
 pub entry_uncached : (s : SwitchValue) (site : Site) (number : ℕ) (header : Header) →
-    IsUncached (entered s site (incoming s number header))
-unfolding entered
+    IsUncached (enter_answer s site (incoming_packet s number header))
+unfolding enter_answer
 entry_uncached s site number header = by_test (serves s)
   where
     by_test : (test : Bool) → IsUncached (cond test
-        (entry.Answered (looked_up s site (incoming s number header))) entry.Closed)
-    by_test true = lookup_uncached s site (incoming s number header) refl
+        (entry.Answered (looked_up s site (incoming_packet s number header))) entry.Closed)
+    by_test true = lookup_uncached s site (incoming_packet s number header) refl
     by_test false = tt
 
 -- the answer to a packet that comes in at a switch that serves
@@ -227,11 +227,12 @@ pub entered_by : (s : SwitchValue) (site : Site) (number : ℕ) (header : Header
     (down : List ℕ) (answer : Answer) → ingress ≡ s.number → down ≡ no_links → serves s ≡ true
     → answer ≡ looked_up s site
     (record { number = number; header = header; ingress = ingress; down = down })
-    → entry.Answered answer ≡ entered s site (incoming s number header)
-unfolding entered
+    → entry.Answered answer ≡ enter_answer s site (incoming_packet s number header)
+unfolding enter_answer
 entered_by s site number header ingress down answer here none serving is =
     subst (λ t. entry.Answered answer ≡ cond t
-    (entry.Answered (looked_up s site (incoming s number header))) entry.Closed) (sym serving)
+    (entry.Answered (looked_up s site (incoming_packet s number header))) entry.Closed)
+    (sym serving)
     (ap entry.Answered (is
     ∙ ap (λ i. looked_up s site
     (record { number = number; header = header; ingress = i; down = down })) here

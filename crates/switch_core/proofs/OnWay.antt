@@ -19,7 +19,7 @@ use Rattle.tunnel.specs.Moves.{here, marked_down, next, on_route, route_from_her
 use Rattle.tunnel.specs.Tunnel.{TunnelValue}
 use Rattle.switch_core.specs.AnswerLaws.{IsSamePacket, down_with, way_around}
 use Rattle.switch_core.specs.Ends.{cause_of}
-use Rattle.switch_core.specs.Moving.{Moved, link_found_down, hopped, hopped_to, moved, moved_along, rerouted_here}
+use Rattle.switch_core.specs.Moving.{Moved, link_found_down, hop_answer, hopped_to, move_answer, moved_along, rerouted_here}
 use Rattle.switch_core.specs.State.{SwitchValue}
 use Rattle.switch_core.specs.declared.answers.HopEnd.TheVariants.{Arrive, Move, Stuck}
 
@@ -50,33 +50,33 @@ down_is near t other = by_next (next t)
 -- ---- the next link
 
 pub hop_arrives : (s : SwitchValue) (near : ℕ) (t : TunnelValue) → next t ≡ None →
-    hopped s near t ≡ record { end = Arrive; tunnel = t }
-unfolding hopped
+    hop_answer s near t ≡ record { end = Arrive; tunnel = t }
+unfolding hop_answer
 hop_arrives s near t none =
     ap (λ (after : Option ℕ). hopped_to s near t (link_found_down near after)) none
-    ∙ ap (moved t) none
+    ∙ ap (move_answer t) none
 
 pub hop_moves : (s : SwitchValue) (near : ℕ) (t : TunnelValue) (other : ℕ) →
     next t ≡ Some other → IsTrue (has near other) →
-    hopped s near t ≡ record { end = Move other; tunnel = record t { place = t.place + 1 } }
-unfolding hopped
+    hop_answer s near t ≡ record { end = Move other; tunnel = record t { place = t.place + 1 } }
+unfolding hop_answer
 hop_moves s near t other is usable =
     ap (λ (after : Option ℕ). hopped_to s near t (link_found_down near after)) is
     ∙ ap (λ (test : Bool). hopped_to s near t (cond test None (Some other))) usable
-    ∙ ap (moved t) is
+    ∙ ap (move_answer t) is
 
 -- along the way around a link
 hop_around : (s : SwitchValue) (near : ℕ) (t : TunnelValue) (other : ℕ)
     (way : Option (List ℕ)) → link_found_down near (next t) ≡ Some other →
     way_around s near t other ≡ way →
-    hopped s near t ≡ moved_along s near (marked_down t other) way
-unfolding hopped rerouted_here
+    hop_answer s near t ≡ moved_along s near (marked_down t other) way
+unfolding hop_answer rerouted_here
 hop_around s near t other way found is =
     ap (hopped_to s near t) found ∙ ap (moved_along s near (marked_down t other)) is
 
 pub hop_stuck : (s : SwitchValue) (near : ℕ) (t : TunnelValue) (other : ℕ) →
     link_found_down near (next t) ≡ Some other → way_around s near t other ≡ None →
-    hopped s near t ≡ record {
+    hop_answer s near t ≡ record {
       end = Stuck (cause_of s near (down_with t other) t.leg t.targets);
       tunnel = record t { down = down_with t other };
     }
@@ -85,11 +85,11 @@ hop_stuck s near t other found none = hop_around s near t other None found none
 -- it goes along the way around the link, by the second switch of the way
 abbrev pub IsTurned : SwitchValue → ℕ → TunnelValue → ℕ → List ℕ → Option ℕ → Type 0
 IsTurned s near t other way second = MatchOption second
-    (hopped s near t ≡ record {
+    (hop_answer s near t ≡ record {
       end = Arrive;
       tunnel = record t { route = way; place = 0; down = down_with t other };
     })
-    (λ second. hopped s near t ≡ record {
+    (λ second. hop_answer s near t ≡ record {
       end = Move second;
       tunnel = record t { route = way; place = 1; down = down_with t other };
     })
@@ -101,7 +101,7 @@ hop_turns s near t other way found some =
     by_second (slice_get way 1) (hop_around s near t other (Some way) found some)
   where
     by_second : (second : Option ℕ) →
-        hopped s near t ≡ moved (on_route (marked_down t other) way) second →
+        hop_answer s near t ≡ move_answer (on_route (marked_down t other) way) second →
         IsTurned s near t other way second
     by_second None is = is
     by_second (Some second) is = is
@@ -115,10 +115,10 @@ same_but t route place down = refl
 
 -- what holds of each move, and where a packet is stuck, holds of a hop
 each_hop : (s : SwitchValue) (near : ℕ) (t : TunnelValue) (P : Moved → Type 0) →
-    ((on : TunnelValue) → IsSamePacket t on → P (moved on (next on))) →
+    ((on : TunnelValue) → IsSamePacket t on → P (move_answer on (next on))) →
     ((other : ℕ) (cause : Cause) → P (record { end = Stuck cause; tunnel = marked_down t other })) →
-    P (hopped s near t)
-unfolding hopped rerouted_here
+    P (hop_answer s near t)
+unfolding hop_answer rerouted_here
 each_hop s near t P moves stuck = by_found (link_found_down near (next t))
   where
     by_way : (other : ℕ) (way : Option (List ℕ)) →
@@ -132,39 +132,40 @@ each_hop s near t P moves stuck = by_found (link_found_down near (next t))
         by_way other (route_from_here (marked_down t other) s.database near)
 
 pub hop_stands : (s : SwitchValue) (near : ℕ) (t : TunnelValue) (other : ℕ) →
-    (hopped s near t).end ≡ Move other → here (hopped s near t).tunnel ≡ other
+    (hop_answer s near t).end ≡ Move other → here (hop_answer s near t).tunnel ≡ other
 hop_stands s near t other is =
     each_hop s near t (λ m. m.end ≡ Move other → here m.tunnel ≡ other)
     (λ on same. by_next on (next on) refl) (λ from cause is. absurd (cc)) is
   where
     by_next : (on : TunnelValue) (after : Option ℕ) → next on ≡ after →
-        (moved on after).end ≡ Move other → here (moved on after).tunnel ≡ other
+        (move_answer on after).end ≡ Move other → here (move_answer on after).tunnel ≡ other
     by_next on None is end = absurd (cc)
     by_next on (Some after) is end =
         let same : after ≡ other = cc in
         get_or_from_slice_get on.route (on.place + 1) after 0 is ∙ same
 
 pub hop_ends : (s : SwitchValue) (near : ℕ) (t : TunnelValue) →
-    (hopped s near t).end ≡ Arrive → next (hopped s near t).tunnel ≡ None
+    (hop_answer s near t).end ≡ Arrive → next (hop_answer s near t).tunnel ≡ None
 hop_ends s near t is =
     each_hop s near t (λ m. m.end ≡ Arrive → next m.tunnel ≡ None)
     (λ on same. by_next on (next on) refl) (λ from cause is. absurd (cc)) is
   where
     by_next : (on : TunnelValue) (after : Option ℕ) → next on ≡ after →
-        (moved on after).end ≡ Arrive → next (moved on after).tunnel ≡ None
+        (move_answer on after).end ≡ Arrive → next (move_answer on after).tunnel ≡ None
     by_next on None is end = is
     by_next on (Some after) is end = absurd (cc)
 
 pub hop_same : (s : SwitchValue) (near : ℕ) (t : TunnelValue) →
-    IsSamePacket t (hopped s near t).tunnel
+    IsSamePacket t (hop_answer s near t).tunnel
 hop_same s near t =
     each_hop s near t (λ m. IsSamePacket t m.tunnel)
     (λ on same. by_next on (next on) same) (λ other cause. same_but t t.route t.place _)
   where
     by_next : (on : TunnelValue) (after : Option ℕ) → IsSamePacket t on →
-        IsSamePacket t (moved on after).tunnel
+        IsSamePacket t (move_answer on after).tunnel
     by_next on None same = same
-    by_next on (Some after) same = ap (λ (u : TunnelValue). (moved u (Some after)).tunnel) same
+    by_next on (Some after) same = ap (λ (u : TunnelValue). (move_answer u (Some after)).tunnel)
+        same
 
 -- ---- over usable links alone
 
@@ -231,8 +232,8 @@ way_is_usable adverts from near down targets way second is next =
     (sym (has_known adverts from near down from second link.0 link.1) ∙ link.2))
 
 pub hop_usable : (s : SwitchValue) (near : ℕ) (t : TunnelValue) (other : ℕ) →
-    (hopped s near t).end ≡ Move other → IsTrue (has near other)
-unfolding hopped rerouted_here
+    (hop_answer s near t).end ≡ Move other → IsTrue (has near other)
+unfolding hop_answer rerouted_here
 hop_usable s near t other = by_found (link_found_down near (next t)) refl
   where
     no_switch : Option ℕ
@@ -244,14 +245,14 @@ hop_usable s near t other = by_found (link_found_down near (next t)) refl
     by_usable after false usable none same = absurd (cc)
 
     by_next : (after : Option ℕ) → link_found_down near after ≡ no_switch →
-        (moved t after).end ≡ Move other → IsTrue (has near other)
+        (move_answer t after).end ≡ Move other → IsTrue (has near other)
     by_next None none end = absurd (cc)
     by_next (Some after) none end =
         by_usable after (has near after) refl none (let same : after ≡ other = cc in same)
 
     by_second : (on : TunnelValue) (second : Option ℕ) →
         ((other : ℕ) → second ≡ Some other → IsTrue (has near other)) →
-        (moved on second).end ≡ Move other → IsTrue (has near other)
+        (move_answer on second).end ≡ Move other → IsTrue (has near other)
     by_second on None usable end = absurd (cc)
     by_second on (Some second) usable end =
         let same : second ≡ other = cc in usable other (ap Some same)

@@ -22,10 +22,10 @@ use Rattle.switch_table.specs.declared.search.Found.TheVariants.{Cached, Authori
 use Rattle.switch_table.specs.declared.tables.Tables.{Tables}
 use Rattle.ctrl_msg.specs.declared.message.Body.TheVariants.{CacheRule}
 use Rattle.switch_core.specs.AnswerLaws.{IsRightAnswer, IsArrival, IsArriving, IsDecidedIn, IsEntry, IsHop, IsReady, IsWayOn, OwnRule, down_with, lookup_by_stamp, route_known, setting_out, way_around}
-use Rattle.switch_core.specs.Answering.{arrived, entered, looked_up, packet_of}
+use Rattle.switch_core.specs.Answering.{arrive_answer, enter_answer, looked_up, packet_of}
 use Rattle.switch_core.specs.Deciding.{by_rule, own_part}
 use Rattle.switch_core.specs.Ends.{Site, cause_of, next_of}
-use Rattle.switch_core.specs.Moving.{Moved, link_found_down, hopped}
+use Rattle.switch_core.specs.Moving.{Moved, link_found_down, hop_answer}
 use Rattle.switch_core.specs.State.{SwitchValue, held_tables, serves, stamp_tables}
 use Rattle.switch_core.specs.declared.answers.Answer.{Answer}
 use Rattle.switch_core.specs.declared.answers.Answer.TheVariants.{Decided, Seek, Stuck}
@@ -113,10 +113,10 @@ one_answer s site packet answer ready law =
 
 pub one_entry : (s : SwitchValue) (site : Site) (packet : Packet) (answer : Entered) →
     (IsTrue (serves s) → IsReady s packet.header) → IsEntry s site packet answer →
-    answer ≡ entered s site packet
+    answer ≡ enter_answer s site packet
 one_entry s site packet answer ready law = by_test (serves s) refl
   where
-    by_test : (test : Bool) → serves s ≡ test → answer ≡ entered s site packet
+    by_test : (test : Bool) → serves s ≡ test → answer ≡ enter_answer s site packet
     by_test false shut = law.closed.1 shut ∙ sym ((entry_is s site packet).closed.1 shut)
     by_test true serving =
         let one = law.answered (ready serving) in
@@ -127,11 +127,11 @@ one_entry s site packet answer ready law = by_test (serves s) refl
 -- ---- of a packet that arrives
 
 pub one_arrival : (s : SwitchValue) (site : Site) (t : TunnelValue) (answer : Arrived) →
-    IsArriving s t → IsArrival s site t answer → answer ≡ arrived s site t
+    IsArriving s t → IsArrival s site t answer → answer ≡ arrive_answer s site t
 one_arrival s site t answer arriving law = by_leg t.leg refl
   where
     by_tables : (version partition : ℕ) → t.leg ≡ SeekLeg version partition →
-        (held : Option Tables) → held_tables s version ≡ held → answer ≡ arrived s site t
+        (held : Option Tables) → held_tables s version ≡ held → answer ≡ arrive_answer s site t
     by_tables version partition leg (Some tables) held =
         let one = law.decided version partition tables arriving leg held in
         let two = arrive_held s site t version partition tables arriving leg held in
@@ -144,7 +144,7 @@ one_arrival s site t answer arriving law = by_leg t.leg refl
         one.1 ∙ ap arrival.Answered (same_answer s site (packet_of t) one.0 two.0 one.2 two.2)
         ∙ sym two.1
 
-    by_leg : (leg : Leg) → t.leg ≡ leg → answer ≡ arrived s site t
+    by_leg : (leg : Leg) → t.leg ≡ leg → answer ≡ arrive_answer s site t
     by_leg (ExitLeg port) leg = law.out port leg ∙ sym (arrive_out s site t port leg)
     by_leg (SeekLeg version partition) leg =
         by_tables version partition leg (held_tables s version) refl
@@ -185,15 +185,15 @@ one_way_on s site packet action way law = by_action action refl
 -- ---- of a packet on its way
 
 pub one_hop : (s : SwitchValue) (near : ℕ) (t : TunnelValue) (after : Moved) →
-    IsHop s near t after → after ≡ hopped s near t
+    IsHop s near t after → after ≡ hop_answer s near t
 one_hop s near t after law = by_next (next t) refl
   where
     by_way : (other : ℕ) → link_found_down near (next t) ≡ Some other → (way : Option (List ℕ)) →
-        way_around s near t other ≡ way → after ≡ hopped s near t
+        way_around s near t other ≡ way → after ≡ hop_answer s near t
     by_way other found None is =
         law.stuck other found is ∙ sym (hop_stuck s near t other found is)
     by_way other found (Some way) is =
-        same_of (slice_get way 1) after (hopped s near t)
+        same_of (slice_get way 1) after (hop_answer s near t)
         (record {
           end = hop.Arrive;
           tunnel = record t { route = way; place = 0; down = down_with t other };
@@ -205,12 +205,12 @@ one_hop s near t after law = by_next (next t) refl
         (law.turns other way found is) (hop_turns s near t other way found is)
 
     by_test : (other : ℕ) → next t ≡ Some other → (test : Bool) → has near other ≡ test →
-        after ≡ hopped s near t
+        after ≡ hop_answer s near t
     by_test other onward true usable =
         law.moves other onward usable ∙ sym (hop_moves s near t other onward usable)
     by_test other onward false down =
         by_way other ((down_is near t other).1 (onward, down)) (way_around s near t other) refl
 
-    by_next : (after_it : Option ℕ) → next t ≡ after_it → after ≡ hopped s near t
+    by_next : (after_it : Option ℕ) → next t ≡ after_it → after ≡ hop_answer s near t
     by_next None none = law.arrives none ∙ sym (hop_arrives s near t none)
     by_next (Some other) onward = by_test other onward (has near other) refl

@@ -5,7 +5,7 @@ use Rattle.std.proofs.lemmas.Bool.{cases_lt}
 use Rattle.std.proofs.lemmas.Bool.Decides.{nat_tests}
 use Rattle.std.proofs.lemmas.List.{get_or_past, get_or-replicate}
 use Rattle.failover.specs.declared.advert.Advert.{Advert}
-use Rattle.failover.specs.Adverts.{held, is_newer, is_news, after_hearing, no_adverts}
+use Rattle.failover.specs.Adverts.{held_advert, is_newer, is_news, after_hearing, no_adverts}
 use Rattle.failover.proofs.Adverts.{held_others}
 use Rattle.failover.proofs.Newest.{not_newer}
 use Rattle.switch_core.specs.Hearing.{is_news_here}
@@ -27,9 +27,10 @@ below_then number more below is = grind (arith, nat_tests)
 -- none of its own is held where none is held at all
 pub own_none : (number boot seq : ℕ) → HasOwnUpTo no_adverts number boot seq
 own_none number boot seq advert is = elim (cases_lt number 64) [
-  | inl below ↦ (let none : held no_adverts number ≡ None = get_or-replicate 64 number None None
+  | inl below ↦ (let none : held_advert no_adverts number
+      ≡ None = get_or-replicate 64 number None None
       below in cc)
-  | inr past ↦ (let none : held no_adverts number ≡ None =
+  | inr past ↦ (let none : held_advert no_adverts number ≡ None =
       get_or_past no_adverts number None past in cc)
 ]
 
@@ -39,9 +40,9 @@ pub next_is_news : (adverts : List (Option Advert)) (number boot seq up : ℕ) �
     is_news adverts (own_advert number boot (seq + 1) up) ≡ true
 unfolding is_news
 next_is_news adverts number boot seq up below own =
-    below_then number _ below (by_held (held adverts number) refl)
+    below_then number _ below (by_held (held_advert adverts number) refl)
   where
-    by_held : (other : Option Advert) → held adverts number ≡ other →
+    by_held : (other : Option Advert) → held_advert adverts number ≡ other →
         option_map_or (is_newer (own_advert number boot (seq + 1) up)) other true ≡ true
     by_held None is = refl
     by_held (Some other) is = newer_next boot seq other.boot other.seq (own other is)

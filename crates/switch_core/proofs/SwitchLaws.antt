@@ -16,11 +16,11 @@ use Rattle.policy_rules.specs.declared.packet.Cause.{Cause}
 use Rattle.policy_rules.specs.declared.packet.Cause.TheVariants.{NoAuthority, NoRoute}
 use Rattle.ctrl_msg.specs.declared.message.Body.{Body}
 use Rattle.ctrl_msg.specs.declared.message.Body.TheVariants.{Install, OpenAt, Stamp, Collect, CacheRule, Advertise}
-use Rattle.switch_table.specs.Cache.{CacheValue, raised}
+use Rattle.switch_table.specs.Cache.{CacheValue, after_raise}
 use Rattle.switch_table.specs.declared.tables.Tables.{Tables}
 use Rattle.switch_core.specs.declared.packet.Packet.{Packet}
 use Rattle.switch_core.specs.Ends.{are_isolated, cause_of, is_seek, set_out}
-use Rattle.switch_core.specs.Hearing.{after_body, collected_to, with_message, informed, installed, obeys, raised_to}
+use Rattle.switch_core.specs.Hearing.{after_body, collected_to, with_message, with_heard, with_installed, obeys, raised_to}
 use Rattle.switch_core.specs.Laws.{IsHeard}
 use Rattle.switch_core.specs.State.{HasOwnUpTo, SwitchValue, own_advert}
 
@@ -107,8 +107,9 @@ raised_heard s is_open version = by_test (nat_lt s.stamp version) refl
   where
     by_test : (test : Bool) → nat_lt s.stamp version ≡ test →
         IsHeard s (record (cond test
-        (record s { stamp = version; cache = raised version s.cache }) s) { is_open = is_open })
-    by_test true less = kept s is_open version s.collected s.tables (raised version s.cache)
+        (record s { stamp = version; cache = after_raise version s.cache }) s)
+        { is_open = is_open })
+    by_test true less = kept s is_open version s.collected s.tables (after_raise version s.cache)
         s.database (grind (arith, nat_tests)) (omega arith)
     by_test false more = kept s is_open s.stamp s.collected s.tables s.cache s.database
         (omega arith) (omega arith)
@@ -118,13 +119,13 @@ unfolding raised_to
 stamped_heard s version = by_test (nat_lt s.stamp version) refl
   where
     by_test : (test : Bool) → nat_lt s.stamp version ≡ test →
-        IsHeard s (cond test (record s { stamp = version; cache = raised version s.cache }) s)
-    by_test true less = kept s s.is_open version s.collected s.tables (raised version s.cache)
+        IsHeard s (cond test (record s { stamp = version; cache = after_raise version s.cache }) s)
+    by_test true less = kept s s.is_open version s.collected s.tables (after_raise version s.cache)
         s.database (grind (arith, nat_tests)) (omega arith)
     by_test false more = same s
 
 heard_body : (s : SwitchValue) (number : ℕ) (body : Body) → IsHeard s (after_body s number body)
-unfolding installed collected_to informed
+unfolding with_installed collected_to with_heard
 heard_body s number (Install boot tables) = either s _ _ _ (same s)
     (kept s s.is_open s.stamp s.collected (s.tables ++ tables ∷ []) s.cache s.database
     (omega arith) (omega arith))

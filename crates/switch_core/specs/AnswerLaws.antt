@@ -33,10 +33,10 @@ use Rattle.switch_table.specs.declared.search.Found.TheVariants.{Cached, Authori
 use Rattle.switch_table.specs.declared.tables.Tables.{Tables}
 use Rattle.ctrl_msg.specs.declared.message.Body.{Body}
 use Rattle.ctrl_msg.specs.declared.message.Body.TheVariants.{CacheRule}
-use Rattle.switch_core.specs.Answering.{IsAtAuthority, arrived, entered, looked_up, packet_of}
+use Rattle.switch_core.specs.Answering.{IsAtAuthority, arrive_answer, enter_answer, looked_up, packet_of}
 use Rattle.switch_core.specs.Deciding.{IsFirstHit, by_entry, by_rule, own_part}
 use Rattle.switch_core.specs.Ends.{Site, cause_of, next_of}
-use Rattle.switch_core.specs.Moving.{Moved, link_found_down, hopped}
+use Rattle.switch_core.specs.Moving.{Moved, link_found_down, hop_answer}
 use Rattle.switch_core.specs.State.{IsSwitch, SwitchValue, held_tables, holds_version, serves, stamp_tables}
 use Rattle.switch_core.specs.declared.answers.Answer.{Answer}
 use Rattle.switch_core.specs.declared.answers.Answer.TheVariants.{Decided, Seek, Stuck}
@@ -161,21 +161,21 @@ pub record LookupLaws : Type 0 where
 -- ---- a packet comes in
 
 pub record IsEntry (s : SwitchValue) (site : Site) (packet : Packet)
-    (entered : Entered) : Type 0 where
+    (enter_answer : Entered) : Type 0 where
   -- closed exactly where the switch doesn't serve
-  pub closed : (entered ≡ entry.Closed) ↔ IsFalse (serves s)
+  pub closed : (enter_answer ≡ entry.Closed) ↔ IsFalse (serves s)
   -- otherwise it is looked up
   pub answered : IsReady s packet.header →
-      (answer : Answer) × (entered ≡ entry.Answered answer)
+      (answer : Answer) × (enter_answer ≡ entry.Answered answer)
       × IsRightAnswer s site packet answer
 
 -- the answer of `enter` is one, and the only one
 pub record EnterLaws : Type 0 where
   pub is : (s : SwitchValue) (site : Site) (packet : Packet) →
-      IsEntry s site packet (entered s site packet)
+      IsEntry s site packet (enter_answer s site packet)
   pub only : (s : SwitchValue) (site : Site) (packet : Packet)
       (answer : Entered) → (IsTrue (serves s) → IsReady s packet.header) →
-      IsEntry s site packet answer → answer ≡ entered s site packet
+      IsEntry s site packet answer → answer ≡ enter_answer s site packet
 
 -- ---- a packet was decided
 
@@ -206,29 +206,29 @@ pub record ExitLaws : Type 0 where
 -- ---- a packet arrives
 
 pub record IsArrival (s : SwitchValue) (site : Site) (t : TunnelValue)
-    (arrived : Arrived) : Type 0 where
+    (arrive_answer : Arrived) : Type 0 where
   -- at the end of its way to a port it leaves by that port
-  pub out : (port : ℕ) → t.leg ≡ ExitLeg port → arrived ≡ arrival.Out port
+  pub out : (port : ℕ) → t.leg ≡ ExitLeg port → arrive_answer ≡ arrival.Out port
   -- on a leg of a version that the switch holds it is decided by that version: by the first rule of
   -- the leg's partition to hold the header
   pub decided : (version partition : ℕ) (tables : Tables) →
       IsArriving s t → t.leg ≡ SeekLeg version partition → held_tables s version ≡ Some tables →
-      (answer : Answer) × (arrived ≡ arrival.Answered answer)
+      (answer : Answer) × (arrive_answer ≡ arrival.Answered answer)
       × IsDecidedIn s site (packet_of t) version tables partition answer
   -- where the leg's version isn't held it is looked up anew under the stamp, as if it came in here
   -- with the links that it found down
   pub anew : (version partition : ℕ) →
       IsArriving s t → t.leg ≡ SeekLeg version partition → IsFalse (holds_version s version) →
-      (answer : Answer) × (arrived ≡ arrival.Answered answer)
+      (answer : Answer) × (arrive_answer ≡ arrival.Answered answer)
       × IsRightAnswer s site (packet_of t) answer
 
 -- the answer of `arrive` is one, and the only one
 pub record ArriveLaws : Type 0 where
   pub is : (s : SwitchValue) (site : Site) (t : TunnelValue) →
-      IsArrival s site t (arrived s site t)
+      IsArrival s site t (arrive_answer s site t)
   pub only : (s : SwitchValue) (site : Site) (t : TunnelValue)
       (answer : Arrived) → IsArriving s t → IsArrival s site t answer →
-      answer ≡ arrived s site t
+      answer ≡ arrive_answer s site t
 
 -- ---- where decisions come from
 
@@ -255,11 +255,11 @@ pub record DecisionLaws : Type 0 where
   -- so is every decision of a packet that comes in or arrives
   pub on_entry : (s : SwitchValue) (site : Site) (packet : Packet)
       (decision : Decision) (cache : Option Body) (way : Next) → IsReady s packet.header →
-      entered s site packet ≡ entry.Answered (Decided decision cache way) →
+      enter_answer s site packet ≡ entry.Answered (Decided decision cache way) →
       IsDecision s site packet decision cache way
   pub on_arrival : (s : SwitchValue) (site : Site) (t : TunnelValue)
       (decision : Decision) (cache : Option Body) (way : Next) → IsArriving s t →
-      arrived s site t ≡ arrival.Answered (Decided decision cache way) →
+      arrive_answer s site t ≡ arrival.Answered (Decided decision cache way) →
       IsDecision s site (packet_of t) decision cache way
   -- by the tables of a plan, rules of the switch's own decide as the plan's policy does
   pub as_policy : (s : SwitchValue) (header : Header) (decision : Decision) (rows : List Row)
@@ -322,6 +322,6 @@ pub record IsHop (s : SwitchValue) (near : ℕ) (t : TunnelValue) (after : Moved
 
 -- what becomes of a packet by `hop` is one, and the only one
 pub record HopLaws : Type 0 where
-  pub is : (s : SwitchValue) (near : ℕ) (t : TunnelValue) → IsHop s near t (hopped s near t)
+  pub is : (s : SwitchValue) (near : ℕ) (t : TunnelValue) → IsHop s near t (hop_answer s near t)
   pub only : (s : SwitchValue) (near : ℕ) (t : TunnelValue) (after : Moved) →
-      IsHop s near t after → after ≡ hopped s near t
+      IsHop s near t after → after ≡ hop_answer s near t

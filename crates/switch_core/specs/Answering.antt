@@ -71,8 +71,8 @@ abbrev pub CanLookUp : SwitchValue → Type 0
 CanLookUp s = IsTrue (serves s) → IsTrue (holds_version s s.stamp)
 
 -- a packet that comes in at this switch, and met no link
-abbrev pub incoming : SwitchValue → ℕ → Header → Packet
-incoming s number header = record {
+abbrev pub incoming_packet : SwitchValue → ℕ → Header → Packet
+incoming_packet s number header = record {
   number = number;
   header = header;
   ingress = s.number;
@@ -80,8 +80,8 @@ incoming s number header = record {
 }
 
 -- closed exactly where the switch doesn't serve
-unfoldable pub entered : SwitchValue → Site → Packet → Entered
-entered s site packet =
+unfoldable pub enter_answer : SwitchValue → Site → Packet → Entered
+enter_answer s site packet =
     if serves s then entry.Answered (looked_up s site packet) else entry.Closed
 
 -- nothing goes to a cache
@@ -116,5 +116,5 @@ arrived_on s site packet (SeekLeg version partition) =
     arrival.Answered (option_map_or (decided_in s site packet partition)
     (held_tables s version) (looked_up s site packet))
 
-unfoldable pub arrived : SwitchValue → Site → TunnelValue → Arrived
-arrived s site t = arrived_on s site (packet_of t) t.leg
+unfoldable pub arrive_answer : SwitchValue → Site → TunnelValue → Arrived
+arrive_answer s site t = arrived_on s site (packet_of t) t.leg

@@ -6,7 +6,7 @@ use Rattle.std.specs.Option.{option_map_or}
 use Rattle.failover.specs.Adverts.{after_hearing, is_news}
 use Rattle.base.specs.Masks.{has, switches}
 use Rattle.failover.specs.declared.advert.Advert.{Advert}
-use Rattle.switch_table.specs.Cache.{accepted, raised}
+use Rattle.switch_table.specs.Cache.{after_accept, after_raise}
 use Rattle.switch_table.specs.Tables.{AreSoundTables}
 use Rattle.switch_table.specs.declared.cache.CacheEntry.{CacheEntry}
 use Rattle.switch_table.specs.declared.tables.Tables.{Tables}
@@ -32,8 +32,8 @@ obeys s body =
 -- ---- what the switch is afterwards
 
 -- it keeps the tables, unless it has that version or has dropped it
-unfoldable pub installed : SwitchValue → Tables → SwitchValue
-installed s tables =
+unfoldable pub with_installed : SwitchValue → Tables → SwitchValue
+with_installed s tables =
     if holds_version s tables.version || nat_le tables.version s.collected
     then s
     else record s { tables = s.tables ++ tables ∷ [] }
@@ -41,7 +41,7 @@ installed s tables =
 -- its stamp is at least this version; where it rises, the cache is raised to it
 unfoldable pub raised_to : SwitchValue → ℕ → SwitchValue
 raised_to s version = if nat_lt s.stamp version
-    then record s { stamp = version; cache = raised version s.cache }
+    then record s { stamp = version; cache = after_raise version s.cache }
     else s
 
 abbrev pub opened_with : SwitchValue → ℕ → SwitchValue
@@ -55,32 +55,32 @@ collected_to s version = let mark = max s.collected version in record s {
 }
 
 -- the cache takes the rule in, as the one of this message
-abbrev pub learnt : SwitchValue → CacheEntry → SwitchValue
-learnt s entry = record s { cache = accepted s.stamp entry s.cache }
+abbrev pub with_learnt : SwitchValue → CacheEntry → SwitchValue
+with_learnt s entry = record s { cache = after_accept s.stamp entry s.cache }
 
 -- the advert is of another switch, and none of that switch is held or this one is newer
 unfoldable pub is_news_here : SwitchValue → Advert → Bool
 is_news_here s advert = not (advert.origin == s.number) && is_news s.database advert
 
-unfoldable pub informed : SwitchValue → Advert → SwitchValue
-informed s advert = if is_news_here s advert
+unfoldable pub with_heard : SwitchValue → Advert → SwitchValue
+with_heard s advert = if is_news_here s advert
     then record s { database = after_hearing s.database advert }
     else s
 
 -- once it obeyed the message of this number
 abbrev pub after_body : SwitchValue → ℕ → Body → SwitchValue
-after_body s number (Install boot tables) = installed s tables
+after_body s number (Install boot tables) = with_installed s tables
 after_body s number (OpenAt boot version) = opened_with s version
 after_body s number (Stamp boot version) = raised_to s version
 after_body s number (Collect boot version) = collected_to s version
-after_body s number (CacheRule version word rule action) = learnt s (record {
+after_body s number (CacheRule version word rule action) = with_learnt s (record {
   version = version;
   word = word;
   rule = rule;
   action = action;
   message = number;
 })
-after_body s number (Advertise advert) = informed s advert
+after_body s number (Advertise advert) = with_heard s advert
 after_body s number _ = s
 
 unfoldable pub with_message : SwitchValue → ℕ → Body → SwitchValue
@@ -112,5 +112,5 @@ opened_by s (OpenAt boot version) =
 opened_by s _ = None
 
 -- the stamp of a switch that was closed, and opens
-unfoldable pub opened : SwitchValue → Body → Option ℕ
-opened s body = if obeys s body then opened_by s body else None
+unfoldable pub opening_stamp : SwitchValue → Body → Option ℕ
+opening_stamp s body = if obeys s body then opened_by s body else None

@@ -11,7 +11,7 @@ use Rattle.ctrl_msg.specs.declared.message.Body.{Body}
 use Rattle.switch_table.specs.declared.tables.Tables.{Tables}
 use Rattle.switch_core.specs.declared.packet.Packet.{Packet}
 use Rattle.switch_core.specs.Ends.{cause_of, is_seek, set_out}
-use Rattle.switch_core.specs.Hearing.{collected_to, with_message, informed, installed, obeys, raised_to}
+use Rattle.switch_core.specs.Hearing.{collected_to, with_message, with_heard, with_installed, obeys, raised_to}
 use Rattle.switch_core.specs.State.{HasOwnUpTo, SwitchValue, held_tables}
 
 -- what alone a message may change, and that a stamp and a collect mark never fall within a boot
@@ -46,7 +46,7 @@ pub record SwitchLaws : Type 0 where
       with_message s number body ≡ s
   -- tables that come in are held, unless those of their version are or the collect mark is there
   pub after_install : (s : SwitchValue) (tables : Tables) (version : ℕ) →
-      held_tables (installed s tables) version
+      held_tables (with_installed s tables) version
       ≡ option_or (held_tables s version)
       (if (tables.version == version) && nat_lt s.collected version then Some tables else None)
   -- of what was held, exactly the versions above the collect mark are
@@ -57,5 +57,5 @@ pub record SwitchLaws : Type 0 where
       (raised_to s version).stamp ≡ max s.stamp version
   -- adverts of others are heard, and its own are left alone
   pub after_advert : (s : SwitchValue) (advert : Advert) →
-      (informed s advert).database
+      (with_heard s advert).database
       ≡ (if advert.origin == s.number then s.database else after_hearing s.database advert)

@@ -2,7 +2,7 @@
 use Rattle.std.specs.Prelude.{ℕ, ◌+◌, true, false, Some, [], slice_set}
 use Rattle.failover.specs.Adverts.{no_adverts}
 use Rattle.failover.specs.declared.advert.Advert.{Advert}
-use Rattle.switch_table.specs.Cache.{cleared, expired}
+use Rattle.switch_table.specs.Cache.{after_clear, after_expire}
 use Rattle.switch_core.specs.State.{SwitchValue, own_advert}
 
 -- the next advert of its own, of these neighbours
@@ -18,23 +18,23 @@ near_changed s near = record s {
 
 -- the cache entry at a place goes
 abbrev pub entry_expired : SwitchValue → ℕ → SwitchValue
-entry_expired s place = record s { cache = expired place s.cache }
+entry_expired s place = record s { cache = after_expire place s.cache }
 
 -- closed, and with nothing of what it learnt: its number, boot, cache capacity and count are left
-abbrev pub forgetful : SwitchValue → SwitchValue
-forgetful s = record s {
+abbrev pub without_memory : SwitchValue → SwitchValue
+without_memory s = record s {
   is_open = false;
   stamp = 0;
   collected = 0;
   tables = [];
-  cache = cleared s.cache;
+  cache = after_clear s.cache;
   database = no_adverts;
   seq = 0;
 }
 
-abbrev pub crashed : SwitchValue → SwitchValue
-crashed s = record (forgetful s) { is_up = false }
+abbrev pub crashed_switch : SwitchValue → SwitchValue
+crashed_switch s = record (without_memory s) { is_up = false }
 
 -- in its next boot
-abbrev pub restarted : SwitchValue → SwitchValue
-restarted s = record (forgetful s) { is_up = true; boot = s.boot + 1 }
+abbrev pub restarted_switch : SwitchValue → SwitchValue
+restarted_switch s = record (without_memory s) { is_up = true; boot = s.boot + 1 }

@@ -3,7 +3,7 @@
 use Rattle.std.specs.Prelude.{ℕ, Bool, true, Option, Some, None, if◌then◌else◌, List}
 use Rattle.base.specs.Masks.{has}
 use Rattle.tunnel.specs.Tunnel.{TunnelValue}
-use Rattle.tunnel.specs.Moves.{next, advanced, marked_down, on_route, route_from_here}
+use Rattle.tunnel.specs.Moves.{next, advanced_tunnel, marked_down, on_route, route_from_here}
 use Rattle.switch_core.specs.declared.answers.HopEnd.{HopEnd}
 use Rattle.switch_core.specs.declared.answers.HopEnd.TheVariants.{Arrive, Move, Stuck}
 use Rattle.switch_core.specs.Ends.{cause_of}
@@ -15,9 +15,9 @@ pub record Moved : Type 0 where
   pub tunnel : TunnelValue
 
 -- to the next switch of its route, or at its end
-abbrev pub moved : TunnelValue → Option ℕ → Moved
-moved t None = record { end = Arrive; tunnel = t }
-moved t (Some other) = record { end = Move other; tunnel = advanced t }
+abbrev pub move_answer : TunnelValue → Option ℕ → Moved
+move_answer t None = record { end = Arrive; tunnel = t }
+move_answer t (Some other) = record { end = Move other; tunnel = advanced_tunnel t }
 
 -- along a new route; stuck exactly where there is none
 abbrev pub moved_along : SwitchValue → ℕ → TunnelValue → Option (List ℕ) → Moved
@@ -25,7 +25,7 @@ moved_along s near t None = record {
   end = Stuck (cause_of s near t.down t.leg t.targets);
   tunnel = t;
 }
-moved_along s near t (Some route) = moved (on_route t route) (next (on_route t route))
+moved_along s near t (Some route) = move_answer (on_route t route) (next (on_route t route))
 
 -- the switch takes a new route for the packet, by its usable links and what it knows of others
 unfoldable pub rerouted_here : SwitchValue → ℕ → TunnelValue → Moved
@@ -38,11 +38,11 @@ link_found_down near (Some other) = if has near other then None else Some other
 
 -- a link that is found down is marked, and the packet takes a new route; otherwise it goes on
 abbrev pub hopped_to : SwitchValue → ℕ → TunnelValue → Option ℕ → Moved
-hopped_to s near t None = moved t (next t)
+hopped_to s near t None = move_answer t (next t)
 hopped_to s near t (Some other) = rerouted_here s near (marked_down t other)
 
-unfoldable pub hopped : SwitchValue → ℕ → TunnelValue → Moved
-hopped s near t = hopped_to s near t (link_found_down near (next t))
+unfoldable pub hop_answer : SwitchValue → ℕ → TunnelValue → Moved
+hop_answer s near t = hopped_to s near t (link_found_down near (next t))
 
 -- a packet with this next switch finds no link down
 abbrev pub is_free : ℕ → Option ℕ → Bool

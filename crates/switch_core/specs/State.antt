@@ -3,7 +3,7 @@
 -- Networking with DIFANE", SIGCOMM 2010), by the versions of a two-phase update (Reitblatt, Foster,
 -- Rexford, Schlesinger and Walker, "Abstractions for Network Update", SIGCOMM 2012).
 use Rattle.std.specs.Prelude.{ℕ, ◌≡◌, ◌+◌, ◌-◌, ◌^◌, ◌<◌, min, Bool, true, ◌&&◌, ◌==◌, Option, Some, is_some, unwrap_or, List, [], ◌∷◌, find, All, IsFalse}
-use Rattle.failover.specs.Adverts.{held, is_newer}
+use Rattle.failover.specs.Adverts.{held_advert, is_newer}
 use Rattle.failover.specs.declared.advert.Advert.{Advert}
 use Rattle.switch_table.specs.Cache.{CacheValue}
 use Rattle.switch_table.specs.Tables.{AreSoundTables}
@@ -73,7 +73,7 @@ own_advert number boot seq up = record { origin = number; boot = boot; seq = seq
 -- no advert that is held of the switch is newer than this boot and seq
 abbrev pub HasOwnUpTo : List (Option Advert) → ℕ → ℕ → ℕ → Type 0
 HasOwnUpTo adverts number boot seq =
-    (advert : Advert) → held adverts number ≡ Some advert
+    (advert : Advert) → held_advert adverts number ≡ Some advert
     → IsFalse (is_newer advert (own_advert number boot seq 0))
 
 -- what holds of each switch
@@ -83,8 +83,8 @@ pub record IsSwitch (s : SwitchValue) : Type 0 where
   pub own : HasOwnUpTo s.database s.number s.boot s.seq
 
 -- a switch that has just begun its first boot with tables of version 1
-abbrev pub begun : ℕ → ℕ → Tables → List (Option Advert) → SwitchValue
-begun number capacity tables database = record {
+abbrev pub new_switch : ℕ → ℕ → Tables → List (Option Advert) → SwitchValue
+new_switch number capacity tables database = record {
   number = number;
   boot = 1;
   is_up = true;

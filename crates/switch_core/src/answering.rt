@@ -2,7 +2,7 @@ ghost use Rattle.std.specs.Prelude.{◌≡◌, ℕ, List, IsSomeAnd, IsTrue};
 ghost use Rattle.policy_rules.specs.Hosted.{is_in};
 ghost use Rattle.policy_rules.specs.declared.packet.Leg.TheVariants.{Seek as SeekLeg};
 ghost use Rattle.switch_core.specs.declared.answers.Arrived.TheVariants.{Answered};
-ghost use Rattle.switch_core.specs.Exports.{CanLookUp, IsAtAuthority, IsFirstHit, IsFound, IsUncached, Site as SiteValue, answer_by, answer_of, around, arrived, arrived_as, arrived_on, call_counted, decided_at, decided_in, entered, entered_as, holds_version, incoming, looked_up, own_part, packet_of, packet_with, serves};
+ghost use Rattle.switch_core.specs.Exports.{CanLookUp, IsAtAuthority, IsFirstHit, IsFound, IsUncached, Site as SiteValue, answer_by, answer_of, around, arrive_answer, arrived_as, arrived_on, call_counted, decided_at, decided_in, enter_answer, entered_as, holds_version, incoming_packet, looked_up, own_part, packet_of, packet_with, serves};
 
 use crate::answers::{Arrived, Decision, Entered};
 use crate::deciding::{cache_word, found_in, own_part, rule_in};
@@ -28,7 +28,8 @@ impl Switch {
     pub fn enter(&mut self, packet: u32, h: &Header, near: u64, ports: &Ports) -> Entered
         requires { CanLookUp self.old }
         ensures answer { result
-            ≡ entered self.old (around near ports.now) (incoming self.old packet h.now) }
+            ≡ enter_answer self.old (around near ports.now)
+            (incoming_packet self.old packet h.now) }
         ensures uncached { IsUncached result }
         ensures after { self.new ≡ call_counted self.old }
     {
@@ -53,10 +54,10 @@ impl Switch {
     pub fn admit(&mut self, h: &Header) -> Option<Verdict>
         requires { CanLookUp self.old }
         ensures answer { (site : SiteValue) (number : ℕ) →
-            entered_as self.new site (incoming self.old number h.now) result
-            ≡ entered self.old site (incoming self.old number h.now) }
+            entered_as self.new site (incoming_packet self.old number h.now) result
+            ≡ enter_answer self.old site (incoming_packet self.old number h.now) }
         ensures uncached { (site : SiteValue) (number : ℕ) →
-            IsUncached (entered_as self.new site (incoming self.old number h.now) result) }
+            IsUncached (entered_as self.new site (incoming_packet self.old number h.now) result) }
         ensures after { self.new ≡ call_counted self.old }
     {
         if !self.serves() {
@@ -73,12 +74,12 @@ impl Switch {
     /// looked up anew under the switch's stamp. `arrive_laws` and `lookup_laws` say how.
     ///
     /// `near` has a bit for each switch to which there is a usable link.
-    #[tactic(auto, unfolding(crate::specs::Answering::arrived))]
+    #[tactic(auto, unfolding(crate::specs::Answering::arrive_answer))]
     pub fn arrive(&mut self, t: &Tunnel, near: u64, ports: &Ports) -> Arrived
         requires serving { IsTrue (serves self.old) }
         requires stamped { CanLookUp self.old }
         requires authority { IsAtAuthority self.old t.now.header t.now.leg }
-        ensures answer { result ≡ arrived self.old (around near ports.now) t.now }
+        ensures answer { result ≡ arrive_answer self.old (around near ports.now) t.now }
         ensures after { self.new ≡ call_counted self.old }
     {
         match self.receive(&t.header, t.ingress, t.leg) {

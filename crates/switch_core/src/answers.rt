@@ -1,4 +1,4 @@
-use base::Listing;
+use base::Items;
 use ctrl_msg::{Body, Message};
 use policy_rules::{Action, Cause, How, Leg};
 use tunnel::Tunnel;
@@ -87,4 +87,4 @@ pub struct Heard {
 }
 
 /// Messages in the order in which they are to be sent.
-pub type Replies = Listing<Message>;
+pub type Replies = Items<Message>;

@@ -2,7 +2,7 @@ ghost use Rattle.std.specs.Prelude.{◌≡◌, ◌<◌, [], ◌∷◌, OnErr, On
 ghost use Rattle.switch_table.specs.Tables.{AreSoundTables};
 ghost use Rattle.ctrl_msg.specs.declared.message.Body.TheVariants.{Advertise};
 ghost use Rattle.ctrl_msg.specs.Kinds.{to_controller};
-ghost use Rattle.switch_core.specs.Hearing.{IsSoundBody, collected_to, flood, with_message, informed, installed, is_news_here, learnt, obeys, opened, opened_with, opened_by, raised_to, replies, replies_to};
+ghost use Rattle.switch_core.specs.Hearing.{IsSoundBody, collected_to, flood, with_message, with_heard, with_installed, is_news_here, with_learnt, obeys, opening_stamp, opened_with, opened_by, raised_to, replies, replies_to};
 
 use crate::answers::{Heard, Replies};
 use crate::kept::KeptTables;
@@ -21,7 +21,7 @@ impl Switch {
     ///
     /// # Errors
     /// Want of memory alone; nothing changes then, and the message is as good as not delivered.
-    #[tactic(auto, unfolding(crate::specs::Hearing::with_message, crate::specs::Hearing::replies, crate::specs::Hearing::opened))]
+    #[tactic(auto, unfolding(crate::specs::Hearing::with_message, crate::specs::Hearing::replies, crate::specs::Hearing::opening_stamp))]
     pub fn hear(
         &mut self,
         alloc: Global,
@@ -32,7 +32,7 @@ impl Switch {
         requires { IsSoundBody body.now }
         ensures after { OnOk result (self.new ≡ with_message self.old number body.now) }
         ensures replies { IfOk result (λ h. h.replies ≡ replies self.old near body.now) }
-        ensures opened { IfOk result (λ h. h.opened ≡ opened self.old body.now) }
+        ensures opened { IfOk result (λ h. h.opened ≡ opening_stamp self.old body.now) }
         ensures err { OnErr result (self.new ≡ self.old) }
     {
         if !self.obeys(body) {
@@ -45,7 +45,7 @@ impl Switch {
         let opened = self.opened_by(body);
         match body {
             Body::Install { tables, .. } => self.install(alloc, tables)?,
-            Body::OpenAt { version, .. } => self.open_at(*version),
+            Body::OpenAt { version, .. } => self.open_with(*version),
             Body::Stamp { version, .. } => self.raise(*version),
             Body::Collect { version, .. } => self.collect(*version),
             Body::CacheRule {
@@ -116,10 +116,10 @@ impl Switch {
     }
 
     // Keeps the tables, with trees for them, unless it has that version or has dropped it.
-    #[tactic(auto, unfolding(crate::specs::Hearing::installed))]
+    #[tactic(auto, unfolding(crate::specs::Hearing::with_installed))]
     fn install(&mut self, alloc: Global, tables: &SharedTables) -> Result<(), AllocError>
         requires { AreSoundTables tables.now }
-        ensures after { OnOk result (self.new ≡ installed self.old tables.now) }
+        ensures after { OnOk result (self.new ≡ with_installed self.old tables.now) }
         ensures err { OnErr result (self.new ≡ self.old) }
     {
         let version = tables.tables().version;
@@ -131,7 +131,7 @@ impl Switch {
     }
 
     // Serves from now on, under at least this version.
-    fn open_at(&mut self, version: u32)
+    fn open_with(&mut self, version: u32)
         ensures { self.new ≡ opened_with self.old version }
     {
         self.raise(version);
@@ -161,16 +161,16 @@ impl Switch {
 
     // Takes a rule into the cache.
     fn learn(&mut self, entry: CacheEntry) -> Result<(), AllocError>
-        ensures after { OnOk result (self.new ≡ learnt self.old entry) }
+        ensures after { OnOk result (self.new ≡ with_learnt self.old entry) }
         ensures err { OnErr result (self.new ≡ self.old) }
     {
         self.cache.accept(self.stamp, entry)
     }
 
     // Takes an advert of another switch into the database.
-    #[tactic(auto, unfolding(crate::specs::Hearing::informed))]
+    #[tactic(auto, unfolding(crate::specs::Hearing::with_heard))]
     fn inform(&mut self, advert: &Advert)
-        ensures { self.new ≡ informed self.old advert.now }
+        ensures { self.new ≡ with_heard self.old advert.now }
     {
         if self.is_news(advert) {
             self.database.hear(advert);
@@ -211,7 +211,7 @@ fn one_reply(alloc: Global, message: Message) -> Result<Replies, AllocError>
 }
 
 // The advert for each neighbour, ascending.
-#[tactic(auto, using(crate::proofs::Flooding::told_none, crate::proofs::Flooding::told_near, crate::proofs::Flooding::told_far))]
+#[tactic(auto, using(crate::proofs::Flooding::told_none, crate::proofs::Flooding::adverts_near, crate::proofs::Flooding::told_far))]
 fn flood(alloc: Global, near: u64, advert: &Advert) -> Result<Replies, AllocError>
     ensures { IfOk result (λ list. list ≡ flood near (Advertise advert.now)) }
 {

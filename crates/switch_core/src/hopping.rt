@@ -1,6 +1,6 @@
 ghost use Rattle.std.specs.Prelude.{◌≡◌, ◌+◌, ◌<◌, IfSome, None, Some, if◌then◌else◌, slice_get};
 ghost use Rattle.tunnel.specs.Moves.{next};
-ghost use Rattle.switch_core.specs.Exports.{call_counted, hopped, is_free, link_found_down, rerouted_here};
+ghost use Rattle.switch_core.specs.Exports.{call_counted, hop_answer, is_free, link_found_down, rerouted_here};
 
 use crate::answers::{Hop, HopEnd};
 use crate::switch::Switch;
@@ -14,11 +14,11 @@ impl Switch {
     /// a new route, on which it moves or arrives, or is stuck. `hop_laws` says how.
     ///
     /// `near` has a bit for each switch to which there is a usable link.
-    #[tactic(auto, unfolding(crate::specs::Moving::hopped))]
+    #[tactic(auto, unfolding(crate::specs::Moving::hop_answer))]
     pub fn hop(&mut self, t: &mut Tunnel, near: u64) -> Hop
         ensures found { result.found ≡ link_found_down near (next t.old) }
-        ensures end { result.end ≡ (hopped self.old near t.old).end }
-        ensures tunnel { t.new ≡ (hopped self.old near t.old).tunnel }
+        ensures end { result.end ≡ (hop_answer self.old near t.old).end }
+        ensures tunnel { t.new ≡ (hop_answer self.old near t.old).tunnel }
         ensures after { self.new ≡ call_counted self.old }
     {
         let hop = match t.next() {

@@ -1,5 +1,5 @@
 ghost use Rattle.std.specs.Prelude.{◌≡◌, ◌+◌, ◌-◌, ◌^◌, ◌<◌, IsFalse, slice_get, option_map};
-ghost use Rattle.switch_core.specs.Life.{crashed, entry_expired, forgetful, near_changed, next_advert, restarted};
+ghost use Rattle.switch_core.specs.Life.{crashed_switch, entry_expired, without_memory, near_changed, next_advert, restarted_switch};
 
 use crate::switch::Switch;
 use failover::{Advert, Database};
@@ -34,7 +34,7 @@ impl Switch {
 
     /// It goes down, and loses all but its number, its boot, its cache's capacity and its count.
     pub fn crash(&mut self)
-        ensures { self.new ≡ crashed self.old }
+        ensures { self.new ≡ crashed_switch self.old }
     {
         self.forget();
         self.is_up = false;
@@ -45,7 +45,7 @@ impl Switch {
         requires down { IsFalse self.old.is_up }
         requires boot { self.old.boot < 2 ^ 32 - 1 }
         ensures boot { result ≡ self.old.boot + 1 }
-        ensures after { self.new ≡ restarted self.old }
+        ensures after { self.new ≡ restarted_switch self.old }
     {
         self.forget();
         self.is_up = true;
@@ -55,7 +55,7 @@ impl Switch {
 
     // All that it learnt is gone.
     fn forget(&mut self)
-        ensures { self.new ≡ forgetful self.old }
+        ensures { self.new ≡ without_memory self.old }
     {
         self.is_open = false;
         self.stamp = 0;

@@ -1,8 +1,8 @@
 ghost use Rattle.std.specs.Prelude.{◌≡◌, ◌<◌, ◌==◌, find, IfOk, IfSome, IsTrue};
 ghost use Rattle.std.specs.Option.{option_copied};
-ghost use Rattle.failover.specs.Adverts.{held};
+ghost use Rattle.failover.specs.Adverts.{held_advert};
 ghost use Rattle.switch_table.specs.Tables.{AreSoundTables};
-ghost use Rattle.switch_core.specs.State.{HasOwnUpTo, IsSwitch, begun, call_counted, held_tables, holds_version, serves, stamp_tables};
+ghost use Rattle.switch_core.specs.State.{HasOwnUpTo, IsSwitch, new_switch, call_counted, held_tables, holds_version, serves, stamp_tables};
 
 use crate::kept::KeptTables;
 use ctrl_msg::SharedTables;
@@ -57,7 +57,7 @@ impl Switch {
         requires sound { AreSoundTables tables }
         requires version { tables.version ≡ 1 }
         requires own { HasOwnUpTo base number 1 1 }
-        ensures { IfOk result (λ switch. switch ≡ begun number cache tables base) }
+        ensures { IfOk result (λ switch. switch ≡ new_switch number cache tables base) }
     {
         let mut list = Vec::new(alloc);
         list.push(KeptTables::new(alloc, &tables)?)?;
@@ -130,7 +130,7 @@ impl Switch {
 
     /// The newest advert that it holds of this origin; `None` exactly where it holds none.
     pub fn known(&self, origin: u32) -> Option<Advert>
-        ensures held { result ≡ held self.now.database origin }
+        ensures held { result ≡ held_advert self.now.database origin }
         ensures origin { IfSome result (λ advert. advert.origin ≡ origin) }
     {
         self.database.get(origin)

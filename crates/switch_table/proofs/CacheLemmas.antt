@@ -6,17 +6,18 @@ use Rattle.std.proofs.lemmas.List.Edits.{length-remove}
 use Rattle.std.proofs.lemmas.List.Kept.{AllPairs-filter}
 use Rattle.std.proofs.lemmas.List.Quantifiers.{all_pairs_remove}
 use Rattle.std.proofs.lemmas.List.Sums.{length-filter, count_by-le-length}
-use Rattle.switch_table.specs.Cache.{CacheValue, HaveDistinctKeys, IsCache, same_key, newest, accepted, expired, raised, cleared}
+use Rattle.switch_table.specs.Cache.{CacheValue, HaveDistinctKeys, IsCache, same_key, newest_entries, after_accept, after_expire, after_raise, after_clear}
 use Rattle.switch_table.specs.declared.cache.CacheEntry.{CacheEntry}
 use Rattle.switch_table.proofs.QueueLemmas.{none_distinct, push_distinct, rest_distinct}
 
 pub cache_begun : (capacity : ℕ) → IsCache (record { entries = []; capacity = capacity })
 cache_begun capacity = record { distinct = none_distinct; few = omega arith }
 
-pub cache_cleared : (cache : CacheValue) → IsCache cache → IsCache (cleared cache)
+pub cache_cleared : (cache : CacheValue) → IsCache cache → IsCache (after_clear cache)
 cache_cleared cache is = record { distinct = none_distinct; few = omega arith }
 
-pub cache_raised : (stamp : ℕ) (cache : CacheValue) → IsCache cache → IsCache (raised stamp cache)
+pub cache_raised : (stamp : ℕ) (cache : CacheValue) → IsCache cache
+    → IsCache (after_raise stamp cache)
 cache_raised stamp cache is =
     let kept = λ (entry : CacheEntry). leb stamp entry.version in
     record {
@@ -32,7 +33,8 @@ remove_past [] (suc place) past = refl
 remove_past (x ∷ xs) zero past = absurd (omega arith)
 remove_past (x ∷ xs) (suc place) past = ap (λ rest. x ∷ rest) (remove_past xs place (omega arith))
 
-pub cache_expired : (place : ℕ) (cache : CacheValue) → IsCache cache → IsCache (expired place cache)
+pub cache_expired : (place : ℕ) (cache : CacheValue) → IsCache cache
+    → IsCache (after_expire place cache)
 cache_expired place cache is = elim (cases_lt place (length cache.entries)) [
   | inl within ↦ record {
     distinct = all_pairs_remove (λ a b. same_key a b ≡ false) cache.entries place within
@@ -50,7 +52,7 @@ length-rest (x ∷ xs) most few = omega (arith, few)
 
 newest_is : (capacity : ℕ) (entries : List CacheEntry) → HaveDistinctKeys entries →
     length entries ≤ capacity + 1 →
-    IsCache (record { entries = newest capacity entries; capacity = capacity })
+    IsCache (record { entries = newest_entries capacity entries; capacity = capacity })
 newest_is capacity entries pairs few =
     let cache_by = λ (more : Bool).
     IsCache (record { entries = cond more (drop 1 entries) entries; capacity = capacity }) in
@@ -64,7 +66,7 @@ newest_is capacity entries pairs few =
     ]
 
 pub cache_accepted : (stamp : ℕ) (entry : CacheEntry) (cache : CacheValue) → IsCache cache →
-    IsCache (accepted stamp entry cache)
+    IsCache (after_accept stamp entry cache)
 cache_accepted stamp entry cache is =
     by_case (nat_lt entry.version stamp) (list_any (same_key entry) cache.entries) refl
   where
@@ -73,7 +75,7 @@ cache_accepted stamp entry cache is =
 
     by_case : (below there : Bool) → list_any (same_key entry) cache.entries ≡ there →
         IsCache (cond (below || there) cache
-        (record { entries = newest cache.capacity with_it; capacity = cache.capacity }))
+        (record { entries = newest_entries cache.capacity with_it; capacity = cache.capacity }))
     by_case true there _ = is
     by_case false true _ = is
     by_case false false absent = newest_is cache.capacity with_it

@@ -19,7 +19,7 @@ use Rattle.std.proofs.Math.Bool.{or_comm}
 use Rattle.base.proofs.ListLemmas.{none_from_not_some}
 use Rattle.ternary.specs.Meets.{word_eq}
 use Rattle.switch_table.specs.Cache.{HaveDistinctKeys, same_key}
-use Rattle.switch_table.specs.Queue.{IsRing, Pair, equal_keys, key_of, pair_of, pairs_from, ring_entries, turned}
+use Rattle.switch_table.specs.Queue.{IsRing, Pair, equal_keys, key_of, pair_of, pairs_from, ring_entries, rotated_list}
 use Rattle.switch_table.specs.declared.cache.CacheEntry.{CacheEntry}
 use Rattle.switch_table.specs.declared.key.CacheKey.{CacheKey}
 
@@ -87,29 +87,29 @@ push_distinct entries entry distinct absent =
 -- ---- a list that is turned
 
 turned_parts : {X : Type 0} (front back : List X) →
-    turned (length front) (front ++ back) ≡ back ++ front
+    rotated_list (length front) (front ++ back) ≡ back ++ front
 turned_parts front back =
     ap (λ xs. xs ++ take (length front) (front ++ back)) (drop-append_seam front back)
     ∙ ap (λ xs. back ++ xs) (take-append_seam front back)
 
 -- the list, cut before a place
 parts_at : {X : Type 0} (place : ℕ) (front back : List X) → length front ≡ place →
-    turned place (front ++ back) ≡ back ++ front
+    rotated_list place (front ++ back) ≡ back ++ front
 parts_at place front back len =
-    sym (ap (λ n. turned n (front ++ back)) len) ∙ turned_parts front back
+    sym (ap (λ n. rotated_list n (front ++ back)) len) ∙ turned_parts front back
 
-turned_home : {X : Type 0} (xs : List X) → turned (length xs) xs ≡ turned 0 xs
+turned_home : {X : Type 0} (xs : List X) → rotated_list (length xs) xs ≡ rotated_list 0 xs
 turned_home xs =
     ap (λ ys. ys ++ take (length xs) xs) (drop_all (length xs) xs (omega arith))
     ∙ take_all (length xs) xs (omega arith) ∙ sym (append-nil xs)
 
 turned_set : {X : Type 0} (place : ℕ) (xs : List X) (x : X) → place < length xs →
-    turned (place + 1) (set xs place x) ≡ drop 1 (turned place xs) ++ x ∷ []
+    rotated_list (place + 1) (set xs place x) ≡ drop 1 (rotated_list place xs) ++ x ∷ []
 turned_set place xs x within =
     let later = drop (place + 1) xs in
     let front = take place xs in
     let next : place + 1 ≡ suc place = omega arith in
-    let back : drop 1 (turned place xs) ≡ later ++ front =
+    let back : drop 1 (rotated_list place xs) ≡ later ++ front =
     at_drop_more (λ ys. drop 1 (ys ++ front)) xs place x within in
     ap (λ ys. ys ++ take (place + 1) (set xs place x))
     (drop-set-lt (place + 1) xs place x (omega arith))
@@ -119,21 +119,23 @@ turned_set place xs x within =
 
 turned_remove_later : {X : Type 0} (first place : ℕ) (xs : List X) → first ≤ length xs →
     place < length xs - first →
-    turned first (remove xs (first + place)) ≡ remove (turned first xs) place
+    rotated_list first (remove xs (first + place)) ≡ remove (rotated_list first xs) place
 turned_remove_later first place xs within here =
     let front = take first xs in
     let back = drop first xs in
     let len : length front ≡ first = length-take-le first xs within in
     let there : first + place - first ≡ place = omega arith in
-    ap (λ ys. turned first (remove ys (first + place))) (sym (take-append-drop first xs))
-    ∙ ap (turned first) (remove-append_right front back first (first + place) len (omega arith)
+    ap (λ ys. rotated_list first (remove ys (first + place))) (sym (take-append-drop first xs))
+    ∙ ap (rotated_list first) (remove-append_right front back first (first + place) len
+    (omega arith)
     ∙ ap (λ n. front ++ remove back n) there)
     ∙ parts_at first front (remove back place) len
     ∙ sym (remove-append_left back front place (omega (arith, length-drop first xs)))
 
 turned_remove_earlier : {X : Type 0} (first place len : ℕ) (xs : List X) → first ≤ length xs →
     len ≡ length xs → place < len → len - first ≤ place →
-    turned (first - 1) (remove xs (place - (len - first))) ≡ remove (turned first xs) place
+    rotated_list (first - 1) (remove xs (place - (len - first)))
+    ≡ remove (rotated_list first xs) place
 turned_remove_earlier first place len xs within same here past =
     let front = take first xs in
     let back = drop first xs in
@@ -142,20 +144,20 @@ turned_remove_earlier first place len xs within same here past =
     let at = place - (len - first) in
     let fewer : length (remove front at) ≡ first - 1 =
     omega (arith, length-remove front at (omega (arith, taken)), taken) in
-    ap (λ ys. turned (first - 1) (remove ys at)) (sym (take-append-drop first xs))
-    ∙ ap (turned (first - 1)) (remove-append_left front back at (omega (arith, taken)))
+    ap (λ ys. rotated_list (first - 1) (remove ys at)) (sym (take-append-drop first xs))
+    ∙ ap (rotated_list (first - 1)) (remove-append_left front back at (omega (arith, taken)))
     ∙ parts_at (first - 1) (remove front at) back fewer
     ∙ sym (remove-append_right back front (len - first) place behind past)
 
 turned_filter : {X : Type 0} (test : X → Bool) (place : ℕ) (xs : List X) →
-    turned (length (filter test (take place xs))) (filter test xs)
-    ≡ filter test (turned place xs)
+    rotated_list (length (filter test (take place xs))) (filter test xs)
+    ≡ filter test (rotated_list place xs)
 turned_filter test place xs =
     let front = take place xs in
     let back = drop place xs in
-    ap (λ ys. turned (length (filter test front)) (filter test ys))
+    ap (λ ys. rotated_list (length (filter test front)) (filter test ys))
     (sym (take-append-drop place xs))
-    ∙ ap (turned (length (filter test front))) (filter-append test front back)
+    ∙ ap (rotated_list (length (filter test front))) (filter-append test front back)
     ∙ turned_parts (filter test front) (filter test back) ∙ sym (filter-append test back front)
 
 -- the last item in the place of another
@@ -196,7 +198,7 @@ filter-map {X} {Y} test f (x ∷ xs) = by_case (test (f x)) (filter-map test f x
 
 pub length-ring : (first : ℕ) (pairs : List Pair) → first ≤ length pairs →
     length (ring_entries first pairs) ≡ length pairs
-length-ring first pairs within = length-map (turned first pairs) entry_of
+length-ring first pairs within = length-map (rotated_list first pairs) entry_of
     ∙ length-append (drop first pairs) (take first pairs)
     ∙ omega (arith, length-drop first pairs, length-take-le first pairs within, within)
 
@@ -209,12 +211,12 @@ abbrev pub IsOwn : Pair → Type 0
 IsOwn pair = pair.0 ≡ key_of pair.1
 
 ring_at : (first place : ℕ) (pairs : List Pair) (pair : Pair) → first ≤ length pairs →
-    place < length pairs → get_or (turned first pairs) place pair ≡ pair →
+    place < length pairs → get_or (rotated_list first pairs) place pair ≡ pair →
     Some pair.1 ≡ slice_get (ring_entries first pairs) place
 ring_at first place pairs pair within here is =
-    let len = length-map (turned first pairs) entry_of in
-    sym (slice_get-map entry_of (turned first pairs) place
-    ∙ ap (option_map entry_of) (slice_get-get_or (turned first pairs) place pair
+    let len = length-map (rotated_list first pairs) entry_of in
+    sym (slice_get-map entry_of (rotated_list first pairs) place
+    ∙ ap (option_map entry_of) (slice_get-get_or (rotated_list first pairs) place pair
     (omega (arith, len, length-ring first pairs within)) ∙ ap Some is))
 
 -- ---- an entry is there
@@ -238,7 +240,7 @@ own_any key (pair ∷ pairs) own =
     ∙ ap (λ b. keyed key pair.1 || b) (own_any key pairs (All-tail IsOwn pair pairs own))
 
 turned_any : {X : Type 0} (test : X → Bool) (place : ℕ) (xs : List X) →
-    list_any test xs ≡ list_any test (turned place xs)
+    list_any test xs ≡ list_any test (rotated_list place xs)
 turned_any test place xs =
     let front = take place xs in
     let back = drop place xs in
@@ -253,7 +255,7 @@ unfolding same_key equal_keys
 ring_has first pairs entry is =
     lookup_any (equal_keys (key_of entry)) pairs
     ∙ turned_any (λ pair. equal_keys (key_of entry) pair.0) first pairs
-    ∙ own_any (key_of entry) (turned first pairs) (All-append IsOwn (drop first pairs)
+    ∙ own_any (key_of entry) (rotated_list first pairs) (All-append IsOwn (drop first pairs)
     (take first pairs) (All-drop IsOwn first pairs is.own) (All-take IsOwn first pairs is.own))
 
 -- a new key goes last into the map
@@ -278,7 +280,7 @@ ring_later first place len pairs pair within same here is =
     let back = drop first pairs in
     let there : get_or pairs (first + place) pair ≡ pair =
     get_or_from_slice_get pairs (first + place) pair pair (sym is) in
-    let at : get_or (turned first pairs) place pair ≡ pair =
+    let at : get_or (rotated_list first pairs) place pair ≡ pair =
     get_or_append_left back front pair place (omega (arith, length-drop first pairs))
     ∙ get_or-drop first pairs place pair ∙ there in
     ring_at first place pairs pair within (omega arith) at
@@ -325,10 +327,10 @@ pub ring_pushed : (first last : ℕ) (pairs new : List Pair) (entry : CacheEntry
 ring_pushed first last pairs new entry entries is are home absent added len =
     let pair = pair_of entry in
     let all : entries ≡ map entry_of pairs =
-    sym are ∙ ap (map entry_of) (ap (λ n. turned n pairs) (home_is first pairs is.within home)
+    sym are ∙ ap (map entry_of) (ap (λ n. rotated_list n pairs) (home_is first pairs is.within home)
     ∙ turned_home pairs ∙ append-nil pairs) in
     let now : ring_entries last new ≡ entries ++ entry ∷ [] =
-    ap (map entry_of) (ap (λ n. turned n new) len ∙ turned_home new ∙ append-nil new ∙ added)
+    ap (map entry_of) (ap (λ n. rotated_list n new) len ∙ turned_home new ∙ append-nil new ∙ added)
     ∙ map-append entry_of pairs (pair ∷ []) ∙ ap (λ es. es ++ entry ∷ []) (sym all) in
     ring_of last new (entries ++ entry ∷ []) (omega (arith, len))
     (rw added (All-append IsOwn pairs (pair ∷ []) is.own
@@ -423,7 +425,7 @@ pub home_place : (first : ℕ) (pairs : List Pair) → first ≤ length pairs �
     0 < length pairs → IsFirstPlace 0 first pairs
 home_place first pairs within past some =
     let home : first ≡ length pairs = omega arith in
-    (some, ap (map entry_of) (sym (turned_home pairs) ∙ ap (λ n. turned n pairs) (sym home)))
+    (some, ap (map entry_of) (sym (turned_home pairs) ∙ ap (λ n. rotated_list n pairs) (sym home)))
 
 -- an entry comes last in the place of the first one
 pub ring_replace : (first place : ℕ) (pairs : List Pair) (entry : CacheEntry) →
@@ -439,8 +441,8 @@ ring_replace first place pairs entry is at absent =
     (omega (arith, at.0, length-set pairs place pair))
     (All-set IsOwn pairs place pair refl is.own)
     (ap (map entry_of) (turned_set place pairs pair at.0)
-    ∙ map-append entry_of (drop 1 (turned place pairs)) (pair ∷ [])
-    ∙ ap (λ es. es ++ entry ∷ []) (map-rest entry_of (turned place pairs)
+    ∙ map-append entry_of (drop 1 (rotated_list place pairs)) (pair ∷ [])
+    ∙ ap (λ es. es ++ entry ∷ []) (map-rest entry_of (rotated_list place pairs)
     ∙ ap (drop 1) at.1))
     (subst HaveDistinctKeys (rest_push old entry some)
     (rest_distinct (old ++ entry ∷ []) (push_distinct old entry is.distinct absent)))
@@ -487,7 +489,7 @@ ring_remove_later first place len pairs is same here =
     (omega (arith, length-remove pairs (first + place) (omega arith)))
     (All-remove pairs (first + place) is.own)
     (ap (map entry_of) (turned_remove_later first place pairs within (omega arith))
-    ∙ map-remove entry_of (turned first pairs) place)
+    ∙ map-remove entry_of (rotated_list first pairs) place)
     (all_pairs_remove (λ a b. same_key a b ≡ false) (ring_entries first pairs) place
     (omega (arith, length-ring first pairs within)) is.distinct)
 
@@ -502,7 +504,7 @@ ring_remove_earlier first place len pairs is same here past =
     (omega (arith, length-remove pairs at (omega arith)))
     (All-remove pairs at is.own)
     (ap (map entry_of) (turned_remove_earlier first place len pairs within same here past)
-    ∙ map-remove entry_of (turned first pairs) place)
+    ∙ map-remove entry_of (rotated_list first pairs) place)
     (all_pairs_remove (λ a b. same_key a b ≡ false) (ring_entries first pairs) place
     (omega (arith, length-ring first pairs within)) is.distinct)
 
@@ -523,7 +525,7 @@ ring_keep version first pairs is =
     ring_of (length (pairs_from version front)) (pairs_from version pairs) _
     (omega (arith, parts)) (All-filter own_kept IsOwn pairs is.own)
     (ap (map entry_of) (turned_filter own_kept first pairs)
-    ∙ filter-map kept entry_of (turned first pairs))
+    ∙ filter-map kept entry_of (rotated_list first pairs))
     (AllPairs-filter (λ a b. same_key a b ≡ false) kept (ring_entries first pairs) is.distinct)
 
 -- how many of the values are from a version on

@@ -19,28 +19,29 @@ abbrev pub HaveDistinctKeys : List CacheEntry → Type 0
 HaveDistinctKeys entries = AllPairs (λ a b. IsFalse (same_key a b)) entries
 
 -- where there are more than so many, the first one goes
-abbrev pub newest : ℕ → List CacheEntry → List CacheEntry
-newest capacity entries = if nat_lt capacity (length entries) then drop 1 entries else entries
+abbrev pub newest_entries : ℕ → List CacheEntry → List CacheEntry
+newest_entries capacity entries = if nat_lt capacity (length entries) then drop 1 entries
+    else entries
 
 -- an entry is taken in last; one of a version below the stamp, or of a key that is there, changes
 -- nothing
-abbrev pub accepted : ℕ → CacheEntry → CacheValue → CacheValue
-accepted stamp entry cache =
+abbrev pub after_accept : ℕ → CacheEntry → CacheValue → CacheValue
+after_accept stamp entry cache =
     if nat_lt entry.version stamp || list_any (same_key entry) cache.entries
     then cache
-    else record cache { entries = newest cache.capacity (cache.entries ++ entry ∷ []) }
+    else record cache { entries = newest_entries cache.capacity (cache.entries ++ entry ∷ []) }
 
 -- the entry at a place goes, and those after it close up
-abbrev pub expired : ℕ → CacheValue → CacheValue
-expired place cache = record cache { entries = remove cache.entries place }
+abbrev pub after_expire : ℕ → CacheValue → CacheValue
+after_expire place cache = record cache { entries = remove cache.entries place }
 
 -- the entries of versions below the stamp go
-abbrev pub raised : ℕ → CacheValue → CacheValue
-raised stamp cache =
+abbrev pub after_raise : ℕ → CacheValue → CacheValue
+after_raise stamp cache =
     record cache { entries = filter (λ entry. nat_le stamp entry.version) cache.entries }
 
-abbrev pub cleared : CacheValue → CacheValue
-cleared cache = record cache { entries = [] }
+abbrev pub after_clear : CacheValue → CacheValue
+after_clear cache = record cache { entries = [] }
 
 -- what holds of each cache
 pub record IsCache (cache : CacheValue) : Type 0 where

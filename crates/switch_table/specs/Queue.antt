@@ -18,12 +18,12 @@ abbrev pub pair_of : CacheEntry → Pair
 pair_of entry = (key_of entry, entry)
 
 -- the list as it is read from a place to the end, and then from the front to that place
-abbrev pub turned : {X : Type 0} → ℕ → List X → List X
-turned place xs = drop place xs ++ take place xs
+abbrev pub rotated_list : {X : Type 0} → ℕ → List X → List X
+rotated_list place xs = drop place xs ++ take place xs
 
 -- the entries of a ring that begins at this place
 abbrev pub ring_entries : ℕ → List Pair → List CacheEntry
-ring_entries first pairs = map (λ pair. pair.1) (turned first pairs)
+ring_entries first pairs = map (λ pair. pair.1) (rotated_list first pairs)
 
 -- those of this version or a later one
 abbrev pub pairs_from : ℕ → List Pair → List Pair

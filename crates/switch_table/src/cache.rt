@@ -1,5 +1,5 @@
 ghost use Rattle.std.specs.Prelude.{◌≡◌, [], slice_get, option_map, OnOk, OnErr};
-ghost use Rattle.switch_table.specs.Cache.{IsCache, accepted, expired, raised, cleared, first_entry};
+ghost use Rattle.switch_table.specs.Cache.{IsCache, after_accept, after_expire, after_raise, after_clear, first_entry};
 ghost use Rattle.switch_table.specs.CacheLaws.{CacheLaws};
 ghost use Rattle.switch_table.specs.Queue.{key_of};
 
@@ -81,7 +81,7 @@ impl Cache {
     /// # Errors
     /// Want of memory alone; nothing changes then.
     pub fn accept(&mut self, stamp: u32, entry: CacheEntry) -> Result<(), AllocError>
-        ensures ok { OnOk result (self.new ≡ accepted stamp entry self.old) }
+        ensures ok { OnOk result (self.new ≡ after_accept stamp entry self.old) }
         ensures err { OnErr result (self.new ≡ self.old) }
     {
         if entry.version < stamp || self.queue.has_key_of(&entry) {
@@ -101,7 +101,7 @@ impl Cache {
     pub fn expire(&mut self, k: u32) -> Option<u32>
         ensures message { result
             ≡ option_map (λ entry. entry.message) (slice_get self.old.entries k) }
-        ensures after { self.new ≡ expired k self.old }
+        ensures after { self.new ≡ after_expire k self.old }
     {
         let entry = self.queue.remove(k as usize)?;
         Some(entry.message)
@@ -109,14 +109,14 @@ impl Cache {
 
     /// Takes out the entries of versions below the stamp.
     pub fn raise(&mut self, stamp: u32)
-        ensures { self.new ≡ raised stamp self.old }
+        ensures { self.new ≡ after_raise stamp self.old }
     {
         self.queue.keep_from(stamp);
     }
 
     /// Takes out all entries.
     pub fn clear(&mut self)
-        ensures { self.new ≡ cleared self.old }
+        ensures { self.new ≡ after_clear self.old }
     {
         self.queue.clear();
     }

@@ -19,7 +19,7 @@ use Rattle.switch_table.specs.declared.tables.PartRow.{PartRow}
 use Rattle.switch_table.specs.declared.tables.Tables.{Tables}
 use Rattle.switch_core.specs.Answering.{CanLookUp, IsAtAuthority}
 use Rattle.switch_core.specs.Deciding.{own_part}
-use Rattle.switch_core.specs.State.{SwitchValue, begun, held_tables, holds_version}
+use Rattle.switch_core.specs.State.{SwitchValue, new_switch, held_tables, holds_version}
 
 abbrev pub whole_row : PartRow
 whole_row = record { region = any_word; targets = 1 ∷ [] }
@@ -67,7 +67,7 @@ own_whole t auth header = rw auth (any_holds (number_of header))
 -- a switch that begins with them
 pub at_authority : (t : Tables) (capacity : ℕ) (base : List (Option Advert)) →
     ((header : Header) → IsSomeAnd (own_part t 0) (λ part. IsTrue (is_in header part))) →
-    (header : Header) → IsAtAuthority (begun 1 capacity t base) header (Seek 1 0)
+    (header : Header) → IsAtAuthority (new_switch 1 capacity t base) header (Seek 1 0)
 at_authority t capacity base own header = by_test (t.version == 1)
   where
     by_test : (test : Bool) → IfSome (cond test (Some t) None)
@@ -76,7 +76,7 @@ at_authority t capacity base own header = by_test (t.version == 1)
     by_test false = tt
 
 pub looks_up : (t : Tables) (capacity : ℕ) (base : List (Option Advert)) → t.version ≡ 1 →
-    CanLookUp (begun 1 capacity t base)
+    CanLookUp (new_switch 1 capacity t base)
 looks_up t capacity base version serving = rw (eq-eqb t.version 1 version) refl
 
 -- a leg of a version that the switch doesn't have

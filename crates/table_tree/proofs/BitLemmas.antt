@@ -13,7 +13,7 @@ use Rattle.ternary.proofs.CallerLemmas.{both_set}
 use Rattle.cut_tree.specs.Cuts.{IsFreeBit}
 use Rattle.table_tree.specs.Cutting.{IsLowest, IsLeastFree, NoneFree}
 use Rattle.table_tree.specs.Regions.{all_fix, some_fix}
-use Rattle.table_tree.specs.declared.node.Spot.{Spot}
+use Rattle.table_tree.specs.declared.node.Candidate.{Candidate}
 
 -- ---- one bit of a mask
 
@@ -33,30 +33,37 @@ or_bit a b k = ap (λ n. n == 1) (bit_at_or a b k)
 
 -- ---- the bits that regions fix
 
-mask_fixes : (spots : List Spot) (index : ℕ) (spot : Spot) (mask bit : ℕ)
-    → spot ≡ get_or spots index spot → mask ≡ spot.region.mask
-    → (bit_at mask bit == 1) ≡ is_fixed_of (get_or spots index spot).region bit
+mask_fixes : (candidates : List Candidate) (index : ℕ) (candidate : Candidate) (mask bit : ℕ)
+    → candidate ≡ get_or candidates index candidate → mask ≡ candidate.region.mask
+    → (bit_at mask bit == 1) ≡ is_fixed_of (get_or candidates index candidate).region bit
 unfolding is_fixed_of
-mask_fixes spots index spot mask bit is same =
-    ap (λ m. bit_at m bit == 1) same ∙ ap (λ (s : Spot). is_fixed_of s.region bit) is
+mask_fixes candidates index candidate mask bit is same =
+    ap (λ m. bit_at m bit == 1) same ∙ ap (λ (s : Candidate). is_fixed_of s.region bit) is
 
-pub all_more : (spots : List Spot) (index : ℕ) (spot : Spot) (bits mask bit : ℕ)
-    → index < length spots → spot ≡ get_or spots index spot → mask ≡ spot.region.mask
-    → (bit_at bits bit == 1) ≡ all_fix (take index spots) bit
-    → (bit_at (bit_and bits mask) bit == 1) ≡ all_fix (take (index + 1) spots) bit
-all_more spots index spot bits mask bit within is same so_far =
+pub all_more : (candidates : List Candidate) (index : ℕ) (candidate : Candidate) (bits mask bit : ℕ)
+    → index < length candidates → candidate ≡ get_or candidates index candidate → mask
+    ≡ candidate.region.mask
+    → (bit_at bits bit == 1) ≡ all_fix (take index candidates) bit
+    → (bit_at (bit_and bits mask) bit == 1) ≡ all_fix (take (index + 1) candidates) bit
+all_more candidates index candidate bits mask bit within is same so_far =
     and_bit bits mask bit ∙ ap (λ t. t && (bit_at mask bit == 1)) so_far
-    ∙ ap (λ t. all_fix (take index spots) bit && t) (mask_fixes spots index spot mask bit is same)
-    ∙ sym (list_all_more (λ (s : Spot). is_fixed_of s.region bit) spots index spot within)
+    ∙ ap (λ t. all_fix (take index candidates) bit && t)
+    (mask_fixes candidates index candidate mask bit is same)
+    ∙ sym (list_all_more (λ (s : Candidate). is_fixed_of s.region bit) candidates index candidate
+    within)
 
-pub some_more : (spots : List Spot) (index : ℕ) (spot : Spot) (bits mask bit : ℕ)
-    → index < length spots → spot ≡ get_or spots index spot → mask ≡ spot.region.mask
-    → (bit_at bits bit == 1) ≡ some_fix (take index spots) bit
-    → (bit_at (bit_or bits mask) bit == 1) ≡ some_fix (take (index + 1) spots) bit
-some_more spots index spot bits mask bit within is same so_far =
+pub some_more : (candidates : List Candidate) (index : ℕ) (candidate : Candidate)
+    (bits mask bit : ℕ)
+    → index < length candidates → candidate ≡ get_or candidates index candidate → mask
+    ≡ candidate.region.mask
+    → (bit_at bits bit == 1) ≡ some_fix (take index candidates) bit
+    → (bit_at (bit_or bits mask) bit == 1) ≡ some_fix (take (index + 1) candidates) bit
+some_more candidates index candidate bits mask bit within is same so_far =
     or_bit bits mask bit ∙ ap (λ t. t || (bit_at mask bit == 1)) so_far
-    ∙ ap (λ t. some_fix (take index spots) bit || t) (mask_fixes spots index spot mask bit is same)
-    ∙ sym (list_any_more (λ (s : Spot). is_fixed_of s.region bit) spots index spot within)
+    ∙ ap (λ t. some_fix (take index candidates) bit || t)
+    (mask_fixes candidates index candidate mask bit is same)
+    ∙ sym (list_any_more (λ (s : Candidate). is_fixed_of s.region bit) candidates index candidate
+    within)
 
 pub all_none : (bit : ℕ) → bit < 104 → (bit_at (2 ^ 104 - 1) bit == 1) ≡ true
 all_none bit within = ap (λ n. n == 1) (bit_at_ones 104 bit within)

@@ -28,58 +28,66 @@ use Rattle.switch_table.specs.declared.search.Found.TheVariants.{Authority, Redi
 use Rattle.switch_table.specs.declared.tables.PartRow.{PartRow}
 use Rattle.switch_table.specs.declared.tables.Tables.{Tables}
 use Rattle.switch_table.proofs.TableLemmas.{count_by-map, find-there, row_at}
-use Rattle.table_tree.specs.Regions.{AreNodeSpots, has_number, spots_of_side, spots_from, spots_of}
+use Rattle.table_tree.specs.Regions.{AreNodeCandidates, has_number, candidates_of_side, candidates_from, candidates_of}
 use Rattle.table_tree.specs.Ruling.{RegionTree, part_tree, rule_shape, rule_tree, seen_tree}
 use Rattle.table_tree.specs.declared.rule_tree.RuleTree.{RuleTree}
-use Rattle.table_tree.specs.Finding.{AreTreesOf, IsEnd, IsFinderTree, IsGrownShape, IsSpotTreeOf, spot_shape_of}
+use Rattle.table_tree.specs.Finding.{AreTreesOf, IsEnd, IsFinderTree, IsGrownShape, IsCandidateTreeOf, candidate_shape_of}
 use Rattle.table_tree.specs.LookupTrees.{LookupTree, CutsHeaderBits, Leaf, Sides, leaf_at}
-use Rattle.table_tree.specs.declared.node.Spot.{Spot}
+use Rattle.table_tree.specs.declared.node.Candidate.{Candidate}
 use Rattle.table_tree.specs.declared.trees.Trees.{Trees}
-use Rattle.table_tree.proofs.NodeLemmas.{cut_is_free, found_from_count, half_node, never_stuck, root_node, several_spots, side_finds, spot_at, spots_count, weight}
+use Rattle.table_tree.proofs.NodeLemmas.{cut_is_free, found_from_count, half_node, never_stuck, root_node, several_candidates, side_finds, candidate_at, candidates_count, weight}
 
 -- ---- the cut bit
 
-pub cuts_bits : (tree : LookupTree ℕ) (spots : List Spot) (region : WordValue) → IsSpotTreeOf spots region tree
+pub cuts_bits : (tree : LookupTree ℕ) (candidates : List Candidate) (region : WordValue)
+    → IsCandidateTreeOf candidates region tree
     → CutsHeaderBits tree
-cuts_bits (Leaf place) spots region is = tt
-cuts_bits (Sides bit low high) spots region is = (
-  (cut_is_free spots region bit is.1).bound,
+cuts_bits (Leaf place) candidates region is = tt
+cuts_bits (Sides bit low high) candidates region is = (
+  (cut_is_free candidates region bit is.1).bound,
   cuts_bits low _ _ is.2,
   cuts_bits high _ _ is.3,
 )
 
 -- ---- how it is grown
 
-pub end_is : (spots : List Spot) (spot : Spot) (place : ℕ) → length spots ≡ 1
-    → spot ≡ get_or spots 0 spot → place ≡ spot.place → IsEnd spots place
-end_is [] spot place one is same = absurd (omega (arith, one))
-end_is (first ∷ []) spot place one is same = record {
+pub end_is : (candidates : List Candidate) (candidate : Candidate) (place : ℕ) → length candidates
+    ≡ 1
+    → candidate ≡ get_or candidates 0 candidate → place ≡ candidate.place → IsEnd candidates place
+end_is [] candidate place one is same = absurd (omega (arith, one))
+end_is (first ∷ []) candidate place one is same = record {
   one = one;
-  there = All-cons (λ (s : Spot). s.place ≡ place) first []
-      (sym (same ∙ ap (λ (s : Spot). s.place) is)) (All-nil (λ (s : Spot). s.place ≡ place));
+  there = All-cons (λ (s : Candidate). s.place ≡ place) first []
+      (sym (same ∙ ap (λ (s : Candidate). s.place) is))
+      (All-nil (λ (s : Candidate). s.place ≡ place));
 }
-end_is (first ∷ second ∷ rest) spot place one is same = absurd (omega (arith, one))
+end_is (first ∷ second ∷ rest) candidate place one is same = absurd (omega (arith, one))
 
 -- a tree that is grown of regions that meet a region of the header space is theirs
-pub grown_tree : HoldsLaws → MeetLaws → (tree : LookupTree ℕ) (spots : List Spot) (region : WordValue)
-    → AreNodeSpots spots region → IsGrownShape spots region tree → IsSpotTreeOf spots region tree
-grown_tree holds_laws meet_laws (Leaf place) spots region node (inl end) = end
-grown_tree holds_laws meet_laws (Leaf place) spots region node (inr stuck) =
-    absurd (stuck.not_one (never_stuck holds_laws meet_laws spots region node stuck.none))
-grown_tree holds_laws meet_laws (Sides bit low high) spots region node is =
-    let free = cut_is_free spots region bit is.1 in (
-      several_spots holds_laws spots region node is.0,
+pub grown_tree : HoldsLaws → MeetLaws → (tree : LookupTree ℕ) (candidates : List Candidate)
+    (region : WordValue)
+    → AreNodeCandidates candidates region → IsGrownShape candidates region tree
+    → IsCandidateTreeOf candidates region tree
+grown_tree holds_laws meet_laws (Leaf place) candidates region node (inl end) = end
+grown_tree holds_laws meet_laws (Leaf place) candidates region node (inr stuck) =
+    absurd (stuck.not_one (never_stuck holds_laws meet_laws candidates region node stuck.none))
+grown_tree holds_laws meet_laws (Sides bit low high) candidates region node is =
+    let free = cut_is_free candidates region bit is.1 in (
+      several_candidates holds_laws candidates region node is.0,
       is.1,
-      grown_tree holds_laws meet_laws low _ _ (half_node spots region bit false node free) is.2,
-      grown_tree holds_laws meet_laws high _ _ (half_node spots region bit true node free) is.3,
+      grown_tree holds_laws meet_laws low _ _ (half_node candidates region bit false node free)
+          is.2,
+      grown_tree holds_laws meet_laws high _ _ (half_node candidates region bit true node free)
+          is.3,
     )
 
 -- that of the rows of sound tables is a finder's
 pub finder_tree : HeaderLaws → HoldsLaws → MeetLaws → (tables : Tables) (trees : Trees)
     → AreSoundTables tables → AreTreesOf tables.parts tables.auth trees
-    → IsFinderTree tables.parts (spot_shape_of trees.tree)
+    → IsFinderTree tables.parts (candidate_shape_of trees.tree)
 finder_tree header_laws holds_laws meet_laws tables trees sound are =
-    grown_tree holds_laws meet_laws (spot_shape_of trees.tree) (spots_of tables.parts) any_word
+    grown_tree holds_laws meet_laws (candidate_shape_of trees.tree) (candidates_of tables.parts)
+    any_word
     (root_node header_laws tables.parts sound.one are.words) are.tree
 
 -- ---- down the tree
@@ -94,28 +102,31 @@ in_half region bit number one free held is =
     ∙ eq-eqb (bit_at number bit) (from_bool one) is
 
 -- the bits of a header lead to the place of the region that has it
-pub leads : (tree : LookupTree ℕ) (spots : List Spot) (region : WordValue) (number : ℕ) (spot : Spot)
-    → IsSpotTreeOf spots region tree → IsTrue (holds region number)
-    → find (has_number number) spots ≡ Some spot → leaf_at number tree ≡ spot.place
-leads (Leaf place) spots region number spot is held found =
-    sym (All-contains (λ (s : Spot). s.place ≡ place) spots spot is.there
-    (find-there (has_number number) spots spot found).0)
-leads (Sides bit low high) spots region number spot is held found =
+pub leads : (tree : LookupTree ℕ) (candidates : List Candidate) (region : WordValue) (number : ℕ)
+    (candidate : Candidate)
+    → IsCandidateTreeOf candidates region tree → IsTrue (holds region number)
+    → find (has_number number) candidates ≡ Some candidate → leaf_at number tree ≡ candidate.place
+leads (Leaf place) candidates region number candidate is held found =
+    sym (All-contains (λ (s : Candidate). s.place ≡ place) candidates candidate is.there
+    (find-there (has_number number) candidates candidate found).0)
+leads (Sides bit low high) candidates region number candidate is held found =
     by_case (bit_at number bit == 1) refl
-    (λ inside. leads high (spots_of_side spots region bit true) (fix_of region bit true) number spot
-    is.3 inside (side_finds spots region bit number true inside ∙ found))
-    (λ inside. leads low (spots_of_side spots region bit false) (fix_of region bit false) number spot
-    is.2 inside (side_finds spots region bit number false inside ∙ found))
+    (λ inside. leads high (candidates_of_side candidates region bit true) (fix_of region bit true)
+    number candidate
+    is.3 inside (side_finds candidates region bit number true inside ∙ found))
+    (λ inside. leads low (candidates_of_side candidates region bit false) (fix_of region bit false)
+    number candidate
+    is.2 inside (side_finds candidates region bit number false inside ∙ found))
   where
     by_case : (b : Bool) → (bit_at number bit == 1) ≡ b
-        → (IsTrue (holds (fix_of region bit true) number) → leaf_at number high ≡ spot.place)
-        → (IsTrue (holds (fix_of region bit false) number) → leaf_at number low ≡ spot.place)
-        → cond b (leaf_at number high) (leaf_at number low) ≡ spot.place
+        → (IsTrue (holds (fix_of region bit true) number) → leaf_at number high ≡ candidate.place)
+        → (IsTrue (holds (fix_of region bit false) number) → leaf_at number low ≡ candidate.place)
+        → cond b (leaf_at number high) (leaf_at number low) ≡ candidate.place
     by_case true set upper lower =
-        let free = cut_is_free spots region bit is.1 in
+        let free = cut_is_free candidates region bit is.1 in
         upper (in_half region bit number true free.free held (eqb-true _ _ set))
     by_case false unset upper lower =
-        let free = cut_is_free spots region bit is.1 in
+        let free = cut_is_free candidates region bit is.1 in
         let zero_bit : bit_at number bit ≡ 0 = elim (cases_eq (bit_at number bit) 1) [
           | inl one ↦ absurd (both_ways _ unset (eq-eqb _ _ one))
           | inr other ↦ omega (arith, bit_at-lt number bit, other)
@@ -124,50 +135,54 @@ leads (Sides bit low high) spots region number spot is held found =
 
 -- ---- the place in the rows
 
--- the spot that is found has the place of the row
-spot_place : (place number : ℕ) (rows : List PartRow) (spot : Spot)
-    → find (has_number number) (spots_from place rows) ≡ Some spot
-    → (spot.place ≡ place + position_or_len (λ (row : PartRow). holds row.region number) rows)
+-- the candidate that is found has the place of the row
+candidate_place : (place number : ℕ) (rows : List PartRow) (candidate : Candidate)
+    → find (has_number number) (candidates_from place rows) ≡ Some candidate
+    → (candidate.place ≡ place + position_or_len (λ (row : PartRow). holds row.region number) rows)
     × (position_or_len (λ (row : PartRow). holds row.region number) rows < length rows)
-spot_place place number [] spot found = absurd (none-some spot found)
-spot_place place number (row ∷ rows) spot found =
-    by_case (holds row.region number) refl found (spot_place (place + 1) number rows spot)
+candidate_place place number [] candidate found = absurd (none-some candidate found)
+candidate_place place number (row ∷ rows) candidate found =
+    by_case (holds row.region number) refl found (candidate_place (place + 1) number rows candidate)
   where
     by_case : (b : Bool) → holds row.region number ≡ b
-        → cond b (Some (spot_at place row))
-        (find (has_number number) (spots_from (place + 1) rows)) ≡ Some spot
-        → (find (has_number number) (spots_from (place + 1) rows) ≡ Some spot
-        → (spot.place ≡ place + 1 + position_or_len (λ (r : PartRow). holds r.region number) rows)
+        → cond b (Some (candidate_at place row))
+        (find (has_number number) (candidates_from (place + 1) rows)) ≡ Some candidate
+        → (find (has_number number) (candidates_from (place + 1) rows) ≡ Some candidate
+        → (candidate.place ≡ place + 1 + position_or_len (λ (r : PartRow). holds r.region number)
+        rows)
         × (position_or_len (λ (r : PartRow). holds r.region number) rows < length rows))
-        → (spot.place ≡ place + cond (not b) (1 + position_or_len (λ (r : PartRow). holds r.region number) rows) 0)
+        → (candidate.place ≡ place + cond (not b)
+        (1 + position_or_len (λ (r : PartRow). holds r.region number) rows) 0)
         × (cond (not b) (1 + position_or_len (λ (r : PartRow). holds r.region number) rows) 0 < suc (length rows))
     by_case true passes is rest =
-        let same : spot_at place row ≡ spot = same_Some (spot_at place row) spot is in
-        (omega (arith, ap (λ (s : Spot). s.place) same), omega arith)
+        let same : candidate_at place row ≡ candidate = same_Some (candidate_at place row) candidate
+        is in
+        (omega (arith, ap (λ (s : Candidate). s.place) same), omega arith)
     by_case false fails is rest =
         let later = rest is in
         (omega (arith, later.0), omega (arith, later.1))
 
 -- the tree of the rows leads each header to the first row that holds it
 pub leads_to_row : (rows : List PartRow) (tree : LookupTree ℕ) (header : Header)
-    → IsSpotTreeOf (spots_of rows) any_word tree → count_by (row_has header) rows ≡ 1
+    → IsCandidateTreeOf (candidates_of rows) any_word tree → count_by (row_has header) rows ≡ 1
     → position (row_has header) rows ≡ Some (leaf_at (number_of header) tree)
 leads_to_row rows tree header is one =
-    by_case (find (has_number (number_of header)) (spots_of rows)) refl
-    (found_from_count (has_number (number_of header)) (spots_of rows)
-    (omega (arith, spots_count 0 (number_of header) rows, one)))
+    by_case (find (has_number (number_of header)) (candidates_of rows)) refl
+    (found_from_count (has_number (number_of header)) (candidates_of rows)
+    (omega (arith, candidates_count 0 (number_of header) rows, one)))
   where
-    by_case : (found : Option Spot) → find (has_number (number_of header)) (spots_of rows) ≡ found
+    by_case : (found : Option Candidate) → find (has_number (number_of header)) (candidates_of rows)
+        ≡ found
         → IsSome found
         → position (row_has header) rows ≡ Some (leaf_at (number_of header) tree)
     by_case None none some = absurd (both_ways false refl some)
-    by_case (Some spot) found some =
-        let at = spot_place 0 (number_of header) rows spot found in
-        let here : spot.place
+    by_case (Some candidate) found some =
+        let at = candidate_place 0 (number_of header) rows candidate found in
+        let here : candidate.place
         ≡ position_or_len (λ (row : PartRow). holds row.region (number_of header)) rows =
         omega (arith, at.0) in
         let place : leaf_at (number_of header) tree ≡ position_or_len (row_has header) rows =
-        leads tree (spots_of rows) any_word (number_of header) spot is
+        leads tree (candidates_of rows) any_word (number_of header) candidate is
         (any_holds (number_of header)) found ∙ here in
         ap (λ t. cond t (Some (position_or_len (row_has header) rows)) None)
         (lt-ltb (position_or_len (row_has header) rows) (length rows) at.1)
@@ -419,13 +434,16 @@ row_decides tables header place d sound is at none =
 -- ---- as the lookup reads them
 
 pub place_is : (tables : Tables) (trees read : Trees) (header : Header) (number place : ℕ)
-    → AreSoundTables tables → IsFinderTree tables.parts (spot_shape_of trees.tree) → read ≡ trees
-    → IsHeader header → number ≡ number_of header → place ≡ leaf_at number (spot_shape_of read.tree)
+    → AreSoundTables tables → IsFinderTree tables.parts (candidate_shape_of trees.tree) → read
+    ≡ trees
+    → IsHeader header → number ≡ number_of header → place
+    ≡ leaf_at number (candidate_shape_of read.tree)
     → position (row_has header) tables.parts ≡ Some place
 place_is tables trees read header number place sound is there header_is same at =
-    leads_to_row tables.parts (spot_shape_of trees.tree) header is (sound.one header header_is)
-    ∙ ap (λ n. Some (leaf_at n (spot_shape_of trees.tree))) (sym same)
-    ∙ ap (λ (t : Trees). Some (leaf_at number (spot_shape_of t.tree))) (sym there) ∙ ap Some (sym at)
+    leads_to_row tables.parts (candidate_shape_of trees.tree) header is (sound.one header header_is)
+    ∙ ap (λ n. Some (leaf_at n (candidate_shape_of trees.tree))) (sym same)
+    ∙ ap (λ (t : Trees). Some (leaf_at number (candidate_shape_of t.tree))) (sym there)
+    ∙ ap Some (sym at)
 
 pub place_within : (header : Header) (rows : List PartRow) (place : ℕ)
     → position (row_has header) rows ≡ Some place → place < length rows

@@ -21,8 +21,8 @@ use Rattle.switch_table.specs.declared.tables.PartRow.{PartRow}
 use Rattle.cut_tree.specs.Cuts.{IsFreeBit}
 use Rattle.cut_tree.specs.DefinedTree.{free_count}
 use Rattle.table_tree.specs.Cutting.{NoneFree}
-use Rattle.table_tree.specs.Regions.{AreNodeSpots, AreRegions, IsCutBit, has_number, spot_meets, spots_of_side, some_fix, spots_from, spots_of}
-use Rattle.table_tree.specs.declared.node.Spot.{Spot}
+use Rattle.table_tree.specs.Regions.{AreNodeCandidates, AreRegions, IsCutBit, has_number, candidate_meets, candidates_of_side, some_fix, candidates_from, candidates_of}
+use Rattle.table_tree.specs.declared.node.Candidate.{Candidate}
 
 -- ---- lists
 
@@ -58,42 +58,44 @@ found_from_count {X} test (x ∷ xs) one = by_case (test x) refl (found_from_cou
 
 -- ---- the root
 
-abbrev pub spot_at : ℕ → PartRow → Spot
-spot_at place row = record { place = place; region = row.region }
+abbrev pub candidate_at : ℕ → PartRow → Candidate
+candidate_at place row = record { place = place; region = row.region }
 
-pub spots_count : (place number : ℕ) (rows : List PartRow)
-    → count_by (has_number number) (spots_from place rows)
+pub candidates_count : (place number : ℕ) (rows : List PartRow)
+    → count_by (has_number number) (candidates_from place rows)
     ≡ count_by (λ (row : PartRow). holds row.region number) rows
-spots_count place number [] = refl
-spots_count place number (row ∷ rows) =
+candidates_count place number [] = refl
+candidates_count place number (row ∷ rows) =
     omega (
       arith,
-      count_by-cons (has_number number) (spot_at place row) (spots_from (place + 1) rows),
+      count_by-cons (has_number number) (candidate_at place row) (candidates_from (place + 1) rows),
       count_by-cons (λ (r : PartRow). holds r.region number) row rows,
-      spots_count (place + 1) number rows,
+      candidates_count (place + 1) number rows,
     )
 
-pub any_meets : (spots : List Spot) → All (λ spot. IsTrue (spot_meets any_word spot)) spots
-any_meets [] = All-nil (λ (spot : Spot). IsTrue (spot_meets any_word spot))
-any_meets (spot ∷ spots) =
-    All-cons (λ (s : Spot). IsTrue (spot_meets any_word s)) spot spots
-    (meets_cover any_word spot.region (any_covers spot.region)) (any_meets spots)
+pub any_meets : (candidates : List Candidate) → All
+    (λ candidate. IsTrue (candidate_meets any_word candidate)) candidates
+any_meets [] = All-nil (λ (candidate : Candidate). IsTrue (candidate_meets any_word candidate))
+any_meets (candidate ∷ candidates) =
+    All-cons (λ (s : Candidate). IsTrue (candidate_meets any_word s)) candidate candidates
+    (meets_cover any_word candidate.region (any_covers candidate.region)) (any_meets candidates)
 
 pub root_node : HeaderLaws → (rows : List PartRow)
     → ((header : Header) → IsHeader header → count_by (row_has header) rows ≡ 1)
-    → AreRegions (spots_of rows) → AreNodeSpots (spots_of rows) any_word
+    → AreRegions (candidates_of rows) → AreNodeCandidates (candidates_of rows) any_word
 root_node laws rows one words =
-    let count : (number : ℕ) → number < 2 ^ 104 → count_by (has_number number) (spots_of rows) ≡ 1 =
-    λ number small. spots_count 0 number rows
+    let count : (number : ℕ) → number < 2 ^ 104 → count_by (has_number number) (candidates_of rows)
+    ≡ 1 =
+    λ number small. candidates_count 0 number rows
     ∙ ap (λ n. count_by (λ (row : PartRow). holds row.region n) rows)
     (sym (laws.numbered number small))
     ∙ one (header_numbered number) (laws.header number small) in
     record {
       whole = record { within = refl; bounded = omega arith };
       words = words;
-      meet = any_meets (spots_of rows);
+      meet = any_meets (candidates_of rows);
       one = λ number small. omega (arith, count number small);
-      held = λ number small inside. found_from_count (has_number number) (spots_of rows)
+      held = λ number small inside. found_from_count (has_number number) (candidates_of rows)
           (omega (arith, count number small));
     }
 
@@ -107,29 +109,31 @@ half_holds region bit number one free held =
     (and_parts _ _ (sym (fix_holds region bit one free number) ∙ held)).0
 
 -- on a side, the one that has a header of the half is that of the node
-pub side_finds : (spots : List Spot) (region : WordValue) (bit number : ℕ) (one : Bool)
+pub side_finds : (candidates : List Candidate) (region : WordValue) (bit number : ℕ) (one : Bool)
     → IsTrue (holds (fix_of region bit one) number)
-    → find (has_number number) (spots_of_side spots region bit one) ≡ find (has_number number) spots
-side_finds spots region bit number one held =
-    find_kept (has_number number) (spot_meets (fix_of region bit one)) spots
-    (λ spot has_it. held_meets spot.region (fix_of region bit one) number has_it held)
+    → find (has_number number) (candidates_of_side candidates region bit one)
+    ≡ find (has_number number) candidates
+side_finds candidates region bit number one held =
+    find_kept (has_number number) (candidate_meets (fix_of region bit one)) candidates
+    (λ candidate has_it. held_meets candidate.region (fix_of region bit one) number has_it held)
 
-pub half_node : (spots : List Spot) (region : WordValue) (bit : ℕ) (one : Bool)
-    → AreNodeSpots spots region → IsFreeBit region bit
-    → AreNodeSpots (spots_of_side spots region bit one) (fix_of region bit one)
-half_node spots region bit one node free =
+pub half_node : (candidates : List Candidate) (region : WordValue) (bit : ℕ) (one : Bool)
+    → AreNodeCandidates candidates region → IsFreeBit region bit
+    → AreNodeCandidates (candidates_of_side candidates region bit one) (fix_of region bit one)
+half_node candidates region bit one node free =
     let half = fix_of region bit one in
     record {
       whole = fix_word region bit one node.whole free.bound;
-      words = All-filter (spot_meets half) (λ (spot : Spot). IsWord spot.region) spots node.words;
-      meet = filter_passes (spot_meets half) spots;
+      words = All-filter (candidate_meets half) (λ (candidate : Candidate). IsWord candidate.region)
+          candidates node.words;
+      meet = filter_passes (candidate_meets half) candidates;
       one = λ number small. omega (
         arith,
         node.one number small,
-        count-filter-le (has_number number) (spot_meets half) spots,
+        count-filter-le (has_number number) (candidate_meets half) candidates,
       );
       held = λ number small inside. subst (λ found. IsSome found)
-          (sym (side_finds spots region bit number one inside))
+          (sym (side_finds candidates region bit number one inside))
           (node.held number small (half_holds region bit number one free.free inside));
     }
 
@@ -171,15 +175,16 @@ meeting_shares laws a b a_word b_word meet =
         (m.value, laws.bound m (meet_word a b m a_word b_word is), both.0, both.1)
 
 -- so the regions of a node, where they are not one, fix a free bit
-pub never_stuck : HoldsLaws → MeetLaws → (spots : List Spot) (region : WordValue)
-    → AreNodeSpots spots region → NoneFree region (some_fix spots) → length spots ≡ 1
+pub never_stuck : HoldsLaws → MeetLaws → (candidates : List Candidate) (region : WordValue)
+    → AreNodeCandidates candidates region → NoneFree region (some_fix candidates)
+    → length candidates ≡ 1
 never_stuck holds_laws meet_laws [] region node none =
     absurd (both_ways false refl (node.held region.value
     (holds_laws.bound region node.whole) (holds_laws.value region)))
 never_stuck holds_laws meet_laws (a ∷ []) region node none = refl
 never_stuck holds_laws meet_laws (a ∷ b ∷ rest) region node none =
-    let P : Spot → Type 0 = λ s. IsWord s.region in
-    let Q : Spot → Type 0 = λ s. IsTrue (spot_meets region s) in
+    let P : Candidate → Type 0 = λ s. IsWord s.region in
+    let Q : Candidate → Type 0 = λ s. IsTrue (candidate_meets region s) in
     let a_word = All-head P a (b ∷ rest) node.words in
     let b_word = All-head P b rest (All-tail P a (b ∷ rest) node.words) in
     let a_meets = All-head Q a (b ∷ rest) node.meet in
@@ -201,26 +206,28 @@ never_stuck holds_laws meet_laws (a ∷ b ∷ rest) region node none =
     first_unfixed true b e = e
     first_unfixed false b e = refl
 
-some_spot : (spots : List Spot) (number : ℕ) → IsSome (find (has_number number) spots)
-    → 0 < length spots
-some_spot [] number found = absurd (both_ways false refl found)
-some_spot (spot ∷ spots) number found = omega arith
+some_candidate : (candidates : List Candidate) (number : ℕ)
+    → IsSome (find (has_number number) candidates)
+    → 0 < length candidates
+some_candidate [] number found = absurd (both_ways false refl found)
+some_candidate (candidate ∷ candidates) number found = omega arith
 
 -- where they are not one, they are several
-pub several_spots : HoldsLaws → (spots : List Spot) (region : WordValue)
-    → AreNodeSpots spots region → (length spots ≡ 1 → ⊥) → 1 < length spots
-several_spots laws spots region node not_one =
-    let some = some_spot spots region.value
+pub several_candidates : HoldsLaws → (candidates : List Candidate) (region : WordValue)
+    → AreNodeCandidates candidates region → (length candidates ≡ 1 → ⊥) → 1 < length candidates
+several_candidates laws candidates region node not_one =
+    let some = some_candidate candidates region.value
     (node.held region.value (laws.bound region node.whole) (laws.value region)) in
-    elim (cases_eq (length spots) 1) [
+    elim (cases_eq (length candidates) 1) [
       | inl one ↦ absurd (not_one one)
       | inr other ↦ omega (arith, some, other)
     ]
 
-pub cut_is_free : (spots : List Spot) (region : WordValue) (bit : ℕ) → IsCutBit spots region bit
+pub cut_is_free : (candidates : List Candidate) (region : WordValue) (bit : ℕ)
+    → IsCutBit candidates region bit
     → IsFreeBit region bit
-cut_is_free spots region bit (inl least) = least.free
-cut_is_free spots region bit (inr least) = least.1.free
+cut_is_free candidates region bit (inl least) = least.free
+cut_is_free candidates region bit (inr least) = least.1.free
 
 -- fewer bits are free in a half
 pub half_smaller : (region half : WordValue) (bit : ℕ) (one : Bool) → IsFreeBit region bit
@@ -230,21 +237,27 @@ half_smaller region half bit one free same =
 
 -- ---- the loops
 
-pub kept_more : (test : Spot → Bool) (spots kept : List Spot) (index : ℕ) (spot : Spot)
-    → index < length spots → spot ≡ get_or spots index spot → test spot ≡ true
-    → filter test spots ≡ kept ++ filter test (drop index spots)
-    → filter test spots ≡ (kept ++ spot ∷ []) ++ filter test (drop (index + 1) spots)
-kept_more test spots kept index spot within is passes so_far =
-    let rest = filter test (drop (index + 1) spots) in
-    so_far ∙ ap (λ (xs : List Spot). kept ++ xs)
-    (at_item (filter test) spots index spot within is ∙ ap (λ t. cond t (spot ∷ rest) rest) passes)
-    ∙ sym (append_assoc kept (spot ∷ []) rest)
+pub kept_more : (test : Candidate → Bool) (candidates kept : List Candidate) (index : ℕ)
+    (candidate : Candidate)
+    → index < length candidates → candidate ≡ get_or candidates index candidate → test candidate
+    ≡ true
+    → filter test candidates ≡ kept ++ filter test (drop index candidates)
+    → filter test candidates ≡ (kept ++ candidate ∷ []) ++ filter test (drop (index + 1) candidates)
+kept_more test candidates kept index candidate within is passes so_far =
+    let rest = filter test (drop (index + 1) candidates) in
+    so_far ∙ ap (λ (xs : List Candidate). kept ++ xs)
+    (at_item (filter test) candidates index candidate within is
+    ∙ ap (λ t. cond t (candidate ∷ rest) rest) passes)
+    ∙ sym (append_assoc kept (candidate ∷ []) rest)
 
-pub kept_same : (test : Spot → Bool) (spots kept : List Spot) (index : ℕ) (spot : Spot)
-    → index < length spots → spot ≡ get_or spots index spot → test spot ≡ false
-    → filter test spots ≡ kept ++ filter test (drop index spots)
-    → filter test spots ≡ kept ++ filter test (drop (index + 1) spots)
-kept_same test spots kept index spot within is fails so_far =
-    let rest = filter test (drop (index + 1) spots) in
-    so_far ∙ ap (λ (xs : List Spot). kept ++ xs)
-    (at_item (filter test) spots index spot within is ∙ ap (λ t. cond t (spot ∷ rest) rest) fails)
+pub kept_same : (test : Candidate → Bool) (candidates kept : List Candidate) (index : ℕ)
+    (candidate : Candidate)
+    → index < length candidates → candidate ≡ get_or candidates index candidate → test candidate
+    ≡ false
+    → filter test candidates ≡ kept ++ filter test (drop index candidates)
+    → filter test candidates ≡ kept ++ filter test (drop (index + 1) candidates)
+kept_same test candidates kept index candidate within is fails so_far =
+    let rest = filter test (drop (index + 1) candidates) in
+    so_far ∙ ap (λ (xs : List Candidate). kept ++ xs)
+    (at_item (filter test) candidates index candidate within is
+    ∙ ap (λ t. cond t (candidate ∷ rest) rest) fails)

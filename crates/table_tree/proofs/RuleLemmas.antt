@@ -10,18 +10,18 @@ use Rattle.std.proofs.lemmas.List.Elements.{All-nil, All-cons, All-head, All-tai
 use Rattle.std.proofs.lemmas.Nat.Bits.{bit_at-lt}
 use Rattle.std.proofs.Math.Bool.{and-true}
 use Rattle.ternary.specs.Word.{WordValue, holds}
-use Rattle.ternary.specs.Meets.{covers_of, fix_of, joined, meets}
+use Rattle.ternary.specs.Meets.{covers_of, fix_of, meeting_word, meets}
 use Rattle.ternary.proofs.CallerLemmas.{meet_both, met_joined}
 use Rattle.policy_rules.specs.Rules.{is_held}
 use Rattle.policy_rules.specs.declared.rules.Rule.{Rule}
 use Rattle.switch_table.proofs.TableLemmas.{find-map}
 use Rattle.cut_tree.specs.Cuts.{IsFreeBit, least_below, side_of}
-use Rattle.cut_tree.specs.Narrow.{narrow, narrowed}
+use Rattle.cut_tree.specs.Narrow.{narrow, narrowed_rule}
 use Rattle.cut_tree.specs.declared.choice.Cost.{Cost}
 use Rattle.cut_tree.proofs.CallerLemmas.{narrow_first}
 use Rattle.cut_tree.proofs.CutLemmas.{least_cuts}
 use Rattle.cut_tree.proofs.NarrowLemmas.{narrow_apart, narrow_covered, narrow_more, narrow_none}
-use Rattle.table_tree.specs.Ruling.{is_held_at, if_pays, parted, paying_cut, pays, ranked_by_place, rule_tree, rule_tree_within}
+use Rattle.table_tree.specs.Ruling.{is_held_at, if_pays, tree_by_cut, paying_cut, is_worth_cutting, ranked_by_place, rule_tree, rule_tree_within}
 use Rattle.table_tree.specs.LookupTrees.{LookupTree, CutsHeaderBits, Leaf, Sides, leaf_at}
 use Rattle.table_tree.proofs.FindLemmas.{find_agree, in_half}
 
@@ -35,7 +35,7 @@ pub within_end : (cuts : ℕ) (rules : List Rule) (region : WordValue)
     → Leaf (map rank_of rules) ≡ rule_tree_within cuts rules region
 unfolding rule_tree_within
 within_end zero rules region none = refl
-within_end (suc cuts) rules region none = ap (parted (rule_tree_within cuts) rules region) none
+within_end (suc cuts) rules region none = ap (tree_by_cut (rule_tree_within cuts) rules region) none
 
 pub within_cut : (cuts : ℕ) (rules : List Rule) (region : WordValue) (cost : Cost)
     (low high : List Rule) (lower higher : WordValue) (a b : LookupTree (List ℕ)) → 0 < cuts
@@ -49,7 +49,7 @@ within_cut zero rules region cost low high lower higher a b some is l lr h hr p 
     absurd (omega arith)
 within_cut (suc cuts) rules region cost low high lower higher a b some is l lr h hr p q =
     let less : suc cuts - 1 ≡ cuts = omega arith in
-    rw (p, q, less, l, lr, h, hr) (ap (parted (rule_tree_within cuts) rules region) is)
+    rw (p, q, less, l, lr, h, hr) (ap (tree_by_cut (rule_tree_within cuts) rules region) is)
 
 -- ---- the cut of a node
 
@@ -69,7 +69,7 @@ few_stay (suc cuts) rules region few = by_cost (least_below 104 rules region)
 
 -- the cut that costs least is made where it pays
 weighed : (cuts : ℕ) (rules : List Rule) (region : WordValue) (cost : Cost) (pay : Bool) → 0 < cuts
-    → least_below 104 rules region ≡ Some cost → pays (length rules) cost ≡ pay
+    → least_below 104 rules region ≡ Some cost → is_worth_cutting (length rules) cost ≡ pay
     → cond pay (Some cost) None ≡ paying_cut cuts rules region
 weighed zero rules region cost pay some is paid = absurd (omega arith)
 weighed (suc cuts) rules region cost pay some is paid = rw (is, paid) refl
@@ -99,7 +99,7 @@ paying_free rules region count cost is = by_least (least_below 104 rules region)
     by_least : (least : Option Cost) → least_below 104 rules region ≡ least
         → if_pays count least ≡ Some cost → IsFreeBit region cost.bit
     by_least None none pay = absurd (cc)
-    by_least (Some best) found pay = by_test (pays count best) pay
+    by_least (Some best) found pay = by_test (is_worth_cutting count best) pay
       where
         by_test : (b : Bool) → cond b (Some best) None ≡ Some cost → IsFreeBit region cost.bit
         by_test true same =
@@ -118,7 +118,7 @@ cuts_header (suc cuts) rules region = by_cut (paying_cut (suc cuts) rules region
     by_cut : (cut : Option Cost) → paying_cut (suc cuts) rules region ≡ cut
         → ((bit : ℕ) (one : Bool) → CutsHeaderBits
         (rule_tree_within cuts (side_of rules region bit one) (fix_of region bit one)))
-        → CutsHeaderBits (parted (rule_tree_within cuts) rules region cut)
+        → CutsHeaderBits (tree_by_cut (rule_tree_within cuts) rules region cut)
     by_cut None none sides = tt
     by_cut (Some cost) is sides = (
       (paying_free rules region (length rules) cost is).bound,
@@ -133,7 +133,7 @@ abbrev pub Agrees : List Rule → ℕ → Rule → Type 0
 Agrees rules number rule = is_held_at rules number rule.rank ≡ holds rule.word number
 
 narrow_keeps : (P : Rule → Type 0) (rules : List Rule) (region : WordValue)
-    → ((rule : Rule) → meets rule.word region ≡ true → P rule → P (narrowed region rule))
+    → ((rule : Rule) → meets rule.word region ≡ true → P rule → P (narrowed_rule region rule))
     → All P rules → All P (narrow rules region)
 narrow_keeps P [] region each all = All-same P _ _ (narrow_none region) (All-nil P)
 narrow_keeps P (rule ∷ rules) region each all =
@@ -142,20 +142,21 @@ narrow_keeps P (rule ∷ rules) region each all =
     elim (cases_Bool (meets rule.word region)) [
       | inl meet ↦ elim (cases_Bool (covers_of rule.word region)) [
         | inl covers ↦ All-same P _ _ (narrow_covered region rule rules meet covers)
-            (All-cons P (narrowed region rule) [] (each rule meet here) (All-nil P))
+            (All-cons P (narrowed_rule region rule) [] (each rule meet here) (All-nil P))
         | inr past ↦ All-same P _ _ (narrow_more region rule rules meet past)
-            (All-cons P (narrowed region rule) (narrow rules region) (each rule meet here) rest)
+            (All-cons P (narrowed_rule region rule) (narrow rules region) (each rule meet here)
+            rest)
       ]
       | inr apart ↦ All-same P _ _ (narrow_apart region rule rules apart) rest
     ]
 
 narrowed_agrees : (list : List Rule) (region : WordValue) (number : ℕ) (rule : Rule)
     → IsTrue (holds region number) → meets rule.word region ≡ true → Agrees list number rule
-    → Agrees list number (narrowed region rule)
-unfolding narrowed
+    → Agrees list number (narrowed_rule region rule)
+unfolding narrowed_rule
 narrowed_agrees list region number rule inside meet agrees =
     agrees
-    ∙ sym (meet_both rule.word region (joined rule.word region)
+    ∙ sym (meet_both rule.word region (meeting_word rule.word region)
     (met_joined rule.word region meet) number
     ∙ ap (λ t. holds rule.word number && t) inside
     ∙ and-true (holds rule.word number))
@@ -167,8 +168,8 @@ side_agrees list rules region number inside all = narrow_keeps (Agrees list numb
     (λ rule meet agrees. narrowed_agrees list region number rule inside meet agrees) all
 
 rank_kept : (region : WordValue) (found : Option Rule)
-    → option_map rank_of (option_map (narrowed region) found) ≡ option_map rank_of found
-unfolding narrowed
+    → option_map rank_of (option_map (narrowed_rule region) found) ≡ option_map rank_of found
+unfolding narrowed_rule
 rank_kept region None = refl
 rank_kept region (Some rule) = refl
 
@@ -209,7 +210,8 @@ leads (suc cuts) list rules region number inside all =
         → find (is_held_at list number) (leaf_at number
         (rule_tree_within cuts (side_of rules region bit one) (fix_of region bit one)))
         ≡ option_map rank_of (find (is_held number) rules))
-        → find (is_held_at list number) (leaf_at number (parted (rule_tree_within cuts) rules region cut))
+        → find (is_held_at list number) (leaf_at number
+        (tree_by_cut (rule_tree_within cuts) rules region cut))
         ≡ option_map rank_of (find (is_held number) rules)
     by_cut None none down = end_finds list rules number all
     by_cut (Some cost) is down = by_bit (paying_free rules region (length rules) cost is)

@@ -9,53 +9,56 @@ use Rattle.switch_table.specs.declared.tables.PartRow.{PartRow}
 use Rattle.switch_table.specs.declared.tables.Tables.{Tables}
 use Rattle.policy_rules.specs.declared.rules.Partition.{Partition}
 use Rattle.table_tree.specs.Cutting.{NoneFree}
-use Rattle.table_tree.specs.Regions.{AreRegions, IsCutBit, spots_of_side, some_fix, spots_of}
+use Rattle.table_tree.specs.Regions.{AreRegions, IsCutBit, candidates_of_side, some_fix, candidates_of}
 use Rattle.table_tree.specs.Ruling.{part_tree, seen_tree}
 use Rattle.table_tree.specs.LookupTrees.{LookupTree, Leaf, Sides}
 use Rattle.table_tree.specs.declared.rule_tree.RuleTree.{RuleTree}
-use Rattle.table_tree.specs.declared.node.Spot.{Spot}
+use Rattle.table_tree.specs.declared.node.Candidate.{Candidate}
 use Rattle.table_tree.specs.declared.tree.Tree.{Tree, At, Cut'}
 use Rattle.table_tree.specs.declared.trees.Trees.{Trees}
 
 -- the shape of a tree, which leads to places of the partition rules
-abbrev pub spot_shape_of : Tree → LookupTree ℕ
-spot_shape_of (At place) = Leaf place
-spot_shape_of (Cut' bit p low q high) = Sides bit (spot_shape_of low) (spot_shape_of high)
+abbrev pub candidate_shape_of : Tree → LookupTree ℕ
+candidate_shape_of (At place) = Leaf place
+candidate_shape_of (Cut' bit p low q high) = Sides bit (candidate_shape_of low)
+    (candidate_shape_of high)
 
 -- one region is left, and this is its place
-pub record IsEnd (spots : List Spot) (place : ℕ) : Type 0 where
-  pub one : length spots ≡ 1
-  pub there : All (λ spot. spot.place ≡ place) spots
+pub record IsEnd (candidates : List Candidate) (place : ℕ) : Type 0 where
+  pub one : length candidates ≡ 1
+  pub there : All (λ candidate. candidate.place ≡ place) candidates
 
 -- the tree of these regions within a region: more than one are parted at their cut bit
-abbrev pub IsSpotTreeOf : List Spot → WordValue → LookupTree ℕ → Type 0
-IsSpotTreeOf spots region (Leaf place) = IsEnd spots place
-IsSpotTreeOf spots region (Sides bit low high) =
-    (1 < length spots) × IsCutBit spots region bit
-    × IsSpotTreeOf (spots_of_side spots region bit false) (fix_of region bit false) low
-    × IsSpotTreeOf (spots_of_side spots region bit true) (fix_of region bit true) high
+abbrev pub IsCandidateTreeOf : List Candidate → WordValue → LookupTree ℕ → Type 0
+IsCandidateTreeOf candidates region (Leaf place) = IsEnd candidates place
+IsCandidateTreeOf candidates region (Sides bit low high) =
+    (1 < length candidates) × IsCutBit candidates region bit
+    × IsCandidateTreeOf (candidates_of_side candidates region bit false) (fix_of region bit false)
+    low
+    × IsCandidateTreeOf (candidates_of_side candidates region bit true) (fix_of region bit true)
+    high
 
 -- there is not just one region left, and none of these fixes a bit that is free
-pub record IsStuck (spots : List Spot) (region : WordValue) : Type 0 where
-  pub not_one : length spots ≢ 1
-  pub none : NoneFree region (some_fix spots)
+pub record IsStuck (candidates : List Candidate) (region : WordValue) : Type 0 where
+  pub not_one : length candidates ≢ 1
+  pub none : NoneFree region (some_fix candidates)
 
 -- a tree that is grown in the same way of regions of any kind, some of which can't be parted
-abbrev pub IsGrownShape : List Spot → WordValue → LookupTree ℕ → Type 0
-IsGrownShape spots region (Leaf place) = IsEnd spots place ⊎ IsStuck spots region
-IsGrownShape spots region (Sides bit low high) =
-    (length spots ≢ 1) × IsCutBit spots region bit
-    × IsGrownShape (spots_of_side spots region bit false) (fix_of region bit false) low
-    × IsGrownShape (spots_of_side spots region bit true) (fix_of region bit true) high
+abbrev pub IsGrownShape : List Candidate → WordValue → LookupTree ℕ → Type 0
+IsGrownShape candidates region (Leaf place) = IsEnd candidates place ⊎ IsStuck candidates region
+IsGrownShape candidates region (Sides bit low high) =
+    (length candidates ≢ 1) × IsCutBit candidates region bit
+    × IsGrownShape (candidates_of_side candidates region bit false) (fix_of region bit false) low
+    × IsGrownShape (candidates_of_side candidates region bit true) (fix_of region bit true) high
 
 -- the tree of the partition rules
 abbrev pub IsFinderTree : List PartRow → LookupTree ℕ → Type 0
-IsFinderTree rows tree = IsSpotTreeOf (spots_of rows) any_word tree
+IsFinderTree rows tree = IsCandidateTreeOf (candidates_of rows) any_word tree
 
 -- the trees that are grown of these partition rules and authority partitions
 pub record AreTreesOf (rows : List PartRow) (parts : List Partition) (trees : Trees) : Type 0 where
-  pub words : AreRegions (spots_of rows)
-  pub tree : IsGrownShape (spots_of rows) any_word (spot_shape_of trees.tree)
+  pub words : AreRegions (candidates_of rows)
+  pub tree : IsGrownShape (candidates_of rows) any_word (candidate_shape_of trees.tree)
   pub rules : map seen_tree trees.rule_trees.items ≡ map part_tree parts
 
 -- the tables of a finder, and its tree
@@ -66,5 +69,5 @@ pub record FinderValue : Type 0 where
 -- the tables are sound, the tree is theirs, and these are the trees of the authority partitions
 pub record IsFinder (finder : FinderValue) (rule_trees : List RuleTree) : Type 0 where
   pub sound : AreSoundTables finder.tables
-  pub tree : IsFinderTree finder.tables.parts (spot_shape_of finder.tree)
+  pub tree : IsFinderTree finder.tables.parts (candidate_shape_of finder.tree)
   pub rules : map seen_tree rule_trees ≡ map part_tree finder.tables.auth

@@ -6,54 +6,55 @@ use Rattle.ternary.specs.WordBits.{IsWord}
 use Rattle.ternary.specs.Meets.{fix_of, is_fixed_of, meets}
 use Rattle.switch_table.specs.declared.tables.PartRow.{PartRow}
 use Rattle.table_tree.specs.Cutting.{IsLeastFree, NoneFree}
-use Rattle.table_tree.specs.declared.node.Spot.{Spot}
+use Rattle.table_tree.specs.declared.node.Candidate.{Candidate}
 
 -- the regions of the rows, with places from this one on
-abbrev pub spots_from : ℕ → List PartRow → List Spot
-spots_from place [] = []
-spots_from place (row ∷ rows) =
-    record { place = place; region = row.region } ∷ spots_from (place + 1) rows
+abbrev pub candidates_from : ℕ → List PartRow → List Candidate
+candidates_from place [] = []
+candidates_from place (row ∷ rows) =
+    record { place = place; region = row.region } ∷ candidates_from (place + 1) rows
 
-abbrev pub spots_of : List PartRow → List Spot
-spots_of rows = spots_from 0 rows
+abbrev pub candidates_of : List PartRow → List Candidate
+candidates_of rows = candidates_from 0 rows
 
--- the spot's region holds this header number
-abbrev pub has_number : ℕ → Spot → Bool
-has_number number spot = holds spot.region number
+-- the candidate's region holds this header number
+abbrev pub has_number : ℕ → Candidate → Bool
+has_number number candidate = holds candidate.region number
 
-abbrev pub spot_meets : WordValue → Spot → Bool
-spot_meets region spot = meets spot.region region
+abbrev pub candidate_meets : WordValue → Candidate → Bool
+candidate_meets region candidate = meets candidate.region region
 
 -- those that meet the half of the region in which the bit is 1, or 0: a region that doesn't fix the
 -- bit is on both sides
-abbrev pub spots_of_side : List Spot → WordValue → ℕ → Bool → List Spot
-spots_of_side spots region bit one = filter (spot_meets (fix_of region bit one)) spots
+abbrev pub candidates_of_side : List Candidate → WordValue → ℕ → Bool → List Candidate
+candidates_of_side candidates region bit one = filter (candidate_meets (fix_of region bit one))
+    candidates
 
 -- every one of the regions fixes the bit
-abbrev pub all_fix : List Spot → ℕ → Bool
-all_fix spots bit = list_all (λ spot. is_fixed_of spot.region bit) spots
+abbrev pub all_fix : List Candidate → ℕ → Bool
+all_fix candidates bit = list_all (λ candidate. is_fixed_of candidate.region bit) candidates
 
 -- some one does
-abbrev pub some_fix : List Spot → ℕ → Bool
-some_fix spots bit = list_any (λ spot. is_fixed_of spot.region bit) spots
+abbrev pub some_fix : List Candidate → ℕ → Bool
+some_fix candidates bit = list_any (λ candidate. is_fixed_of candidate.region bit) candidates
 
--- of the bits that are free in the region, the least one that every one of the spots fixes, and
--- where there is none, the least one that some one fixes
-abbrev pub IsCutBit : List Spot → WordValue → ℕ → Type 0
-IsCutBit spots region bit =
-    IsLeastFree region (all_fix spots) bit
-    ⊎ (NoneFree region (all_fix spots) × IsLeastFree region (some_fix spots) bit)
+-- of the bits that are free in the region, the least one that every one of the candidates fixes,
+-- and where there is none, the least one that some one fixes
+abbrev pub IsCutBit : List Candidate → WordValue → ℕ → Type 0
+IsCutBit candidates region bit =
+    IsLeastFree region (all_fix candidates) bit
+    ⊎ (NoneFree region (all_fix candidates) × IsLeastFree region (some_fix candidates) bit)
 
 -- their regions are words
-abbrev pub AreRegions : List Spot → Type 0
-AreRegions spots = All (λ spot. IsWord spot.region) spots
+abbrev pub AreRegions : List Candidate → Type 0
+AreRegions candidates = All (λ candidate. IsWord candidate.region) candidates
 
 -- what holds of the regions that meet a region of the header space: no header is in two of them,
 -- and each of its own is in one
-pub record AreNodeSpots (spots : List Spot) (region : WordValue) : Type 0 where
+pub record AreNodeCandidates (candidates : List Candidate) (region : WordValue) : Type 0 where
   pub whole : IsWord region
-  pub words : AreRegions spots
-  pub meet : All (λ spot. IsTrue (spot_meets region spot)) spots
-  pub one : (number : ℕ) → number < 2 ^ 104 → count_by (has_number number) spots ≤ 1
+  pub words : AreRegions candidates
+  pub meet : All (λ candidate. IsTrue (candidate_meets region candidate)) candidates
+  pub one : (number : ℕ) → number < 2 ^ 104 → count_by (has_number number) candidates ≤ 1
   pub held : (number : ℕ) → number < 2 ^ 104 → IsTrue (holds region number)
-      → IsSome (find (has_number number) spots)
+      → IsSome (find (has_number number) candidates)

@@ -33,12 +33,13 @@ ranked_by_place place (rule ∷ rules) = record rule { rank = place } ∷ ranked
 
 -- a node of so many rules is worth this cut: it has more than 16, the larger side has fewer, and
 -- both together have at most five quarters of them
-abbrev pub pays : ℕ → Cost → Bool
-pays count cost = nat_lt 16 count && nat_lt cost.larger count && nat_le (4 * cost.sum) (5 * count)
+abbrev pub is_worth_cutting : ℕ → Cost → Bool
+is_worth_cutting count cost = nat_lt 16 count && nat_lt cost.larger count
+    && nat_le (4 * cost.sum) (5 * count)
 
 abbrev pub if_pays : ℕ → Option Cost → Option Cost
 if_pays count None = None
-if_pays count (Some cost) = if pays count cost then Some cost else None
+if_pays count (Some cost) = if is_worth_cutting count cost then Some cost else None
 
 -- with so many cuts left, the cut of the node that costs least, where it pays
 abbrev pub paying_cut : ℕ → List Rule → WordValue → Option Cost
@@ -46,19 +47,19 @@ paying_cut zero rules region = None
 paying_cut (suc cuts) rules region = if_pays (length rules) (least_below 104 rules region)
 
 -- the places of these rules, where there is no cut; both sides of it, grown in this way
-abbrev pub parted : (List Rule → WordValue → LookupTree (List ℕ)) → List Rule → WordValue
+abbrev pub tree_by_cut : (List Rule → WordValue → LookupTree (List ℕ)) → List Rule → WordValue
     → Option Cost → LookupTree (List ℕ)
-parted grow rules region None = Leaf (map (λ (rule : Rule). rule.rank) rules)
-parted grow rules region (Some cost) =
+tree_by_cut grow rules region None = Leaf (map (λ (rule : Rule). rule.rank) rules)
+tree_by_cut grow rules region (Some cost) =
     Sides cost.bit
     (grow (side_of rules region cost.bit false) (fix_of region cost.bit false))
     (grow (side_of rules region cost.bit true) (fix_of region cost.bit true))
 
 -- the tree of the rules of a region, with at most so many cuts one below another
 unfoldable pub rule_tree_within : ℕ → List Rule → WordValue → LookupTree (List ℕ)
-rule_tree_within zero rules region = parted (λ rs r. Leaf []) rules region None
+rule_tree_within zero rules region = tree_by_cut (λ rs r. Leaf []) rules region None
 rule_tree_within (suc cuts) rules region =
-    parted (rule_tree_within cuts) rules region (paying_cut (suc cuts) rules region)
+    tree_by_cut (rule_tree_within cuts) rules region (paying_cut (suc cuts) rules region)
 
 -- the tree of a list of rules in a region: at most 12 cuts one below another
 unfoldable pub rule_tree : List Rule → WordValue → LookupTree (List ℕ)

@@ -4,7 +4,7 @@ ghost use Rattle.cut_tree.specs.Cuts.{IsFreeBit};
 ghost use Rattle.table_tree.specs.Cutting.{IsLowest, NoneFree};
 ghost use Rattle.table_tree.specs.Regions.{IsCutBit, all_fix, some_fix};
 
-use crate::node::Spot;
+use crate::node::Candidate;
 use cut_tree::free_bits;
 use ternary::Word;
 
@@ -13,34 +13,34 @@ const ALL_BITS: u128 = (1 << 104) - 1;
 
 /// The bit at which these regions, which meet a region, are parted: of its free bits the least one
 /// that all of them fix, else the least one that some one fixes. `None` where no one fixes any.
-pub fn cut_bit(spots: &[Spot], region: &Word) -> Option<u32>
-    ensures some { IfSome result (λ bit. IsCutBit spots.now region.now bit) }
+pub fn cut_bit(candidates: &[Candidate], region: &Word) -> Option<u32>
+    ensures some { IfSome result (λ bit. IsCutBit candidates.now region.now bit) }
     ensures free { IfSome result (λ bit. IsFreeBit region.now bit) }
-    ensures none { IfNone result (NoneFree region.now (some_fix spots.now)) }
+    ensures none { IfNone result (NoneFree region.now (some_fix candidates.now)) }
 {
     let free = free_bits(region);
-    match lowest(fixed_by_all(spots) & free) {
+    match lowest(fixed_by_all(candidates) & free) {
         Some(bit) => Some(bit),
-        None => lowest(fixed_by_some(spots) & free),
+        None => lowest(fixed_by_some(candidates) & free),
     }
 }
 
-fn fixed_by_all(spots: &[Spot]) -> u128
-    ensures { (bit : ℕ) → bit < 104 → (bit_at result bit == 1) ≡ all_fix spots.now bit }
+fn fixed_by_all(candidates: &[Candidate]) -> u128
+    ensures { (bit : ℕ) → bit < 104 → (bit_at result bit == 1) ≡ all_fix candidates.now bit }
 {
     let mut bits = ALL_BITS;
-    for spot in spots {
-        bits &= spot.region.mask();
+    for candidate in candidates {
+        bits &= candidate.region.mask();
     }
     bits
 }
 
-fn fixed_by_some(spots: &[Spot]) -> u128
-    ensures { (bit : ℕ) → (bit_at result bit == 1) ≡ some_fix spots.now bit }
+fn fixed_by_some(candidates: &[Candidate]) -> u128
+    ensures { (bit : ℕ) → (bit_at result bit == 1) ≡ some_fix candidates.now bit }
 {
     let mut bits = 0;
-    for spot in spots {
-        bits |= spot.region.mask();
+    for candidate in candidates {
+        bits |= candidate.region.mask();
     }
     bits
 }

@@ -5,7 +5,7 @@ ghost use Rattle.policy_rules.specs.Exports.{is_held, is_in};
 ghost use Rattle.switch_table.specs.Cache.{first_entry};
 ghost use Rattle.switch_table.specs.Lookup.{lookup_of, table_lookup};
 ghost use Rattle.switch_table.specs.Tables.{AreSoundTables};
-ghost use Rattle.table_tree.specs.Finding.{AreTreesOf, IsFinderTree, spot_shape_of};
+ghost use Rattle.table_tree.specs.Finding.{AreTreesOf, IsFinderTree, candidate_shape_of};
 
 use crate::tree::Tree;
 use crate::trees::Trees;
@@ -50,7 +50,8 @@ impl Finder {
     pub fn build(alloc: Global, tables: Rc<Tables>) -> Result<Finder, AllocError>
         requires { AreSoundTables tables.value }
         ensures tables { IfOk result (λ finder. finder.tables ≡ tables.value) }
-        ensures tree { IfOk result (λ finder. IsFinderTree tables.value.parts (spot_shape_of finder.tree)) }
+        ensures tree { IfOk result (λ finder. IsFinderTree tables.value.parts
+            (candidate_shape_of finder.tree)) }
     {
         let trees = Trees::grow(alloc, tables.parts.items(), tables.auth.items())?;
         let trees = Rc::new(alloc, trees)?;
@@ -62,7 +63,7 @@ impl Finder {
         requires sound { AreSoundTables tables.value }
         requires trees { AreTreesOf tables.value.parts tables.value.auth trees.value }
         ensures tables { result.tables ≡ tables.value }
-        ensures tree { IsFinderTree tables.value.parts (spot_shape_of result.tree) }
+        ensures tree { IsFinderTree tables.value.parts (candidate_shape_of result.tree) }
     {
         header_laws();
         holds_laws();

@@ -1,7 +1,7 @@
 ghost use Rattle.std.specs.Prelude.{◌≡◌, ◌^◌, ◌<◌, IfOk, filter, length};
 ghost use Rattle.ternary.specs.Meets.{any_word, fix_of, meets};
 ghost use Rattle.cut_tree.specs.Cuts.{IsFreeBit};
-ghost use Rattle.table_tree.specs.Regions.{AreRegions, spot_meets, spots_of_side, spots_of};
+ghost use Rattle.table_tree.specs.Regions.{AreRegions, candidate_meets, candidates_of_side, candidates_of};
 
 use std::alloc::{AllocError, Global};
 use switch_table::PartRow;
@@ -9,7 +9,7 @@ use ternary::Word;
 
 /// A place of the partition rules, from 0, and the region there.
 #[derive(Clone, Copy)]
-pub struct Spot {
+pub struct Candidate {
     pub place: u32,
     pub region: Word,
 }
@@ -17,7 +17,7 @@ pub struct Spot {
 /// A region of the header space, and the regions of partition rules that meet it.
 #[derive(Drop)]
 pub struct Node {
-    pub spots: Vec<Spot>,
+    pub candidates: Vec<Candidate>,
     pub region: Word,
 }
 
@@ -25,13 +25,13 @@ impl Node {
     /// The whole header space, with the regions of all rows.
     pub fn root(alloc: Global, rows: &[PartRow]) -> Result<Node, AllocError>
         requires { length rows.now < 2 ^ 32 }
-        ensures spots { IfOk result (λ node. node.spots.items ≡ spots_of rows.now) }
+        ensures candidates { IfOk result (λ node. node.candidates.items ≡ candidates_of rows.now) }
         ensures region { IfOk result (λ node. node.region ≡ any_word) }
-        ensures words { IfOk result (λ node. AreRegions node.spots.items) }
+        ensures words { IfOk result (λ node. AreRegions node.candidates.items) }
     {
-        let spots = numbered(alloc, rows)?;
+        let candidates = numbered(alloc, rows)?;
         Ok(Node {
-            spots,
+            candidates,
             region: Word::any(),
         })
     }
@@ -39,45 +39,51 @@ impl Node {
     /// The side of a cut at this bit on which it is 1, or 0.
     pub fn half(&self, alloc: Global, bit: u32, one: bool) -> Result<Node, AllocError>
         requires { IsFreeBit self.now.region bit }
-        ensures spots { IfOk result (λ half.
-            half.spots.items ≡ spots_of_side self.now.spots.items self.now.region bit one) }
+        ensures candidates { IfOk result (λ half.
+            half.candidates.items ≡ candidates_of_side self.now.candidates.items self.now.region bit
+            one) }
         ensures region { IfOk result (λ half. half.region ≡ fix_of self.now.region bit one) }
     {
         let region = self.region.fix(bit, one);
-        let spots = meeting(alloc, &self.spots, &region)?;
-        Ok(Node { spots, region })
+        let candidates = meeting(alloc, &self.candidates, &region)?;
+        Ok(Node { candidates, region })
     }
 }
 
 // The regions of the rows, each with its place.
-fn numbered(alloc: Global, rows: &[PartRow]) -> Result<Vec<Spot>, AllocError>
+fn numbered(alloc: Global, rows: &[PartRow]) -> Result<Vec<Candidate>, AllocError>
     requires { length rows.now < 2 ^ 32 }
-    ensures spots { IfOk result (λ spots. spots.items ≡ spots_of rows.now) }
-    ensures words { IfOk result (λ spots. AreRegions spots.items) }
+    ensures candidates { IfOk result (λ candidates. candidates.items ≡ candidates_of rows.now) }
+    ensures words { IfOk result (λ candidates. AreRegions candidates.items) }
 {
-    let mut spots = Vec::with_capacity(alloc, rows.len())?;
+    let mut candidates = Vec::with_capacity(alloc, rows.len())?;
     for row in rows {
-        let place = spots.len() as u32;
+        let place = candidates.len() as u32;
         let _ = row.region.mask();
-        spots.push(Spot {
+        candidates.push(Candidate {
             place,
             region: row.region,
         })?;
     }
-    Ok(spots)
+    Ok(candidates)
 }
 
 // Those whose regions meet this one.
 #[tactic(auto, using(crate::proofs::NodeLemmas::kept_same))]
-fn meeting(alloc: Global, spots: &[Spot], region: &Word) -> Result<Vec<Spot>, AllocError>
-    ensures { IfOk result (λ kept. kept.items ≡ filter (spot_meets region.now) spots.now) }
+fn meeting(
+    alloc: Global,
+    candidates: &[Candidate],
+    region: &Word,
+) -> Result<Vec<Candidate>, AllocError>
+    ensures { IfOk result (λ kept. kept.items ≡ filter (candidate_meets region.now)
+        candidates.now) }
 {
-    let mut kept = Vec::with_capacity(alloc, spots.len())?;
-    for spot in spots {
-        if !meets(&spot.region, region) {
+    let mut kept = Vec::with_capacity(alloc, candidates.len())?;
+    for candidate in candidates {
+        if !meets(&candidate.region, region) {
             continue;
         }
-        kept.push(*spot)?;
+        kept.push(*candidate)?;
     }
     Ok(kept)
 }

@@ -1,5 +1,5 @@
 ghost use Rattle.std.specs.Prelude.{◌≡◌, IfOk};
-ghost use Rattle.table_tree.specs.Finding.{IsGrownShape, spot_shape_of};
+ghost use Rattle.table_tree.specs.Finding.{IsGrownShape, candidate_shape_of};
 ghost use Rattle.table_tree.specs.LookupTrees.{CutsHeaderBits, leaf_at};
 
 use crate::bits::cut_bit;
@@ -24,8 +24,8 @@ pub enum Tree {
 impl Tree {
     /// The place to which the bits of the number lead.
     pub fn place(&self, number: u128) -> u32
-        requires { CutsHeaderBits (spot_shape_of self.now) }
-        ensures { result ≡ leaf_at number (spot_shape_of self.now) }
+        requires { CutsHeaderBits (candidate_shape_of self.now) }
+        ensures { result ≡ leaf_at number (candidate_shape_of self.now) }
     {
         match self {
             Tree::At { place } => *place,
@@ -44,13 +44,14 @@ impl Tree {
 /// end at place 0: there is none in the tree of sound tables.
 #[tactic(auto, using(crate::proofs::NodeLemmas::half_smaller, crate::proofs::FindLemmas::end_is))]
 pub fn grow(alloc: Global, node: Node) -> Result<Tree, AllocError>
-    ensures { IfOk result (λ tree. IsGrownShape node.spots.items node.region (spot_shape_of tree)) }
+    ensures { IfOk result (λ tree. IsGrownShape node.candidates.items node.region
+        (candidate_shape_of tree)) }
 {
-    if node.spots.len() == 1 {
-        let place = node.spots[0].place;
+    if node.candidates.len() == 1 {
+        let place = node.candidates[0].place;
         return Ok(Tree::At { place });
     }
-    let Some(bit) = cut_bit(&node.spots, &node.region) else {
+    let Some(bit) = cut_bit(&node.candidates, &node.region) else {
         return Ok(Tree::At { place: 0 });
     };
     let low = node.half(alloc, bit, false)?;

@@ -12,7 +12,7 @@ use Rattle.std.proofs.lemmas.Nat.Bits.{bit_at-zero, bit_at_ones, shr_and_one, sa
 use Rattle.std.proofs.lemmas.Option.{cond_some}
 use Rattle.ternary.specs.Word.{WordValue, fixed_value, holds}
 use Rattle.ternary.specs.WordBits.{IsWord}
-use Rattle.ternary.specs.Meets.{AgreesOnMask, AgreesOnBoth, IsFixedIn, Includes, AreDisjoint, IsMeet, any_word, exact_word, meets, joined, meet_of, covers_of, is_fixed_of, admits, fix_of, free_of, with_bit, without_bit, word_eq}
+use Rattle.ternary.specs.Meets.{AgreesOnMask, AgreesOnBoth, IsFixedIn, Includes, AreDisjoint, IsMeet, any_word, exact_word, meets, meeting_word, meet_of, covers_of, is_fixed_of, admits, fix_of, free_of, with_bit, without_bit, word_eq}
 use Rattle.ternary.proofs.BitLemmas.{masked, unmasked, part, of_part, both_set, left_set, right_set, or_assoc, absorbed, same_set, set_below, not_set, by_place, digit_cases, with_bit-same, with_bit-other, with_bit-lt, without_bit-same, without_bit-other, without_bit-le, without_bit-unset, shifted, shifted_one, masked_out, or_pow-same, or_pow-other, masked_sum-left, masked_sum-right, or_left, or_right, or_from}
 
 -- words of the same value and mask are equal
@@ -163,11 +163,11 @@ same_headers a b a_word b_word same =
 -- ---- what is in both
 
 module _ (a b : WordValue) (agree : AgreesOnBoth a b) where
-  joined_left : IsFixedIn a (joined a b)
+  joined_left : IsFixedIn a (meeting_word a b)
   joined_left k p =
       (or_left a.mask b.mask k p, masked_sum-left a.value a.mask b.value b.mask k p (agree k p))
 
-  joined_right : IsFixedIn b (joined a b)
+  joined_right : IsFixedIn b (meeting_word a b)
   joined_right k q = (
     or_right a.mask b.mask k q,
     masked_sum-right a.value a.mask b.value b.mask k q
@@ -177,7 +177,7 @@ module _ (a b : WordValue) (agree : AgreesOnBoth a b) where
   -- a fact of each bit of either word is one of each bit of the joined word
   joined_bits : (P : ℕ → ℕ → Type 0) → ((k : ℕ) → bit_at a.mask k ≡ 1 → P k (bit_at a.value k))
       → ((k : ℕ) → bit_at b.mask k ≡ 1 → P k (bit_at b.value k))
-      → (k : ℕ) → bit_at (joined a b).mask k ≡ 1 → P k (bit_at (joined a b).value k)
+      → (k : ℕ) → bit_at (meeting_word a b).mask k ≡ 1 → P k (bit_at (meeting_word a b).value k)
   joined_bits P of_a of_b k s =
       elim (or_from a.mask b.mask k s) [
         | inl p ↦ subst (P k) (sym (joined_left k p).1) (of_a k p)
@@ -189,7 +189,7 @@ module _ (a b : WordValue) (agree : AgreesOnBoth a b) where
   joined_test : (P : ℕ → ℕ → Type 0) (test : WordValue → Bool)
       → ((w : WordValue)
       → Decides (test w) ((k : ℕ) → bit_at w.mask k ≡ 1 → P k (bit_at w.value k)))
-      → test (joined a b) ≡ (test a && test b)
+      → test (meeting_word a b) ≡ (test a && test b)
   joined_test P test decides =
       same_from_decides _ _
       (Decides-like _
@@ -198,25 +198,26 @@ module _ (a b : WordValue) (agree : AgreesOnBoth a b) where
         λ k q. let r = joined_right k q in subst (P k) r.1 (bits k r.0),
       ))
       (λ both. joined_bits P both.0 both.1)
-      (decides (joined a b)))
+      (decides (meeting_word a b)))
       (Decides-and _ _ (decides a) (decides b))
 
-  joined_holds : (h : ℕ) → holds (joined a b) h ≡ (holds a h && holds b h)
+  joined_holds : (h : ℕ) → holds (meeting_word a b) h ≡ (holds a h && holds b h)
   joined_holds h =
       joined_test (λ k d. bit_at h k ≡ d) (λ w. holds w h) (λ w. holds_decides w h)
 
-  joined_meets : (c : WordValue) → meets (joined a b) c ≡ (meets a c && meets b c)
+  joined_meets : (c : WordValue) → meets (meeting_word a b) c ≡ (meets a c && meets b c)
   joined_meets c =
       joined_test (λ k d. bit_at c.mask k ≡ 1 → d ≡ bit_at c.value k) (λ w. meets w c)
       (λ w. meets_decides w c)
 
-  joined_covers : (c : WordValue) → covers_of (joined a b) c ≡ (covers_of a c && covers_of b c)
+  joined_covers : (c : WordValue) → covers_of (meeting_word a b) c
+      ≡ (covers_of a c && covers_of b c)
   joined_covers c =
       joined_test (λ k d. (bit_at c.mask k ≡ 1) × (bit_at c.value k ≡ d)) (λ w. covers_of w c)
       (λ w. covers_decides w c)
 
 -- the joined value has no bit outside the joined mask
-joined_within : (a b : WordValue) → fixed_value (joined a b) ≡ (joined a b).value
+joined_within : (a b : WordValue) → fixed_value (meeting_word a b) ≡ (meeting_word a b).value
 joined_within a b = part _ _ (λ k s.
     elim (or_from (fixed_value a) (fixed_value b) k s) [
       | inl p ↦ or_left a.mask b.mask k (right_set a.value a.mask k p)
@@ -224,7 +225,7 @@ joined_within a b = part _ _ (λ k s.
           b.mask k (right_set b.value b.mask k q)
     ])
 
-joined_word : (a b : WordValue) → IsWord a → IsWord b → IsWord (joined a b)
+joined_word : (a b : WordValue) → IsWord a → IsWord b → IsWord (meeting_word a b)
 joined_word a b a_word b_word =
     record {
       within = joined_within a b;
@@ -237,10 +238,11 @@ meets_comm a b =
     same_from_decides _ _ (Decides-like _ (λ bits k p q. sym (bits k q p))
     (λ bits k q p. sym (bits k p q)) (meets_decides a b)) (meets_decides b a)
 
-joined_comm : (a b : WordValue) → joined a b ≡ joined b a
+joined_comm : (a b : WordValue) → meeting_word a b ≡ meeting_word b a
 joined_comm a b = same_word _ _ (or_comm (fixed_value a) (fixed_value b)) (or_comm a.mask b.mask)
 
-joined_assoc : (a b c : WordValue) → joined (joined a b) c ≡ joined a (joined b c)
+joined_assoc : (a b c : WordValue) → meeting_word (meeting_word a b) c
+    ≡ meeting_word a (meeting_word b c)
 joined_assoc a b c =
     same_word _ _
     (ap (λ n. bit_or n (fixed_value c)) (joined_within a b)
@@ -250,7 +252,7 @@ joined_assoc a b c =
 
 -- what a covers adds nothing to a word that fixes it
 joined_covered : (a b : WordValue) → IsFixedIn a b
-    → joined a b ≡ record { value = fixed_value b; mask = b.mask }
+    → meeting_word a b ≡ record { value = fixed_value b; mask = b.mask }
 joined_covered a b fixed =
     same_word _ _
     (absorbed _ _ (λ k s.
@@ -260,11 +262,12 @@ joined_covered a b fixed =
 
 -- ---- the meet
 
-pub meet_some : (a b m : WordValue) → meet_of a b ≡ Some m → (meets a b ≡ true) × (joined a b ≡ m)
+pub meet_some : (a b m : WordValue) → meet_of a b ≡ Some m → (meets a b ≡ true)
+    × (meeting_word a b ≡ m)
 unfolding meet_of
-meet_some a b m e = cond_some (meets a b) (joined a b) m e
+meet_some a b m e = cond_some (meets a b) (meeting_word a b) m e
 
-pub met_joined : (a b : WordValue) → meets a b ≡ true → meet_of a b ≡ Some (joined a b)
+pub met_joined : (a b : WordValue) → meets a b ≡ true → meet_of a b ≡ Some (meeting_word a b)
 unfolding meet_of
 met_joined a b t = cond-true (meets a b) _ _ t
 
@@ -317,20 +320,21 @@ then_cond f false x = refl
 
 -- the meet of three words, from the left and from the right
 meet_left : (a b c : WordValue) → option_and_then (λ m. meet_of m c) (meet_of a b) ≡ cond
-    (meets a b && meets (joined a b) c) (Some (joined (joined a b) c)) None
+    (meets a b && meets (meeting_word a b) c) (Some (meeting_word (meeting_word a b) c)) None
 unfolding meet_of
-meet_left a b c = then_cond (λ m. meet_of m c) (meets a b) (joined a b) ∙ cond_and (meets a b) _ _ _
+meet_left a b c = then_cond (λ m. meet_of m c) (meets a b) (meeting_word a b)
+    ∙ cond_and (meets a b) _ _ _
 
 meet_right : (a b c : WordValue) → option_and_then (meet_of a) (meet_of b c) ≡ cond
-    (meets b c && meets a (joined b c)) (Some (joined a (joined b c))) None
+    (meets b c && meets a (meeting_word b c)) (Some (meeting_word a (meeting_word b c))) None
 unfolding meet_of
-meet_right a b c = then_cond (meet_of a) (meets b c) (joined b c) ∙ cond_and (meets b c) _ _ _
+meet_right a b c = then_cond (meet_of a) (meets b c) (meeting_word b c) ∙ cond_and (meets b c) _ _ _
 
 -- any two of three words agree
 abbrev AgreesOnEach : WordValue → WordValue → WordValue → Type 0
 AgreesOnEach a b c = AgreesOnBoth a b × AgreesOnBoth a c × AgreesOnBoth b c
 
-left_decides : (a b c : WordValue) → Decides (meets a b && meets (joined a b) c)
+left_decides : (a b c : WordValue) → Decides (meets a b && meets (meeting_word a b) c)
     (AgreesOnEach a b c)
 left_decides a b c = (
   λ t. let two = and_parts _ _ t in
@@ -342,19 +346,19 @@ left_decides a b c = (
       ((meets_decides b c).1 all.2)),
 )
 
-right_decides : (a b c : WordValue) → Decides (meets b c && meets a (joined b c))
+right_decides : (a b c : WordValue) → Decides (meets b c && meets a (meeting_word b c))
     (AgreesOnEach a b c)
 right_decides a b c = (
   λ t. let two = and_parts _ _ t in
       let bc = (meets_decides b c).0 two.0 in
-      let swapped = sym (meets_comm a (joined b c) ∙ joined_meets b c bc a) in
+      let swapped = sym (meets_comm a (meeting_word b c) ∙ joined_meets b c bc a) in
       let rest = and_parts _ _ (swapped ∙ two.1) in (
         (meets_decides a b).0 (meets_comm a b ∙ rest.0),
         (meets_decides a c).0 (meets_comm a c ∙ rest.1),
         bc,
       ),
   λ all. and_from _ _ ((meets_decides b c).1 all.2)
-      (meets_comm a (joined b c) ∙ joined_meets b c all.2 a
+      (meets_comm a (meeting_word b c) ∙ joined_meets b c all.2 a
       ∙ and_from _ _ (meets_comm b a ∙ (meets_decides a b).1 all.0)
       (meets_comm c a ∙ (meets_decides a c).1 all.1)),
 )
@@ -418,12 +422,12 @@ unfolding meet_of
 meet_narrowed w a b ab =
     let fixed = (covers_decides a b).0 ab in
     let agree = (meets_decides a b).0 (covers_meets a b b ab (meets_itself b)) in
-    let test : (meets w a && meets (joined w a) b) ≡ meets w b = same_from_decides _ _
+    let test : (meets w a && meets (meeting_word w a) b) ≡ meets w b = same_from_decides _ _
     (Decides-like _ (λ all. all.1)
     (λ wb. (λ k p q. wb k p (fixed k q).0 ∙ (fixed k q).1, wb, agree)) (left_decides w a b))
     (meets_decides w b) in
-    let word : joined (joined w a) b ≡ joined w b =
-    joined_assoc w a b ∙ ap (joined w) (joined_covered a b fixed)
+    let word : meeting_word (meeting_word w a) b ≡ meeting_word w b =
+    joined_assoc w a b ∙ ap (meeting_word w) (joined_covered a b fixed)
     ∙ same_word _ _ (ap (bit_or (fixed_value w))
     (and_assoc b.mask b.value b.mask ∙ ap (bit_and b.value) (and_self b.mask))) refl in
     meet_left w a b ∙ (λ i. cond (test i) (Some (word i)) None)
@@ -694,11 +698,11 @@ module _ (a b : WordValue) (a_word : IsWord a) (b_word : IsWord b) where
   disjoint = (
     λ none h fits p q. both_ways _ (sym (meet_is_some a b) ∙ none) (held_meets a b h p q),
     λ no_header. meet_is_some a b ∙ false_from_ne_true _ (λ t.
-        let joined_value = value_below (joined a b) (joined_word a b a_word b_word) in
+        let joined_value = value_below (meeting_word a b) (joined_word a b a_word b_word) in
         let held = and_parts _ _
-        (sym (joined_holds a b ((meets_decides a b).0 t) (joined a b).value)
-        ∙ holds_value (joined a b)) in
-        no_header (joined a b).value joined_value held.0 held.1),
+        (sym (joined_holds a b ((meets_decides a b).0 t) (meeting_word a b).value)
+        ∙ holds_value (meeting_word a b)) in
+        no_header (meeting_word a b).value joined_value held.0 held.1),
   )
 
   -- the same of a test, or of a meet, where the two words go by other names
@@ -711,7 +715,11 @@ module _ (a b : WordValue) (a_word : IsWord a) (b_word : IsWord b) where
   disjoint_as same also is = rw (is, ← same, ← also) disjoint
 
   -- no value bit is outside the masks, so the values need no masking
-  plain_sum : joined a b ≡ record { value = bit_or a.value b.value; mask = bit_or a.mask b.mask }
+  plain_sum : meeting_word a b ≡ record {
+    value = bit_or a.value b.value;
+    mask = bit_or a.mask
+        b.mask;
+  }
   plain_sum = same_word _ _ (λ i. bit_or (a_word.within i) (b_word.within i)) refl
 
   pub sum_meet : bit_and a.value (bit_and a.mask b.mask) ≡ bit_and b.value (bit_and a.mask b.mask)

@@ -47,12 +47,16 @@ unfoldable pub meets : WordValue → WordValue → Bool
 meets a b = let common = bit_and a.mask b.mask in bit_and a.value common == bit_and b.value common
 
 -- the fixed bits of both
-abbrev pub joined : WordValue → WordValue → WordValue
-joined a b = record { value = bit_or (fixed_value a) (fixed_value b); mask = bit_or a.mask b.mask }
+abbrev pub meeting_word : WordValue → WordValue → WordValue
+meeting_word a b = record {
+  value = bit_or (fixed_value a) (fixed_value b);
+  mask = bit_or a.mask
+      b.mask;
+}
 
 -- the word of what both hold, if there is something
 unfoldable pub meet_of : WordValue → WordValue → Option WordValue
-meet_of a b = if meets a b then Some (joined a b) else None
+meet_of a b = if meets a b then Some (meeting_word a b) else None
 
 -- each fixed bit of a is fixed in b, and to the same
 unfoldable pub covers_of : WordValue → WordValue → Bool

@@ -5,7 +5,7 @@ use Rattle.std.proofs.lemmas.List.{get_or_past}
 use Rattle.base.specs.Masks.{has}
 use Rattle.base.specs.ComputedMasks.{least_in}
 use Rattle.base.proofs.CallerLemmas.{has-zero, has_least, least_below, least_lt, some_of}
-use Rattle.travelling.specs.Marks.{AreLevels, AreOfBlocks, IsLeastMarked, IsNoneMarked, has_marks, is_marked, mask_at}
+use Rattle.travelling.specs.SwitchIndex.{AreLevels, AreOfBlocks, IsLeastMarked, IsNoneMarked, has_marks, is_marked, mask_at}
 
 pub no_levels : AreLevels [] [] []
 no_levels = record { low = no_blocks; high = no_blocks }

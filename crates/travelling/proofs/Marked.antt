@@ -12,9 +12,9 @@ use Rattle.std.proofs.lemmas.Nat.Bits.{bit_at_xor, bit_at-lt, bit_at-pow_same}
 use Rattle.base.specs.Masks.{has}
 use Rattle.base.specs.ComputedMasks.{least_in}
 use Rattle.base.proofs.CallerLemmas.{has-zero, has_above, has_least, least_below, has-xor_other}
-use Rattle.travelling.specs.Marks.{flipped_if, has_marks, is_marked}
-use Rattle.travelling.specs.Travelling.{AreMarked, Travellers, stands_at, traveller}
-use Rattle.travelling.specs.declared.travelling.Traveller.{Traveller}
+use Rattle.travelling.specs.SwitchIndex.{flipped_if, has_marks, is_marked}
+use Rattle.travelling.specs.Travelling.{AreMarked, Flights, stands_at, flight}
+use Rattle.travelling.specs.declared.travelling.Flight.{Flight}
 
 -- ---- empty masks
 
@@ -28,15 +28,15 @@ pushed_zero (m ∷ masks) zero = refl
 pushed_zero (m ∷ masks) (suc j) = pushed_zero masks j
 
 -- the same masks mark the same packets
-pub marked_on : (before after : Travellers) (masks more : List ℕ) → AreMarked before masks
-    → ((i : ℕ) → traveller after i ≡ traveller before i)
+pub marked_on : (before after : Flights) (masks more : List ℕ) → AreMarked before masks
+    → ((i : ℕ) → flight after i ≡ flight before i)
     → ((j : ℕ) → get_or more j 0 ≡ get_or masks j 0) → AreMarked after more
 marked_on before after masks more marked same same_masks = λ i s below.
     ap (λ m. has m (i % 64)) (same_masks (i / 64 * 64 + s)) ∙ marked i s below
     ∙ ap (stands_at s) (sym (same i))
 
 -- there is a mask for each slot
-pub room_on : (before after : Travellers) (masks more : List ℕ) (n : ℕ)
+pub room_on : (before after : Flights) (masks more : List ℕ) (n : ℕ)
     → ((i : ℕ) → i < length before → i + 64 ≤ length masks)
     → length after ≤ max (length before) (n + 1) → length masks ≤ length more
     → n + 64 ≤ length more → (i : ℕ) → i < length after → i + 64 ≤ length more
@@ -47,19 +47,19 @@ room_on before after masks more n room few grown new i below = by_place (cases_l
     by_place (inr high) = omega (arith, few, below, high, new)
 
 -- a packet that travels has a slot
-pub within_some : (slots : Travellers) (i : ℕ) → is_some (traveller slots i) ≡ true
+pub within_some : (slots : Flights) (i : ℕ) → is_some (flight slots i) ≡ true
     → i < length slots
 within_some slots i is = by_place (cases_lt i (length slots))
   where
     by_place : (i < length slots) ⊎ (length slots ≤ i) → i < length slots
     by_place (inl below) = below
     by_place (inr past) = absurd (
-        let no : is_some (traveller slots i) ≡ false = ap is_some (get_or_past slots i None past) in
+        let no : is_some (flight slots i) ≡ false = ap is_some (get_or_past slots i None past) in
         cc
         )
 
-pub within_and : (P : Traveller → Type 0) (slots : Travellers) (i : ℕ)
-    → IsSomeAnd (traveller slots i) P → i < length slots
+pub within_and : (P : Flight → Type 0) (slots : Flights) (i : ℕ)
+    → IsSomeAnd (flight slots i) P → i < length slots
 within_and P slots i is = by_place (cases_lt i (length slots))
   where
     by_place : (i < length slots) ⊎ (length slots ≤ i) → i < length slots

@@ -4,7 +4,7 @@ use Rattle.std.specs.List.{range_with_len}
 use Rattle.std.proofs.lemmas.List.{get_or_past}
 use Rattle.std.proofs.lemmas.List.Elements.{filter-append}
 use Rattle.policy_rules.proofs.CallerLemmas.{filter_more, range_more}
-use Rattle.travelling.specs.Travelling.{Travellers, stands_at, traveller}
+use Rattle.travelling.specs.Travelling.{Flights, stands_at, flight}
 
 -- none between passes
 pub none_between : (test : ℕ → Bool) (from more : ℕ)
@@ -43,6 +43,6 @@ filter_on test from (suc more) =
     ∙ ap (λ k. filter test (range_with_len from k)) next_more)
 
 -- what a packet of no slot does
-pub beyond : (before : Travellers) (s i : ℕ) → length before ≤ i
-    → stands_at s (traveller before i) ≡ false
+pub beyond : (before : Flights) (s i : ℕ) → length before ≤ i
+    → stands_at s (flight before i) ≡ false
 beyond before s i past = rw (get_or_past before i None past) refl

@@ -1,10 +1,10 @@
 -- The table of the packets on their way.
 use Rattle.std.proofs.Common.{ℕ, zero, suc, ◌≡◌, None, [], ◌∷◌, ◌++◌, refl}
-use Rattle.travelling.specs.Travelling.{Travellers, traveller}
+use Rattle.travelling.specs.Travelling.{Flights, flight}
 
 -- an empty slot behind the others says nothing
-pub pushed_same : (slots : Travellers) (i : ℕ)
-    → traveller (slots ++ None ∷ []) i ≡ traveller slots i
+pub pushed_same : (slots : Flights) (i : ℕ)
+    → flight (slots ++ None ∷ []) i ≡ flight slots i
 pushed_same [] zero = refl
 pushed_same [] (suc i) = refl
 pushed_same (slot ∷ slots) zero = refl

@@ -2,11 +2,12 @@
 //!
 //! `Travelling` keeps what is known of each packet that travels: its tunnel, and the version and
 //! the rule of its decision. It promises that each call changes the packet of its number alone, and
-//! that `next` finds the least number of one that travels. Only `Kept::new` and `put` take memory.
+//! that `next` finds the least number of one that travels. Only `StoredFlight::new` and `put` take
+//! memory.
 //!
 //! ```text
 //! let mut travelling = Travelling::new(alloc);
-//! travelling.put(7, Kept::new(alloc, &tunnel, 0, None, route)?)?;
+//! travelling.put(7, StoredFlight::new(alloc, &tunnel, 0, None, route)?)?;
 //! travelling.move_to(7, 1);
 //! while let Some(packet) = travelling.next(1) {
 //!     travelling.remove(packet);
@@ -14,13 +15,13 @@
 //! ```
 #![tactic(auto)]
 
-mod kept;
-mod marks;
 mod standing;
+mod stored_flight;
+mod switch_index;
 mod travelling;
 
 pub use journal::SharedRoute;
-pub use kept::Kept;
 pub use standing::Standing;
-pub use travelling::{Traveller, Travelling};
+pub use stored_flight::StoredFlight;
+pub use travelling::{Flight, Travelling};
 pub use tunnel::Tunnel;

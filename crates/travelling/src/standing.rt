@@ -3,7 +3,7 @@ ghost use Rattle.std.specs.Option.{option_copied};
 ghost use Rattle.failover.specs.Links.{no_links};
 ghost use Rattle.travelling.specs.Travelling.{standing_at, standing_kept};
 
-use crate::travelling::Traveller;
+use crate::travelling::Flight;
 use five_tuple::Header;
 use journal::{DownSet, SharedLinks};
 use std::alloc::{AllocError, Global};
@@ -25,24 +25,24 @@ pub struct Standing {
 }
 
 impl Standing {
-    /// The traveller at a switch, with a copy of its links.
+    /// The packet in flight at a switch, with a copy of its links.
     ///
     /// # Errors
     /// Want of memory alone.
-    pub fn of(alloc: Global, traveller: &Traveller, switch: u32) -> Result<Standing, AllocError>
-        ensures at { IfOk result (λ at. standing_kept at ≡ standing_at switch traveller.now) }
-        ensures version { IfOk result (λ at. at.version ≡ traveller.now.version) }
-        ensures rule { IfOk result (λ at. at.rule ≡ traveller.now.rule) }
+    pub fn of(alloc: Global, flight: &Flight, switch: u32) -> Result<Standing, AllocError>
+        ensures at { IfOk result (λ at. standing_kept at ≡ standing_at switch flight.now) }
+        ensures version { IfOk result (λ at. at.version ≡ flight.now.version) }
+        ensures rule { IfOk result (λ at. at.rule ≡ flight.now.rule) }
     {
-        let down = SharedLinks::new(alloc, traveller.tunnel.down)?;
+        let down = SharedLinks::new(alloc, flight.tunnel.down)?;
         Ok(Standing {
-            packet: traveller.tunnel.packet,
-            header: traveller.tunnel.header,
-            ingress: traveller.tunnel.ingress,
+            packet: flight.tunnel.packet,
+            header: flight.tunnel.header,
+            ingress: flight.tunnel.ingress,
             switch,
             down: Some(down),
-            version: traveller.version,
-            rule: traveller.rule,
+            version: flight.version,
+            rule: flight.rule,
         })
     }
 

@@ -9,17 +9,17 @@
 //! No slot is given back before the end, as in a journal.
 ghost use Rattle.std.specs.Prelude.{◌≡◌, ◌+◌, ◌<◌, ◌≤◌, ℕ, max, [], Some, None, is_some, option_map, length, slice_set, IsSome, OnOk};
 ghost use Rattle.std.specs.Option.{IsSomeAnd, option_copied};
-ghost use Rattle.travelling.specs.Travelling.{AreMarked, HasPlace, IsNextAt, IsNextFrom, StandBelow, WithOne, placed_at, traveller};
+ghost use Rattle.travelling.specs.Travelling.{AreMarked, HasPlace, IsNextAt, IsNextFrom, StandBelow, WithOne, placed_at, flight};
 
-use crate::kept::Kept;
-use crate::marks::Marks;
+use crate::stored_flight::StoredFlight;
+use crate::switch_index::SwitchIndex;
 use std::alloc::{AllocError, Global};
 use std::marker::Model;
 use tunnel::Tunnel;
 
 /// A packet on its way.
 #[derive(Clone, Copy, Debug)]
-pub struct Traveller {
+pub struct Flight {
     pub tunnel: Tunnel,
     /// The version of its decision; 0 before it.
     pub version: u32,
@@ -31,21 +31,21 @@ pub struct Traveller {
 /// travels.
 #[derive(Drop)]
 pub struct Travelling {
-    slots: Vec<Option<Kept>>,
+    slots: Vec<Option<StoredFlight>>,
     // No packet below it travels.
     first: usize,
     // Where packets stand.
-    marks: Marks,
+    by_switch: SwitchIndex,
 }
 
 impl Model for Travelling {
-    ghost use Rattle.travelling.specs.Travelling.{IsTable, Travellers};
+    ghost use Rattle.travelling.specs.Travelling.{IsTable, Flights};
 
-    ghost Value = { Travellers };
+    ghost Value = { Flights };
 
     ghost view = { λ t. t.slots.items };
 
-    ghost invariant = { λ t. IsTable t.slots.items t.first t.marks };
+    ghost invariant = { λ t. IsTable t.slots.items t.first t.by_switch };
 }
 
 impl Travelling {
@@ -56,20 +56,20 @@ impl Travelling {
         Travelling {
             slots: Vec::new(alloc),
             first: 0,
-            marks: Marks::new(alloc),
+            by_switch: SwitchIndex::new(alloc),
         }
     }
 
     /// Whether the packet travels.
     pub fn has(&self, packet: u32) -> bool
-        ensures { result ≡ is_some (traveller self.now packet) }
+        ensures { result ≡ is_some (flight self.now packet) }
     {
         matches!(self.slots.get(packet as usize), Some(Some(_)))
     }
 
     /// What is kept of the packet, if it travels.
-    pub fn look(&self, packet: u32) -> Option<&Kept>
-        ensures { option_copied result ≡ traveller self.now packet }
+    pub fn look(&self, packet: u32) -> Option<&StoredFlight>
+        ensures { option_copied result ≡ flight self.now packet }
     {
         match self.slots.get(packet as usize) {
             Some(Some(kept)) => Some(kept),
@@ -78,11 +78,11 @@ impl Travelling {
     }
 
     /// What is known of the packet, if it travels. It takes no memory.
-    pub fn get(&self, packet: u32) -> Option<Traveller>
-        ensures { result ≡ traveller self.now packet }
+    pub fn get(&self, packet: u32) -> Option<Flight>
+        ensures { result ≡ flight self.now packet }
     {
         match self.slots.get(packet as usize) {
-            Some(Some(kept)) => Some(kept.traveller()),
+            Some(Some(kept)) => Some(kept.flight()),
             _ => None,
         }
     }
@@ -91,7 +91,7 @@ impl Travelling {
     ///
     /// # Errors
     /// Want of memory alone.
-    pub fn put(&mut self, packet: u32, kept: Kept) -> Result<(), AllocError>
+    pub fn put(&mut self, packet: u32, kept: StoredFlight) -> Result<(), AllocError>
         ensures { OnOk result (WithOne self.old packet (Some kept) self.new) }
     {
         let number = packet as usize;
@@ -100,31 +100,31 @@ impl Travelling {
         } else {
             number
         };
-        self.marks.make_bits(number)?;
+        self.by_switch.make_bits(number)?;
         make_room(&mut self.slots, number)?;
-        set_slot(&mut self.slots, &mut self.marks, number, Some(kept));
+        set_slot(&mut self.slots, &mut self.by_switch, number, Some(kept));
         self.first = first;
         Ok(())
     }
 
     /// The packet stands at this place of its route. It takes no memory.
     pub fn move_to(&mut self, packet: u32, place: u32)
-        requires { IsSomeAnd (traveller self.old packet) (HasPlace place) }
+        requires { IsSomeAnd (flight self.old packet) (HasPlace place) }
         ensures { WithOne self.old packet
-            (option_map (placed_at place) (traveller self.old packet)) self.new }
+            (option_map (placed_at place) (flight self.old packet)) self.new }
     {
-        move_slot(&mut self.slots, &mut self.marks, packet as usize, place);
+        move_slot(&mut self.slots, &mut self.by_switch, packet as usize, place);
     }
 
     /// The packet doesn't travel from now on. Answers whether it did.
     pub fn remove(&mut self, packet: u32) -> bool
-        ensures was { result ≡ is_some (traveller self.old packet) }
+        ensures was { result ≡ is_some (flight self.old packet) }
         ensures after { WithOne self.old packet None self.new }
     {
         if !self.has(packet) {
             return false;
         }
-        set_slot(&mut self.slots, &mut self.marks, packet as usize, None);
+        set_slot(&mut self.slots, &mut self.by_switch, packet as usize, None);
         self.first = first_held(&self.slots, self.first);
         true
     }
@@ -145,11 +145,11 @@ impl Travelling {
     pub fn next_at(&self, from: usize, switch: u32) -> Option<u32>
         ensures { IsNextAt self.now switch from result }
     {
-        let marks = &self.marks;
+        let by_switch = &self.by_switch;
         if switch >= 64 {
             return None;
         }
-        match marks.next(from, switch) {
+        match by_switch.next(from, switch) {
             Some(number) => Some(number as u32),
             None => None,
         }
@@ -158,10 +158,10 @@ impl Travelling {
 
 // There is a slot of this number. Each new one is pushed, so that n of them take O(n) in all.
 #[tactic(auto, using(crate::proofs::Tables::pushed_same))]
-fn make_room(slots: &mut Vec<Option<Kept>>, number: usize) -> Result<(), AllocError>
+fn make_room(slots: &mut Vec<Option<StoredFlight>>, number: usize) -> Result<(), AllocError>
     ensures room { OnOk result (number < length slots.new.items) }
     ensures few { length slots.new.items ≤ max (length slots.old.items) (number + 1) }
-    ensures same { (i : ℕ) → traveller slots.new.items i ≡ traveller slots.old.items i }
+    ensures same { (i : ℕ) → flight slots.new.items i ≡ flight slots.old.items i }
 {
     while slots.len() <= number {
         slots.push(None)?;
@@ -171,10 +171,10 @@ fn make_room(slots: &mut Vec<Option<Kept>>, number: usize) -> Result<(), AllocEr
 
 // The least number at or above `from` of a slot that holds a packet; where there is none, one of no
 // slot.
-fn first_held(slots: &[Option<Kept>], from: usize) -> usize
+fn first_held(slots: &[Option<StoredFlight>], from: usize) -> usize
     ensures from { from ≤ result }
-    ensures empty { (i : ℕ) → from ≤ i → i < result → traveller slots.now i ≡ None }
-    ensures held { result < length slots.now → IsSome (traveller slots.now result) }
+    ensures empty { (i : ℕ) → from ≤ i → i < result → flight slots.now i ≡ None }
+    ensures held { result < length slots.now → IsSome (flight slots.now result) }
 {
     let mut number = from;
     while number < slots.len() && slots[number].is_none() {
@@ -184,36 +184,46 @@ fn first_held(slots: &[Option<Kept>], from: usize) -> usize
 }
 
 // The slot holds this from now on, and its packet is marked where it stands.
-fn set_slot(slots: &mut Vec<Option<Kept>>, marks: &mut Marks, number: usize, slot: Option<Kept>)
+fn set_slot(
+    slots: &mut Vec<Option<StoredFlight>>,
+    by_switch: &mut SwitchIndex,
+    number: usize,
+    slot: Option<StoredFlight>,
+)
     requires within { number < length slots.old.items }
-    requires room { number + 64 ≤ length marks.old }
-    requires marked { AreMarked slots.old.items marks.old }
+    requires room { number + 64 ≤ length by_switch.old }
+    requires marked { AreMarked slots.old.items by_switch.old }
     requires below { StandBelow slots.old.items }
     ensures slots { slots.new.items ≡ slice_set slots.old.items number slot }
-    ensures room { length marks.new ≡ length marks.old }
-    ensures marked { AreMarked slots.new.items marks.new }
+    ensures room { length by_switch.new ≡ length by_switch.old }
+    ensures marked { AreMarked slots.new.items by_switch.new }
     ensures below { StandBelow slots.new.items }
 {
-    marks.mark_slot(number, &slots[number]);
-    marks.mark_slot(number, &slot);
+    by_switch.mark_slot(number, &slots[number]);
+    by_switch.mark_slot(number, &slot);
     slots[number] = slot;
 }
 
 // The packet of the slot stands at this place of its route, and is marked there.
-fn move_slot(slots: &mut Vec<Option<Kept>>, marks: &mut Marks, number: usize, place: u32)
-    requires held { IsSomeAnd (traveller slots.old.items number) (HasPlace place) }
-    requires room { number + 64 ≤ length marks.old }
-    requires marked { AreMarked slots.old.items marks.old }
+fn move_slot(
+    slots: &mut Vec<Option<StoredFlight>>,
+    by_switch: &mut SwitchIndex,
+    number: usize,
+    place: u32,
+)
+    requires held { IsSomeAnd (flight slots.old.items number) (HasPlace place) }
+    requires room { number + 64 ≤ length by_switch.old }
+    requires marked { AreMarked slots.old.items by_switch.old }
     requires below { StandBelow slots.old.items }
     ensures slots { slots.new.items ≡ slice_set slots.old.items number
-        (option_map (placed_at place) (traveller slots.old.items number)) }
-    ensures room { length marks.new ≡ length marks.old }
-    ensures marked { AreMarked slots.new.items marks.new }
+        (option_map (placed_at place) (flight slots.old.items number)) }
+    ensures room { length by_switch.new ≡ length by_switch.old }
+    ensures marked { AreMarked slots.new.items by_switch.new }
     ensures below { StandBelow slots.new.items }
 {
-    marks.mark_slot(number, &slots[number]);
+    by_switch.mark_slot(number, &slots[number]);
     if let Some(kept) = &mut slots[number] {
         kept.move_to(place);
     }
-    marks.mark_slot(number, &slots[number]);
+    by_switch.mark_slot(number, &slots[number]);
 }

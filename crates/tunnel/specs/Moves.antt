@@ -30,8 +30,8 @@ abbrev pub next : TunnelValue → Option ℕ
 next t = slice_get t.route (t.place + 1)
 
 -- one place on
-abbrev pub advanced : TunnelValue → TunnelValue
-advanced t = record t { place = t.place + 1 }
+abbrev pub advanced_tunnel : TunnelValue → TunnelValue
+advanced_tunnel t = record t { place = t.place + 1 }
 
 -- the link between this switch and another was found down
 abbrev pub marked_down : TunnelValue → ℕ → TunnelValue

@@ -1,5 +1,5 @@
 ghost use Rattle.std.specs.Prelude.{◌≡◌, ◌≢◌, ◌<◌, ◌+◌, ◌↔◌, length, is_some, slice_get, IfSome, IsSome};
-ghost use Rattle.tunnel.specs.Moves.{tunnel_begun, here, next, advanced, marked_down, route_from_here, put_on_route};
+ghost use Rattle.tunnel.specs.Moves.{tunnel_begun, here, next, advanced_tunnel, marked_down, route_from_here, put_on_route};
 
 use failover::{Database, DownSet, Route};
 use five_tuple::Header;
@@ -88,7 +88,7 @@ impl Tunnel {
     /// Moves one place on.
     pub fn advance(&mut self)
         requires { self.old.place + 1 < length self.old.route }
-        ensures { self.new ≡ advanced self.old }
+        ensures { self.new ≡ advanced_tunnel self.old }
     {
         self.place += 1;
     }

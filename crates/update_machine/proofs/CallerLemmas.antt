@@ -1,5 +1,5 @@
 -- What proofs above cite.
-pub use Rattle.update_machine.proofs.FoldLemmas.{all_given_append, count_of_append, folded_append, last_told_append}
+pub use Rattle.update_machine.proofs.FoldLemmas.{all_given_append, count_of_append, folded_append, last_given_append}
 pub use Rattle.update_machine.proofs.Silent.{fewer, stays}
 pub use Rattle.update_machine.proofs.SilentSwitches.{near_same, near_stays, switch_keeps}
 pub use Rattle.update_machine.proofs.SilentSteps.{calls_stay}

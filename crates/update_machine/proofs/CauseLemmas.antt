@@ -3,7 +3,7 @@ use Rattle.std.specs.Prelude.{⊤}
 use Rattle.std.proofs.Common.{List, [], ◌∷◌, ◌++◌, sym, subst, append_assoc, append-nil}
 use Rattle.journal.specs.declared.item.Item.{Item}
 use Rattle.update_machine.specs.Causes.{HaveCauses}
-use Rattle.update_machine.specs.Moves.{in_turn, put}
+use Rattle.update_machine.specs.Moves.{in_turn, items_then}
 
 -- causes go on by causes
 pub have_append : (cause : List Item → Item → Type 0) (before xs ys : List Item)
@@ -21,7 +21,7 @@ have_append cause before (x ∷ xs) ys first then = (
 pub have_put : (cause : List Item → Item → Type 0) (items : List Item)
     (rest : List Item → List Item) (journal : List Item) →
     HaveCauses cause journal items → HaveCauses cause (journal ++ items) (rest (journal ++ items))
-    → HaveCauses cause journal (put items rest journal)
+    → HaveCauses cause journal (items_then items rest journal)
 have_put cause items rest journal first then = have_append cause journal items
     (rest (journal ++ items)) first then
 
@@ -29,7 +29,7 @@ have_put cause items rest journal first then = have_append cause journal items
 pub have_first : (cause : List Item → Item → Type 0) (item : Item) (rest : List Item → List Item)
     (journal : List Item) →
     cause journal item → HaveCauses cause (journal ++ item ∷ []) (rest (journal ++ item ∷ []))
-    → HaveCauses cause journal (put (item ∷ []) rest journal)
+    → HaveCauses cause journal (items_then (item ∷ []) rest journal)
 have_first cause item rest journal first then = have_put cause (item ∷ []) rest journal (first, tt)
     then
 

@@ -20,7 +20,7 @@ use Rattle.journal.specs.declared.item.Item.{Item}
 use Rattle.journal.specs.declared.item.Item.TheVariants as item
 use Rattle.update_machine.specs.Causes.{finds_down}
 use Rattle.update_machine.specs.Folds.{folded_from}
-use Rattle.update_machine.specs.Versions.{first_told, file_of, hosted_in, plan_at, tells_file}
+use Rattle.update_machine.specs.Versions.{first_given, file_of, hosted_in, plan_at, gives_file}
 use Rattle.update_machine.specs.LinkMasks.{near, usable_links}
 use Rattle.update_machine.specs.Links.{can_use, is_usable}
 use Rattle.update_machine.specs.Setting.{IsFileOf, IsPlanOf, Setting, plan_of_file, policy_of_file}
@@ -164,16 +164,16 @@ contains_later : (next : Item) (items : List Item) (x : Item) → Contains items
 contains_later next items x there = (suc there.0, omega (arith, there.1), there.2)
 
 file_told : (version file : ℕ) (journal : List Item)
-    → first_told (tells_file version) journal ≡ Some file
+    → first_given (gives_file version) journal ≡ Some file
     → Contains journal (item.Submitted file version)
 file_told version file [] is = absurd cc
 file_told version file (item.Submitted other of ∷ items) is =
     by_version (of == version) refl (file_told version file items) is
   where
     by_version : (b : Bool) → (of == version) ≡ b
-        → (first_told (tells_file version) items ≡ Some file
+        → (first_given (gives_file version) items ≡ Some file
         → Contains items (item.Submitted file version))
-        → first_told (tells_file version) (item.Submitted other of ∷ items) ≡ Some file
+        → first_given (gives_file version) (item.Submitted other of ∷ items) ≡ Some file
         → Contains (item.Submitted other of ∷ items) (item.Submitted file version)
     by_version true e rest is =
         let same : of ≡ version = grind (arith, nat_tests) in

@@ -27,11 +27,11 @@ use Rattle.base.specs.Masks.{has, switches}
 use Rattle.base.specs.ComputedMasks.{mask_where, mask_of, least_in}
 use Rattle.failover.specs.Adverts.{is_news, after_hearing, first_adverts}
 use Rattle.failover.specs.Links.{named_links, is_link, known_links, has_link, with_link}
-use Rattle.failover.specs.Routes.{wider, ball, nearer, onward, links_away, route_to, first_route, route_of}
-use Rattle.failover.specs.Isolated.{names, is_isolated}
+use Rattle.failover.specs.Routes.{grown_ball, ball, least_neighbour_in, path_after, links_away, route_to, first_route, route_of}
+use Rattle.failover.specs.Isolated.{names_neighbour, is_isolated}
 use Rattle.ternary.specs.Word.{holds}
 use Rattle.ternary.specs.Meets.{meets, meet_of, covers_of, is_fixed_of, free_of}
-use Rattle.cache_maker.specs.Independent.{is_apart, is_independent, widen, widened}
+use Rattle.cache_maker.specs.Independent.{is_apart, is_independent, widen, widening_of}
 use Rattle.switch_table.specs.Cache.{same_key}
 
 -- what these steps leave of a journal without items; a proof that unfolds it computes
@@ -48,7 +48,8 @@ unfolding own_seq own_advert adverts_known held_adverts route_from is_cut_off bo
     resend_items piece sendings current_items open_items retired_items settling installs_to
     installs_to_all resent_by_controller steps_in present_step version_count file_of next_plan plan_at
     stamp_of holds_version has mask_where mask_of switches least_in is_news after_hearing first_adverts
-    names named_links is_link known_links is_isolated wider ball nearer onward links_away route_to
+    names_neighbour named_links is_link known_links is_isolated grown_ball ball least_neighbour_in
+    path_after links_away route_to
     first_route route_of has_link with_link holds meets meet_of covers_of is_fixed_of free_of
-    is_apart is_independent widen widened same_key lib.Count.count_trailing_zeros
+    is_apart is_independent widen widening_of same_key lib.Count.count_trailing_zeros
 left_by setting steps = after_steps setting [] steps

@@ -4,8 +4,8 @@ use Rattle.std.specs.Option.{option_or}
 use Rattle.std.proofs.lemmas.List.Concat.{flat_map-append}
 use Rattle.std.proofs.lemmas.List.Sums.{sum_by-append}
 use Rattle.journal.specs.declared.item.Item.{Item}
-use Rattle.update_machine.specs.Folds.{all_given, count_of, folded, folded_from, last_told}
-use Rattle.update_machine.specs.Versions.{first_told}
+use Rattle.update_machine.specs.Folds.{all_given, count_of, folded_value, folded_from, last_given}
+use Rattle.update_machine.specs.Versions.{first_given}
 
 pub or_none : {X : Type 0} (o : Option X) → option_or o None ≡ o
 or_none None = refl
@@ -17,21 +17,22 @@ or_assoc None p q = refl
 or_assoc (Some x) p q = refl
 
 -- the last that was told in two parts is that of the second, or else that of the first
-pub last_told_append : {X : Type 0} (tells : Item → Option X) (before items : List Item)
-    → last_told tells (before ++ items) ≡ option_or (last_told tells items) (last_told tells before)
-last_told_append tells [] items = sym (or_none (last_told tells items))
-last_told_append tells (item ∷ before) items = ap (λ o. option_or o (tells item))
-    (last_told_append tells before items)
-    ∙ or_assoc (last_told tells items) (last_told tells before) (tells item)
+pub last_given_append : {X : Type 0} (tells : Item → Option X) (before items : List Item)
+    → last_given tells (before ++ items) ≡ option_or (last_given tells items)
+    (last_given tells before)
+last_given_append tells [] items = sym (or_none (last_given tells items))
+last_given_append tells (item ∷ before) items = ap (λ o. option_or o (tells item))
+    (last_given_append tells before items)
+    ∙ or_assoc (last_given tells items) (last_given tells before) (tells item)
 
 -- the first that was told is that of the first part, or else that of the second
-pub first_told_append : {X : Type 0} (tells : Item → Option X) (before items : List Item) →
-    first_told tells (before ++ items)
-    ≡ option_or (first_told tells before) (first_told tells items)
-first_told_append tells [] items = refl
-first_told_append tells (item ∷ before) items =
-    ap (option_or (tells item)) (first_told_append tells before items)
-    ∙ sym (or_assoc (tells item) (first_told tells before) (first_told tells items))
+pub first_given_append : {X : Type 0} (tells : Item → Option X) (before items : List Item) →
+    first_given tells (before ++ items)
+    ≡ option_or (first_given tells before) (first_given tells items)
+first_given_append tells [] items = refl
+first_given_append tells (item ∷ before) items =
+    ap (option_or (tells item)) (first_given_append tells before items)
+    ∙ sym (or_assoc (tells item) (first_given tells before) (first_given tells items))
 
 pub count_of_append : (test : Item → Bool) (before items : List Item)
     → count_of test (before ++ items) ≡ count_of test before + count_of test items
@@ -56,6 +57,6 @@ folded_from_append changes first value (item ∷ before) items =
 
 pub folded_append : {X : Type 0} (changes : List Item → X → Item → X) (start : X)
     (before items : List Item) →
-    folded changes start (before ++ items) ≡ folded_from changes before
-    (folded changes start before) items
+    folded_value changes start (before ++ items) ≡ folded_from changes before
+    (folded_value changes start before) items
 folded_append changes start before items = folded_from_append changes [] start before items

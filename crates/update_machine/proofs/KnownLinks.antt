@@ -4,7 +4,7 @@ use Rattle.std.specs.Prelude.{◌↔◌, ◌==◌, IsTrue, if◌then◌else◌, 
 use Rattle.std.specs.List.{AllByRecursion}
 use Rattle.std.proofs.lemmas.List.{map-set}
 use Rattle.std.proofs.lemmas.Bool.Decides.{nat_tests}
-use Rattle.failover.specs.Adverts.{after_hearing, after_hearing_all, first_adverts, held, no_adverts}
+use Rattle.failover.specs.Adverts.{after_hearing, after_hearing_all, first_adverts, held_advert, no_adverts}
 use Rattle.failover.specs.Links.{is_link, known_links, links_at, neighbours_named, named_links, IsPath, IsReachable, LinksLead}
 use Rattle.failover.specs.Paths.{IsIsolated, IsRoute}
 use Rattle.failover.specs.declared.advert.Advert.{Advert}
@@ -23,7 +23,7 @@ use Rattle.update_machine.specs.Adverts.{advert_known, adverts_known, is_cut_off
 use Rattle.update_machine.specs.Boots.{is_in_first_boot}
 use Rattle.update_machine.specs.Laws.{KnownLinkLaws}
 use Rattle.update_machine.specs.LinkMasks.{near, adverts_begun, adverts_heard, adverts_of_others, links_known}
-use Rattle.update_machine.specs.Moves.{end_items, leaves, leg_items, stuck_on, takes_route}
+use Rattle.update_machine.specs.Moves.{end_items, leaving_item, leg_items, stuck_on, takes_route}
 use Rattle.update_machine.specs.Ways.{found_down, no_switch, owner}
 use Rattle.update_machine.specs.Setting.{Setting}
 use Rattle.update_machine.specs.SwitchNumbers.{switches_of}
@@ -58,11 +58,12 @@ known_places setting journal s =
     ∙ (heard_by_origin setting journal s).places
 
 newest_known : (setting : Setting) (journal : List Item) (s origin : ℕ) → origin ≢ s → origin < 64 →
-    IsNewest origin (option_to_list (held (adverts_begun setting journal s) origin) ++ adverts_heard
+    IsNewest origin (option_to_list (held_advert (adverts_begun setting journal s) origin)
+    ++ adverts_heard
     journal s) (advert_known setting journal s origin)
 unfolding adverts_known
 newest_known setting journal s origin other small =
-    subst (IsNewest origin (option_to_list (held (adverts_begun setting journal s) origin)
+    subst (IsNewest origin (option_to_list (held_advert (adverts_begun setting journal s) origin)
     ++ adverts_heard journal s))
     (sym (get_or-set_other (adverts_of_others setting journal s) s origin
     (own_if_sent (own_advert setting journal s)) None other))
@@ -176,7 +177,7 @@ portless_stuck setting journal i s port small none =
     ∙ no_route (links_known setting journal s (found_down journal i)) s _
     (route_known setting journal s (no_switch ∷ []) (found_down journal i)) in
     ap (λ b. elim b [
-      | true ↦ leaves journal i port ∷ []
+      | true ↦ leaving_item journal i port ∷ []
       | false ↦ leg_items setting journal i s (Exit port)
     ]) elsewhere
     ∙ ap (λ route. elim route [

@@ -7,7 +7,7 @@ use Rattle.policy_rules.specs.declared.policy.Row.{Row}
 use Rattle.journal.specs.declared.item.Item.{Item}
 use Rattle.journal.specs.declared.item.Item.TheVariants as item
 use Rattle.update_machine.specs.Laws.{PoliciesKeep}
-use Rattle.update_machine.specs.Machine.{Machine, Takes, start}
+use Rattle.update_machine.specs.Machine.{Machine, Takes, first_machine}
 use Rattle.update_machine.specs.Numbers.{VersionsAreNumbered}
 use Rattle.update_machine.specs.Setting.{IsSetting, Setting, policy_of_file}
 use Rattle.update_machine.specs.Versions.{file_of, next_policy, policy_at, policy_in, version_count}
@@ -22,7 +22,7 @@ pub record ArePolicies (setting : Setting) (policies : List (List Row)) (journal
 
 -- the machine begins with the first one
 pub policies_begin : (setting : Setting) → IsSetting setting
-    → ArePolicies setting (start setting).policies []
+    → ArePolicies setting (first_machine setting).policies []
 unfolding version_count file_of
 policies_begin setting is = by_rows (policy_of_file setting 1) refl is.planned
   where

@@ -13,7 +13,7 @@ use Rattle.switch_table.specs.declared.search.Found.TheVariants as found
 use Rattle.journal.specs.declared.item.Item.{Item}
 use Rattle.journal.specs.declared.item.Item.TheVariants as item
 use Rattle.update_machine.specs.Causes.{HaveCauses}
-use Rattle.update_machine.specs.Messages.{is_sending, next_message, sends, sent_from}
+use Rattle.update_machine.specs.Messages.{is_sending, next_message, send_items, sent_from}
 use Rattle.update_machine.specs.Moves.{AuthorityRule, arrive_by, arrive_items, authority_items, authority_rule, cache_items, end_items, found_items, go_on, header_at, in_turn, leg_items, lookup_items, move_items, reroute_by, reroute_items}
 use Rattle.update_machine.specs.Numbers.{TakesNext}
 use Rattle.update_machine.specs.Caches.{lookup_at}
@@ -49,7 +49,7 @@ sent_from_next (message ∷ messages) journal n first = (
 )
 
 pub sends_next : (journal : List Item) (messages : List Message)
-    → Next journal (sends journal messages)
+    → Next journal (send_items journal messages)
 sends_next journal messages = sent_from_next messages journal (next_message journal) refl
 
 -- ---- packets

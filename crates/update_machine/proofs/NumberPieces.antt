@@ -10,7 +10,7 @@ use Rattle.update_machine.specs.Numbers.{TakesNext}
 use Rattle.update_machine.specs.Packets.{is_packet, next_packet}
 use Rattle.update_machine.specs.Pieces.{confirm_items, crash_items, deliver_items, expire_items, forget_items, hop_items, link_items, lose_items, packet_items, piece, resend_items, restart_items, sends_or_nothing, step_items, update_items}
 use Rattle.update_machine.specs.Deliveries.{link_changes}
-use Rattle.update_machine.specs.Moves.{put}
+use Rattle.update_machine.specs.Moves.{items_then}
 use Rattle.update_machine.specs.Setting.{Setting}
 use Rattle.update_machine.proofs.CauseLemmas.{have_first, have_put}
 use Rattle.update_machine.proofs.FoldLemmas.{count_of_append}
@@ -33,7 +33,7 @@ lost_next (i ∷ packets) journal = (tt, lost_next packets (journal ++ item.Lost
 
 crash_put : (setting : Setting) (before : List Item) (s : ℕ) (packets : List ℕ)
     (journal : List Item) → Next journal
-    (put (item.Down s ∷ map item.Lost packets) (link_changes setting before) journal)
+    (items_then (item.Down s ∷ map item.Lost packets) (link_changes setting before) journal)
 crash_put setting before s packets journal =
     let down : List Item = item.Down s ∷ map item.Lost packets in
     let first : Next journal (item.Down s ∷ map item.Lost packets) =

@@ -10,10 +10,10 @@ use Rattle.policy_rules.specs.Hosted.{NoPlan, TooManyLeaves}
 use Rattle.policy_rules.specs.declared.policy.Row.{Row}
 use Rattle.journal.specs.declared.item.Item.{Item}
 use Rattle.journal.specs.declared.item.Item.TheVariants as item
-use Rattle.update_machine.specs.Versions.{HasPlan, first_told, is_submission, is_version, next_plan, next_policy, policy_at, policy_in, version_count, hosted_in, file_of, plan_at, tells_file}
+use Rattle.update_machine.specs.Versions.{HasPlan, first_given, is_submission, is_version, next_plan, next_policy, policy_at, policy_in, version_count, hosted_in, file_of, plan_at, gives_file}
 use Rattle.update_machine.specs.Numbers.{VersionsAreNumbered}
 use Rattle.update_machine.specs.Setting.{Setting, policy_of_file}
-use Rattle.update_machine.proofs.FoldLemmas.{count_of_append, first_told_append}
+use Rattle.update_machine.proofs.FoldLemmas.{count_of_append, first_given_append}
 use Rattle.update_machine.proofs.SilentLinks.{policies_keep}
 
 -- ---- files
@@ -24,11 +24,11 @@ pub file_append : (before items : List Item) (v : ℕ)
 unfolding file_of
 file_append before items v = by_test (v == 1)
   where
-    by_test : (b : Bool) → (if b then Some 1 else first_told (tells_file v) (before ++ items))
-        ≡ option_or (if b then Some 1 else first_told (tells_file v) before)
-        (if b then Some 1 else first_told (tells_file v) items)
+    by_test : (b : Bool) → (if b then Some 1 else first_given (gives_file v) (before ++ items))
+        ≡ option_or (if b then Some 1 else first_given (gives_file v) before)
+        (if b then Some 1 else first_given (gives_file v) items)
     by_test true = refl
-    by_test false = first_told_append (tells_file v) before items
+    by_test false = first_given_append (gives_file v) before items
 
 pub file_kept : (before items : List Item) (v : ℕ) → IsTrue (is_version before v)
     → file_of (before ++ items) v ≡ file_of before v

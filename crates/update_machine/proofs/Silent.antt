@@ -4,9 +4,9 @@ use Rattle.std.specs.Prelude.{◌||◌, IsFalse, unwrap_or}
 use Rattle.std.specs.Option.{option_or}
 use Rattle.journal.specs.declared.item.Item.{Item}
 use Rattle.update_machine.specs.Concerns.{NoneConcern}
-use Rattle.update_machine.specs.Folds.{all_given, count_of, folded, last_told}
-use Rattle.update_machine.specs.Versions.{first_told}
-use Rattle.update_machine.proofs.FoldLemmas.{all_given_append, count_of_append, first_told_append, folded_append, last_told_append, or_none}
+use Rattle.update_machine.specs.Folds.{all_given, count_of, folded_value, last_given}
+use Rattle.update_machine.specs.Versions.{first_given}
+use Rattle.update_machine.proofs.FoldLemmas.{all_given_append, count_of_append, first_given_append, folded_append, last_given_append, or_none}
 
 -- of items that don't concern it nothing is said, and its value stays as it is
 abbrev pub Silent : {X : Type 0} (concerns : List Item → Item → Bool) (says : Item → X)
@@ -52,23 +52,23 @@ stays says concerns one before (item ∷ items) none =
     ∙ stays says concerns one (before ++ item ∷ []) items none.1 ∙ one before item none.0
 
 pub last_stays : {X : Type 0} (tells : Item → Option X) (concerns : List Item → Item → Bool)
-    → Silent concerns tells None → Stays concerns (last_told tells)
-last_stays tells concerns silent = stays (last_told tells) concerns
-    (λ js item apart. last_told_append tells js (item ∷ [])
-    ∙ ap (λ o. option_or o (last_told tells js)) (silent js item apart))
+    → Silent concerns tells None → Stays concerns (last_given tells)
+last_stays tells concerns silent = stays (last_given tells) concerns
+    (λ js item apart. last_given_append tells js (item ∷ [])
+    ∙ ap (λ o. option_or o (last_given tells js)) (silent js item apart))
 
 pub last_or_stays : {X : Type 0} (tells : Item → Option X) (other : X)
     (concerns : List Item → Item → Bool) → Silent concerns tells None
-    → Stays concerns (λ js. unwrap_or (last_told tells js) other)
+    → Stays concerns (λ js. unwrap_or (last_given tells js) other)
 last_or_stays tells other concerns silent before items none =
     ap (λ o. unwrap_or o other) (last_stays tells concerns silent before items none)
 
 pub first_stays : {X : Type 0} (tells : Item → Option X) (concerns : List Item → Item → Bool)
-    → Silent concerns tells None → Stays concerns (first_told tells)
-first_stays tells concerns silent = stays (first_told tells) concerns
-    (λ js item apart. first_told_append tells js (item ∷ [])
-    ∙ ap (λ o. option_or (first_told tells js) (option_or o None)) (silent js item apart)
-    ∙ or_none (first_told tells js))
+    → Silent concerns tells None → Stays concerns (first_given tells)
+first_stays tells concerns silent = stays (first_given tells) concerns
+    (λ js item apart. first_given_append tells js (item ∷ [])
+    ∙ ap (λ o. option_or (first_given tells js) (option_or o None)) (silent js item apart)
+    ∙ or_none (first_given tells js))
 
 pub count_stays : (test : Item → Bool) (concerns : List Item → Item → Bool)
     → Silent concerns test false → Stays concerns (count_of test)
@@ -87,7 +87,7 @@ given_stays gives concerns silent = stays (all_given gives) concerns
 
 pub folded_stays : {X : Type 0} (changes : List Item → X → Item → X) (start : X)
     (concerns : List Item → Item → Bool) → Keeps concerns changes
-    → Stays concerns (folded changes start)
-folded_stays changes start concerns silent = stays (folded changes start) concerns
+    → Stays concerns (folded_value changes start)
+folded_stays changes start concerns silent = stays (folded_value changes start) concerns
     (λ js item apart. folded_append changes start js (item ∷ [])
-    ∙ silent js (folded changes start js) item apart)
+    ∙ silent js (folded_value changes start js) item apart)

@@ -7,17 +7,17 @@ use Rattle.journal.specs.declared.item.Item.{Item}
 use Rattle.journal.specs.declared.item.Item.TheVariants as item
 use Rattle.update_machine.specs.Concerns.{NoneConcern, concerns_controller, is_message_to_controller, is_opening}
 use Rattle.update_machine.specs.Laws.{ControllerKeeps}
-use Rattle.update_machine.specs.Marks.{acked_stamp, changes_over, changes_told, controller_heard, current_mark, has_acked, is_member, is_over, known_boot, open_in, open_sent, opened_at, retired_mark, said_to_controller, tells_current, tells_retired}
+use Rattle.update_machine.specs.Marks.{acked_stamp, changes_over, changes_controller_heard, controller_heard, current_mark, has_acked, is_member, is_over, known_boot, open_in, open_sent, opened_at, retired_mark, body_to_controller, gives_current, gives_retired}
 use Rattle.update_machine.specs.Folds.{all_given}
 use Rattle.update_machine.specs.Versions.{is_submission, version_count}
 use Rattle.update_machine.proofs.Silent.{Keeps, Silent, Stays, count_stays, folded_stays, given_stays, last_or_stays}
 
 -- a message for a switch says nothing to the controller
 told_nothing : (before : List Item) (number : ℕ) → IsFalse (is_message_to_controller before number)
-    → said_to_controller before number ≡ None
+    → body_to_controller before number ≡ None
 told_nothing before number apart = grind arith
 
-told_silent : Keeps concerns_controller changes_told
+told_silent : Keeps concerns_controller changes_controller_heard
 told_silent before bodies (item.Delivered number) apart = rw (told_nothing before number apart)
     (append-nil bodies)
 told_silent before bodies _ apart = refl
@@ -37,11 +37,11 @@ open_silent s boot before (item.Sent number message) apart =
     let none : open_in boot message.body ≡ [] = closed_body boot message.body apart in grind arith
 open_silent s boot before _ apart = refl
 
-current_silent : Silent concerns_controller tells_current None
+current_silent : Silent concerns_controller gives_current None
 current_silent before (item.Current version) apart = cc
 current_silent before _ apart = refl
 
-retired_silent : Silent concerns_controller tells_retired None
+retired_silent : Silent concerns_controller gives_retired None
 retired_silent before (item.Retired version) apart = cc
 retired_silent before _ apart = refl
 

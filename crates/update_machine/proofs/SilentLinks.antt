@@ -8,13 +8,13 @@ use Rattle.five_tuple.specs.declared.header.Header.{Header}
 use Rattle.journal.specs.declared.item.Item.{Item}
 use Rattle.journal.specs.declared.item.Item.TheVariants as item
 use Rattle.update_machine.specs.Adverts.{adverts_known, has_change, held_adverts, is_cut_off, own_advert, own_seq, route_from}
-use Rattle.update_machine.specs.Boots.{boot_of, heard, is_up, tells_boot, tells_up}
+use Rattle.update_machine.specs.Boots.{boot_of, heard, is_up, gives_boot, gives_up}
 use Rattle.update_machine.specs.Caches.{cache_of, lookup_at}
 use Rattle.update_machine.specs.Concerns.{NoneConcern, concerns_known, concerns_links, concerns_lookups, concerns_policies, concerns_switch, concerns_waiting}
 use Rattle.update_machine.specs.Laws.{KnownKeeps, LinksKeep, PoliciesKeep, SwitchKeeps}
-use Rattle.update_machine.specs.Versions.{first_told, is_submission, policy_at, stamp_of, version_count, hosted_in, file_of, next_policy, plan_at, tells_file}
+use Rattle.update_machine.specs.Versions.{first_given, is_submission, policy_at, stamp_of, version_count, hosted_in, file_of, next_policy, plan_at, gives_file}
 use Rattle.update_machine.specs.LinkMasks.{near}
-use Rattle.update_machine.specs.Quiet.{is_waited_for, tells_waited_for}
+use Rattle.update_machine.specs.Quiet.{is_waited_for, gives_waited_for}
 use Rattle.update_machine.specs.Setting.{Setting, policy_of_file}
 use Rattle.update_machine.specs.Steps.{StepItems, steps_in}
 use Rattle.update_machine.proofs.Silent.{Silent, Stays, count_stays, fewer, first_stays, last_or_stays, neither_left, neither_right, stays}
@@ -23,22 +23,22 @@ use Rattle.update_machine.proofs.SilentSwitches.{link_stays, near_stays, switch_
 
 -- ---- the number of the own advert
 
-boot_silent : (s : ℕ) → Silent concerns_links (tells_boot s) None
+boot_silent : (s : ℕ) → Silent concerns_links (gives_boot s) None
 boot_silent s before (item.Booted switch boot) apart = cc
 boot_silent s before _ apart = refl
 
-up_silent : (s : ℕ) → Silent concerns_links (tells_up s) None
+up_silent : (s : ℕ) → Silent concerns_links (gives_up s) None
 up_silent s before (item.Booted switch boot) apart = cc
 up_silent s before (item.Down switch) apart = cc
 up_silent s before _ apart = refl
 
 boot_stays : (s : ℕ) → Stays concerns_links (λ js. boot_of js s)
 unfolding boot_of
-boot_stays s = last_or_stays (tells_boot s) 1 concerns_links (boot_silent s)
+boot_stays s = last_or_stays (gives_boot s) 1 concerns_links (boot_silent s)
 
 up_stays : (s : ℕ) → Stays concerns_links (λ js. is_up js s)
 unfolding is_up
-up_stays s = last_or_stays (tells_up s) true concerns_links (up_silent s)
+up_stays s = last_or_stays (gives_up s) true concerns_links (up_silent s)
 
 abbrev once : Bool → ℕ
 once b = if b then 1 else 0
@@ -160,7 +160,7 @@ known_keeps setting s before items none =
 
 -- ---- policies, and what a switch says of a header
 
-file_silent : (v : ℕ) → Silent concerns_policies (tells_file v) None
+file_silent : (v : ℕ) → Silent concerns_policies (gives_file v) None
 file_silent v before (item.Submitted file version) apart = cc
 file_silent v before _ apart = refl
 
@@ -172,11 +172,11 @@ file_stays : (before items : List Item) → NoneConcern concerns_policies before
 unfolding file_of
 file_stays before items none v = by_test (v == 1)
   where
-    by_test : (b : Bool) → (if b then Some 1 else first_told (tells_file v) (before ++ items))
-        ≡ (if b then Some 1 else first_told (tells_file v) before)
+    by_test : (b : Bool) → (if b then Some 1 else first_given (gives_file v) (before ++ items))
+        ≡ (if b then Some 1 else first_given (gives_file v) before)
     by_test true = refl
     by_test false =
-        first_stays (tells_file v) concerns_policies (file_silent v) before items none
+        first_stays (gives_file v) concerns_policies (file_silent v) before items none
 
 policy_count_stays : Stays concerns_policies version_count
 unfolding version_count
@@ -218,10 +218,10 @@ lookup_stays setting s header before items none =
 
 -- ---- switches that are waited for
 
-waited_silent : (s : ℕ) → Silent (concerns_waiting s) (tells_waited_for s) None
+waited_silent : (s : ℕ) → Silent (concerns_waiting s) (gives_waited_for s) None
 waited_silent s before (item.Down switch) apart = rw apart refl
 waited_silent s before (item.OverNow switch) apart = rw apart refl
 waited_silent s before _ apart = refl
 
 pub waited_stays : (s : ℕ) → Stays (concerns_waiting s) (λ js. is_waited_for js s)
-waited_stays s = last_or_stays (tells_waited_for s) false (concerns_waiting s) (waited_silent s)
+waited_stays s = last_or_stays (gives_waited_for s) false (concerns_waiting s) (waited_silent s)

@@ -12,14 +12,14 @@ use Rattle.update_machine.specs.Laws.{MessageKeeps, MessagesKeep, PacketsKeep}
 use Rattle.update_machine.specs.Messages.{is_deliverable, is_delivery, is_forgetting, is_forgotten, is_sending, is_waiting, next_message, next_waiting, was_delivered}
 use Rattle.update_machine.specs.Packets.{is_packet, next_packet}
 use Rattle.update_machine.specs.Quiet.{changes_sendings, sendings}
-use Rattle.update_machine.specs.Causes.{present_step, tells_step}
-use Rattle.update_machine.specs.Links.{message_of, tells_message}
-use Rattle.update_machine.specs.Travels.{next_travelling, tells_travelling, travels}
+use Rattle.update_machine.specs.Causes.{present_step, gives_step}
+use Rattle.update_machine.specs.Links.{message_of, gives_message}
+use Rattle.update_machine.specs.Travels.{next_travelling, gives_travelling, travels}
 use Rattle.update_machine.proofs.Silent.{Keeps, Silent, Stays, count_stays, fewer, folded_stays, last_or_stays, last_stays}
 
 -- ---- a message
 
-message_silent : (n : ℕ) → Silent (concerns_message n) (tells_message n) None
+message_silent : (n : ℕ) → Silent (concerns_message n) (gives_message n) None
 message_silent n before (item.Sent number message) apart = rw apart refl
 message_silent n before _ apart = refl
 
@@ -99,7 +99,7 @@ packet_silent before (item.Entered packet switch header) apart = apart
 packet_silent before (item.Closed packet switch) apart = apart
 packet_silent before _ apart = refl
 
-travel_silent : (i : ℕ) → Silent concerns_packets (tells_travelling i) None
+travel_silent : (i : ℕ) → Silent concerns_packets (gives_travelling i) None
 travel_silent i before (item.Entered packet switch header) apart = cc
 travel_silent i before (item.Dropped packet) apart = cc
 travel_silent i before (item.Left packet port leaving) apart = cc
@@ -109,7 +109,7 @@ travel_silent i before _ apart = refl
 
 travels_stay : (i : ℕ) → Stays concerns_packets (λ js. travels js i)
 unfolding travels
-travels_stay i = last_or_stays (tells_travelling i) false concerns_packets (travel_silent i)
+travels_stay i = last_or_stays (gives_travelling i) false concerns_packets (travel_silent i)
 
 packet_count_stays : Stays concerns_packets (count_of is_packet)
 packet_count_stays = count_stays is_packet concerns_packets packet_silent
@@ -124,10 +124,10 @@ packets_keep before items none = record {
 
 -- ---- steps
 
-step_silent : Silent concerns_steps tells_step None
+step_silent : Silent concerns_steps gives_step None
 step_silent before (item.Row row step) apart = cc
 step_silent before _ apart = refl
 
 pub step_stays : Stays concerns_steps present_step
 unfolding present_step
-step_stays = last_stays tells_step concerns_steps step_silent
+step_stays = last_stays gives_step concerns_steps step_silent

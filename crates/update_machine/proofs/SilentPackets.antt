@@ -5,25 +5,25 @@ use Rattle.journal.specs.declared.item.Item.{Item}
 use Rattle.journal.specs.declared.item.Item.TheVariants as item
 use Rattle.update_machine.specs.Concerns.{NoneConcern, concerns_packet}
 use Rattle.update_machine.specs.Laws.{PacketKeeps}
-use Rattle.update_machine.specs.Packets.{decision_of, header_in, standing, tells_decision, tells_header, tells_standing}
-use Rattle.update_machine.specs.Travels.{changes_leg, ingress_of, leg_of, tells_ingress, tells_travelling, travels}
-use Rattle.update_machine.specs.Ways.{changes_found, changes_hops, found_down, next_switch, route_in, route_place, tells_route}
+use Rattle.update_machine.specs.Packets.{decision_of, header_in, standing, gives_decision, gives_header, gives_standing}
+use Rattle.update_machine.specs.Travels.{changes_leg, ingress_of, leg_of, gives_ingress, gives_travelling, travels}
+use Rattle.update_machine.specs.Ways.{changes_found, changes_hops, found_down, next_switch, route_in, route_place, gives_route}
 use Rattle.update_machine.proofs.Silent.{Keeps, Silent, folded_stays, last_or_stays, last_stays}
 
-header_silent : (i : ℕ) → Silent (concerns_packet i) (tells_header i) None
+header_silent : (i : ℕ) → Silent (concerns_packet i) (gives_header i) None
 header_silent i before (item.Entered packet switch header) apart = rw apart refl
 header_silent i before _ apart = refl
 
-ingress_silent : (i : ℕ) → Silent (concerns_packet i) (tells_ingress i) None
+ingress_silent : (i : ℕ) → Silent (concerns_packet i) (gives_ingress i) None
 ingress_silent i before (item.Entered packet switch header) apart = rw apart refl
 ingress_silent i before _ apart = refl
 
-standing_silent : (i : ℕ) → Silent (concerns_packet i) (tells_standing i) None
+standing_silent : (i : ℕ) → Silent (concerns_packet i) (gives_standing i) None
 standing_silent i before (item.Entered packet switch header) apart = rw apart refl
 standing_silent i before (item.Hopped packet switch) apart = rw apart refl
 standing_silent i before _ apart = refl
 
-travel_silent : (i : ℕ) → Silent (concerns_packet i) (tells_travelling i) None
+travel_silent : (i : ℕ) → Silent (concerns_packet i) (gives_travelling i) None
 travel_silent i before (item.Entered packet switch header) apart = rw apart refl
 travel_silent i before (item.Dropped packet) apart = rw apart refl
 travel_silent i before (item.Left packet port leaving) apart = rw apart refl
@@ -31,7 +31,7 @@ travel_silent i before (item.Lost packet) apart = rw apart refl
 travel_silent i before (item.Stuck packet switch cause leg down) apart = rw apart refl
 travel_silent i before _ apart = refl
 
-decision_silent : (i : ℕ) → Silent (concerns_packet i) (tells_decision i) None
+decision_silent : (i : ℕ) → Silent (concerns_packet i) (gives_decision i) None
 decision_silent i before (item.Decided packet version rule action how) apart = rw apart refl
 decision_silent i before _ apart = refl
 
@@ -40,7 +40,7 @@ leg_silent i before leg (item.Seeking packet version partition route) apart = rw
 leg_silent i before leg (item.Exiting packet route) apart = rw apart refl
 leg_silent i before leg _ apart = refl
 
-route_silent : (i : ℕ) → Silent (concerns_packet i) (tells_route i) None
+route_silent : (i : ℕ) → Silent (concerns_packet i) (gives_route i) None
 route_silent i before (item.Seeking packet version partition route) apart = rw apart refl
 route_silent i before (item.Exiting packet route) apart = rw apart refl
 route_silent i before (item.Rerouted packet route) apart = rw apart refl

@@ -6,26 +6,26 @@ use Rattle.net_file.specs.Owners.{links_of}
 use Rattle.net_file.specs.declared.net.LinkRow.{LinkRow}
 use Rattle.journal.specs.declared.item.Item.{Item}
 use Rattle.journal.specs.declared.item.Item.TheVariants as item
-use Rattle.update_machine.specs.Boots.{boot_of, changes_heard, heard, is_up, said_to, tells_boot, tells_up}
+use Rattle.update_machine.specs.Boots.{boot_of, changes_heard, heard, is_up, body_to_switch, gives_boot, gives_up}
 use Rattle.update_machine.specs.Caches.{cache_of, changes_cache}
 use Rattle.update_machine.specs.Concerns.{NoneConcern, concerns_links, concerns_switch, is_message_to}
 use Rattle.update_machine.specs.Laws.{SwitchKeeps}
-use Rattle.update_machine.specs.Links.{is_link_up, is_usable, tells_link, serves, tells_serving}
+use Rattle.update_machine.specs.Links.{is_link_up, is_usable, gives_link, serves, gives_serving}
 use Rattle.update_machine.specs.Setting.{Setting}
 use Rattle.update_machine.specs.Versions.{holds_version, stamp_of}
 use Rattle.update_machine.specs.LinkMasks.{near}
 use Rattle.update_machine.proofs.Silent.{Keeps, Silent, Stays, folded_stays, last_or_stays}
 
-boot_silent : (s : ℕ) → Silent (concerns_switch s) (tells_boot s) None
+boot_silent : (s : ℕ) → Silent (concerns_switch s) (gives_boot s) None
 boot_silent s before (item.Booted switch boot) apart = rw apart refl
 boot_silent s before _ apart = refl
 
-up_silent : (s : ℕ) → Silent (concerns_switch s) (tells_up s) None
+up_silent : (s : ℕ) → Silent (concerns_switch s) (gives_up s) None
 up_silent s before (item.Booted switch boot) apart = rw apart refl
 up_silent s before (item.Down switch) apart = rw apart refl
 up_silent s before _ apart = refl
 
-serving_silent : (s : ℕ) → Silent (concerns_switch s) (tells_serving s) None
+serving_silent : (s : ℕ) → Silent (concerns_switch s) (gives_serving s) None
 serving_silent s before (item.Booted switch boot) apart = rw apart refl
 serving_silent s before (item.Down switch) apart = rw apart refl
 serving_silent s before (item.Opened switch version) apart = rw apart refl
@@ -33,7 +33,7 @@ serving_silent s before _ apart = refl
 
 -- a message for another receiver says nothing to the switch
 said_nothing : (before : List Item) (s number : ℕ) → IsFalse (is_message_to before s number)
-    → said_to before s number ≡ None
+    → body_to_switch before s number ≡ None
 said_nothing before s number apart = grind arith
 
 heard_silent : (s : ℕ) → Keeps (concerns_switch s) (changes_heard s)
@@ -73,13 +73,13 @@ switch_keeps setting s before items none =
 
 -- ---- links
 
-served_silent : (s : ℕ) → Silent concerns_links (tells_serving s) None
+served_silent : (s : ℕ) → Silent concerns_links (gives_serving s) None
 served_silent s before (item.Booted switch boot) apart = cc
 served_silent s before (item.Down switch) apart = cc
 served_silent s before (item.Opened switch version) apart = cc
 served_silent s before _ apart = refl
 
-link_silent : (low high : ℕ) → Silent concerns_links (tells_link low high) None
+link_silent : (low high : ℕ) → Silent concerns_links (gives_link low high) None
 link_silent low high before (item.LinkIs one two up) apart = cc
 link_silent low high before _ apart = refl
 

@@ -1,7 +1,7 @@
 -- What switches tell of their own links, and the adverts that they hold with it (OSPF, RFC 2328,
 -- section 13.1); the routes that they find.
 use Rattle.std.specs.Prelude.{ℕ, ◌+◌, Bool, true, false, not, ◌&&◌, ◌==◌, if◌then◌else◌, Option, Some, None, List, ◌++◌, count_by, filter_map, slice_set}
-use Rattle.failover.specs.Adverts.{held}
+use Rattle.failover.specs.Adverts.{held_advert}
 use Rattle.failover.specs.Isolated.{is_isolated}
 use Rattle.base.specs.Masks.{switches}
 use Rattle.failover.specs.Routes.{route_of}
@@ -50,11 +50,11 @@ adverts_known setting journal s =
     slice_set (adverts_of_others setting journal s) s (own_if_sent (own_advert setting journal s))
 
 abbrev pub advert_known : Setting → List Item → ℕ → ℕ → Option Advert
-advert_known setting journal s origin = held (adverts_known setting journal s) origin
+advert_known setting journal s origin = held_advert (adverts_known setting journal s) origin
 
 -- the adverts that the switch holds, by ascending origin
 unfoldable pub held_adverts : Setting → List Item → ℕ → List Advert
-held_adverts setting journal s = filter_map (held (adverts_known setting journal s)) switches
+held_adverts setting journal s = filter_map (held_advert (adverts_known setting journal s)) switches
 
 -- ---- routes over known links
 

@@ -8,28 +8,28 @@ use Rattle.ctrl_msg.specs.declared.message.Body.{Body}
 use Rattle.ctrl_msg.specs.declared.message.Receiver.{Receiver}
 use Rattle.journal.specs.declared.item.Item.{Item}
 use Rattle.journal.specs.declared.item.Item.TheVariants as item
-use Rattle.update_machine.specs.Folds.{folded, last_told}
+use Rattle.update_machine.specs.Folds.{folded_value, last_given}
 use Rattle.update_machine.specs.Links.{message_of}
 use Rattle.ctrl_msg.specs.declared.message.Receiver.TheVariants as receiver
 
 -- ---- boots
 
-abbrev pub tells_boot : ℕ → Item → Option ℕ
-tells_boot s (item.Booted switch boot) = if switch == s then Some boot else None
-tells_boot s _ = None
+abbrev pub gives_boot : ℕ → Item → Option ℕ
+gives_boot s (item.Booted switch boot) = if switch == s then Some boot else None
+gives_boot s _ = None
 
 -- the boot of its last `Booted`; the first one is 1
 unfoldable pub boot_of : List Item → ℕ → ℕ
-boot_of journal s = unwrap_or (last_told (tells_boot s) journal) 1
+boot_of journal s = unwrap_or (last_given (gives_boot s) journal) 1
 
-abbrev pub tells_up : ℕ → Item → Option Bool
-tells_up s (item.Down switch) = if switch == s then Some false else None
-tells_up s (item.Booted switch boot) = if switch == s then Some true else None
-tells_up s _ = None
+abbrev pub gives_up : ℕ → Item → Option Bool
+gives_up s (item.Down switch) = if switch == s then Some false else None
+gives_up s (item.Booted switch boot) = if switch == s then Some true else None
+gives_up s _ = None
 
 -- a switch is up at first, and where it didn't go down since its last boot
 unfoldable pub is_up : List Item → ℕ → Bool
-is_up journal s = unwrap_or (last_told (tells_up s) journal) true
+is_up journal s = unwrap_or (last_given (gives_up s) journal) true
 
 -- it is up in the boot in which it began
 abbrev pub is_in_first_boot : List Item → ℕ → Bool
@@ -47,8 +47,8 @@ is_for_boot boot body = option_map_or (λ of. of == boot) (body_boot body) true
 
 -- what the message of this number says to switch s as it is delivered behind this journal: nothing
 -- where it is for another switch or another boot, or the switch is down
-abbrev pub said_to : List Item → ℕ → ℕ → Option Body
-said_to before s number = elim (message_of before number) [
+abbrev pub body_to_switch : List Item → ℕ → ℕ → Option Body
+body_to_switch before s number = elim (message_of before number) [
   | None ↦ None
   | Some message ↦
       if is_to_switch s message.to && is_up before s && is_for_boot (boot_of before s) message.body
@@ -59,9 +59,9 @@ abbrev pub changes_heard : ℕ → List Item → List Body → Item → List Bod
 changes_heard s before bodies (item.Down switch) = if switch == s then [] else bodies
 changes_heard s before bodies (item.Booted switch boot) = if switch == s then [] else bodies
 changes_heard s before bodies (item.Delivered number) =
-    option_map_or (λ body. bodies ++ body ∷ []) (said_to before s number) bodies
+    option_map_or (λ body. bodies ++ body ∷ []) (body_to_switch before s number) bodies
 changes_heard s before bodies _ = bodies
 
 -- the bodies that were delivered to the switch in its boot; none where it is down
 unfoldable pub heard : List Item → ℕ → List Body
-heard journal s = folded (changes_heard s) [] journal
+heard journal s = folded_value (changes_heard s) [] journal

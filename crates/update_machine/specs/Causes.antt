@@ -12,18 +12,18 @@ use Rattle.journal.specs.declared.item.Item.{Item}
 use Rattle.journal.specs.declared.item.Item.TheVariants as item
 use Rattle.steps.specs.declared.step.Step.TheVariants.{Crash, LinkDown, LinkUp, Lose, Restart, Update}
 use Rattle.steps.specs.declared.step.Step.{Step}
-use Rattle.update_machine.specs.Folds.{last_told}
+use Rattle.update_machine.specs.Folds.{last_given}
 use Rattle.update_machine.specs.Links.{can_use, knows_link, serves}
 use Rattle.update_machine.specs.Packets.{Decision, decision_of, header_in, standing}
 use Rattle.update_machine.specs.Setting.{Setting, IsPlanOf}
 
-abbrev pub tells_step : Item → Option Step
-tells_step (item.Row row step) = Some step
-tells_step _ = None
+abbrev pub gives_step : Item → Option Step
+gives_step (item.Row row step) = Some step
+gives_step _ = None
 
 -- the step that is being taken
 unfoldable pub present_step : List Item → Option Step
-present_step journal = last_told tells_step journal
+present_step journal = last_given gives_step journal
 
 -- a packet leaves where it stands, by a port of that switch, with its own header, version and rule
 pub record LeavesRightly (setting : Setting) (before : List Item) (packet port : ℕ)

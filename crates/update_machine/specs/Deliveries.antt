@@ -13,11 +13,11 @@ use Rattle.failover.specs.declared.advert.Advert.{Advert}
 use Rattle.journal.specs.declared.item.Item.{Item}
 use Rattle.journal.specs.declared.item.Item.TheVariants as item
 use Rattle.update_machine.specs.Adverts.{adverts_known, held_adverts, own_advert}
-use Rattle.update_machine.specs.Boots.{is_up, said_to}
+use Rattle.update_machine.specs.Boots.{is_up, body_to_switch}
 use Rattle.update_machine.specs.LinkMasks.{near}
 use Rattle.update_machine.specs.Marks.{known_boot}
-use Rattle.update_machine.specs.Messages.{sends}
-use Rattle.update_machine.specs.Moves.{in_turn, put}
+use Rattle.update_machine.specs.Messages.{send_items}
+use Rattle.update_machine.specs.Moves.{in_turn, items_then}
 use Rattle.update_machine.specs.Setting.{Setting}
 use Rattle.update_machine.specs.SwitchNumbers.{switches_of}
 use Rattle.update_machine.specs.Settling.{installs_to, settling, to_switch}
@@ -53,7 +53,7 @@ messages_of setting before journal s =
 -- each switch whose links changed tells its neighbours, all by ascending number
 unfoldable pub link_changes : Setting → List Item → List Item → List Item
 link_changes setting before journal =
-    sends journal
+    send_items journal
     (flat_map (messages_of setting before journal)
     (filter (has_changed setting before journal) (switches_of setting)))
 
@@ -73,16 +73,17 @@ is_news_to setting before s advert =
 -- a switch acknowledges tables and stamps, opens where it didn't serve, and passes news on
 unfoldable pub switch_items : Setting → List Item → ℕ → Body → List Item → List Item
 switch_items setting before s (Install boot tables) journal =
-    sends journal (to_controller (Installed s boot tables.version) ∷ [])
+    send_items journal (to_controller (Installed s boot tables.version) ∷ [])
 switch_items setting before s (Stamp boot version) journal =
-    sends journal (to_controller (Stamped s boot version) ∷ [])
+    send_items journal (to_controller (Stamped s boot version) ∷ [])
 switch_items setting before s (OpenAt boot version) journal = elim (serves before s) [
   | true ↦ []
-  | false ↦ put (item.Opened s (stamp_of journal s) ∷ []) (link_changes setting before) journal
+  | false ↦ items_then (item.Opened s (stamp_of journal s) ∷ []) (link_changes setting before)
+      journal
 ]
 switch_items setting before s (Advertise advert) journal =
     elim (is_news_to setting before s advert) [
-      | true ↦ sends journal (passed_on setting journal s advert)
+      | true ↦ send_items journal (passed_on setting journal s advert)
       | false ↦ []
     ]
 switch_items setting before s _ journal = []
@@ -112,7 +113,7 @@ controller_items setting before body journal =
 abbrev pub received_items : Setting → List Item → ℕ → Message → List Item → List Item
 received_items setting before number message journal = elim message.to [
   | receiver.Controller ↦ controller_items setting before message.body journal
-  | receiver.Switch s ↦ elim (said_to before s number) [
+  | receiver.Switch s ↦ elim (body_to_switch before s number) [
     | None ↦ []
     | Some body ↦ switch_items setting before s body journal
   ]

@@ -9,7 +9,7 @@ pub use Rattle.update_machine.specs.Laws.{ConcernLaws, ControllerKeeps, KnownLin
 pub use Rattle.update_machine.specs.Links.{message_of}
 pub use Rattle.update_machine.specs.Machine.{IsRun}
 pub use Rattle.update_machine.specs.Marks.{AreSettled, current_mark, most_versions, next_retired, retired_mark}
-pub use Rattle.update_machine.specs.Messages.{is_deliverable, is_sending, next_waiting, sends, sent_from}
+pub use Rattle.update_machine.specs.Messages.{is_deliverable, is_sending, next_waiting, send_items, sent_from}
 pub use Rattle.update_machine.specs.Moves.{takes_route}
 pub use Rattle.update_machine.specs.Numbers.{AreNumbered, VersionsAreNumbered}
 pub use Rattle.update_machine.specs.Packets.{next_packet}

@@ -7,9 +7,9 @@ use Rattle.std.specs.Option.{option_or}
 use Rattle.journal.specs.declared.item.Item.{Item}
 
 -- what the last item that tells something tells
-abbrev pub last_told : {X : Type 0} → (Item → Option X) → List Item → Option X
-last_told tells [] = None
-last_told tells (item ∷ items) = option_or (last_told tells items) (tells item)
+abbrev pub last_given : {X : Type 0} → (Item → Option X) → List Item → Option X
+last_given tells [] = None
+last_given tells (item ∷ items) = option_or (last_given tells items) (tells item)
 
 -- how many items satisfy the test
 abbrev pub count_of : (Item → Bool) → List Item → ℕ
@@ -26,5 +26,5 @@ folded_from changes before value (item ∷ items) =
     folded_from changes (before ++ item ∷ []) (changes before value item) items
 
 -- what becomes of a value as each item of a journal changes it
-abbrev pub folded : {X : Type 0} → (List Item → X → Item → X) → X → List Item → X
-folded changes start journal = folded_from changes [] start journal
+abbrev pub folded_value : {X : Type 0} → (List Item → X → Item → X) → X → List Item → X
+folded_value changes start journal = folded_from changes [] start journal

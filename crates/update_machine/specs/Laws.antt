@@ -1,6 +1,6 @@
 -- The laws of what journals say: each is ensured by a function of the crate that has no body.
 use Rattle.std.specs.Prelude.{ℕ, ◌≡◌, ◌≢◌, ◌<◌, ◌≤◌, ◌↔◌, true, false, ◌==◌, if◌then◌else◌, Some, None, option_to_list, IsTrue, List, [], ◌∷◌, ◌++◌, length, map}
-use Rattle.failover.specs.Adverts.{first_advert, first_adverts, held}
+use Rattle.failover.specs.Adverts.{first_advert, first_adverts, held_advert}
 use Rattle.failover.specs.Links.{no_links}
 use Rattle.failover.specs.Paths.{IsIsolated, IsRoute}
 use Rattle.failover.specs.Newest.{IsNewest}
@@ -210,7 +210,8 @@ pub record KnownLinkLaws : Type 0 where
   -- of another switch it knows the newest advert of those that it began with and heard
   pub newest : (setting : Setting) (journal : List Item) (s origin : ℕ) → origin ≢ s → origin < 64 →
       IsNewest origin
-      (option_to_list (held (adverts_begun setting journal s) origin) ++ adverts_heard journal s)
+      (option_to_list (held_advert (adverts_begun setting journal s) origin)
+      ++ adverts_heard journal s)
       (advert_known setting journal s origin)
   -- of itself what it told last, if it told something in its boot
   pub own : (setting : Setting) (journal : List Item) (s : ℕ) → s < 64 →

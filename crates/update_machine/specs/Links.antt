@@ -15,28 +15,28 @@ use Rattle.net_file.specs.Joins.{are_linked, joins}
 use Rattle.net_file.specs.declared.net.LinkRow.{LinkRow}
 use Rattle.journal.specs.declared.item.Item.{Item}
 use Rattle.journal.specs.declared.item.Item.TheVariants as item
-use Rattle.update_machine.specs.Folds.{folded, last_told}
+use Rattle.update_machine.specs.Folds.{folded_value, last_given}
 use Rattle.update_machine.specs.Setting.{Setting}
 
-abbrev pub tells_serving : ℕ → Item → Option Bool
-tells_serving s (item.Down switch) = if switch == s then Some false else None
-tells_serving s (item.Booted switch boot) = if switch == s then Some false else None
-tells_serving s (item.Opened switch version) = if switch == s then Some true else None
-tells_serving s _ = None
+abbrev pub gives_serving : ℕ → Item → Option Bool
+gives_serving s (item.Down switch) = if switch == s then Some false else None
+gives_serving s (item.Booted switch boot) = if switch == s then Some false else None
+gives_serving s (item.Opened switch version) = if switch == s then Some true else None
+gives_serving s _ = None
 
 -- a switch serves at first, and once it opened in its boot
 unfoldable pub serves : List Item → ℕ → Bool
-serves journal s = unwrap_or (last_told (tells_serving s) journal) true
+serves journal s = unwrap_or (last_given (gives_serving s) journal) true
 
 -- an item names a link by its lower switch first
-abbrev pub tells_link : ℕ → ℕ → Item → Option Bool
-tells_link low high (item.LinkIs one two up) = if one == low && two == high then Some up else None
-tells_link low high _ = None
+abbrev pub gives_link : ℕ → ℕ → Item → Option Bool
+gives_link low high (item.LinkIs one two up) = if one == low && two == high then Some up else None
+gives_link low high _ = None
 
 -- the link of two switches is up at first, and where it last came back
 unfoldable pub is_link_up : List Item → ℕ → ℕ → Bool
 is_link_up journal one other =
-    unwrap_or (last_told (tells_link (min one other) (max one other)) journal) true
+    unwrap_or (last_given (gives_link (min one other) (max one other)) journal) true
 
 -- it is up, and both ends serve
 abbrev pub is_usable : List Item → LinkRow → Bool
@@ -50,13 +50,13 @@ can_use setting journal one two =
 
 -- ---- the links that a switch knows
 
-abbrev pub tells_message : ℕ → Item → Option Message
-tells_message n (item.Sent number message) = if number == n then Some message else None
-tells_message n _ = None
+abbrev pub gives_message : ℕ → Item → Option Message
+gives_message n (item.Sent number message) = if number == n then Some message else None
+gives_message n _ = None
 
 -- the message of a number, if it was sent
 unfoldable pub message_of : List Item → ℕ → Option Message
-message_of journal number = last_told (tells_message number) journal
+message_of journal number = last_given (gives_message number) journal
 
 -- what an advert claims of its origin: its boot, the number of the advert in it, and to which
 -- switches it has links
@@ -101,7 +101,7 @@ first_claim setting one =
 -- the newest claim of switch one that switch s, which is up, heard in its boot, or began with
 unfoldable pub claim_of : Setting → List Item → ℕ → ℕ → Option Claim
 claim_of setting journal s one =
-    folded (changes_claim s one) (Some (first_claim setting one)) journal
+    folded_value (changes_claim s one) (Some (first_claim setting one)) journal
 
 -- to switch s, switch one has a link to two: of itself it sees this, of others it goes by the claim
 abbrev pub is_end : Setting → List Item → ℕ → ℕ → ℕ → Bool

@@ -34,8 +34,8 @@ pub record Machine : Type 0 where
   pub packets : ℕ → Option Packet
 
 -- it begins with the policy of the first file, the mark 0 and no packet
-abbrev pub start : Setting → Machine
-start setting = record {
+abbrev pub first_machine : Setting → Machine
+first_machine setting = record {
   policies = option_to_list (policy_of_file setting 1);
   mark = 0;
   packets = λ _. None;
@@ -121,4 +121,4 @@ Runs setting old (item ∷ items) new =
 
 -- the journal is a run of the machine from its start
 abbrev pub IsRun : Setting → List Item → Type 0
-IsRun setting journal = (new : Machine) × Runs setting (start setting) journal new
+IsRun setting journal = (new : Machine) × Runs setting (first_machine setting) journal new

@@ -8,7 +8,7 @@ use Rattle.ctrl_msg.specs.declared.message.Body.{Body}
 use Rattle.ctrl_msg.specs.declared.message.Body.TheVariants.{OpenAt, Hello, Installed, Stamped}
 use Rattle.journal.specs.declared.item.Item.{Item}
 use Rattle.journal.specs.declared.item.Item.TheVariants as item
-use Rattle.update_machine.specs.Folds.{all_given, folded, last_told}
+use Rattle.update_machine.specs.Folds.{all_given, folded_value, last_given}
 use Rattle.update_machine.specs.Messages.{is_to_controller}
 use Rattle.update_machine.specs.Setting.{Setting}
 use Rattle.update_machine.specs.SwitchNumbers.{switches_of}
@@ -19,20 +19,20 @@ use Rattle.update_machine.specs.Links.{message_of}
 -- ---- what the controller hears
 
 -- what the message of this number says to the controller, if it is for it
-abbrev pub said_to_controller : List Item → ℕ → Option Body
-said_to_controller before number = elim (message_of before number) [
+abbrev pub body_to_controller : List Item → ℕ → Option Body
+body_to_controller before number = elim (message_of before number) [
   | None ↦ None
   | Some message ↦ if is_to_controller message.to then Some message.body else None
 ]
 
-abbrev pub changes_told : List Item → List Body → Item → List Body
-changes_told before bodies (item.Delivered number) =
-    bodies ++ option_to_list (said_to_controller before number)
-changes_told before bodies _ = bodies
+abbrev pub changes_controller_heard : List Item → List Body → Item → List Body
+changes_controller_heard before bodies (item.Delivered number) =
+    bodies ++ option_to_list (body_to_controller before number)
+changes_controller_heard before bodies _ = bodies
 
 -- the bodies that were delivered to the controller
 unfoldable pub controller_heard : List Item → List Body
-controller_heard journal = folded changes_told [] journal
+controller_heard journal = folded_value changes_controller_heard [] journal
 
 -- ---- what it knows of a switch
 
@@ -48,7 +48,7 @@ known_boot journal s = fold max 1 (filter_map (hello_boot s) (controller_heard j
 abbrev pub raises_known : List Item → ℕ → ℕ → Bool
 raises_known before s number =
     option_map_or (λ boot. nat_lt (known_boot before s) boot)
-    (option_and_then (hello_boot s) (said_to_controller before number)) false
+    (option_and_then (hello_boot s) (body_to_controller before number)) false
 
 abbrev pub changes_over : ℕ → List Item → Bool → Item → Bool
 changes_over s before over (item.OverNow switch) = if switch == s then true else over
@@ -58,7 +58,7 @@ changes_over s before over _ = over
 
 -- an `OverNow` of the switch stands since its known boot became known
 unfoldable pub is_over : List Item → ℕ → Bool
-is_over journal s = folded (changes_over s) false journal
+is_over journal s = folded_value (changes_over s) false journal
 
 abbrev pub open_in : ℕ → Body → List ℕ
 open_in boot (OpenAt of version) = if of == boot then version ∷ [] else []
@@ -123,19 +123,19 @@ acked_stamp journal s =
 
 -- ---- the marks
 
-abbrev pub tells_current : Item → Option ℕ
-tells_current (item.Current version) = Some version
-tells_current _ = None
+abbrev pub gives_current : Item → Option ℕ
+gives_current (item.Current version) = Some version
+gives_current _ = None
 
 unfoldable pub current_mark : List Item → ℕ
-current_mark journal = unwrap_or (last_told tells_current journal) 1
+current_mark journal = unwrap_or (last_given gives_current journal) 1
 
-abbrev pub tells_retired : Item → Option ℕ
-tells_retired (item.Retired version) = Some version
-tells_retired _ = None
+abbrev pub gives_retired : Item → Option ℕ
+gives_retired (item.Retired version) = Some version
+gives_retired _ = None
 
 unfoldable pub retired_mark : List Item → ℕ
-retired_mark journal = unwrap_or (last_told tells_retired journal) 0
+retired_mark journal = unwrap_or (last_given gives_retired journal) 0
 
 -- each member acknowledged the version
 abbrev pub all_acked : Setting → List Item → ℕ → Bool
@@ -160,13 +160,14 @@ next_current setting journal =
     current_mark journal + length (take_while (all_acked setting journal) (later_versions journal))
 
 -- the least of numbers, if there is one
-abbrev pub least : List ℕ → Option ℕ
-least numbers = reduce min numbers
+abbrev pub least_number : List ℕ → Option ℕ
+least_number numbers = reduce min numbers
 
 -- one less than the least acknowledged stamp of the members, or than current where there is none
 unfoldable pub next_retired : Setting → List Item → ℕ
 next_retired setting journal =
-    unwrap_or (least (map (acked_stamp journal) (members setting journal))) (current_mark journal)
+    unwrap_or (least_number (map (acked_stamp journal) (members setting journal)))
+    (current_mark journal)
     - 1
 
 -- ---- the rule of the marks

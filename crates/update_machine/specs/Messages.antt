@@ -58,5 +58,5 @@ sent_from number (message ∷ messages) =
     item.Sent number message ∷ sent_from (number + 1) messages
 
 -- the sending of messages behind a journal
-abbrev pub sends : List Item → List Message → List Item
-sends journal messages = sent_from (next_message journal) messages
+abbrev pub send_items : List Item → List Message → List Item
+send_items journal messages = sent_from (next_message journal) messages

@@ -29,7 +29,7 @@ use Rattle.journal.specs.declared.item.Item.TheVariants as item
 use Rattle.update_machine.specs.Adverts.{is_cut_off, route_from}
 use Rattle.update_machine.specs.Caches.{lookup_at}
 use Rattle.update_machine.specs.LinkMasks.{near}
-use Rattle.update_machine.specs.Messages.{sends}
+use Rattle.update_machine.specs.Messages.{send_items}
 use Rattle.update_machine.specs.Packets.{decision_of, header_in}
 use Rattle.update_machine.specs.Setting.{Setting}
 use Rattle.update_machine.specs.Versions.{holds_version, stamp_of, plan_at}
@@ -39,13 +39,13 @@ use Rattle.update_machine.specs.Ways.{found_down, next_switch, owner, targets_of
 -- ---- blocks
 
 -- these items, and what comes behind a journal that has them
-abbrev pub put : List Item → (List Item → List Item) → List Item → List Item
-put items rest journal = items ++ rest (journal ++ items)
+abbrev pub items_then : List Item → (List Item → List Item) → List Item → List Item
+items_then items rest journal = items ++ rest (journal ++ items)
 
 -- blocks one after another, each read on the journal with those before it
 abbrev pub in_turn : List (List Item → List Item) → List Item → List Item
 in_turn [] journal = []
-in_turn (block ∷ blocks) journal = put (block journal) (in_turn blocks) journal
+in_turn (block ∷ blocks) journal = items_then (block journal) (in_turn blocks) journal
 
 -- ---- legs
 
@@ -89,8 +89,8 @@ header_at journal i =
     (header_of (record { src = 0; dst = 0; sport = 0; dport = 0; proto = 0 }))
 
 -- the packet leaves with its header, version and rule
-abbrev pub leaves : List Item → ℕ → ℕ → Item
-leaves journal i port = item.Left i port (record {
+abbrev pub leaving_item : List Item → ℕ → ℕ → Item
+leaving_item journal i port = item.Left i port (record {
   packet = i;
   header = header_at journal i;
   version = unwrap_or (option_map (λ decision. decision.version) (decision_of journal i)) 0;
@@ -101,7 +101,7 @@ leaves journal i port = item.Left i port (record {
 unfoldable pub end_items : Setting → ℕ → ℕ → Action → List Item → List Item
 end_items setting i s action.Drop journal = item.Dropped i ∷ []
 end_items setting i s (action.Out port) journal = elim (owner setting port == s) [
-  | true ↦ leaves journal i port ∷ []
+  | true ↦ leaving_item journal i port ∷ []
   | false ↦ leg_items setting journal i s (Exit port)
 ]
 
@@ -143,7 +143,7 @@ unfoldable pub cache_items : Setting → ℕ → ℕ → AuthorityRule → List 
 cache_items setting i s found journal =
     elim (is_at s (ingress_of journal i)) [
       | true ↦ []
-      | false ↦ sends journal
+      | false ↦ send_items journal
           (cache_rule found (unwrap_or (ingress_of journal i) 0) (header_at journal i) ∷ [])
     ]
 
@@ -151,7 +151,7 @@ cache_items setting i s found journal =
 unfoldable pub authority_items : Setting → ℕ → ℕ → Option AuthorityRule → List Item → List Item
 authority_items setting i s None journal = []
 authority_items setting i s (Some found) journal =
-    put
+    items_then
     (item.Decided i found.version found.rule.rule found.rule.action
     (how.Authority s found.part.number) ∷ [])
     (in_turn (cache_items setting i s found ∷ end_items setting i s found.rule.action ∷ [])) journal
@@ -159,7 +159,7 @@ authority_items setting i s (Some found) journal =
 -- what a lookup under the switch's stamp makes of the packet
 abbrev pub found_items : Setting → ℕ → ℕ → Found → List Item → List Item
 found_items setting i s (found.Cached entry) journal =
-    put
+    items_then
     (item.Decided i entry.version entry.rule entry.action (how.Cached entry.message) ∷ [])
     (end_items setting i s entry.action) journal
 found_items setting i s (found.Authority partition place) journal =
@@ -178,7 +178,7 @@ lookup_items setting i s journal =
 -- at one that doesn't and looks it up anew
 abbrev pub arrive_by : Setting → ℕ → ℕ → Option Leg → List Item → List Item
 arrive_by setting i s None journal = []
-arrive_by setting i s (Some (Exit port)) journal = leaves journal i port ∷ []
+arrive_by setting i s (Some (Exit port)) journal = leaving_item journal i port ∷ []
 arrive_by setting i s (Some (Seek version partition)) journal =
     elim (holds_version journal s version) [
       | false ↦ lookup_items setting i s journal
@@ -202,7 +202,7 @@ abbrev pub reroute_by : Setting → ℕ → ℕ → Option Leg → List Item →
 reroute_by setting i s None journal = []
 reroute_by setting i s (Some leg) journal = elim (route_for setting journal i s leg) [
   | None ↦ stuck_on setting journal i s leg ∷ []
-  | Some route ↦ put (item.Rerouted i route ∷ []) (go_on setting i s) journal
+  | Some route ↦ items_then (item.Rerouted i route ∷ []) (go_on setting i s) journal
 ]
 
 unfoldable pub reroute_items : Setting → ℕ → ℕ → List Item → List Item
@@ -214,6 +214,6 @@ move_items setting i s journal = elim (next_switch journal i) [
   | None ↦ arrive_items setting i s journal
   | Some next ↦ elim (has (near setting journal s) next) [
     | true ↦ item.Hopped i next ∷ []
-    | false ↦ put (item.FoundDown i s next ∷ []) (reroute_items setting i s) journal
+    | false ↦ items_then (item.FoundDown i s next ∷ []) (reroute_items setting i s) journal
   ]
 ]

@@ -5,7 +5,7 @@ use Rattle.five_tuple.specs.declared.header.Header.{Header}
 use Rattle.policy_rules.specs.declared.policy.Action.{Action}
 use Rattle.journal.specs.declared.item.Item.{Item}
 use Rattle.journal.specs.declared.item.Item.TheVariants as item
-use Rattle.update_machine.specs.Folds.{count_of, last_told}
+use Rattle.update_machine.specs.Folds.{count_of, last_given}
 
 -- ---- numbers
 
@@ -20,22 +20,22 @@ next_packet journal = count_of is_packet journal + 1
 
 -- ---- where it stands
 
-abbrev pub tells_header : ℕ → Item → Option Header
-tells_header i (item.Entered packet switch header) = if packet == i then Some header else None
-tells_header i _ = None
+abbrev pub gives_header : ℕ → Item → Option Header
+gives_header i (item.Entered packet switch header) = if packet == i then Some header else None
+gives_header i _ = None
 
 -- the header with which the packet came in
 unfoldable pub header_in : List Item → ℕ → Option Header
-header_in journal i = last_told (tells_header i) journal
+header_in journal i = last_given (gives_header i) journal
 
-abbrev pub tells_standing : ℕ → Item → Option ℕ
-tells_standing i (item.Entered packet switch header) = if packet == i then Some switch else None
-tells_standing i (item.Hopped packet switch) = if packet == i then Some switch else None
-tells_standing i _ = None
+abbrev pub gives_standing : ℕ → Item → Option ℕ
+gives_standing i (item.Entered packet switch header) = if packet == i then Some switch else None
+gives_standing i (item.Hopped packet switch) = if packet == i then Some switch else None
+gives_standing i _ = None
 
 -- the switch where it stands: that of its last `Entered` or `Hopped`
 unfoldable pub standing : List Item → ℕ → Option ℕ
-standing journal i = last_told (tells_standing i) journal
+standing journal i = last_given (gives_standing i) journal
 
 -- ---- its decision
 
@@ -45,12 +45,12 @@ pub record Decision : Type 0 where
   pub rule : Option ℕ
   pub action : Action
 
-abbrev pub tells_decision : ℕ → Item → Option Decision
-tells_decision i (item.Decided packet version rule action how) =
+abbrev pub gives_decision : ℕ → Item → Option Decision
+gives_decision i (item.Decided packet version rule action how) =
     if packet == i
     then Some (record { version = version; rule = rule; action = action })
     else None
-tells_decision i _ = None
+gives_decision i _ = None
 
 unfoldable pub decision_of : List Item → ℕ → Option Decision
-decision_of journal i = last_told (tells_decision i) journal
+decision_of journal i = last_given (gives_decision i) journal

@@ -18,8 +18,8 @@ use Rattle.update_machine.specs.Caches.{cache_of}
 use Rattle.update_machine.specs.Deliveries.{advert_to, delivery_items, link_changes, switches_in}
 use Rattle.update_machine.specs.Links.{is_link_up, serves}
 use Rattle.update_machine.specs.Marks.{most_live, most_versions, retired_mark}
-use Rattle.update_machine.specs.Messages.{is_deliverable, sends}
-use Rattle.update_machine.specs.Moves.{lookup_items, move_items, put}
+use Rattle.update_machine.specs.Messages.{is_deliverable, send_items}
+use Rattle.update_machine.specs.Moves.{lookup_items, move_items, items_then}
 use Rattle.update_machine.specs.Packets.{next_packet, standing}
 use Rattle.update_machine.specs.Setting.{Setting}
 use Rattle.update_machine.specs.Settling.{resent_by_controller, settling, submitted_items}
@@ -36,7 +36,7 @@ nothing = item.Nothing ∷ []
 unfoldable pub packet_items : Setting → ℕ → ℕ → Header → List Item → List Item
 packet_items setting i s header journal = elim (serves journal s) [
   | false ↦ item.Closed i s ∷ []
-  | true ↦ put (item.Entered i s header ∷ []) (lookup_items setting i s) journal
+  | true ↦ items_then (item.Entered i s header ∷ []) (lookup_items setting i s) journal
 ]
 
 unfoldable pub hop_items : Setting → ℕ → List Item → List Item
@@ -56,7 +56,7 @@ lose_items i journal = elim (travels journal i) [
 unfoldable pub deliver_items : Setting → List Item → ℕ → List Item → List Item
 deliver_items setting before number journal = elim (is_deliverable before number) [
   | false ↦ nothing
-  | true ↦ put (item.Delivered number ∷ []) (delivery_items setting before number) journal
+  | true ↦ items_then (item.Delivered number ∷ []) (delivery_items setting before number) journal
 ]
 
 unfoldable pub forget_items : ℕ → List Item → List Item
@@ -97,7 +97,8 @@ update_code setting journal file = elim (next_plan setting journal file) [
 unfoldable pub update_items : Setting → ℕ → List Item → List Item
 update_items setting file journal = elim (update_code setting journal file) [
   | Some code ↦ item.Refused file code ∷ []
-  | None ↦ put (item.Submitted file (version_count journal + 1) ∷ []) (submitted_items setting)
+  | None ↦ items_then (item.Submitted file (version_count journal + 1) ∷ [])
+      (submitted_items setting)
       journal
 ]
 
@@ -107,7 +108,8 @@ update_items setting file journal = elim (update_code setting journal file) [
 unfoldable pub link_items : Setting → List Item → ℕ → ℕ → Bool → List Item → List Item
 link_items setting before one two up journal = elim (beq (is_link_up before one two) up) [
   | true ↦ nothing
-  | false ↦ put (item.LinkIs (min one two) (max one two) up ∷ []) (link_changes setting before)
+  | false ↦ items_then (item.LinkIs (min one two) (max one two) up ∷ [])
+      (link_changes setting before)
       journal
 ]
 
@@ -115,7 +117,8 @@ link_items setting before one two up journal = elim (beq (is_link_up before one 
 unfoldable pub crash_items : Setting → List Item → ℕ → List Item → List Item
 crash_items setting before s journal = elim (is_up before s) [
   | false ↦ nothing
-  | true ↦ put (item.Down s ∷ map item.Lost (packets_at before s)) (link_changes setting before)
+  | true ↦ items_then (item.Down s ∷ map item.Lost (packets_at before s))
+      (link_changes setting before)
       journal
 ]
 
@@ -126,15 +129,15 @@ hello_of journal s = to_controller (Hello s (boot_of journal s))
 unfoldable pub restart_items : ℕ → List Item → List Item
 restart_items s journal = elim (is_up journal s) [
   | true ↦ nothing
-  | false ↦ put (item.Booted s (boot_of journal s + 1) ∷ [])
-      (λ booted. sends booted (hello_of booted s ∷ [])) journal
+  | false ↦ items_then (item.Booted s (boot_of journal s + 1) ∷ [])
+      (λ booted. send_items booted (hello_of booted s ∷ [])) journal
 ]
 
 -- the controller waits no longer for a switch that is down
 unfoldable pub confirm_items : Setting → ℕ → List Item → List Item
 confirm_items setting s journal = elim (is_up journal s) [
   | true ↦ nothing
-  | false ↦ put (item.OverNow s ∷ []) (settling setting) journal
+  | false ↦ items_then (item.OverNow s ∷ []) (settling setting) journal
 ]
 
 -- a switch that is up sends its hello again, and to each neighbour every advert that it holds
@@ -149,7 +152,7 @@ resent_by_switch setting journal s = elim (is_up journal s) [
 -- these are sent, or nothing happens where there are none
 abbrev pub sends_or_nothing : List Item → List Message → List Item
 sends_or_nothing journal [] = nothing
-sends_or_nothing journal (message ∷ messages) = sends journal (message ∷ messages)
+sends_or_nothing journal (message ∷ messages) = send_items journal (message ∷ messages)
 
 unfoldable pub resend_items : Setting → ℕ → List Item → List Item
 resend_items setting s journal =
@@ -178,4 +181,4 @@ step_items setting before (Resend switch) = resend_items setting switch
 -- what a step of this row writes behind the journal
 unfoldable pub piece : Setting → List Item → ℕ → Step → List Item
 piece setting journal row step =
-    put (item.Row row step ∷ []) (step_items setting journal step) journal
+    items_then (item.Row row step ∷ []) (step_items setting journal step) journal

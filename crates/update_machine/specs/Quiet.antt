@@ -13,7 +13,7 @@ use Rattle.failover.specs.Adverts.{is_newer}
 use Rattle.journal.specs.declared.item.Item.{Item}
 use Rattle.journal.specs.declared.item.Item.TheVariants as item
 use Rattle.update_machine.specs.Boots.{boot_of, is_up}
-use Rattle.update_machine.specs.Folds.{folded, last_told}
+use Rattle.update_machine.specs.Folds.{folded_value, last_given}
 use Rattle.update_machine.specs.Marks.{current_mark}
 use Rattle.update_machine.specs.Messages.{was_delivered}
 use Rattle.update_machine.specs.Setting.{Setting}
@@ -42,7 +42,7 @@ changes_sendings before sendings _ = sendings
 
 -- all that was sent, in order
 unfoldable pub sendings : List Item → List Sending
-sendings journal = folded changes_sendings [] journal
+sendings journal = folded_value changes_sendings [] journal
 
 -- ---- which of them matter
 
@@ -67,8 +67,8 @@ is_advert (Advertise advert) = true
 is_advert _ = false
 
 -- the body carries this boot
-abbrev pub carries : ℕ → Body → Bool
-carries boot body = option_map_or (λ of. of == boot) (body_boot body) false
+abbrev pub carries_boot : ℕ → Body → Bool
+carries_boot boot body = option_map_or (λ of. of == boot) (body_boot body) false
 
 -- what a switch that is up says in its boot matters to the controller; to a switch that is up, what
 -- was sent since its boot began and is an advert or for that boot; but nothing of old tables
@@ -79,7 +79,7 @@ matters journal sending = elim sending.message.to [
       && not (is_of_old_tables journal sending.message.body)
   | receiver.Switch s ↦
       is_up journal s && sending.boot == boot_of journal s
-      && (is_advert sending.message.body || carries (boot_of journal s) sending.message.body)
+      && (is_advert sending.message.body || carries_boot (boot_of journal s) sending.message.body)
       && not (is_of_old_tables journal sending.message.body)
 ]
 
@@ -111,14 +111,14 @@ IsReceived journal sending =
     ⊎ Any (λ later. Replaces later sending × IsTrue (was_delivered journal later.number))
     (sendings journal)
 
-abbrev pub tells_waited_for : ℕ → Item → Option Bool
-tells_waited_for s (item.Down switch) = if switch == s then Some true else None
-tells_waited_for s (item.OverNow switch) = if switch == s then Some false else None
-tells_waited_for s _ = None
+abbrev pub gives_waited_for : ℕ → Item → Option Bool
+gives_waited_for s (item.Down switch) = if switch == s then Some true else None
+gives_waited_for s (item.OverNow switch) = if switch == s then Some false else None
+gives_waited_for s _ = None
 
 -- the switch went down and no `OverNow` of it stands since
 abbrev pub is_waited_for : List Item → ℕ → Bool
-is_waited_for journal s = unwrap_or (last_told (tells_waited_for s) journal) false
+is_waited_for journal s = unwrap_or (last_given (gives_waited_for s) journal) false
 
 pub record IsQuiet (setting : Setting) (journal : List Item) : Type 0 where
   pub switches : All (λ s. IsTrue (is_up journal s || not (is_waited_for journal s)))

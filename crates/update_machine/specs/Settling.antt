@@ -10,8 +10,8 @@ use Rattle.ctrl_msg.specs.declared.message.Receiver.TheVariants as receiver
 use Rattle.journal.specs.declared.item.Item.{Item}
 use Rattle.journal.specs.declared.item.Item.TheVariants as item
 use Rattle.update_machine.specs.Marks.{acked_stamp, current_mark, has_acked, is_joining, is_member, is_over, known_boot, members, next_current, next_retired, open_version, retired_mark}
-use Rattle.update_machine.specs.Messages.{sends}
-use Rattle.update_machine.specs.Moves.{in_turn, put}
+use Rattle.update_machine.specs.Messages.{send_items}
+use Rattle.update_machine.specs.Moves.{in_turn, items_then}
 use Rattle.update_machine.specs.Setting.{Setting}
 use Rattle.update_machine.specs.SwitchNumbers.{switches_of}
 use Rattle.update_machine.specs.Versions.{tables_at, version_count}
@@ -47,8 +47,9 @@ raised_items mark next says tells setting journal =
     let version = next setting journal in
     elim (nat_lt (mark journal) version) [
       | false ↦ []
-      | true ↦ put (says version ∷ [])
-          (λ raised. sends raised (map (tells journal version) (members setting journal))) journal
+      | true ↦ items_then (says version ∷ [])
+          (λ raised. send_items raised (map (tells journal version) (members setting journal)))
+          journal
     ]
 
 -- current rises as far as the members' acknowledgements allow, and they are told to stamp with it
@@ -57,15 +58,16 @@ current_items setting journal =
     raised_items current_mark next_current item.Current stamp_for setting journal
 
 -- the joining switches that acknowledged the current version
-abbrev pub opening : Setting → List Item → List ℕ
-opening setting journal =
+abbrev pub opening_switches : Setting → List Item → List ℕ
+opening_switches setting journal =
     filter (λ s. is_joining journal s && has_acked journal s (current_mark journal))
     (switches_of setting)
 
 -- they are told to serve
 unfoldable pub open_items : Setting → List Item → List Item
 open_items setting journal =
-    sends journal (map (open_for journal (current_mark journal)) (opening setting journal))
+    send_items journal (map (open_for journal (current_mark journal))
+    (opening_switches setting journal))
 
 -- retired rises as far as the members' stamps allow, and they are told to drop those tables
 unfoldable pub retired_items : Setting → List Item → List Item
@@ -87,13 +89,13 @@ versions_from_current journal =
 -- a switch that began a boot is sent the tables of each version from the current one on
 unfoldable pub installs_to : Setting → ℕ → List Item → List Item
 installs_to setting s journal =
-    sends journal
+    send_items journal
     (map (λ version. install_for setting journal version s) (versions_from_current journal))
 
 -- each switch that isn't over is sent the tables of the newest version
 unfoldable pub installs_to_all : Setting → List Item → List Item
 installs_to_all setting journal =
-    sends journal
+    send_items journal
     (map (install_for setting journal (version_count journal))
     (filter (λ s. not (is_over journal s)) (switches_of setting)))
 
@@ -105,8 +107,8 @@ submitted_items setting journal =
 -- ---- sending again
 
 -- of the versions the tables of those that the switch didn't acknowledge
-abbrev pub unacked : Setting → List Item → ℕ → List ℕ → List Message
-unacked setting journal s versions =
+abbrev pub unacked_installs : Setting → List Item → ℕ → List ℕ → List Message
+unacked_installs setting journal s versions =
     map (λ version. install_for setting journal version s)
     (filter (λ version. not (has_acked journal s version)) versions)
 
@@ -114,7 +116,7 @@ unacked setting journal s versions =
 abbrev pub resent_to_member : Setting → List Item → ℕ → List Message
 resent_to_member setting journal s =
     open_for journal (open_version journal s) s
-    ∷ unacked setting journal s (range_with_len (current_mark journal + 1)
+    ∷ unacked_installs setting journal s (range_with_len (current_mark journal + 1)
     (version_count journal - current_mark journal))
     ++ (if nat_lt (acked_stamp journal s) (current_mark journal)
     then stamp_for journal (current_mark journal) s ∷ [] else [])
@@ -128,6 +130,6 @@ resent_by_controller setting journal s = elim (is_over journal s) [
   | true ↦ []
   | false ↦ elim (is_member journal s) [
     | true ↦ resent_to_member setting journal s
-    | false ↦ unacked setting journal s (versions_from_current journal)
+    | false ↦ unacked_installs setting journal s (versions_from_current journal)
   ]
 ]

@@ -2,7 +2,7 @@
 use Rattle.std.specs.Prelude.{List, [], ◌∷◌, ◌++◌}
 use Rattle.journal.specs.declared.item.Item.{Item}
 use Rattle.journal.specs.declared.item.Item.TheVariants as item
-use Rattle.update_machine.specs.Folds.{folded}
+use Rattle.update_machine.specs.Folds.{folded_value}
 
 -- the items of a step, the row's first, and the journal before them
 pub record StepItems : Type 0 where
@@ -21,4 +21,4 @@ changes_steps before steps item = with_item steps item
 
 -- the steps of a journal, the newest first
 unfoldable pub steps_in : List Item → List StepItems
-steps_in journal = folded changes_steps [] journal
+steps_in journal = folded_value changes_steps [] journal

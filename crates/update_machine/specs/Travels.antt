@@ -6,31 +6,31 @@ use Rattle.policy_rules.specs.declared.packet.Leg.{Leg}
 use Rattle.policy_rules.specs.declared.packet.Leg.TheVariants.{Seek, Exit}
 use Rattle.policy_rules.specs.declared.policy.Action.{Action}
 use Rattle.journal.specs.declared.item.Item.{Item}
-use Rattle.update_machine.specs.Folds.{count_of, folded, last_told}
+use Rattle.update_machine.specs.Folds.{count_of, folded_value, last_given}
 use Rattle.update_machine.specs.Packets.{is_packet, standing, decision_of}
 use Rattle.policy_rules.specs.declared.policy.Action.TheVariants as action
 use Rattle.journal.specs.declared.item.Item.TheVariants as item
 
-abbrev pub tells_ingress : ℕ → Item → Option ℕ
-tells_ingress i (item.Entered packet switch header) = if packet == i then Some switch else None
-tells_ingress i _ = None
+abbrev pub gives_ingress : ℕ → Item → Option ℕ
+gives_ingress i (item.Entered packet switch header) = if packet == i then Some switch else None
+gives_ingress i _ = None
 
 -- the switch where it came in
 unfoldable pub ingress_of : List Item → ℕ → Option ℕ
-ingress_of journal i = last_told (tells_ingress i) journal
+ingress_of journal i = last_given (gives_ingress i) journal
 
-abbrev pub tells_travelling : ℕ → Item → Option Bool
-tells_travelling i (item.Entered packet switch header) = if packet == i then Some true else None
-tells_travelling i (item.Dropped packet) = if packet == i then Some false else None
-tells_travelling i (item.Left packet port leaving) = if packet == i then Some false else None
-tells_travelling i (item.Lost packet) = if packet == i then Some false else None
-tells_travelling i (item.Stuck packet switch cause leg down) =
+abbrev pub gives_travelling : ℕ → Item → Option Bool
+gives_travelling i (item.Entered packet switch header) = if packet == i then Some true else None
+gives_travelling i (item.Dropped packet) = if packet == i then Some false else None
+gives_travelling i (item.Left packet port leaving) = if packet == i then Some false else None
+gives_travelling i (item.Lost packet) = if packet == i then Some false else None
+gives_travelling i (item.Stuck packet switch cause leg down) =
     if packet == i then Some false else None
-tells_travelling i _ = None
+gives_travelling i _ = None
 
 -- it came in and hasn't ended
 unfoldable pub travels : List Item → ℕ → Bool
-travels journal i = unwrap_or (last_told (tells_travelling i) journal) false
+travels journal i = unwrap_or (last_given (gives_travelling i) journal) false
 
 -- the numbers of all packets, ascending
 abbrev pub packets_in : List Item → List ℕ
@@ -71,4 +71,4 @@ changes_leg i before leg (item.Exiting packet route) =
 changes_leg i before leg _ = leg
 
 unfoldable pub leg_of : List Item → ℕ → Option Leg
-leg_of journal i = folded (changes_leg i) None journal
+leg_of journal i = folded_value (changes_leg i) None journal

@@ -26,19 +26,19 @@ hosted_in (Ok plan) = plan
 hosted_in (Err why) = []
 
 -- what the first item that tells something tells: one more way, beside those of `Folds`
-abbrev pub first_told : {X : Type 0} → (Item → Option X) → List Item → Option X
-first_told tells [] = None
-first_told tells (item ∷ items) = option_or (tells item) (first_told tells items)
+abbrev pub first_given : {X : Type 0} → (Item → Option X) → List Item → Option X
+first_given tells [] = None
+first_given tells (item ∷ items) = option_or (tells item) (first_given tells items)
 
-abbrev pub tells_file : ℕ → Item → Option ℕ
-tells_file v (item.Submitted file version) = if version == v then Some file else None
-tells_file v _ = None
+abbrev pub gives_file : ℕ → Item → Option ℕ
+gives_file v (item.Submitted file version) = if version == v then Some file else None
+gives_file v _ = None
 
 -- the file of a version: the first file is that of version 1, and any other version has the one
 -- with which it was submitted
 unfoldable pub file_of : List Item → ℕ → Option ℕ
 file_of journal version =
-    if version == 1 then Some 1 else first_told (tells_file version) journal
+    if version == 1 then Some 1 else first_given (gives_file version) journal
 
 -- the policy of a version, if it is there and its file too
 abbrev pub policy_in : Setting → List Item → ℕ → Option (List Row)
@@ -87,8 +87,8 @@ tables_at setting journal version s = tables_of (plan_at setting journal version
 -- ---- stamps
 
 -- the greatest of numbers, and 0 where there is none
-abbrev pub greatest : List ℕ → ℕ
-greatest numbers = fold max 0 numbers
+abbrev pub greatest_number : List ℕ → ℕ
+greatest_number numbers = fold max 0 numbers
 
 -- the version with which a body lets a switch stamp
 abbrev pub stamp_in : Body → Option ℕ
@@ -101,21 +101,22 @@ first_stamp journal s = if is_in_first_boot journal s then 1 ∷ [] else []
 
 -- the greatest version with which the switch was let stamp in its boot; version 1 counts in boot 1
 unfoldable pub stamp_of : List Item → ℕ → ℕ
-stamp_of journal s = greatest (first_stamp journal s ++ filter_map stamp_in (heard journal s))
+stamp_of journal s = greatest_number (first_stamp journal s
+    ++ filter_map stamp_in (heard journal s))
 
 -- ---- held versions
 
-abbrev pub installs : ℕ → Body → Bool
-installs v (Install boot tables) = tables.version == v
-installs v _ = false
+abbrev pub installs_version : ℕ → Body → Bool
+installs_version v (Install boot tables) = tables.version == v
+installs_version v _ = false
 
-abbrev pub collects : ℕ → Body → Bool
-collects v (Collect boot version) = nat_le v version
-collects v _ = false
+abbrev pub collects_version : ℕ → Body → Bool
+collects_version v (Collect boot version) = nat_le v version
+collects_version v _ = false
 
 -- the version's tables were installed in this boot, or the switch began with them; and neither this
 -- version nor a greater one was collected
 unfoldable pub holds_version : List Item → ℕ → ℕ → Bool
 holds_version journal s v =
-    (list_any (installs v) (heard journal s) || (v == 1 && is_in_first_boot journal s))
-    && not (list_any (collects v) (heard journal s))
+    (list_any (installs_version v) (heard journal s) || (v == 1 && is_in_first_boot journal s))
+    && not (list_any (collects_version v) (heard journal s))

@@ -8,21 +8,21 @@ use Rattle.policy_rules.specs.declared.packet.Leg.{Leg}
 use Rattle.policy_rules.specs.declared.packet.Leg.TheVariants.{Seek, Exit}
 use Rattle.switch_table.specs.Tables.{Hosted}
 use Rattle.journal.specs.declared.item.Item.{Item}
-use Rattle.update_machine.specs.Folds.{folded, last_told}
+use Rattle.update_machine.specs.Folds.{folded_value, last_given}
 use Rattle.update_machine.specs.Setting.{Setting}
 use Rattle.update_machine.specs.Versions.{plan_at}
 use Rattle.journal.specs.declared.item.Item.TheVariants as item
 
-abbrev pub tells_route : ℕ → Item → Option (List ℕ)
-tells_route i (item.Seeking packet version partition route) =
+abbrev pub gives_route : ℕ → Item → Option (List ℕ)
+gives_route i (item.Seeking packet version partition route) =
     if packet == i then Some route else None
-tells_route i (item.Exiting packet route) = if packet == i then Some route else None
-tells_route i (item.Rerouted packet route) = if packet == i then Some route else None
-tells_route i _ = None
+gives_route i (item.Exiting packet route) = if packet == i then Some route else None
+gives_route i (item.Rerouted packet route) = if packet == i then Some route else None
+gives_route i _ = None
 
 -- the route of its last `Seeking`, `Exiting` or `Rerouted`
 unfoldable pub route_in : List Item → ℕ → List ℕ
-route_in journal i = unwrap_or (last_told (tells_route i) journal) []
+route_in journal i = unwrap_or (last_given (gives_route i) journal) []
 
 abbrev pub changes_hops : ℕ → List Item → ℕ → Item → ℕ
 changes_hops i before hops (item.Seeking packet version partition route) =
@@ -34,7 +34,7 @@ changes_hops i before hops _ = hops
 
 -- its place on that route, from 0: the number of its `Hopped` since
 unfoldable pub route_place : List Item → ℕ → ℕ
-route_place journal i = folded (changes_hops i) 0 journal
+route_place journal i = folded_value (changes_hops i) 0 journal
 
 -- the switch after that place, if the route goes on
 unfoldable pub next_switch : List Item → ℕ → Option ℕ
@@ -47,7 +47,7 @@ changes_found i before links _ = links
 
 -- the links that it found down on any leg, as a set
 unfoldable pub found_down : List Item → ℕ → List ℕ
-found_down journal i = folded (changes_found i) no_links journal
+found_down journal i = folded_value (changes_found i) no_links journal
 
 -- the targets of the partition at a place of a plan
 abbrev pub targets_in : List Hosted → ℕ → List ℕ

@@ -6,27 +6,27 @@ ghost use Rattle.policy_rules.specs.declared.policy.Row.{Row};
 ghost use Rattle.journal.specs.declared.item.Item.TheVariants.{Submitted};
 ghost use Rattle.steps.specs.declared.step.Event.TheVariants.{One};
 ghost use Rattle.update_machine.specs.Exports.{Answers, AnswersSoFar, AreAnswered, AreNumbered, AreStepsOf, BeginsAnswer, ConcernLaws, Event, HasPlay, HaveSteps, IsFull, IsPlay, IsSetting, Item, KnownLinkLaws, NamesOwnPort, Setting, StartLaws, Step, StepOfRow, StopsFull, VersionsAreNumbered, after_steps, file_of, full_at, is_sending, is_version, hosted_in, next_policy, plan_at, policy_at, policy_of_file, version_count};
-ghost use Rattle.update_machine.specs.Folds.{all_given, count_of, folded, folded_from, last_told};
-ghost use Rattle.update_machine.specs.Versions.{first_told};
+ghost use Rattle.update_machine.specs.Folds.{all_given, count_of, folded_value, folded_from, last_given};
+ghost use Rattle.update_machine.specs.Versions.{first_given};
 ghost use Rattle.update_machine.specs.declared.full.TheConstants.{FULL_AT};
 
 /// What a journal says, once more items stand behind it: a law for each of the folds, over
 /// whatever an item tells.
-#[tactic(auto, using(crate::proofs::FoldLemmas::last_told_append, crate::proofs::FoldLemmas::first_told_append, crate::proofs::FoldLemmas::folded_append))]
+#[tactic(auto, using(crate::proofs::FoldLemmas::last_given_append, crate::proofs::FoldLemmas::first_given_append, crate::proofs::FoldLemmas::folded_append))]
 pub fn journals_grow<X>()
     ensures last { (tells : Item → Option X) (before items : List Item)
-        → last_told tells (before ++ items)
-        ≡ option_or (last_told tells items) (last_told tells before) }
+        → last_given tells (before ++ items)
+        ≡ option_or (last_given tells items) (last_given tells before) }
     ensures first { (tells : Item → Option X) (before items : List Item)
-        → first_told tells (before ++ items)
-        ≡ option_or (first_told tells before) (first_told tells items) }
+        → first_given tells (before ++ items)
+        ≡ option_or (first_given tells before) (first_given tells items) }
     ensures count { (test : Item → Bool) (before items : List Item)
         → count_of test (before ++ items) ≡ count_of test before + count_of test items }
     ensures given { (gives : Item → List X) (before items : List Item)
         → all_given gives (before ++ items) ≡ all_given gives before ++ all_given gives items }
     ensures fold { (changes : List Item → X → Item → X) (start : X) (before items : List Item)
-        → folded changes start (before ++ items)
-        ≡ folded_from changes before (folded changes start before) items }
+        → folded_value changes start (before ++ items)
+        ≡ folded_from changes before (folded_value changes start before) items }
 {}
 
 /// A schedule has at most one answer, and at most one that goes so many steps far; an answer goes

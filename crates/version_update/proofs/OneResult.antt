@@ -12,7 +12,7 @@ use Rattle.version_update.specs.declared.record.SwitchRecord.{SwitchRecord}
 use Rattle.version_update.specs.declared.marks.Settled.{Settled}
 use Rattle.version_update.specs.Record.{is_member, opens_at, opened_record}
 use Rattle.version_update.specs.Marks.{MarksValue, acked_stamps, least_of, AreMarksSettled}
-use Rattle.version_update.specs.Settling.{Names, rises_to, RisesTo, Tells, Settles}
+use Rattle.version_update.specs.Settling.{Names, rises_to, RisesTo, Reports, Settles}
 use Rattle.version_update.specs.Laws.{nothing_rose, IsLeast}
 
 -- ---- one result
@@ -54,8 +54,8 @@ one_mask : (mask other : ℕ) (passes : SwitchRecord → Bool) (switches : List 
     → Names mask passes switches → Names other passes switches → mask ≡ other
 one_mask mask other passes switches one two = same_from_bits mask other (λ s. one s ∙ sym (two s))
 
-one_telling : (before after : MarksValue) (x y : Settled) → Tells before after x
-    → Tells before after y → x.taken ≡ y.taken → x ≡ y
+one_telling : (before after : MarksValue) (x y : Settled) → Reports before after x
+    → Reports before after y → x.taken ≡ y.taken → x ≡ y
 one_telling before after x y one two taken =
     let current : x.current ≡ y.current = one.current ∙ sym two.current in
     let stamps : x.stamps ≡ y.stamps = one_mask _ _ _ _ one.stamps two.stamps in
@@ -73,7 +73,7 @@ pub one_answer : (before a b : MarksValue) (x y : Settled) → Settles before a 
     → x.taken ≡ y.taken → x ≡ y
 one_answer before a b x y left right taken =
     one_telling before a x y left.tells
-    (subst (λ (m : MarksValue). Tells before m y) (sym (one_result before a b x y left right))
+    (subst (λ (m : MarksValue). Reports before m y) (sym (one_result before a b x y left right))
     right.tells) taken
 
 -- ---- settled marks

@@ -17,7 +17,7 @@ Names mask passes switches = (s : ℕ)
     → bit_at mask s ≡ from_bool (option_map_or passes (slice_get switches s) false)
 
 -- what rose, and the switches that are to be told
-pub record Tells (before after : MarksValue) (answer : Settled) : Type 0 where
+pub record Reports (before after : MarksValue) (answer : Settled) : Type 0 where
   pub current : answer.current ≡ rises_to before.current after.current
   -- a new current version is told to the members from before
   pub stamps : Names answer.stamps
@@ -44,4 +44,4 @@ pub record Settles (before after : MarksValue) (answer : Settled) : Type 0 where
   pub current : RisesTo before after.current
   pub switches : after.switches ≡ map (opened_record after.current) before.switches
   pub retired : after.retired ≡ retired_of after
-  pub tells : Tells before after answer
+  pub tells : Reports before after answer

@@ -138,7 +138,7 @@ impl Ledger {
     {
         let number = self.number;
         let current = self.current;
-        switches::open_at(&mut self.switches[..number], current)
+        switches::open_if_acked(&mut self.switches[..number], current)
     }
 
     // The last version that the members allow to retire.

@@ -104,7 +104,7 @@ impl SwitchRecord {
     }
 
     /// Opens a joining switch that acknowledged the current version, and tells whether it did.
-    pub fn open_at(&mut self, current: u32) -> bool
+    pub fn open_if_acked(&mut self, current: u32) -> bool
         requires first { 1 ≤ current }
         requires last { current ≤ 64 }
         ensures opens { result ≡ opens_at current self.old }

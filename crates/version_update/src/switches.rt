@@ -21,7 +21,7 @@ pub fn members_where(rose: bool, switches: &[SwitchRecord]) -> u64
 
 /// Opens each joining switch that acknowledged the current version; these, as bits at their
 /// numbers.
-pub fn open_at(switches: &mut [SwitchRecord], current: u32) -> u64
+pub fn open_if_acked(switches: &mut [SwitchRecord], current: u32) -> u64
     requires few { length switches.old ≤ 64 }
     requires first { 1 ≤ current }
     requires last { current ≤ 64 }
@@ -30,7 +30,7 @@ pub fn open_at(switches: &mut [SwitchRecord], current: u32) -> u64
 {
     let mut mask = 0;
     for (s, known) in switches.iter_mut().enumerate() {
-        mask |= u64::from(known.open_at(current)) << s;
+        mask |= u64::from(known.open_if_acked(current)) << s;
     }
     mask
 }

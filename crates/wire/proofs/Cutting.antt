@@ -1,32 +1,40 @@
--- Cutting a spelling into pieces and the pieces into frames, one after the other.
+-- Cutting a spelling into chunks and the chunks into frames, one after the other.
 use Rattle.std.proofs.Common.{◌≡◌, ℕ, zero, suc, ◌+◌, ◌-◌, ◌<◌, ◌^◌, List, [], ◌∷◌, ◌++◌, length, get_or, take, drop, refl, sym, ap, ◌∙◌, append_assoc, add-one, arith}
 use Rattle.std.specs.Int.{div_ceil}
 use Rattle.std.proofs.Math.Seq.{drop-cons}
 use Rattle.std.proofs.lemmas.Grind.{div_ceil_times}
-use Rattle.wire.specs.Frames.{slices, cut, most_of_piece, frame, frames_from}
+use Rattle.wire.specs.Frames.{equal_chunks, chunks_behind_head, most_of_chunk, frame, frames_from}
 
 pub goes_on : (front : List (List ℕ)) (count i n : ℕ) (left : List ℕ) (total : List (List ℕ))
-    → i < count → front ++ slices (count - i) n left ≡ total
-    → (front ++ take n left ∷ []) ++ slices (count - (i + 1)) n (drop n left) ≡ total
+    → i < count → front ++ equal_chunks (count - i) n left ≡ total
+    → (front ++ take n left ∷ []) ++ equal_chunks (count - (i + 1)) n (drop n left) ≡ total
 goes_on front count i n left total lt so_far =
     let k : count - i ≡ suc (count - (i + 1)) = omega arith in
-    append_assoc front (take n left ∷ []) (slices (count - (i + 1)) n (drop n left))
-    ∙ ap (λ j. front ++ slices j n left) (sym k) ∙ so_far
+    append_assoc front (take n left ∷ []) (equal_chunks (count - (i + 1)) n (drop n left))
+    ∙ ap (λ j. front ++ equal_chunks j n left) (sym k) ∙ so_far
 
-pub frames_go_on : (front : List (List ℕ)) (parts : List (List ℕ)) (count i : ℕ) (piece : List ℕ) (total : List (List ℕ))
-    → i < length parts → piece ≡ get_or parts i [] → front ++ frames_from i count (drop i parts) ≡ total
-    → (front ++ frame i count piece ∷ []) ++ frames_from (i + 1) count (drop (i + 1) parts) ≡ total
-frames_go_on front parts count i piece total lt is so_far =
+pub frames_go_on : (front : List (List ℕ)) (parts : List (List ℕ)) (count i : ℕ) (chunk : List ℕ)
+    (total : List (List ℕ))
+    → i < length parts → chunk ≡ get_or parts i [] → front ++ frames_from i count (drop i parts)
+    ≡ total
+    → (front ++ frame i count chunk ∷ []) ++ frames_from (i + 1) count (drop (i + 1) parts) ≡ total
+frames_go_on front parts count i chunk total lt is so_far =
     let next : drop i parts ≡ get_or parts i [] ∷ drop (i + 1) parts = rw add-one (drop-cons parts i [] lt) in
-    append_assoc front (frame i count piece ∷ []) (frames_from (i + 1) count (drop (i + 1) parts))
+    append_assoc front (frame i count chunk ∷ []) (frames_from (i + 1) count (drop (i + 1) parts))
     ∙ ap (λ p. front ++ frame i count p ∷ frames_from (i + 1) count (drop (i + 1) parts)) is
     ∙ ap (λ ps. front ++ frames_from i count ps) (sym next) ∙ so_far
 
-pub length-slices : (count n : ℕ) (bytes : List ℕ) → length (slices count n bytes) ≡ count
+pub length-slices : (count n : ℕ) (bytes : List ℕ) → length (equal_chunks count n bytes) ≡ count
 length-slices zero n bytes = refl
 length-slices (suc count) n bytes = ap suc (length-slices count n (drop n bytes))
 
-pub few_pieces : (head : ℕ) (bytes : List ℕ) → length bytes < 2 ^ 40 → length (cut head bytes) < 2 ^ 32
-few_pieces head bytes short =
-    let count = div_ceil (length bytes - head) most_of_piece in
-    omega (arith, length-slices count most_of_piece (drop head bytes), div_ceil_times (length bytes - head) most_of_piece (omega arith))
+pub few_chunks : (head : ℕ) (bytes : List ℕ) → length bytes < 2 ^ 40
+    → length (chunks_behind_head head bytes) < 2 ^ 32
+few_chunks head bytes short =
+    let count = div_ceil (length bytes - head) most_of_chunk in
+    omega (
+      arith,
+      length-slices count most_of_chunk (drop head bytes),
+      div_ceil_times
+          (length bytes - head) most_of_chunk (omega arith),
+    )

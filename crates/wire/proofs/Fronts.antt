@@ -9,7 +9,7 @@ use Rattle.base.specs.Refusals.{IfRefused}
 use Rattle.base.specs.declared.error.Failure.{Failure}
 use Rattle.wire.specs.declared.error.Malformed.{Malformed}
 use Rattle.base.proofs.Refusals.{IfRefused-weaker}
-use Rattle.wire.specs.Messages.{IsFront, front, read_front, spelled_front}
+use Rattle.wire.specs.Messages.{IsFront, message_front, read_front, spelled_front}
 use Rattle.wire.specs.Reading.{Gives}
 use Rattle.wire.proofs.Decoding.{none_is_not}
 use Rattle.wire.proofs.Laws.{AreBytes, then_some, passed}
@@ -23,7 +23,7 @@ and_then false o y e = absurd cc
 front_takes : (bytes : List ℕ) (f : Receiver × ℕ) (rest : List ℕ) → AreBytes bytes → read_front bytes ≡ Some (f, rest)
     → IsFront f.0 f.1 bytes
 front_takes bytes f rest are e =
-    let b = then_some (front.read bytes)
+    let b = then_some (message_front.read bytes)
     (λ x. cond (eqb x.0.1.0 1) (cond (eqb (length x.1) 0) (Some ((x.0.0, x.0.1.1), x.1)) None) None) (f, rest) e in
     let t = front_lawful.takes bytes b.0.0 b.0.1 are b.1 in
     let g = and_then (eqb b.0.0.1.0 1) (cond (eqb (length b.0.1) 0) (Some ((b.0.0.0, b.0.0.1.1), b.0.1)) None) (f, rest) b.2 in
@@ -31,16 +31,18 @@ front_takes bytes f rest are e =
     let none : b.0.1 ≡ [] = nil_from_length b.0.1 (eqb-true _ _ h.0) in
     let kind : b.0.0.1.0 ≡ 1 = eqb-true _ _ g.0 in
     let is : IsFront b.0.0.0 b.0.0.1.1 bytes = record {
-      fits = subst (λ k. front.fits (b.0.0.0, (k, b.0.0.1.1)) ≡ true) kind t.fits;
-      spelled = t.parts ∙ ap (λ u. front.spell b.0.0 ++ u) none ∙ append-nil (front.spell b.0.0)
-          ∙ ap (λ k. front.spell (b.0.0.0, (k, b.0.0.1.1))) kind;
+      fits = subst (λ k. message_front.fits (b.0.0.0, (k, b.0.0.1.1)) ≡ true) kind t.fits;
+      spelled = t.parts ∙ ap (λ u. message_front.spell b.0.0 ++ u) none
+          ∙ append-nil (message_front.spell b.0.0)
+          ∙ ap (λ k. message_front.spell (b.0.0.0, (k, b.0.0.1.1))) kind;
     } in
     subst (λ (p : (Receiver × ℕ) × List ℕ). IsFront p.0.0 p.0.1 bytes) h.1 is
 
 front_again : (bytes : List ℕ) (to : Receiver) (boot : ℕ) → IsFront to boot bytes → read_front bytes ≡ Some ((to, boot), [])
 front_again bytes to boot is =
-    let read : front.read bytes ≡ Some ((to, (1, boot)), []) =
-    ap front.read (is.spelled ∙ sym (append-nil (spelled_front to boot))) ∙ front_lawful.again (to, (1, boot)) [] is.fits in
+    let read : message_front.read bytes ≡ Some ((to, (1, boot)), []) =
+    ap message_front.read (is.spelled ∙ sym (append-nil (spelled_front to boot)))
+    ∙ front_lawful.again (to, (1, boot)) [] is.fits in
     rw read refl
 
 -- no two installations have one front

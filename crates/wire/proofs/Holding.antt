@@ -6,13 +6,13 @@ use Rattle.std.proofs.lemmas.Bool.{cases_lt, cases_eq, lt-ltb, le-ltb, ltb-false
 use Rattle.std.proofs.lemmas.Bool.Decides.{nat_tests}
 use Rattle.std.proofs.lemmas.Option.{same_Some}
 use Rattle.ctrl_msg.specs.declared.message.Message.{Message}
-use Rattle.wire.specs.declared.assembler.Spot.TheVariants.{Held, New}
+use Rattle.wire.specs.declared.assembler.FrameCheck.TheVariants.{Held, New}
 use Rattle.base.specs.Refusals.{IfRefused}
 use Rattle.base.specs.declared.error.Failure.{Failure}
 use Rattle.wire.specs.declared.error.Malformed.{Malformed}
 use Rattle.base.proofs.Refusals.{IfRefused-weaker}
 use Rattle.wire.specs.Frames.{place_in_frame, count_in_frame, AreFrames}
-use Rattle.wire.specs.Assembly.{held_at, with_frame, AreAllHeld, AreRising, AreTogether, IsOfCount, IsRefusedFrame, too_short, too_long, past_the_count, another_count, another_frame, no_message, Agree, AreNone, IsAssembled, IsFed, Joins, IsSpot}
+use Rattle.wire.specs.Assembly.{held_at, with_frame, AreAllHeld, AreRising, AreTogether, IsOfCount, IsRefusedFrame, too_short, too_long, past_the_count, another_count, another_frame, no_message, Agree, AreNone, IsAssembled, IsFed, Joins, IsFrameCheck}
 use Rattle.wire.proofs.Laws.{AreBytes, passed}
 use Rattle.wire.proofs.Decoding.{none_is_not}
 use Rattle.wire.proofs.Framing.{frame_again}
@@ -261,17 +261,20 @@ agree_none (f ∷ fs) count e = absurd (none_is_not f (sym e))
 pub of_its_count : (f : List ℕ) → 9 ≤ length f → AreBytes f → place_in_frame f < count_in_frame f → IsOfCount (count_in_frame f) f
 of_its_count f long are below = record { below = below; whole = frame_again f (omega arith) are; count_is = refl }
 
-pub spot_held : (held : List (List ℕ)) (f g : List ℕ) → 9 ≤ length f → length f ≤ 16384 → place_in_frame f < count_in_frame f → AreRising 0 (count_in_frame f) held
-    → held_at held (place_in_frame f) ≡ Some g → g ≡ f → IsSpot held f Held
-spot_held held f g long short below rising at same =
+pub check_held : (held : List (List ℕ)) (f g : List ℕ) → 9 ≤ length f → length f ≤ 16384
+    → place_in_frame f < count_in_frame f → AreRising 0 (count_in_frame f) held
+    → held_at held (place_in_frame f) ≡ Some g → g ≡ f → IsFrameCheck held f Held
+check_held held f g long short below rising at same =
     let is : held_at held (place_in_frame f) ≡ Some f = at ∙ ap (λ h. Some h) same in (
       record { long = long; short = short; below = below; rising = rising; same = λ h at2. same_Some h f (sym at2 ∙ is) },
       held_stays 0 (count_in_frame f) held f rising is,
     )
 
-pub spot_new : (held : List (List ℕ)) (f : List ℕ) (index : ℕ) → 9 ≤ length f → length f ≤ 16384 → AreBytes f → place_in_frame f < count_in_frame f → AreRising 0 (count_in_frame f) held
-    → held_at held (place_in_frame f) ≡ None → index ≡ index_of held (place_in_frame f) → IsSpot held f (New index)
-spot_new held f index long short are below rising none at =
+pub check_new : (held : List (List ℕ)) (f : List ℕ) (index : ℕ) → 9 ≤ length f → length f ≤ 16384
+    → AreBytes f → place_in_frame f < count_in_frame f → AreRising 0 (count_in_frame f) held
+    → held_at held (place_in_frame f) ≡ None → index ≡ index_of held (place_in_frame f)
+    → IsFrameCheck held f (New index)
+check_new held f index long short are below rising none at =
     let joins = new_joins 0 (count_in_frame f) held f rising none ∙ ap (λ i. insert held i f) (sym at) in
     let rises = new_rises 0 (count_in_frame f) held f rising (omega arith) (of_its_count f long are below) none in
     let within : index ≤ length held = rw at (index_within held (place_in_frame f)) in (
@@ -348,18 +351,20 @@ fed held f after (Err error) together joins rising answer is unchanged =
     error answer) unchanged
 
 pub fed_held : (held : List (List ℕ)) (f : List ℕ) (result : Result (Option Message) (Failure Malformed))
-    → AreTogether held → IsSpot held f Held → IsAssembled held (count_in_frame f) result → IsFed held f held result
-fed_held held f result together spot answer =
-    fed held f held result together spot.0
-    (subst (AreRising 0 (count_in_frame f)) (sym spot.1) spot.0.rising)
-    (subst (λ fs. IsAssembled fs (count_in_frame f) result) (sym spot.1) answer)
-    (on_ok result (sym spot.1)) (on_err result refl)
+    → AreTogether held → IsFrameCheck held f Held → IsAssembled held (count_in_frame f) result
+    → IsFed held f held result
+fed_held held f result together check answer =
+    fed held f held result together check.0
+    (subst (AreRising 0 (count_in_frame f)) (sym check.1) check.0.rising)
+    (subst (λ fs. IsAssembled fs (count_in_frame f) result) (sym check.1) answer)
+    (on_ok result (sym check.1)) (on_err result refl)
 
 pub fed_new : (held : List (List ℕ)) (f : List ℕ) (index : ℕ) (after : List (List ℕ)) (result : Result (Option Message) (Failure Malformed))
-    → AreTogether held → IsSpot held f (New index) → IsAssembled (insert held index f) (count_in_frame f) result
+    → AreTogether held → IsFrameCheck held f (New index)
+    → IsAssembled (insert held index f) (count_in_frame f) result
     → OnOk result (after ≡ insert held index f) → OnErr result (after ≡ held) → IsFed held f after result
-fed_new held f index after result together spot answer is unchanged =
-    fed held f after result together spot.0
-    (subst (AreRising 0 (count_in_frame f)) (sym spot.2) spot.3)
-    (subst (λ fs. IsAssembled fs (count_in_frame f) result) (sym spot.2) answer)
-    (subst (λ fs. OnOk result (after ≡ fs)) (sym spot.2) is) unchanged
+fed_new held f index after result together check answer is unchanged =
+    fed held f after result together check.0
+    (subst (AreRising 0 (count_in_frame f)) (sym check.2) check.3)
+    (subst (λ fs. IsAssembled fs (count_in_frame f) result) (sym check.2) answer)
+    (subst (λ fs. OnOk result (after ≡ fs)) (sym check.2) is) unchanged

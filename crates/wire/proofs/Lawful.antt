@@ -12,7 +12,7 @@ use Rattle.policy_rules.specs.declared.policy.Action.{Action}
 use Rattle.policy_rules.specs.declared.policy.Action.TheVariants.{Drop, Out}
 use Rattle.wire.specs.Format.{Format, then_read, ◌⊗◌, optional}
 use Rattle.wire.specs.Fields.{n1, n4, n8, n16, switch, is_word, word, rule_name, action_by_port, port_in_action, action, rule, target_count, targets, region, partition, tables}
-use Rattle.wire.specs.Messages.{receiver_of, receiver, front, install_form, of_version, cache_rule_form, advert, hello, acknowledged, kind_number, spelled_fields, fields_fit, made, cache_rule_of, read_fields, body, suits, message}
+use Rattle.wire.specs.Messages.{receiver_of, receiver, message_front, install_form, boot_and_version, cache_rule_form, advert, hello, acknowledgement, kind_number, spelled_fields, fields_fit, made_body, cache_rule_of, read_fields, body, suits_receiver, message}
 use Rattle.wire.proofs.Laws.{AreBytes, Takes, IsLawful, then_some, n8-bits, n32-bits, n64-bits, ◌⊠◌, as_type_lawful, such_that_lawful, optional_lawful, list_lawful}
 
 n1_lawful : IsLawful n1
@@ -129,8 +129,8 @@ receiver_again Controller rest fits = rw (n1_lawful.again 255 rest refl) refl
 receiver_lawful : IsLawful receiver
 receiver_lawful = record { takes = receiver_takes; again = receiver_again }
 
-pub front_lawful : IsLawful front
-unfolding front
+pub front_lawful : IsLawful message_front
+unfolding message_front
 front_lawful = receiver_lawful ⊠ n1_lawful ⊠ n4_lawful
 
 -- ---- the fields
@@ -139,8 +139,8 @@ install_lawful : IsLawful install_form
 unfolding install_form
 install_lawful = n4_lawful ⊠ tables_lawful
 
-of_version_lawful : IsLawful of_version
-unfolding of_version
+of_version_lawful : IsLawful boot_and_version
+unfolding boot_and_version
 of_version_lawful = n4_lawful ⊠ n4_lawful
 
 cache_rule_lawful : IsLawful cache_rule_form
@@ -155,8 +155,8 @@ hello_lawful : IsLawful hello
 unfolding hello
 hello_lawful = switch_lawful ⊠ n4_lawful
 
-acknowledged_lawful : IsLawful acknowledged
-unfolding acknowledged
+acknowledged_lawful : IsLawful acknowledgement
+unfolding acknowledgement
 acknowledged_lawful = switch_lawful ⊠ n4_lawful ⊠ n4_lawful
 
 -- a body of a kind was taken from bytes behind that kind
@@ -168,7 +168,8 @@ record TakesFields (kind : ℕ) (b : Body) (bytes rest : List ℕ) : Type 0 wher
 
 kind_takes : {A : Type 0} (make : A → Body) (f : Format A) (kind : ℕ)
     → ((x : A) → kind_number (make x) ≡ kind) → ((x : A) → spelled_fields (make x) ≡ f.spell x) → ((x : A) → fields_fit (make x) ≡ f.fits x)
-    → IsLawful f → (bytes : List ℕ) (b : Body) (rest : List ℕ) → AreBytes bytes → made make (f.read bytes) ≡ Some (b, rest)
+    → IsLawful f → (bytes : List ℕ) (b : Body) (rest : List ℕ) → AreBytes bytes
+    → made_body make (f.read bytes) ≡ Some (b, rest)
     → TakesFields kind b bytes rest
 kind_takes make f kind kinds spells fits lf bytes b rest are e =
     let d = then_some (f.read bytes) (λ x. Some (make x.0, x.1)) (b, rest) e in
@@ -189,11 +190,17 @@ fields_take k bytes b rest are e =
     elim (chosen (eqb k 1) _ _ _ e) [
       | inl h ↦ at_kind k 1 b bytes rest h.0 (kind_takes (λ p. Install p.0 p.1) install_form 1 (λ x. refl) (λ x. refl) (λ x. refl) install_lawful bytes b rest are h.1)
       | inr g1 ↦ elim (chosen (eqb k 2) _ _ _ g1.1) [
-        | inl h ↦ at_kind k 2 b bytes rest h.0 (kind_takes (λ p. OpenAt p.0 p.1) of_version 2 (λ x. refl) (λ x. refl) (λ x. refl) of_version_lawful bytes b rest are h.1)
+        | inl h ↦ at_kind k 2 b bytes rest h.0
+            (kind_takes (λ p. OpenAt p.0 p.1) boot_and_version 2 (λ x. refl) (λ x. refl) (λ x. refl)
+            of_version_lawful bytes b rest are h.1)
         | inr g2 ↦ elim (chosen (eqb k 3) _ _ _ g2.1) [
-          | inl h ↦ at_kind k 3 b bytes rest h.0 (kind_takes (λ p. Stamp p.0 p.1) of_version 3 (λ x. refl) (λ x. refl) (λ x. refl) of_version_lawful bytes b rest are h.1)
+          | inl h ↦ at_kind k 3 b bytes rest h.0
+              (kind_takes (λ p. Stamp p.0 p.1) boot_and_version 3 (λ x. refl) (λ x. refl)
+              (λ x. refl) of_version_lawful bytes b rest are h.1)
           | inr g3 ↦ elim (chosen (eqb k 4) _ _ _ g3.1) [
-            | inl h ↦ at_kind k 4 b bytes rest h.0 (kind_takes (λ p. Collect p.0 p.1) of_version 4 (λ x. refl) (λ x. refl) (λ x. refl) of_version_lawful bytes b rest are h.1)
+            | inl h ↦ at_kind k 4 b bytes rest h.0
+                (kind_takes (λ p. Collect p.0 p.1) boot_and_version 4 (λ x. refl) (λ x. refl)
+                (λ x. refl) of_version_lawful bytes b rest are h.1)
             | inr g4 ↦ elim (chosen (eqb k 5) _ _ _ g4.1) [
               | inl h ↦ at_kind k 5 b bytes rest h.0 (kind_takes cache_rule_of cache_rule_form 5 (λ x. refl) (λ x. refl) (λ x. refl) cache_rule_lawful bytes b rest are h.1)
               | inr g5 ↦ elim (chosen (eqb k 6) _ _ _ g5.1) [
@@ -201,9 +208,13 @@ fields_take k bytes b rest are e =
                 | inr g6 ↦ elim (chosen (eqb k 7) _ _ _ g6.1) [
                   | inl h ↦ at_kind k 7 b bytes rest h.0 (kind_takes (λ p. Hello p.0 p.1) hello 7 (λ x. refl) (λ x. refl) (λ x. refl) hello_lawful bytes b rest are h.1)
                   | inr g7 ↦ elim (chosen (eqb k 8) _ _ _ g7.1) [
-                    | inl h ↦ at_kind k 8 b bytes rest h.0 (kind_takes (λ p. Installed p.0 p.1.0 p.1.1) acknowledged 8 (λ x. refl) (λ x. refl) (λ x. refl) acknowledged_lawful bytes b rest are h.1)
+                    | inl h ↦ at_kind k 8 b bytes rest h.0
+                        (kind_takes (λ p. Installed p.0 p.1.0 p.1.1) acknowledgement 8 (λ x. refl)
+                        (λ x. refl) (λ x. refl) acknowledged_lawful bytes b rest are h.1)
                     | inr g8 ↦ elim (chosen (eqb k 9) _ _ _ g8.1) [
-                      | inl h ↦ at_kind k 9 b bytes rest h.0 (kind_takes (λ p. Stamped p.0 p.1.0 p.1.1) acknowledged 9 (λ x. refl) (λ x. refl) (λ x. refl) acknowledged_lawful bytes b rest are h.1)
+                      | inl h ↦ at_kind k 9 b bytes rest h.0
+                          (kind_takes (λ p. Stamped p.0 p.1.0 p.1.1) acknowledgement 9 (λ x. refl)
+                          (λ x. refl) (λ x. refl) acknowledged_lawful bytes b rest are h.1)
                       | inr g9 ↦ let none = g9.1 in absurd cc
                     ]
                   ]
@@ -261,4 +272,5 @@ body_lawful = record {
 
 pub message_lawful : IsLawful message
 unfolding message
-message_lawful = as_type_lawful _ _ (λ p fits. refl) (λ m fits. refl) (such_that_lawful (λ p. suits p.0 p.1) (receiver_lawful ⊠ body_lawful))
+message_lawful = as_type_lawful _ _ (λ p fits. refl) (λ m fits. refl)
+    (such_that_lawful (λ p. suits_receiver p.0 p.1) (receiver_lawful ⊠ body_lawful))

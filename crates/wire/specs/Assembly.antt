@@ -2,12 +2,12 @@
 use Rattle.std.specs.Prelude.{◌≡◌, ◌≢◌, ℕ, ◌+◌, ◌<◌, ◌≤◌, nat_lt, ◌==◌, Bool, true, false, List, [], ◌∷◌, ◌++◌, length, filter, Option, Some, None, IsSome, IfSome, find, Result, Ok, Err, IfErr, IfOk, OnOk, OnErr, ◌↔◌}
 use Rattle.std.specs.List.{insert}
 use Rattle.ctrl_msg.specs.declared.message.Message.{Message}
-use Rattle.wire.specs.declared.assembler.Spot.{Spot}
-use Rattle.wire.specs.declared.assembler.Spot.TheVariants.{Refused, Held, New}
+use Rattle.wire.specs.declared.assembler.FrameCheck.{FrameCheck}
+use Rattle.wire.specs.declared.assembler.FrameCheck.TheVariants.{Refused, Held, New}
 use Rattle.base.specs.Refusals.{IfRefused}
 use Rattle.base.specs.declared.error.Failure.{Failure}
 use Rattle.wire.specs.declared.error.Malformed.{Malformed}
-use Rattle.wire.specs.Frames.{AreFrames, place_in_frame, count_in_frame, piece_of, frame}
+use Rattle.wire.specs.Frames.{AreFrames, place_in_frame, count_in_frame, chunk_of, frame}
 
 -- the frame that is held at a place
 abbrev pub held_at : List (List ℕ) → ℕ → Option (List ℕ)
@@ -39,7 +39,7 @@ pub data IsRefusedFrame (held : List (List ℕ)) (f : List ℕ) : Type 0 where
 -- a frame of this count, whose place is below it
 pub record IsOfCount (count : ℕ) (f : List ℕ) : Type 0 where
   pub below : place_in_frame f < count
-  pub whole : f ≡ frame (place_in_frame f) count (piece_of f)
+  pub whole : f ≡ frame (place_in_frame f) count (chunk_of f)
   pub count_is : count_in_frame f ≡ count
 
 -- frames of one count, at rising places from this one on
@@ -86,10 +86,10 @@ pub record Joins (held : List (List ℕ)) (f : List ℕ) : Type 0 where
 
 -- where a frame belongs among those that are held: nowhere, where it is already, or before the
 -- frame of this index
-abbrev pub IsSpot : List (List ℕ) → List ℕ → Spot → Type 0
-IsSpot held f Refused = IsRefusedFrame held f
-IsSpot held f Held = Joins held f × (with_frame held f ≡ held)
-IsSpot held f (New index) =
+abbrev pub IsFrameCheck : List (List ℕ) → List ℕ → FrameCheck → Type 0
+IsFrameCheck held f Refused = IsRefusedFrame held f
+IsFrameCheck held f Held = Joins held f × (with_frame held f ≡ held)
+IsFrameCheck held f (New index) =
     Joins held f × (index ≤ length held) × (with_frame held f ≡ insert held index f)
     × AreRising 0 (count_in_frame f) (insert held index f)
 

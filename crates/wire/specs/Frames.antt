@@ -7,45 +7,45 @@ use Rattle.ctrl_msg.specs.declared.message.Message.{Message}
 use Rattle.wire.specs.Fields.{n4}
 use Rattle.wire.specs.Messages.{message}
 
--- the most bytes of a piece: a frame has 16,384 at most, and 8 of them say where its piece belongs
-abbrev pub most_of_piece : ℕ
-most_of_piece = 16376
+-- the most bytes of a chunk: a frame has 16,384 at most, and 8 of them say where its chunk belongs
+abbrev pub most_of_chunk : ℕ
+most_of_chunk = 16376
 
 -- so many slices, of n bytes each as long as there are so many
-abbrev pub slices : ℕ → ℕ → List ℕ → List (List ℕ)
-slices zero n bytes = []
-slices (suc count) n bytes = take n bytes ∷ slices count n (drop n bytes)
+abbrev pub equal_chunks : ℕ → ℕ → List ℕ → List (List ℕ)
+equal_chunks zero n bytes = []
+equal_chunks (suc count) n bytes = take n bytes ∷ equal_chunks count n (drop n bytes)
 
--- a head of so many bytes, and the rest in as few pieces as can be
-abbrev pub cut : ℕ → List ℕ → List (List ℕ)
-cut head bytes =
+-- a head of so many bytes, and the rest in as few chunks as can be
+abbrev pub chunks_behind_head : ℕ → List ℕ → List (List ℕ)
+chunks_behind_head head bytes =
     take head bytes
-    ∷ slices (div_ceil (length bytes - head) most_of_piece) most_of_piece (drop head bytes)
+    ∷ equal_chunks (div_ceil (length bytes - head) most_of_chunk) most_of_chunk (drop head bytes)
 
--- of an installation the receiver, the kind and the boot, so that its other pieces say the tables
+-- of an installation the receiver, the kind and the boot, so that its other chunks say the tables
 -- alone; of any other message everything
 abbrev pub head_len : Body → List ℕ → ℕ
 head_len (Install _ _) bytes = 6
 head_len _ bytes = length bytes
 
-abbrev pub pieces : Message → List (List ℕ)
-pieces m = let bytes = message.spell m in cut (head_len m.body bytes) bytes
+abbrev pub chunks : Message → List (List ℕ)
+chunks m = let bytes = message.spell m in chunks_behind_head (head_len m.body bytes) bytes
 
--- the place of a piece, how many there are, and the piece
+-- the place of a chunk, how many there are, and the chunk
 unfoldable pub frame : ℕ → ℕ → List ℕ → List ℕ
-frame place count piece = n4.spell place ++ n4.spell count ++ piece
+frame place count chunk = n4.spell place ++ n4.spell count ++ chunk
 
--- the frames of pieces at the places from this one on
+-- the frames of chunks at the places from this one on
 abbrev pub frames_from : ℕ → ℕ → List (List ℕ) → List (List ℕ)
 frames_from place count [] = []
-frames_from place count (piece ∷ others) =
-    frame place count piece ∷ frames_from (place + 1) count others
+frames_from place count (chunk ∷ others) =
+    frame place count chunk ∷ frames_from (place + 1) count others
 
 abbrev pub frames_of : List (List ℕ) → List (List ℕ)
 frames_of parts = frames_from 0 (length parts) parts
 
 abbrev pub frames : Message → List (List ℕ)
-frames m = frames_of (pieces m)
+frames m = frames_of (chunks m)
 
 -- the message has a spelling, and these are its frames
 pub record AreFrames (m : Message) (fs : List (List ℕ)) : Type 0 where
@@ -54,7 +54,7 @@ pub record AreFrames (m : Message) (fs : List (List ℕ)) : Type 0 where
 
 -- ---- the same tables under another version
 
--- the frame whose piece begins with the four bytes of this version
+-- the frame whose chunk begins with the four bytes of this version
 abbrev pub begun_with : ℕ → List ℕ → List ℕ
 begun_with version bytes = take 8 bytes ++ n4.spell version ++ drop 12 bytes
 
@@ -71,5 +71,5 @@ place_in_frame bytes = from_be_bytes w32 (take 4 bytes)
 unfoldable pub count_in_frame : List ℕ → ℕ
 count_in_frame bytes = from_be_bytes w32 (take 4 (drop 4 bytes))
 
-abbrev pub piece_of : List ℕ → List ℕ
-piece_of bytes = drop 8 bytes
+abbrev pub chunk_of : List ℕ → List ℕ
+chunk_of bytes = drop 8 bytes

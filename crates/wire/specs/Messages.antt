@@ -43,8 +43,8 @@ receiver =
 unfoldable pub install_form : Format (ℕ × Tables)
 install_form = form.n4 ⊗ form.tables
 
-unfoldable pub of_version : Format (ℕ × ℕ)
-of_version = form.n4 ⊗ form.n4
+unfoldable pub boot_and_version : Format (ℕ × ℕ)
+boot_and_version = form.n4 ⊗ form.n4
 
 unfoldable pub cache_rule_form : Format (ℕ × (WordValue × (Option ℕ × Action)))
 cache_rule_form = form.n4 ⊗ form.word ⊗ form.rule_name ⊗ form.action
@@ -58,8 +58,8 @@ advert =
 unfoldable pub hello : Format (ℕ × ℕ)
 hello = form.switch ⊗ form.n4
 
-unfoldable pub acknowledged : Format (ℕ × (ℕ × ℕ))
-acknowledged = form.switch ⊗ form.n4 ⊗ form.n4
+unfoldable pub acknowledgement : Format (ℕ × (ℕ × ℕ))
+acknowledgement = form.switch ⊗ form.n4 ⊗ form.n4
 
 -- ---- the body: the kind, and its fields
 
@@ -80,15 +80,16 @@ in_format f x = (f.spell x, f.fits x)
 
 abbrev pub fields_in_format : Body → List ℕ × Bool
 fields_in_format (Install boot tables) = in_format install_form (boot, tables)
-fields_in_format (OpenAt boot version) = in_format of_version (boot, version)
-fields_in_format (Stamp boot version) = in_format of_version (boot, version)
-fields_in_format (Collect boot version) = in_format of_version (boot, version)
+fields_in_format (OpenAt boot version) = in_format boot_and_version (boot, version)
+fields_in_format (Stamp boot version) = in_format boot_and_version (boot, version)
+fields_in_format (Collect boot version) = in_format boot_and_version (boot, version)
 fields_in_format (CacheRule version word rule action) =
     in_format cache_rule_form (version, (word, (rule, action)))
 fields_in_format (Advertise news) = in_format advert news
 fields_in_format (Hello switch boot) = in_format hello (switch, boot)
-fields_in_format (Installed switch boot version) = in_format acknowledged (switch, (boot, version))
-fields_in_format (Stamped switch boot version) = in_format acknowledged (switch, (boot, version))
+fields_in_format (Installed switch boot version) = in_format acknowledgement
+    (switch, (boot, version))
+fields_in_format (Stamped switch boot version) = in_format acknowledgement (switch, (boot, version))
 
 abbrev pub spelled_fields : Body → List ℕ
 spelled_fields body = (fields_in_format body).0
@@ -97,23 +98,23 @@ abbrev pub fields_fit : Body → Bool
 fields_fit body = (fields_in_format body).1
 
 -- the body that the fields make
-abbrev pub made : {A : Type 0} → (A → Body) → Option (A × List ℕ) → Option (Body × List ℕ)
-made make read = then_read read (λ x. Some (make x.0, x.1))
+abbrev pub made_body : {A : Type 0} → (A → Body) → Option (A × List ℕ) → Option (Body × List ℕ)
+made_body make read = then_read read (λ x. Some (make x.0, x.1))
 
 abbrev pub cache_rule_of : ℕ × (WordValue × (Option ℕ × Action)) → Body
 cache_rule_of p = CacheRule p.0 p.1.0 p.1.1.0 p.1.1.1
 
 abbrev pub read_fields : ℕ → List ℕ → Option (Body × List ℕ)
 read_fields kind bytes =
-    if kind == 1 then made (λ p. Install p.0 p.1) (install_form.read bytes)
-    else (if kind == 2 then made (λ p. OpenAt p.0 p.1) (of_version.read bytes)
-    else (if kind == 3 then made (λ p. Stamp p.0 p.1) (of_version.read bytes)
-    else (if kind == 4 then made (λ p. Collect p.0 p.1) (of_version.read bytes)
-    else (if kind == 5 then made cache_rule_of (cache_rule_form.read bytes)
-    else (if kind == 6 then made Advertise (advert.read bytes)
-    else (if kind == 7 then made (λ p. Hello p.0 p.1) (hello.read bytes)
-    else (if kind == 8 then made (λ p. Installed p.0 p.1.0 p.1.1) (acknowledged.read bytes)
-    else (if kind == 9 then made (λ p. Stamped p.0 p.1.0 p.1.1) (acknowledged.read bytes)
+    if kind == 1 then made_body (λ p. Install p.0 p.1) (install_form.read bytes)
+    else (if kind == 2 then made_body (λ p. OpenAt p.0 p.1) (boot_and_version.read bytes)
+    else (if kind == 3 then made_body (λ p. Stamp p.0 p.1) (boot_and_version.read bytes)
+    else (if kind == 4 then made_body (λ p. Collect p.0 p.1) (boot_and_version.read bytes)
+    else (if kind == 5 then made_body cache_rule_of (cache_rule_form.read bytes)
+    else (if kind == 6 then made_body Advertise (advert.read bytes)
+    else (if kind == 7 then made_body (λ p. Hello p.0 p.1) (hello.read bytes)
+    else (if kind == 8 then made_body (λ p. Installed p.0 p.1.0 p.1.1) (acknowledgement.read bytes)
+    else (if kind == 9 then made_body (λ p. Stamped p.0 p.1.0 p.1.1) (acknowledgement.read bytes)
     else None))))))))
 
 unfoldable pub body : Format Body
@@ -127,22 +128,22 @@ body =
 -- ---- what stands before the tables in the spelling of an installation
 
 -- the receiver, the kind, and the boot
-unfoldable pub front : Format (Receiver × (ℕ × ℕ))
-front = receiver ⊗ form.n1 ⊗ form.n4
+unfoldable pub message_front : Format (Receiver × (ℕ × ℕ))
+message_front = receiver ⊗ form.n1 ⊗ form.n4
 
 -- of an installation for this receiver and this boot
 abbrev pub spelled_front : Receiver → ℕ → List ℕ
-spelled_front to boot = front.spell (to, (1, boot))
+spelled_front to boot = message_front.spell (to, (1, boot))
 
 -- the bytes are the front of an installation for this receiver and this boot
 pub record IsFront (to : Receiver) (boot : ℕ) (bytes : List ℕ) : Type 0 where
-  pub fits : front.fits (to, (1, boot)) ≡ true
+  pub fits : message_front.fits (to, (1, boot)) ≡ true
   pub spelled : bytes ≡ spelled_front to boot
 
 -- what all of the bytes say, where they are a front
 abbrev pub read_front : List ℕ → Option ((Receiver × ℕ) × List ℕ)
 read_front bytes =
-    then_read (front.read bytes) (λ x.
+    then_read (message_front.read bytes) (λ x.
     if x.0.1.0 == 1
     then (if length x.1 == 0 then Some ((x.0.0, x.0.1.1), x.1) else None)
     else None)
@@ -150,18 +151,18 @@ read_front bytes =
 -- ---- messages
 
 -- a message to the controller has a body for it, and one to a switch has one for a switch
-abbrev pub suits : Receiver → Body → Bool
-suits (Switch s) body = not (is_for_controller body)
-suits Controller body = is_for_controller body
+abbrev pub suits_receiver : Receiver → Body → Bool
+suits_receiver (Switch s) body = not (is_for_controller body)
+suits_receiver Controller body = is_for_controller body
 
 unfoldable pub message : Format Message
 message =
     as_type (λ p. record { to = p.0; body = p.1 }) (λ m. (m.to, m.body))
-    (such_that (λ p. suits p.0 p.1) (receiver ⊗ body))
+    (such_that (λ p. suits_receiver p.0 p.1) (receiver ⊗ body))
 
 -- the message that all of the bytes spell
-abbrev pub whole : List ℕ → Option (Message × List ℕ)
-whole bytes =
+abbrev pub whole_message : List ℕ → Option (Message × List ℕ)
+whole_message bytes =
     then_read (message.read bytes) (λ m. if length m.1 == 0 then Some m else None)
 
 -- the bytes are the one spelling of the message, of which each number is within its bytes, each

@@ -3,7 +3,7 @@ ghost use Rattle.std.specs.Option.{option_copied};
 ghost use Rattle.std.specs.List.{insert, position, position_or_len};
 ghost use Rattle.base.specs.Refusals.{IfRefused};
 ghost use Rattle.wire.specs.Frames.{AreFrames, count_in_frame, place_in_frame};
-ghost use Rattle.wire.specs.Assembly.{Agree, AreAllHeld, AreRising, AreTogether, IsAssembled, IsFed, IsRefusedFrame, IsSpot, held_at, with_frame};
+ghost use Rattle.wire.specs.Assembly.{Agree, AreAllHeld, AreRising, AreTogether, IsAssembled, IsFed, IsRefusedFrame, IsFrameCheck, held_at, with_frame};
 
 use crate::assembly::{are_same, message_of};
 use crate::error::{Malformed, WireError};
@@ -65,10 +65,10 @@ fn feed(frames: &mut Vec<Frame>, alloc: Global, frame: &[u8]) -> Result<Option<M
     requires { AreTogether frames.old.items }
     ensures { IsFed frames.old.items frame.now frames.new.items result }
 {
-    match spot_of(frames, frame) {
-        Spot::Refused => Err(WireError::Refused(Malformed)),
-        Spot::Held => message_of(alloc, count_of(frame), frames),
-        Spot::New(index) => hold(frames, alloc, index, frame),
+    match check_of(frames, frame) {
+        FrameCheck::Refused => Err(WireError::Refused(Malformed)),
+        FrameCheck::Held => message_of(alloc, count_of(frame), frames),
+        FrameCheck::New(index) => hold(frames, alloc, index, frame),
     }
 }
 
@@ -99,7 +99,7 @@ fn hold(
 }
 
 /// Where a frame belongs.
-enum Spot {
+enum FrameCheck {
     /// It can't be held.
     Refused,
     /// It is held already.
@@ -108,23 +108,23 @@ enum Spot {
     New(usize),
 }
 
-fn spot_of(frames: &[Frame], frame: &[u8]) -> Spot
+fn check_of(frames: &[Frame], frame: &[u8]) -> FrameCheck
     requires { AreTogether frames.now }
-    ensures { IsSpot frames.now frame.now result }
+    ensures { IsFrameCheck frames.now frame.now result }
 {
     if frame.len() <= HEADER_LEN {
-        return Spot::Refused;
+        return FrameCheck::Refused;
     }
     if frame.len() > MAX_FRAME {
-        return Spot::Refused;
+        return FrameCheck::Refused;
     }
     if count_of(frame) <= place_of(frame) {
-        return Spot::Refused;
+        return FrameCheck::Refused;
     }
     if !agree(frames, count_of(frame)) {
-        return Spot::Refused;
+        return FrameCheck::Refused;
     }
-    spot_among(frames, frame)
+    check_among(frames, frame)
 }
 
 // Whether the held frames have this count.
@@ -139,23 +139,23 @@ fn agree(frames: &[Frame], count: u32) -> bool
 }
 
 // Where a frame belongs among those of its count.
-fn spot_among(frames: &[Frame], frame: &[u8]) -> Spot
+fn check_among(frames: &[Frame], frame: &[u8]) -> FrameCheck
     requires long { 9 ≤ length frame.now }
     requires short { length frame.now ≤ 16384 }
     requires below { place_in_frame frame.now < count_in_frame frame.now }
     requires rising { AreRising 0 (count_in_frame frame.now) frames.now }
-    ensures { IsSpot frames.now frame.now result }
+    ensures { IsFrameCheck frames.now frame.now result }
 {
     let place = place_of(frame);
     match find_at(frames, place) {
         Some(held) => {
             if are_same(held.bytes(), frame) {
-                Spot::Held
+                FrameCheck::Held
             } else {
-                Spot::Refused
+                FrameCheck::Refused
             }
         }
-        None => Spot::New(index_of(frames, place)),
+        None => FrameCheck::New(index_of(frames, place)),
     }
 }
 

@@ -1,6 +1,6 @@
 ghost use Rattle.std.specs.Prelude.{◌≡◌, ◌↔◌, length, map, IsTrue, IfOk};
 ghost use Rattle.std.specs.List.{flat_map};
-ghost use Rattle.wire.specs.Frames.{piece_of};
+ghost use Rattle.wire.specs.Frames.{chunk_of};
 ghost use Rattle.wire.specs.Assembly.{AreRising, IsAssembled, IsWhole};
 
 use crate::codec::decode;
@@ -17,41 +17,41 @@ pub(crate) fn are_same(a: &[u8], b: &[u8]) -> bool
     a == b
 }
 
-// The pieces, one after the other.
+// The chunks, one after the other.
 fn joined(alloc: Global, frames: &[Frame]) -> Result<Vec<u8>, AllocError>
-    ensures { IfOk result (λ bytes. bytes.items ≡ flat_map piece_of frames.now) }
+    ensures { IfOk result (λ bytes. bytes.items ≡ flat_map chunk_of frames.now) }
 {
     let mut bytes = Vec::new(alloc);
     for frame in frames {
-        bytes.extend_from_slice(frame.piece())?;
+        bytes.extend_from_slice(frame.chunk())?;
     }
     Ok(bytes)
 }
 
-// Whether these are the pieces of the frames.
-fn are_pieces(frames: &[Frame], parts: &[&[u8]]) -> bool
-    ensures { IsTrue result ↔ (map piece_of frames.now ≡ map (λ p. p.now) parts.now) }
+// Whether these are the chunks of the frames.
+fn are_chunks(frames: &[Frame], parts: &[&[u8]]) -> bool
+    ensures { IsTrue result ↔ (map chunk_of frames.now ≡ map (λ p. p.now) parts.now) }
 {
     if frames.len() != parts.len() {
         return false;
     }
     for place in 0..frames.len() {
-        if !are_same(frames[place].piece(), parts[place]) {
+        if !are_same(frames[place].chunk(), parts[place]) {
             return false;
         }
     }
     true
 }
 
-// The message of these frames, whose pieces make these bytes.
+// The message of these frames, whose chunks make these bytes.
 fn decoded(alloc: Global, frames: &[Frame], bytes: &[u8]) -> Result<Message, WireError>
     requires rising { AreRising 0 (length frames.now) frames.now }
-    requires bytes { bytes.now ≡ flat_map piece_of frames.now }
+    requires bytes { bytes.now ≡ flat_map chunk_of frames.now }
     ensures { IsWhole frames.now result }
 {
     let message = decode(alloc, bytes)?;
     let parts = cut(alloc, head_len(&message.body, bytes), bytes)?;
-    if are_pieces(frames, &parts) {
+    if are_chunks(frames, &parts) {
         Ok(message)
     } else {
         Err(WireError::Refused(Malformed))

@@ -3,7 +3,7 @@ ghost use Rattle.ctrl_msg.specs.declared.message.Message.{Message};
 ghost use Rattle.base.specs.Refusals.{IfRefused};
 ghost use Rattle.wire.specs.Fields as form;
 ghost use Rattle.wire.specs.Messages as kinds;
-ghost use Rattle.wire.specs.Messages.{AreShort, FieldsSuit, HasSpelling, IsSpelling, IsReceiver, cache_rule_of, kind_number, made, read_fields, whole};
+ghost use Rattle.wire.specs.Messages.{AreShort, FieldsSuit, HasSpelling, IsSpelling, IsReceiver, cache_rule_of, kind_number, made_body, read_fields, whole_message};
 ghost use Rattle.wire.specs.Reading.{AppendsForm, AppendsFields, Gives, Reads};
 
 use crate::error::{Malformed, WireError};
@@ -52,9 +52,9 @@ fn read_install(reader: &mut Reader) -> Result<(u32, SharedTables), WireError>
     Ok((boot, tables))
 }
 
-#[tactic(auto, unfolding(crate::specs::Messages::of_version))]
+#[tactic(auto, unfolding(crate::specs::Messages::boot_and_version))]
 fn read_of_version(reader: &mut Reader) -> Result<(u32, u32), WireError>
-    ensures { Reads kinds.of_version reader.old result reader.new }
+    ensures { Reads kinds.boot_and_version reader.old result reader.new }
 {
     let boot = reader.n4()?;
     let version = reader.n4()?;
@@ -75,7 +75,7 @@ fn read_advert(reader: &mut Reader) -> Result<Advert, WireError>
 
 #[tactic(auto, unfolding(crate::specs::Messages::cache_rule_form))]
 fn read_cache_rule(reader: &mut Reader) -> Result<Body, WireError>
-    ensures { let read = made cache_rule_of (kinds.cache_rule_form.read reader.old) in
+    ensures { let read = made_body cache_rule_of (kinds.cache_rule_form.read reader.old) in
         Gives (λ body. body) read result reader.new }
 {
     Ok(Body::CacheRule {
@@ -95,9 +95,9 @@ fn read_hello(reader: &mut Reader) -> Result<(u32, u32), WireError>
     Ok((switch, boot))
 }
 
-#[tactic(auto, unfolding(crate::specs::Messages::acknowledged))]
+#[tactic(auto, unfolding(crate::specs::Messages::acknowledgement))]
 fn read_acknowledged(reader: &mut Reader) -> Result<(u32, u32, u32), WireError>
-    ensures { let read = kinds.acknowledged.read reader.old in
+    ensures { let read = kinds.acknowledgement.read reader.old in
         Gives (λ p. (p.0, (p.1, p.2))) read result reader.new }
 {
     let switch = read_switch(reader)?;
@@ -157,7 +157,7 @@ fn read_message(reader: &mut Reader) -> Result<Message, WireError>
 }
 
 fn whole(reader: &mut Reader) -> Result<Message, WireError>
-    ensures { Gives (λ message. message) (whole reader.old) result reader.new }
+    ensures { Gives (λ message. message) (whole_message reader.old) result reader.new }
 {
     let message = read_message(reader)?;
     if reader.is_empty() {
@@ -176,9 +176,10 @@ fn put_install(out: &mut Vec<u8>, boot: u32, tables: &SharedTables) -> Result<()
     put_tables(out, tables.tables())
 }
 
-#[tactic(auto, unfolding(crate::specs::Messages::of_version))]
+#[tactic(auto, unfolding(crate::specs::Messages::boot_and_version))]
 fn put_of_version(out: &mut Vec<u8>, boot: u32, version: u32) -> Result<(), AllocError>
-    ensures { OnOk result (AppendsForm kinds.of_version (boot, version) out.old.items out.new.items) }
+    ensures { OnOk result (AppendsForm kinds.boot_and_version (boot, version) out.old.items
+        out.new.items) }
 {
     put_n4(out, boot)?;
     put_n4(out, version)
@@ -215,7 +216,7 @@ fn put_hello(out: &mut Vec<u8>, switch: u32, boot: u32) -> Result<(), AllocError
     put_n4(out, boot)
 }
 
-#[tactic(auto, unfolding(crate::specs::Messages::acknowledged))]
+#[tactic(auto, unfolding(crate::specs::Messages::acknowledgement))]
 fn put_acknowledged(
     out: &mut Vec<u8>,
     switch: u32,
@@ -223,7 +224,7 @@ fn put_acknowledged(
     version: u32,
 ) -> Result<(), AllocError>
     requires { switch < 64 }
-    ensures { OnOk result (AppendsForm kinds.acknowledged (switch, (boot, version))
+    ensures { OnOk result (AppendsForm kinds.acknowledgement (switch, (boot, version))
         out.old.items out.new.items) }
 {
     put_switch(out, switch)?;

@@ -1,5 +1,5 @@
 ghost use Rattle.std.specs.Prelude.{◌≡◌, ◌<◌, ◌≤◌, length, IfOk};
-ghost use Rattle.wire.specs.Frames.{frame, place_in_frame, count_in_frame, piece_of};
+ghost use Rattle.wire.specs.Frames.{frame, place_in_frame, count_in_frame, chunk_of};
 
 use crate::writer::put_n4;
 use std::alloc::{AllocError, Global};
@@ -7,9 +7,9 @@ use std::marker::Model;
 use std::rc::RcSlice;
 
 /// The bytes of a frame that say its place and the count of frames.
-pub(crate) const HEADER_LEN: usize = 8;
+pub const HEADER_LEN: usize = 8;
 
-/// A frame, which its clones share: its place, the count of frames, and a piece of a spelling.
+/// A frame, which its clones share: its place, the count of frames, and a chunk of a spelling.
 /// Contracts see the bytes.
 #[derive(Debug, Drop)]
 pub(crate) struct Frame {
@@ -28,15 +28,15 @@ impl Model for Frame {
 }
 
 impl Frame {
-    /// The frame of a piece.
+    /// The frame of a chunk.
     #[tactic(auto, unfolding(crate::specs::Frames::frame), using(crate::proofs::Framing::length_frame))]
-    pub fn new(alloc: Global, place: u32, count: u32, piece: &[u8]) -> Result<Frame, AllocError>
-        ensures { IfOk result (λ f. f ≡ frame place count piece.now) }
+    pub fn new(alloc: Global, place: u32, count: u32, chunk: &[u8]) -> Result<Frame, AllocError>
+        ensures { IfOk result (λ f. f ≡ frame place count chunk.now) }
     {
-        let mut bytes = Vec::with_capacity(alloc, piece.len().saturating_add(HEADER_LEN))?;
+        let mut bytes = Vec::with_capacity(alloc, chunk.len().saturating_add(HEADER_LEN))?;
         put_n4(&mut bytes, place)?;
         put_n4(&mut bytes, count)?;
-        bytes.extend_from_slice(piece)?;
+        bytes.extend_from_slice(chunk)?;
         Frame::of_bytes(bytes)
     }
 
@@ -77,8 +77,8 @@ impl Frame {
         count_of(self.bytes())
     }
 
-    pub fn piece(&self) -> &[u8]
-        ensures { result.now ≡ piece_of self.now }
+    pub fn chunk(&self) -> &[u8]
+        ensures { result.now ≡ chunk_of self.now }
     {
         &self.bytes()[HEADER_LEN..]
     }

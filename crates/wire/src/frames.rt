@@ -1,5 +1,5 @@
 ghost use Rattle.std.specs.Prelude.{◌≡◌, ◌<◌, ◌≤◌, ◌^◌, ◌↔◌, Some, length, map, take, drop, slice_get, IfOk, IfSome, IsNone};
-ghost use Rattle.wire.specs.Frames.{AreFrames, begun_with, cut, head_len, frames_of, frames_of_version};
+ghost use Rattle.wire.specs.Frames.{AreFrames, begun_with, chunks_behind_head, head_len, frames_of, frames_of_version};
 ghost use Rattle.wire.specs.Messages as kinds;
 ghost use Rattle.wire.specs.Messages.{HasSpelling};
 
@@ -13,8 +13,8 @@ use std::marker::Model;
 /// The most bytes of a frame.
 pub(crate) const MAX_FRAME: usize = 16_384;
 
-/// The most bytes of a piece.
-const MAX_PIECE: usize = MAX_FRAME - HEADER_LEN;
+/// The most bytes of a chunk.
+const MAX_CHUNK: usize = MAX_FRAME - HEADER_LEN;
 
 /// Where the version of tables ends in the frame that begins with it.
 const VERSION_END: usize = HEADER_LEN + 4;
@@ -50,7 +50,7 @@ impl Frames {
     ///
     /// # Errors
     /// Want of memory alone.
-    pub fn of_version(&self, alloc: Global, version: u32) -> Result<Frames, AllocError>
+    pub fn with_version(&self, alloc: Global, version: u32) -> Result<Frames, AllocError>
         ensures { IfOk result (λ frames. frames ≡ frames_of_version version self.now) }
     {
         let mut frames = shared(alloc, &self.frames)?;
@@ -72,7 +72,7 @@ fn shared(alloc: Global, frames: &[Frame]) -> Result<Vec<Frame>, AllocError>
     Ok(all)
 }
 
-// The frame with the four bytes of this version where its piece begins.
+// The frame with the four bytes of this version where its chunk begins.
 fn begun_with(alloc: Global, version: u32, frame: &[u8]) -> Result<Frame, AllocError>
     requires { 8 ≤ length frame.now }
     ensures { IfOk result (λ f. f ≡ begun_with version frame.now) }
@@ -84,8 +84,8 @@ fn begun_with(alloc: Global, version: u32, frame: &[u8]) -> Result<Frame, AllocE
     Frame::of_bytes(bytes)
 }
 
-/// The frames of a message: of an installation its first six bytes are a piece, and the rest in
-/// slices of 16,376 bytes; of any other message all bytes are one piece.
+/// The frames of a message: of an installation its first six bytes are a chunk, and the rest in
+/// slices of 16,376 bytes; of any other message all bytes are one chunk.
 ///
 /// # Errors
 /// Want of memory alone.
@@ -100,7 +100,7 @@ pub fn split(alloc: Global, message: &Message) -> Result<Frames, AllocError>
     Ok(Frames { frames })
 }
 
-// How many bytes the first piece has.
+// How many bytes the first chunk has.
 pub(crate) fn head_len(body: &Body, bytes: &[u8]) -> usize
     ensures { result ≡ head_len body.now bytes.now }
 {
@@ -122,24 +122,25 @@ fn split_front(bytes: &[u8], len: usize) -> (&[u8], &[u8])
     }
 }
 
-// The pieces of a spelling, the first of which has so many bytes.
+// The chunks of a spelling, the first of which has so many bytes.
 pub(crate) fn cut(alloc: Global, head: usize, bytes: &[u8]) -> Result<Vec<&[u8]>, AllocError>
-    ensures { IfOk result (λ parts. map (λ p. p.now) parts.items ≡ cut head bytes.now) }
+    ensures { IfOk result (λ parts. map (λ p. p.now) parts.items
+        ≡ chunks_behind_head head bytes.now) }
 {
     let (first, rest) = split_front(bytes, head);
     let mut parts = Vec::new(alloc);
     parts.push(first)?;
-    let count = rest.len().div_ceil(MAX_PIECE);
+    let count = rest.len().div_ceil(MAX_CHUNK);
     let mut left = rest;
     for _ in 0..count {
-        let (piece, after) = split_front(left, MAX_PIECE);
-        parts.push(piece)?;
+        let (chunk, after) = split_front(left, MAX_CHUNK);
+        parts.push(chunk)?;
         left = after;
     }
     Ok(parts)
 }
 
-// The frames of these pieces.
+// The frames of these chunks.
 fn framed(alloc: Global, parts: &[&[u8]]) -> Result<Vec<Frame>, AllocError>
     requires { length parts.now < 2 ^ 32 }
     ensures { IfOk result (λ frames. frames.items ≡ frames_of (map (λ p. p.now) parts.now)) }

@@ -2,7 +2,7 @@
 ghost use Rattle.std.specs.Prelude.{◌≡◌, ◌++◌, ℕ, true, IfOk, IfErr, OnOk};
 ghost use Rattle.ctrl_msg.specs.declared.message.Receiver.{Receiver};
 ghost use Rattle.base.specs.Refusals.{IfRefused};
-ghost use Rattle.wire.specs.Messages.{IsFront, IsReceiver, front, read_front, spelled_front};
+ghost use Rattle.wire.specs.Messages.{IsFront, IsReceiver, message_front, read_front, spelled_front};
 ghost use Rattle.wire.specs.Reading.{Gives};
 
 use crate::codec::{put_receiver, read_receiver};
@@ -19,10 +19,10 @@ const INSTALL: u8 = 1;
 ///
 /// # Errors
 /// Want of memory alone; a part of it may be written then.
-#[tactic(auto, unfolding(crate::specs::Messages::front))]
+#[tactic(auto, unfolding(crate::specs::Messages::message_front))]
 pub fn append_front(out: &mut Vec<u8>, to: Receiver, boot: u32) -> Result<(), AllocError>
     requires { IsReceiver to }
-    ensures fits { OnOk result (front.fits (to, (1, boot)) ≡ true) }
+    ensures fits { OnOk result (message_front.fits (to, (1, boot)) ≡ true) }
     ensures spelled { OnOk result (out.new.items ≡ out.old.items ++ spelled_front to boot) }
 {
     put_receiver(out, to)?;
@@ -30,7 +30,7 @@ pub fn append_front(out: &mut Vec<u8>, to: Receiver, boot: u32) -> Result<(), Al
     put_n4(out, boot)
 }
 
-#[tactic(auto, unfolding(crate::specs::Messages::front))]
+#[tactic(auto, unfolding(crate::specs::Messages::message_front))]
 fn read(reader: &mut Reader) -> Result<(Receiver, u32), WireError>
     ensures { Gives (λ front. front) (read_front reader.old) result reader.new }
 {

@@ -33,5 +33,6 @@ mod writer;
 pub use assembler::Assembler;
 pub use codec::{append, decode, encode};
 pub use error::{Malformed, WireError};
+pub use frame::HEADER_LEN;
 pub use frames::{Frames, split};
 pub use front::{append_front, decode_front};

@@ -10,29 +10,29 @@ use Rattle.net_file.specs.declared.ports.Ports.{Ports}
 use Rattle.policy_rules.specs.declared.policy.Row.{Row}
 use Rattle.world.specs.Files.{FilesValue}
 use Rattle.switch_core.specs.State.{SwitchValue}
-use Rattle.travelling.specs.Travelling.{Travellers}
+use Rattle.travelling.specs.Travelling.{Flights}
 use Rattle.update_machine.specs.Setting.{setting_of}
-use Rattle.refinement.specs.Tied.{AreTied}
+use Rattle.refinement.specs.Refinement.{RefineJournal}
 
 -- where the files are of this network and these policies, and nothing was written, posted or sent
 -- on its way
 pub as_begun : (net : Net) (policies : List (List Row)) (files : FilesValue)
-    (journal : List Item) (travelling : Travellers) (bag : List Post)
+    (journal : List Item) (travelling : Flights) (bag : List Post)
     (switches : List SwitchValue) (controller : ControllerValue) (near : List ℕ)
     → files.net ≡ net → files.policies ≡ policies → journal ≡ [] → travelling ≡ [] → bag ≡ []
-    → AreTied (setting_of net policies) [] switches [] 0 (record {
+    → RefineJournal (setting_of net policies) [] switches [] 0 (record {
       controller = controller;
       posts = [];
       links = near;
       near = near;
-    }) → AreTied (setting_of files.net files.policies) journal switches travelling 0 (record {
+    }) → RefineJournal (setting_of files.net files.policies) journal switches travelling 0 (record {
       controller = controller;
       posts = bag;
       links = near;
       near = near;
     })
 as_begun net policies files journal travelling bag switches controller near of_net of_policies
-    silent still none tied = rw (of_net, of_policies, silent, still, none) tied
+    silent still none refines = rw (of_net, of_policies, silent, still, none) refines
 
 -- and so are its ports
 pub owners_begun : (net other : Net) (ports : Ports) → other ≡ net

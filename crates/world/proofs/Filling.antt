@@ -10,24 +10,24 @@ use Rattle.base.specs.declared.error.Failure.{Failure}
 use Rattle.base.specs.declared.error.Failure.TheVariants.{NoMemory}
 use Rattle.world.specs.NoStep.{no_step}
 use Rattle.world.specs.declared.error.Full.{Full}
-use Rattle.refinement.specs.Tied.{AreTied, Control}
-use Rattle.travelling.specs.Travelling.{Travellers}
+use Rattle.refinement.specs.Refinement.{RefineJournal, Control}
+use Rattle.travelling.specs.Travelling.{Flights}
 
 pub is_full : (control : Control) (setting : Setting) (journal : List Item)
-    (switches : List SwitchValue) (before : Travellers) (count : ℕ)
-    → AreTied setting journal switches before count control → FULL_AT ≤ length control.posts
+    (switches : List SwitchValue) (before : Flights) (count : ℕ)
+    → RefineJournal setting journal switches before count control → FULL_AT ≤ length control.posts
     → IsFull journal
-unfolding AreTied
-is_full control setting journal switches before count tied many =
-    omega (arith, tied.bag.many, many)
+unfolding RefineJournal
+is_full control setting journal switches before count refines many =
+    omega (arith, refines.bag.many, many)
 
 pub has_room : (control : Control) (setting : Setting) (journal : List Item)
-    (switches : List SwitchValue) (before : Travellers) (count : ℕ)
-    → AreTied setting journal switches before count control → length control.posts < FULL_AT
+    (switches : List SwitchValue) (before : Flights) (count : ℕ)
+    → RefineJournal setting journal switches before count control → length control.posts < FULL_AT
     → HasRoom journal
-unfolding AreTied
-has_room control setting journal switches before count tied few =
-    omega (arith, tied.bag.many, few)
+unfolding RefineJournal
+has_room control setting journal switches before count refines few =
+    omega (arith, refines.bag.many, few)
 
 -- want of memory is another error
 pub not_full : {T : Type 0} (r : Result T (Failure Full)) → IsErrAnd r (λ e. e ≡ NoMemory)

@@ -11,9 +11,9 @@ use Rattle.steps.specs.declared.step.Step.{Step}
 use Rattle.update_machine.specs.Pieces.{piece, step_items}
 use Rattle.update_machine.specs.Setting.{Setting, setting_of}
 use Rattle.world.specs.Files.{FilesValue}
-use Rattle.world.specs.Parts.{AreTiedIn, BeginsStep, Goes, HasBegun, IsReadyForStep, KeepNet, Plays, control_in, setting_in}
+use Rattle.world.specs.Parts.{PartsRefineJournal, BeginsStep, Goes, HasBegun, IsReadyForStep, KeepNet, Plays, control_in, setting_in}
 use Rattle.world.specs.State.{comes_in}
-use Rattle.refinement.specs.Tied.{AreTied, Control}
+use Rattle.refinement.specs.Refinement.{RefineJournal, Control}
 use Rattle.world_log.specs.Writing.{IsPart}
 use Rattle.world.specs.declared.parts.Parts.{Parts}
 use Rattle.refinement.proofs.OneItem.{grown}
@@ -25,16 +25,18 @@ pub net_stays : {old new : Parts} → new.files ≡ old.files → new.ports ≡ 
 net_stays files ports = record { same_files = files; same_ports = ports }
 
 -- these parts are as this journal says, by the setting from before the step
-abbrev pub AreTiedTo : Parts → List Item → Parts → Control → Type 0
-AreTiedTo old journal new control =
-    AreTied (setting_in old) journal new.switches.items new.log.travelling new.packets control
+abbrev pub PartsRefineJournalAs : Parts → List Item → Parts → Control → Type 0
+PartsRefineJournalAs old journal new control =
+    RefineJournal (setting_in old) journal new.switches.items new.log.travelling new.packets control
 
 -- the network and the policies stayed
 as_kept : (old new : Parts) → KeepNet old new
-    → AreTiedTo old new.log.journal new (control_in new) → AreTiedIn new
-as_kept old new keeps tied =
-    subst (λ (files : FilesValue). AreTied (setting_of files.net files.policies) new.log.journal
-    new.switches.items new.log.travelling new.packets (control_in new)) (sym keeps.same_files) tied
+    → PartsRefineJournalAs old new.log.journal new (control_in new) → PartsRefineJournal new
+as_kept old new keeps refines =
+    subst (λ (files : FilesValue). RefineJournal (setting_of files.net files.policies)
+    new.log.journal
+    new.switches.items new.log.travelling new.packets (control_in new)) (sym keeps.same_files)
+    refines
 
 -- the controller stayed, and which links are up and can be used
 pub record KeepControl (old new : Parts) : Type 0 where
@@ -55,27 +57,27 @@ abbrev pub with_posts : Parts → List Post → Control
 with_posts old posts = record (control_in old) { posts = posts }
 
 pub by_posts : (old new : Parts) (journal : List Item) → KeepControl old new
-    → AreTiedTo old journal new (with_posts old new.log.bag)
-    → AreTiedTo old journal new (control_in new)
-by_posts old new journal keeps tied =
-    subst (λ (controller : ControllerValue). AreTiedTo old journal new (record {
+    → PartsRefineJournalAs old journal new (with_posts old new.log.bag)
+    → PartsRefineJournalAs old journal new (control_in new)
+by_posts old new journal keeps refines =
+    subst (λ (controller : ControllerValue). PartsRefineJournalAs old journal new (record {
       controller = controller;
       posts = new.log.bag;
       links = new.links;
       near = new.near;
     })) (sym keeps.same_controller)
-    (subst (λ links. AreTiedTo old journal new (record {
+    (subst (λ links. PartsRefineJournalAs old journal new (record {
       controller = old.controller;
       posts = new.log.bag;
       links = links;
       near = new.near;
     })) (sym keeps.same_links)
-    (subst (λ near. AreTiedTo old journal new (record {
+    (subst (λ near. PartsRefineJournalAs old journal new (record {
       controller = old.controller;
       posts = new.log.bag;
       links = old.links;
       near = near;
-    })) (sym keeps.same_near) tied))
+    })) (sym keeps.same_near) refines))
 
 -- no packet comes in
 pub none_in : (n : ℕ) → n ≡ n + 0
@@ -103,17 +105,17 @@ module _ {T E : Type 0} {r : Result T E} {before : List Item} {row : ℕ} {step 
       → OnOk r (new.packets ≡ old.packets + comes_in step)
       → OnOk r (new.log.journal ≡ old.log.journal ++ items)
       → OnErr r (IsPart old.log.journal items new.log.journal)
-      → OnOk r (AreTiedTo old (before ++ item.Row row step ∷ items) new (control_in new))
+      → OnOk r (PartsRefineJournalAs old (before ++ item.Row row step ∷ items) new (control_in new))
       → Goes r before row step old new
-  goes items is counted written part tied = record {
+  goes items is counted written part refines = record {
     net = keeps;
     counted = counted;
     written = step_written r before old.log.journal new.log.journal items
         (piece (setting_in old) before row step) (item.Row row step) is begins.rowed written;
-    tied = both_ok r (λ grown kept. as_kept old new keeps
-        (subst (λ js. AreTiedTo old js new (control_in new))
+    refines = both_ok r (λ grown kept. as_kept old new keeps
+        (subst (λ js. PartsRefineJournalAs old js new (control_in new))
         (sym (grown_more before old.log.journal new.log.journal items (item.Row row step)
-        begins.rowed grown)) kept)) written tied;
+        begins.rowed grown)) kept)) written refines;
     part = step_part r before old.log.journal new.log.journal items
         (piece (setting_in old) before row step) (item.Row row step) is begins.rowed part;
   }
@@ -124,25 +126,25 @@ module _ {T E : Type 0} {r : Result T E} {before : List Item} {row : ℕ} {step 
       → OnOk r (new.packets ≡ old.packets + comes_in step)
       → OnOk r (new.log.journal ≡ old.log.journal ++ items)
       → OnErr r (IsPart old.log.journal items new.log.journal)
-      → OnOk r (AreTiedTo old (before ++ item.Row row step ∷ items) new
+      → OnOk r (PartsRefineJournalAs old (before ++ item.Row row step ∷ items) new
       (with_posts old new.log.bag))
       → Goes r before row step old new
-  goes_quiet items control is counted written part tied =
+  goes_quiet items control is counted written part refines =
       goes items is counted written part
-      (on_ok_weaker r (by_posts old new (before ++ item.Row row step ∷ items) control) tied)
+      (on_ok_weaker r (by_posts old new (before ++ item.Row row step ∷ items) control) refines)
 
   -- it writes one item, and no packet comes in
   pub goes_one : (one : Item) (posts : List Post) → KeepControl old new → new.log.bag ≡ posts
       → new.packets ≡ old.packets + comes_in step
       → (piece (setting_in old) before row step ≡ item.Row row step ∷ one ∷ [])
-      × AreTiedTo old (grown before row step one) new (with_posts old posts)
+      × PartsRefineJournalAs old (grown before row step one) new (with_posts old posts)
       → OnOk r (new.log.journal ≡ old.log.journal ++ one ∷ [])
       → OnErr r (new.log.journal ≡ old.log.journal)
       → Goes r before row step old new
   goes_one one posts control same counted is pushed unchanged =
       goes_quiet (one ∷ []) control is.0 (on_ok_weaker r (λ grown. counted) pushed) pushed
       (on_err_weaker r (λ same. part_none old.log.journal (one ∷ []) new.log.journal same) unchanged)
-      (on_ok_weaker r (λ grown. subst (λ bag. AreTiedTo old
+      (on_ok_weaker r (λ grown. subst (λ bag. PartsRefineJournalAs old
       (before ++ item.Row row step ∷ one ∷ []) new (with_posts old bag)) (sym same) is.1) pushed)
 
   -- it gives up behind its row, for want of memory
@@ -151,7 +153,7 @@ module _ {T E : Type 0} {r : Result T E} {before : List Item} {row : ℕ} {step 
     net = keeps;
     counted = none_ok _ r failed;
     written = none_ok _ r failed;
-    tied = none_ok _ r failed;
+    refines = none_ok _ r failed;
     part = on_err r (record {
       written = item.Row row step ∷ [];
       rest = step_items (setting_in old) before step (before ++ item.Row row step ∷ []);
@@ -168,7 +170,7 @@ with_journal parts journal = record parts { log = record parts.log { journal = j
 pub goes_nothing : {T E : Type 0} {r : Result T E} {before : List Item} {row : ℕ} {step : Step}
     {old : Parts} {journal : List Item} → BeginsStep before row step old → comes_in step ≡ 0
     → (piece (setting_in old) before row step ≡ item.Row row step ∷ item.Nothing ∷ [])
-    × AreTiedTo old (grown before row step item.Nothing) old (control_in old)
+    × PartsRefineJournalAs old (grown before row step item.Nothing) old (control_in old)
     → OnOk r (journal ≡ old.log.journal ++ item.Nothing ∷ [])
     → OnErr r (journal ≡ old.log.journal)
     → Goes r before row step old (with_journal old journal)

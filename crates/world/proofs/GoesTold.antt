@@ -11,8 +11,8 @@ use Rattle.steps.specs.declared.step.Step.{Step}
 use Rattle.update_machine.specs.Pieces.{piece}
 use Rattle.world.specs.Parts.{BeginsStep, Goes, KeepNet, control_in, setting_in}
 use Rattle.world.specs.State.{comes_in}
-use Rattle.refinement.specs.Tied.{AreTied, Control}
-use Rattle.travelling.specs.Travelling.{Travellers}
+use Rattle.refinement.specs.Refinement.{RefineJournal, Control}
+use Rattle.travelling.specs.Travelling.{Flights}
 use Rattle.world_log.specs.Sending.{act_items, act_posts}
 use Rattle.world_log.specs.Writing.{IsPart}
 use Rattle.world_log.specs.declared.log.Log.{Log}
@@ -34,7 +34,7 @@ pub record Tells {T E : Type 0} (r : Result T E) (before : List Item) (row : ℕ
   pub written : OnOk r (new.log.journal ≡ begun ++ tail (number + 1))
   pub part : OnErr r (IsPart begun (tail (number + 1)) new.log.journal)
   pub posted : OnOk r (new.log.bag ≡ posts ++ more)
-  pub tied : OnOk r (AreTied (setting_in old)
+  pub refines : OnOk r (RefineJournal (setting_in old)
       (before ++ item.Row row step ∷ first ∷ tail (length old.log.bag + 1)) new.switches.items
       old.log.travelling new.packets
       (record (control_in new) { posts = posts ++ more }))
@@ -74,13 +74,13 @@ goes_told {r} {before} {row} {step} {old} {new} first tail begun number posts mo
     tells.pushed
     (subst (λ k. OnErr r (IsPart begun (tail (k + 1)) new.log.journal)) tells.number_is
     tells.part))
-    (both_ok r (λ all tied. subst (λ bag. AreTied (setting_in old)
+    (both_ok r (λ all refines. subst (λ bag. RefineJournal (setting_in old)
     (before ++ item.Row row step ∷ first ∷ items) new.switches.items new.log.travelling
     new.packets (record (control_in new) { posts = bag })) (sym all)
-    (subst (λ (travelling : Travellers). AreTied (setting_in old)
+    (subst (λ (travelling : Flights). RefineJournal (setting_in old)
     (before ++ item.Row row step ∷ first ∷ items) new.switches.items travelling
     new.packets (record (control_in new) { posts = posts ++ more }))
-    (sym tells.travelling) tied)) tells.posted tells.tied)
+    (sym tells.travelling) refines)) tells.posted tells.refines)
 
 -- where the controller's acts are what it writes then
 pub goes_acting : {T E : Type 0} {r : Result T E} {before : List Item} {row : ℕ} {step : Step}
@@ -94,16 +94,16 @@ pub goes_acting : {T E : Type 0} {r : Result T E} {before : List Item} {row : �
     → OnOk r (new.log.journal ≡ begun ++ act_items (length old.log.bag + 1) given)
     → OnOk r (new.log.bag ≡ old.log.bag ++ act_posts given)
     → OnErr r (IsPart begun (act_items (length old.log.bag + 1) given) new.log.journal)
-    → AreTied (setting_in old)
+    → RefineJournal (setting_in old)
     (before ++ item.Row row step ∷ first ∷ act_items (length old.log.bag + 1) acts)
     new.switches.items old.log.travelling new.packets
     (record (control_in new) { posts = old.log.bag ++ act_posts acts })
     → Goes r before row step old new
 goes_acting {r} {old} {new} first acts given begun begins keeps counted is pushed same travelling
-    written posted part tied =
+    written posted part refines =
     let noted = as_noted r begun (length old.log.bag) old.log.bag new.log given acts same written
     posted part in
-    let all = on_ok_weaker r (λ done. tied) noted.written in
+    let all = on_ok_weaker r (λ done. refines) noted.written in
     goes_told first (λ k. act_items k acts) begun (length old.log.bag) old.log.bag (act_posts acts)
     begins keeps (search rules)
 
@@ -117,7 +117,7 @@ first_goes {r} {before} {row} {step} first rest begins keeps is failed pushed = 
   net = keeps;
   counted = none_ok _ r failed;
   written = none_ok _ r failed;
-  tied = none_ok _ r failed;
+  refines = none_ok _ r failed;
   part = on_err r (record {
     written = item.Row row step ∷ first ∷ [];
     rest = rest;

@@ -9,10 +9,10 @@ use Rattle.update_machine.specs.Packets.{next_packet}
 use Rattle.update_machine.specs.Setting.{Setting}
 use Rattle.update_machine.specs.Travels.{next_travelling, travels}
 use Rattle.packet_laws.specs.Facts.{what_is_known}
-use Rattle.world.specs.State.{IsTied, WorldValue, setting_at}
-use Rattle.refinement.specs.Tied.{AreTied}
-use Rattle.refinement.specs.Travellers.{traveller_in, traveller_of}
-use Rattle.travelling.specs.Travelling.{IsNextFrom, Travellers, traveller}
+use Rattle.world.specs.State.{RefinesJournal, WorldValue, setting_at}
+use Rattle.refinement.specs.Refinement.{RefineJournal}
+use Rattle.refinement.specs.Flights.{flight_in, flight_of}
+use Rattle.travelling.specs.Travelling.{IsNextFrom, Flights, flight}
 use Rattle.refinement.proofs.Known.{reached_known}
 
 -- the least number from here on that satisfies the test
@@ -72,35 +72,35 @@ some_travels true x is = refl
 some_travels false x is = cc is
 
 -- the least packet on its way is the least that travels
-least_travels : (setting : Setting) (journal : List Item) (travelling : Travellers)
+least_travels : (setting : Setting) (journal : List Item) (travelling : Flights)
     (next : Option ℕ)
-    → ((i : ℕ) → traveller travelling i ≡ traveller_in setting journal i)
+    → ((i : ℕ) → flight travelling i ≡ flight_in setting journal i)
     → ((i : ℕ) → next_packet journal ≤ i → travels journal i ≡ false)
     → IsNextFrom travelling 1 next → next ≡ next_travelling journal
-unfolding traveller_in next_packet next_travelling
+unfolding flight_in next_packet next_travelling
 least_travels setting journal travelling next tie over least =
     least_is_found (travels journal) 1 _ next (λ i behind. over i (omega (arith, behind)))
     (by next least)
   where
-    none : (i : ℕ) → traveller travelling i ≡ None → travels journal i ≡ false
+    none : (i : ℕ) → flight travelling i ≡ None → travels journal i ≡ false
     none i is = false_from_ne_true (travels journal i)
-        (λ yes. none-some (traveller_of setting journal i) (sym is ∙ tie i
-        ∙ cond-true (travels journal i) (Some (traveller_of setting journal i)) None yes))
+        (λ yes. none-some (flight_of setting journal i) (sym is ∙ tie i
+        ∙ cond-true (travels journal i) (Some (flight_of setting journal i)) None yes))
 
     by : (b : Option ℕ) → IsNextFrom travelling 1 b → IsLeast (travels journal) 1 b
     by None least = λ i behind. none i (least i behind)
     by (Some i) least = (
       least.0,
-      some_travels (travels journal i) (traveller_of setting journal i)
+      some_travels (travels journal i) (flight_of setting journal i)
           (subst IsSome (tie i) least.1),
       λ k behind below. none k (least.2 k behind below),
     )
 
-pub least_travels_in : (world : WorldValue) (next : Option ℕ) → IsTied world
+pub least_travels_in : (world : WorldValue) (next : Option ℕ) → RefinesJournal world
     → IsNextFrom world.travelling 1 next → next ≡ next_travelling world.journal
-unfolding AreTied what_is_known
-least_travels_in world next tied least =
-    least_travels (setting_at world) world.journal world.travelling next tied.packet
-    (λ i new. ((reached_known (setting_at world) world.journal tied.sound
-    tied.reached).kept.unknown i new).travels)
+unfolding RefineJournal what_is_known
+least_travels_in world next refines least =
+    least_travels (setting_at world) world.journal world.travelling next refines.packet
+    (λ i new. ((reached_known (setting_at world) world.journal refines.sound
+    refines.reached).kept.unknown i new).travels)
     least

@@ -14,14 +14,18 @@ use Rattle.journal.specs.declared.item.Item.{Item}
 use Rattle.update_machine.specs.Folds.{count_of}
 use Rattle.update_machine.specs.Messages.{is_deliverable, is_forgotten, is_sending, is_waiting, next_message, next_waiting, was_delivered}
 use Rattle.update_machine.specs.Links.{message_of}
-use Rattle.world.specs.State.{IsTied, WorldValue}
-use Rattle.refinement.specs.Tied.{AreTied}
+use Rattle.world.specs.State.{RefinesJournal, WorldValue}
+use Rattle.refinement.specs.Refinement.{RefineJournal}
 use Rattle.refinement.specs.Bags.{IsBagOf, post_in}
 
 -- a post waits as the journal says of its message
 post_waits : (sent : Option Message) (delivered forgotten : Bool) →
     option_map_or statuses.waits (option_map (λ (post : bag.Post). post.1)
-    (option_map (λ message. (bag.framed message, record { delivered = delivered; forgotten = forgotten }))
+    (option_map (λ message. (
+      bag.posted_frames message,
+      record
+          { delivered = delivered; forgotten = forgotten },
+    ))
     sent)) false
     ≡ ((is_some sent && not forgotten) && not delivered)
 post_waits None delivered forgotten = refl
@@ -50,7 +54,7 @@ least_waits journal posts of =
     ∙ find_same (statuses.is_waiting all) (is_waiting journal) (waits_same journal posts of)
     (range_with_len 1 (count_of is_sending journal))
 
-pub least_waits_in : (world : WorldValue) → IsTied world
+pub least_waits_in : (world : WorldValue) → RefinesJournal world
     → bag.next_waiting_post world.bag 1 ≡ next_waiting world.journal
-unfolding AreTied
-least_waits_in world tied = least_waits world.journal world.bag tied.bag
+unfolding RefineJournal
+least_waits_in world refines = least_waits world.journal world.bag refines.bag

@@ -9,17 +9,17 @@ use Rattle.steps.specs.declared.step.Step.TheVariants.{Hop, Packet as PacketStep
 use Rattle.switch_core.specs.State.{SwitchValue, call_counted}
 use Rattle.tunnel.specs.Moves.{here}
 use Rattle.update_machine.specs.Pieces.{piece}
-use Rattle.world_log.specs.Packets.{coming_in, entry, hop_written, hop_posts, hop_traveller, hopped_switch}
+use Rattle.world_log.specs.Packets.{coming_in, entry, hop_written, hop_posts, hop_flight, hopped_switch}
 use Rattle.world.specs.Parts.{IsReadyForStep, control_in, setting_in}
-use Rattle.refinement.specs.Tied.{AreTied}
-use Rattle.travelling.specs.Travelling.{Travellers, WithOne, traveller}
-use Rattle.world_log.specs.Writing.{entered_items, entered_posts, entered_traveller}
+use Rattle.refinement.specs.Refinement.{RefineJournal}
+use Rattle.travelling.specs.Travelling.{Flights, WithOne, flight}
+use Rattle.world_log.specs.Writing.{entered_items, entered_posts, entered_flight}
 use Rattle.world.specs.declared.parts.Parts.{Parts}
-use Rattle.travelling.specs.declared.travelling.Traveller.{Traveller}
+use Rattle.travelling.specs.declared.travelling.Flight.{Flight}
 use Rattle.refinement.proofs.Asking.{can_ask, within_here}
 use Rattle.refinement.proofs.CanAsk.{CanAsk}
-use Rattle.refinement.proofs.HopTie.{hop_piece_of, hop_tied}
-use Rattle.refinement.proofs.Incoming.{come_piece, come_tied}
+use Rattle.refinement.proofs.HopRefines.{hop_piece_of, hop_refines}
+use Rattle.refinement.proofs.Incoming.{come_piece, come_refines}
 use Rattle.refinement.proofs.Switches.{switch_is, switch_there}
 use Rattle.world_log.proofs.Writing.{both_ok, three_ok}
 
@@ -34,46 +34,46 @@ module _ (parts : Parts) (before : List Item) (row s : ℕ) (header : Header) (o
       (entry own (slice_index parts.near s) parts.ports (parts.packets + 1) header)
   come_is =
       come_piece (control_in parts) (setting_in parts) before parts.switches.items
-      parts.log.travelling parts.packets row s header parts.ports own ready.tied ready.may
+      parts.log.travelling parts.packets row s header parts.ports own ready.refines ready.may
       ready.sound.owners its
 
-  pub come_ties : {T E : Type 0} (r : Result T E) (changed : SwitchValue) (after : Travellers)
+  pub entries_refine : {T E : Type 0} (r : Result T E) (changed : SwitchValue) (after : Flights)
       (bag : List Post) → changed ≡ call_counted own
-      → OnOk r (WithOne parts.log.travelling (parts.packets + 1) (entered_traveller
+      → OnOk r (WithOne parts.log.travelling (parts.packets + 1) (entered_flight
       (entry own (slice_index parts.near s) parts.ports (parts.packets + 1) header)) after)
       → OnOk r (bag ≡ parts.log.bag
       ++ entered_posts (coming_in (parts.packets + 1) header own.number)
       (entry own (slice_index parts.near s) parts.ports (parts.packets + 1) header))
-      → OnOk r (AreTied (setting_in parts) (before ++ item.Row row (PacketStep s header)
+      → OnOk r (RefineJournal (setting_in parts) (before ++ item.Row row (PacketStep s header)
       ∷ entered_items (length parts.log.bag + 1) (coming_in (parts.packets + 1) header own.number)
       (entry own (slice_index parts.near s) parts.ports (parts.packets + 1) header))
       (set parts.switches.items s changed) after (parts.packets + 1)
       (record (control_in parts) { posts = bag }))
-  come_ties r changed after bag changed_is travels posted =
+  entries_refine r changed after bag changed_is travels posted =
       both_ok r (λ same with.
-      subst (λ posts. AreTied (setting_in parts) (before ++ item.Row row (PacketStep s header)
+      subst (λ posts. RefineJournal (setting_in parts) (before ++ item.Row row (PacketStep s header)
       ∷ entered_items (length parts.log.bag + 1) (coming_in (parts.packets + 1) header own.number)
       (entry own (slice_index parts.near s) parts.ports (parts.packets + 1) header))
       (set parts.switches.items s changed) after (parts.packets + 1)
       (record (control_in parts) { posts = posts })) (sym same)
-      (come_tied (control_in parts) (setting_in parts) before parts.switches.items
-      parts.log.travelling parts.packets row s header parts.ports own ready.tied ready.may
+      (come_refines (control_in parts) (setting_in parts) before parts.switches.items
+      parts.log.travelling parts.packets row s header parts.ports own ready.refines ready.may
       ready.sound.owners its after changed
       (switch_there (control_in parts) (setting_in parts) before parts.switches.items
-      parts.log.travelling parts.packets s ready.tied ready.may.0)
+      parts.log.travelling parts.packets s ready.refines ready.may.0)
       (switch_is (control_in parts) (setting_in parts) before parts.switches.items
-      parts.log.travelling parts.packets s own ready.tied ready.may.0 its)
+      parts.log.travelling parts.packets s own ready.refines ready.may.0 its)
       changed_is with)) posted travels
 
 -- ---- a packet that moves on
 
-module _ (parts : Parts) (before : List Item) (row i : ℕ) (t : Traveller) (s : ℕ)
+module _ (parts : Parts) (before : List Item) (row i : ℕ) (t : Flight) (s : ℕ)
     (switch : SwitchValue) (ready : IsReadyForStep before (Hop i) parts)
-    (its : traveller parts.log.travelling i ≡ Some t) (at : s ≡ here t.tunnel)
+    (its : flight parts.log.travelling i ≡ Some t) (at : s ≡ here t.tunnel)
     (own : switch ≡ get_or parts.switches.items s switch) where
   can : CanAsk (setting_in parts) before i t s (slice_index parts.near s) switch parts.ports
   can = can_ask (control_in parts) (setting_in parts) before parts.switches.items
-      parts.log.travelling parts.packets i t s switch parts.ports ready.tied ready.sound.owners
+      parts.log.travelling parts.packets i t s switch parts.ports ready.refines ready.sound.owners
       its at own
 
   pub hop_is : piece (setting_in parts) before row (Hop i) ≡ item.Row row (Hop i)
@@ -81,32 +81,33 @@ module _ (parts : Parts) (before : List Item) (row i : ℕ) (t : Traveller) (s :
   hop_is =
       hop_piece_of (control_in parts) (setting_in parts) before parts.switches.items
       parts.log.travelling parts.packets row i t s (slice_index parts.near s) switch parts.ports
-      ready.tied ready.may can
+      ready.refines ready.may can
 
-  pub hop_ties : {T E : Type 0} (r : Result T E) (changed : SwitchValue) (after : Travellers)
+  pub hops_refine : {T E : Type 0} (r : Result T E) (changed : SwitchValue) (after : Flights)
       (bag : List Post)
       → OnOk r (changed ≡ hopped_switch switch (slice_index parts.near s) t)
       → OnOk r (WithOne parts.log.travelling i
-      (hop_traveller switch (slice_index parts.near s) parts.ports t) after)
+      (hop_flight switch (slice_index parts.near s) parts.ports t) after)
       → OnOk r (bag ≡ parts.log.bag ++ hop_posts switch (slice_index parts.near s) parts.ports t)
-      → OnOk r (AreTied (setting_in parts) (before ++ item.Row row (Hop i)
+      → OnOk r (RefineJournal (setting_in parts) (before ++ item.Row row (Hop i)
       ∷ hop_written (length parts.log.bag + 1) switch (slice_index parts.near s) parts.ports t)
       (set parts.switches.items s changed) after parts.packets
       (record (control_in parts) { posts = bag }))
-  hop_ties r changed after bag changed_is travels posted =
+  hops_refine r changed after bag changed_is travels posted =
       let near : ℕ = slice_index parts.near s in
       let new : List Item = before ++ item.Row row (Hop i)
       ∷ hop_written (length parts.log.bag + 1) switch near parts.ports t in
       let there : s < length (setting_in parts).net.switches =
       omega (arith, can.at, can.standing.stands.there) in
       three_ok r (λ answered same with.
-      subst (λ posts. AreTied (setting_in parts) new (set parts.switches.items s changed) after
+      subst (λ posts. RefineJournal (setting_in parts) new (set parts.switches.items s changed)
+      after
       parts.packets (record (control_in parts) { posts = posts })) (sym same)
-      (hop_tied (control_in parts) (setting_in parts) before parts.switches.items
-      parts.log.travelling parts.packets row i t s near switch parts.ports ready.tied
+      (hop_refines (control_in parts) (setting_in parts) before parts.switches.items
+      parts.log.travelling parts.packets row i t s near switch parts.ports ready.refines
       ready.may can after changed
       (within_here (control_in parts) (setting_in parts) before parts.switches.items
-      parts.log.travelling parts.packets i t s ready.tied its at)
+      parts.log.travelling parts.packets i t s ready.refines its at)
       (switch_is (control_in parts) (setting_in parts) before parts.switches.items
-      parts.log.travelling parts.packets s switch ready.tied there own) answered
+      parts.log.travelling parts.packets s switch ready.refines there own) answered
       with)) changed_is posted travels

@@ -10,7 +10,7 @@ use Rattle.refinement.proofs.Switches.{few_switches, switch_known, switch_there}
 pub switch_in : {step : Step} {self : Parts} (s : ℕ) → HasBegun step self
     → HasSwitch self.files.net s → s < length self.switches.items
 switch_in {self} s begun own = switch_there (control_in self) (setting_in self) begun.before
-    self.switches.items self.log.travelling self.packets s begun.begins.ready.tied own
+    self.switches.items self.log.travelling self.packets s begun.begins.ready.refines own
 
 pub place_in : {step : Step} {self : Parts} (s : ℕ) → HasBegun step self
     → HasSwitch self.files.net s → s < vec_len self.switches
@@ -22,10 +22,10 @@ place_in {self} s begun own =
 pub known_in : {step : Step} {self : Parts} (s : ℕ) → HasBegun step self
     → HasSwitch self.files.net s → s < length self.controller.marks.switches
 known_in {self} s begun own = switch_known (control_in self) (setting_in self) begun.before
-    self.switches.items self.log.travelling self.packets s begun.begins.ready.tied own
+    self.switches.items self.log.travelling self.packets s begun.begins.ready.refines own
 
 -- each has a place in a mask
 pub few_in : {step : Step} {self : Parts} → HasBegun step self
     → length self.switches.items ≤ 64
 few_in {self} begun = few_switches (control_in self) (setting_in self) begun.before
-    self.switches.items self.log.travelling self.packets begun.begins.ready.tied
+    self.switches.items self.log.travelling self.packets begun.begins.ready.refines

@@ -10,7 +10,7 @@ use Rattle.update_machine.specs.Pieces.{piece}
 use Rattle.steps.specs.Steps.{IsStep}
 use Rattle.update_machine.specs.Setting.{Setting, setting_of}
 use Rattle.world.specs.State.{WorldValue, comes_in}
-use Rattle.refinement.specs.Tied.{AreTied, Control}
+use Rattle.refinement.specs.Refinement.{RefineJournal, Control}
 use Rattle.world_log.specs.Writing.{IsPart}
 use Rattle.world.specs.declared.parts.Parts.{Parts}
 
@@ -31,9 +31,9 @@ control_in parts = record {
 }
 
 -- the parts are as their journal says
-abbrev pub AreTiedIn : Parts → Type 0
-AreTiedIn parts =
-    AreTied (setting_in parts) parts.log.journal parts.switches.items parts.log.travelling
+abbrev pub PartsRefineJournal : Parts → Type 0
+PartsRefineJournal parts =
+    RefineJournal (setting_in parts) parts.log.journal parts.switches.items parts.log.travelling
     parts.packets (control_in parts)
 
 -- ---- one step
@@ -55,7 +55,7 @@ pub record KeepRest (before after : Parts) : Type 0 where
 -- a step may be played on the parts, which are as this journal says
 pub record IsReadyForStep (before : List Item) (step : Step) (parts : Parts) : Type 0 where
   pub sound : AreSoundParts parts
-  pub tied : AreTied (setting_in parts) before parts.switches.items parts.log.travelling
+  pub refines : RefineJournal (setting_in parts) before parts.switches.items parts.log.travelling
       parts.packets (control_in parts)
   pub may : IsStep parts.files.net (length parts.files.policies) step
   pub few : next_packet before ≤ 4_000_000_000
@@ -73,7 +73,7 @@ pub record Goes {T E : Type 0} (result : Result T E) (before : List Item) (row :
   pub net : KeepNet old new
   pub counted : OnOk result (new.packets ≡ old.packets + comes_in step)
   pub written : OnOk result (new.log.journal ≡ before ++ piece (setting_in old) before row step)
-  pub tied : OnOk result (AreTiedIn new)
+  pub refines : OnOk result (PartsRefineJournal new)
   pub part : OnErr result (IsPart before (piece (setting_in old) before row step) new.log.journal)
 
 -- the step was begun
@@ -109,4 +109,4 @@ world_value parts is_spent = record {
 -- as long as memory didn't run out within a step, the parts are as their journal says
 pub record IsWorld (parts : Parts) (is_spent : Bool) : Type 0 where
   pub sound : AreSoundParts parts
-  pub tied : is_spent ≡ false → AreTiedIn parts
+  pub refines : is_spent ≡ false → PartsRefineJournal parts

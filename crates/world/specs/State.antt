@@ -9,15 +9,15 @@ use Rattle.steps.specs.declared.step.Step.{Step}
 use Rattle.steps.specs.declared.step.Step.TheVariants.{Packet}
 use Rattle.switch_core.specs.State.{SwitchValue}
 use Rattle.update_machine.specs.Setting.{Setting, setting_of}
-use Rattle.travelling.specs.Travelling.{Travellers}
-use Rattle.refinement.specs.Tied.{AreTied}
+use Rattle.travelling.specs.Travelling.{Flights}
+use Rattle.refinement.specs.Refinement.{RefineJournal}
 
 pub record WorldValue : Type 0 where
   pub net : Net
   pub policies : List (List Row)
   pub journal : List Item
   pub switches : List SwitchValue
-  pub travelling : Travellers
+  pub travelling : Flights
   -- the frames of the messages that were sent, and what became of each
   pub bag : List Post
   -- how many packets came in or were refused
@@ -36,9 +36,10 @@ setting_at world = setting_of world.net world.policies
 -- ---- a world
 
 -- a world is as its journal says
-abbrev pub IsTied : WorldValue → Type 0
-IsTied world =
-    AreTied (setting_at world) world.journal world.switches world.travelling world.packets (record {
+abbrev pub RefinesJournal : WorldValue → Type 0
+RefinesJournal world =
+    RefineJournal (setting_at world) world.journal world.switches world.travelling world.packets
+    (record {
       controller = world.controller;
       posts = world.bag;
       links = world.links;

@@ -11,7 +11,7 @@ use crate::parts::Parts;
 use base::Failure;
 use controller::{Act, SubmitError};
 use journal::{Item, Message};
-use refinement::told_again;
+use refinement::adverts_again;
 use std::alloc::{AllocError, Global};
 
 impl Parts {
@@ -76,7 +76,7 @@ impl Parts {
         let here = switch as usize;
         let count = self.switches.len() as u32;
         let near = self.near[here];
-        let told = told_again(alloc, &self.switches[here], switch, count, near)?;
+        let told = adverts_again(alloc, &self.switches[here], switch, count, near)?;
         let sends = self.controller.resend(alloc, switch)?;
         let messages = told.as_slice();
         let acts = sends.items();

@@ -1,10 +1,10 @@
 //! Messages that are delivered: who hears them, and what is sent upon them.
 ghost use Rattle.std.specs.Prelude.{◌≡◌, ◌+◌, ◌-◌, ◌^◌, ◌<◌, ◌≤◌, ◌++◌, All, OnOk, OnErr, length, map};
-ghost use Rattle.message_bag.specs.Posts.{posted};
-ghost use Rattle.controller.specs.Exports.{ControllerValue, NamesThere, SettlesWith, hearing, marks_after};
+ghost use Rattle.message_bag.specs.Posts.{new_post};
+ghost use Rattle.controller.specs.Exports.{ControllerValue, NamesThere, SettlesWith, hear_acts, marks_after};
 ghost use Rattle.steps.specs.declared.step.Step.TheVariants.{Deliver as DeliverStep};
 ghost use Rattle.update_machine.specs.Messages.{sent_from};
-ghost use Rattle.refinement.specs.Linking.{AreRelinked, all_told, near_all};
+ghost use Rattle.refinement.specs.Linking.{AreRelinked, all_adverts_sent, near_all};
 ghost use Rattle.world.specs.Parts.{HasBegun, KeepRest, Plays};
 ghost use Rattle.world_log.specs.Sending.{MayNote, MaySend, act_items, act_posts};
 ghost use Rattle.world_log.specs.Writing.{IsPart};
@@ -35,7 +35,12 @@ impl Parts {
         let switch = match message.to {
             Receiver::Switch(switch) => switch,
             Receiver::Controller => {
-                return tell_controller(alloc, &mut self.log, &mut self.controller, &message.body);
+                return deliver_to_controller(
+                    alloc,
+                    &mut self.log,
+                    &mut self.controller,
+                    &message.body,
+                );
             }
         };
         let near = self.near[switch as usize];
@@ -57,7 +62,7 @@ impl Parts {
     pub fn change_links(&mut self, alloc: Global) -> Result<(), AllocError>
         requires many { length self.old.switches.items ≤ 64 }
         requires next { All (λ switch. switch.seq < 2 ^ 32 - 1) self.old.switches.items }
-        requires may { MaySend self.old.log.bag (all_told self.old.near
+        requires may { MaySend self.old.log.bag (all_adverts_sent self.old.near
             (near_all self.old.links self.old.switches.items) self.old.switches.items) }
         ensures near { OnOk result
             (self.new.near ≡ near_all self.old.links self.old.switches.items) }
@@ -65,13 +70,13 @@ impl Parts {
             (near_all self.old.links self.old.switches.items)
             self.old.switches.items self.new.switches.items) }
         ensures written { OnOk result (self.new.log.journal ≡ self.old.log.journal
-            ++ sent_from (length self.old.log.bag + 1) (all_told self.old.near
+            ++ sent_from (length self.old.log.bag + 1) (all_adverts_sent self.old.near
             (near_all self.old.links self.old.switches.items) self.old.switches.items)) }
         ensures posted { OnOk result (self.new.log.bag ≡ self.old.log.bag
-            ++ map posted (all_told self.old.near
+            ++ map new_post (all_adverts_sent self.old.near
             (near_all self.old.links self.old.switches.items) self.old.switches.items)) }
         ensures part { OnErr result (IsPart self.old.log.journal
-            (sent_from (length self.old.log.bag + 1) (all_told self.old.near
+            (sent_from (length self.old.log.bag + 1) (all_adverts_sent self.old.near
             (near_all self.old.links self.old.switches.items) self.old.switches.items))
             self.new.log.journal) }
         ensures rest { KeepRest self.old self.new }
@@ -84,7 +89,7 @@ impl Parts {
 }
 
 // The controller hears the message.
-fn tell_controller(
+fn deliver_to_controller(
     alloc: Global,
     log: &mut Log,
     controller: &mut Controller,
@@ -93,16 +98,16 @@ fn tell_controller(
     requires there { NamesThere body.now controller.old.marks }
     requires may { (new : ControllerValue)
         → SettlesWith (marks_after body.now controller.old.marks) controller.old.plans new
-        → MayNote log.old.bag (hearing body.now controller.old.marks new) }
+        → MayNote log.old.bag (hear_acts body.now controller.old.marks new) }
     ensures after { SettlesWith
         (marks_after body.now controller.old.marks) controller.old.plans controller.new }
     ensures written { OnOk result (log.new.journal ≡ log.old.journal
         ++ act_items (length log.old.bag + 1)
-        (hearing body.now controller.old.marks controller.new)) }
+        (hear_acts body.now controller.old.marks controller.new)) }
     ensures posted { OnOk result (log.new.bag ≡ log.old.bag
-        ++ act_posts (hearing body.now controller.old.marks controller.new)) }
+        ++ act_posts (hear_acts body.now controller.old.marks controller.new)) }
     ensures part { OnErr result (IsPart log.old.journal (act_items (length log.old.bag + 1)
-        (hearing body.now controller.old.marks controller.new)) log.new.journal) }
+        (hear_acts body.now controller.old.marks controller.new)) log.new.journal) }
     ensures travelling { log.new.travelling ≡ log.old.travelling }
 {
     let sends = controller.hear(alloc, body)?;

@@ -30,5 +30,5 @@ mod world;
 pub use controller::PlanError;
 pub use error::Full;
 pub use files::{Compiled, Files};
-pub use travelling::Traveller;
+pub use travelling::Flight;
 pub use world::World;

@@ -7,8 +7,8 @@ ghost use Rattle.update_machine.specs.Exports.{HasRoom, IsFull, NamesOwnPort, ne
 ghost use Rattle.steps.specs.Steps.{IsStep};
 ghost use Rattle.base.specs.declared.error.Failure.TheVariants.{NoMemory};
 ghost use Rattle.world.specs.NoStep.{no_step};
-ghost use Rattle.world.specs.State.{IsBegun, IsTied, comes_in, setting_at};
-ghost use Rattle.travelling.specs.Travelling.{IsNextFrom, traveller};
+ghost use Rattle.world.specs.State.{IsBegun, RefinesJournal, comes_in, setting_at};
+ghost use Rattle.travelling.specs.Travelling.{IsNextFrom, flight};
 ghost use Rattle.world_log.specs.Writing.{IsPart};
 
 use crate::beginning::switches_of;
@@ -155,7 +155,7 @@ impl World {
 
     /// Whether the packet of this number travels.
     pub fn travels(&self, packet: u32) -> bool
-        ensures { result ≡ is_some (traveller self.now.travelling packet) }
+        ensures { result ≡ is_some (flight self.now.travelling packet) }
     {
         self.parts.log.travelling.has(packet)
     }
@@ -206,8 +206,8 @@ impl World {
 
     /// As long as memory didn't run out within a step, the switches, the packets on their way, the
     /// messages and the controller are as the journal says.
-    pub fn tied(&self)
-        ensures { self.now.is_spent ≡ false → IsTied self.now }
+    pub fn refines(&self)
+        ensures { self.now.is_spent ≡ false → RefinesJournal self.now }
     {
         let _spent = self.is_spent;
     }

@@ -22,7 +22,7 @@ use Rattle.switch_core.specs.declared.answers.Next.TheVariants.{Out, Stuck}
 use Rattle.ternary.specs.Word.{WordValue}
 use Rattle.travelling.specs.Travelling.{Standing}
 use Rattle.tunnel.specs.Tunnel.{TunnelValue}
-use Rattle.world_log.specs.Writing.{LogAfter, answer_items, answer_posts, answer_traveller, decided_traveller, end_item, exit_leg, packet_standing, set_item, set_traveller}
+use Rattle.world_log.specs.Writing.{LogAfter, answer_items, answer_posts, answer_flight, decided_flight, end_item, exit_leg, packet_standing, set_item, set_flight}
 use Rattle.world_log.specs.declared.log.Log.{Log}
 
 -- the way that the switch knows
@@ -39,18 +39,18 @@ module _ {T E : Type 0} (r : Result T E) (at : Standing) (packet : ℕ) (old new
   -- to an authority switch
   pub sought : (number : ℕ) (leg : Leg) (version : ℕ) (rule : Option ℕ)
       (way : Result TunnelValue Cause)
-      → LogAfter r (set_item at leg way ∷ []) [] packet (set_traveller version rule way) old new
+      → LogAfter r (set_item at leg way ∷ []) [] packet (set_flight version rule way) old new
       → LogAfter r (answer_items number at (seek_by leg way)) (answer_posts at (seek_by leg way))
-      packet (answer_traveller version rule (seek_by leg way)) old new
+      packet (answer_flight version rule (seek_by leg way)) old new
   sought number leg version rule (Ok tunnel) log = log
   sought number leg version rule (Err cause) log = log
 
   -- to the switch of its port
   pub exits : (decision : Decision) (way : Result TunnelValue Cause)
       → LogAfter r (set_item at (exit_leg decision.action) way ∷ []) [] packet
-      (set_traveller decision.version decision.rule way) old new
+      (set_flight decision.version decision.rule way) old new
       → LogAfter r (end_item at decision (exit_by way) ∷ []) [] packet
-      (decided_traveller decision (exit_by way)) old new
+      (decided_flight decision (exit_by way)) old new
   exits decision (Ok tunnel) log = log
   exits decision (Err cause) log = log
 
@@ -61,7 +61,7 @@ module _ {T E : Type 0} (r : Result T E) (at : Standing) (packet : ℕ) (old new
   -- what was written of it goes this way
   abbrev pub Goes : Decision → Next → Type 0
   Goes decision way = LogAfter r (end_item at decision way ∷ []) [] packet
-      (decided_traveller decision way) old new
+      (decided_flight decision way) old new
 
   abbrev pub way_by : Action → Next
   way_by action = next_of s site (packet_standing at) action

@@ -4,7 +4,7 @@ use Rattle.five_tuple.specs.declared.header.Header.{Header}
 use Rattle.policy_rules.specs.declared.packet.Leg.{Leg}
 use Rattle.policy_rules.specs.declared.packet.Leg.TheVariants.{Seek, Exit}
 use Rattle.switch_core.specs.Answering.{IsAtAuthority}
-use Rattle.switch_core.specs.Moving.{link_found_down, hopped, hopped_to, moved, moved_along, rerouted_here}
+use Rattle.switch_core.specs.Moving.{link_found_down, hop_answer, hopped_to, move_answer, moved_along, rerouted_here}
 use Rattle.switch_core.specs.State.{SwitchValue, call_counted}
 use Rattle.tunnel.specs.Moves.{marked_down, next, on_route, route_from_here}
 use Rattle.tunnel.specs.Tunnel.{TunnelValue}
@@ -16,7 +16,7 @@ pub record SamePacket (old new : TunnelValue) : Type 0 where
   pub leg : new.leg ≡ old.leg
   pub ingress : new.ingress ≡ old.ingress
 
-moved_same : (t : TunnelValue) (onward : Option ℕ) → SamePacket t (moved t onward).tunnel
+moved_same : (t : TunnelValue) (onward : Option ℕ) → SamePacket t (move_answer t onward).tunnel
 moved_same t None = record { packet = refl; header = refl; leg = refl; ingress = refl }
 moved_same t (Some other) = record { packet = refl; header = refl; leg = refl; ingress = refl }
 
@@ -28,8 +28,8 @@ along_same w near t (Some route) =
     record { packet = same.packet; header = same.header; leg = same.leg; ingress = same.ingress }
 
 pub hopped_same : (w : SwitchValue) (near : ℕ) (t : TunnelValue)
-    → SamePacket t (hopped w near t).tunnel
-unfolding hopped rerouted_here
+    → SamePacket t (hop_answer w near t).tunnel
+unfolding hop_answer rerouted_here
 hopped_same w near t = by_link (link_found_down near (next t))
   where
     by_link : (o : Option ℕ) → SamePacket t (hopped_to w near t o).tunnel

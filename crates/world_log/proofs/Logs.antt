@@ -5,7 +5,7 @@ use Rattle.std.proofs.lemmas.Result.{on_err_weaker, on_ok_weaker}
 use Rattle.journal.specs.declared.item.Item.{Item}
 use Rattle.message_bag.specs.Posts.{Post}
 use Rattle.travelling.specs.Travelling.{WithOne}
-use Rattle.travelling.specs.declared.travelling.Traveller.{Traveller}
+use Rattle.travelling.specs.declared.travelling.Flight.{Flight}
 use Rattle.world_log.specs.Writing.{IsPart, LogAfter}
 use Rattle.world_log.specs.declared.log.Log.{Log}
 use Rattle.world_log.proofs.Writing.{both_written, on_err, part_none, part_of_rest}
@@ -16,7 +16,7 @@ none_ok P (Err e) failed = tt
 
 -- memory ran out where a part was written
 pub log_failed : {T E : Type 0} (r : Result T E) (items : List Item) (posts : List Post)
-    (packet : ℕ) (this : Option Traveller) (old new : Log) → IsErr r
+    (packet : ℕ) (this : Option Flight) (old new : Log) → IsErr r
     → IsPart old.journal items new.journal → LogAfter r items posts packet this old new
 log_failed r items posts packet this old new failed part = record {
   written = none_ok _ r failed;
@@ -27,7 +27,7 @@ log_failed r items posts packet this old new failed part = record {
 
 -- the first items were written, and the messages of the first part were posted
 pub log_behind : {T E : Type 0} (r : Result T E) (first items : List Item)
-    (before posts : List Post) (packet : ℕ) (this : Option Traveller) (old mid new : Log)
+    (before posts : List Post) (packet : ℕ) (this : Option Flight) (old mid new : Log)
     → mid.journal ≡ old.journal ++ first → mid.bag ≡ old.bag ++ before
     → mid.travelling ≡ old.travelling → LogAfter r items posts packet this mid new
     → LogAfter r (first ++ items) (before ++ posts) packet this old new
@@ -43,7 +43,7 @@ log_behind r first items before posts packet this old mid new grown more same lo
 
 -- one item was written
 pub log_one : {T E : Type 0} (r : Result T E) (item : Item) (packet : ℕ)
-    (this : Option Traveller) (old new : Log)
+    (this : Option Flight) (old new : Log)
     → OnOk r (new.journal ≡ old.journal ++ item ∷ []) → OnErr r (new.journal ≡ old.journal)
     → new.bag ≡ old.bag → WithOne old.travelling packet this new.travelling
     → LogAfter r (item ∷ []) [] packet this old new
@@ -56,7 +56,7 @@ log_one r item packet this old new written unwritten unsent with = record {
 
 -- and none of the messages was posted by the rest
 pub log_ends : {T E : Type 0} (r : Result T E) (first items : List Item) (posts : List Post)
-    (packet : ℕ) (this : Option Traveller) (old mid new : Log)
+    (packet : ℕ) (this : Option Flight) (old mid new : Log)
     → mid.journal ≡ old.journal ++ first → mid.bag ≡ old.bag ++ posts
     → mid.travelling ≡ old.travelling → LogAfter r items [] packet this mid new
     → LogAfter r (first ++ items) posts packet this old new

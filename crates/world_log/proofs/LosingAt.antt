@@ -6,25 +6,25 @@ use Rattle.std.proofs.lemmas.List.{map-append}
 use Rattle.journal.specs.declared.item.Item.{Item}
 use Rattle.journal.specs.declared.item.Item.TheVariants as item
 use Rattle.policy_rules.proofs.CallerLemmas.{filter_more}
-use Rattle.travelling.specs.Travelling.{IsNextAt, Travellers, WithOne, WithoutAt, numbers_at, stands_at, traveller}
+use Rattle.travelling.specs.Travelling.{IsNextAt, Flights, WithOne, WithoutAt, numbers_at, stands_at, flight}
 use Rattle.world_log.specs.Writing.{IsPart}
 use Rattle.travelling.proofs.Numbers.{beyond, filter_on, none_between}
 
 -- those below a number
-abbrev pub numbers_below : Travellers → ℕ → ℕ → List ℕ
+abbrev pub numbers_below : Flights → ℕ → ℕ → List ℕ
 numbers_below before switch from =
-    filter (λ i. stands_at switch (traveller before i)) (range_with_len 0 from)
+    filter (λ i. stands_at switch (flight before i)) (range_with_len 0 from)
 
 -- of the packets below this number those that stood at the switch are lost
-pub record AreLostBelow (before : Travellers) (switch from : ℕ) (journal now : List Item)
-    (after : Travellers) : Type 0 where
+pub record AreLostBelow (before : Flights) (switch from : ℕ) (journal now : List Item)
+    (after : Flights) : Type 0 where
   pub within : from ≤ length before
   pub written : now ≡ journal ++ map item.Lost (numbers_below before switch from)
-  pub lost : (i : ℕ) → i < from → traveller after i
-      ≡ (if stands_at switch (traveller before i) then None else traveller before i)
-  pub later : (i : ℕ) → from ≤ i → traveller after i ≡ traveller before i
+  pub lost : (i : ℕ) → i < from → flight after i
+      ≡ (if stands_at switch (flight before i) then None else flight before i)
+  pub later : (i : ℕ) → from ≤ i → flight after i ≡ flight before i
 
-pub none_lost : (before : Travellers) (switch : ℕ) (journal : List Item)
+pub none_lost : (before : Flights) (switch : ℕ) (journal : List Item)
     → AreLostBelow before switch 0 journal journal before
 none_lost before switch journal = record {
   within = omega arith;
@@ -33,12 +33,12 @@ none_lost before switch journal = record {
   later = λ i above. refl;
 }
 
-module _ (before : Travellers) (switch from : ℕ) (journal now : List Item) (after : Travellers)
+module _ (before : Flights) (switch from : ℕ) (journal now : List Item) (after : Flights)
     (lost : AreLostBelow before switch from journal now after) where
   abbrev test : ℕ → Bool
-  test i = stands_at switch (traveller before i)
+  test i = stands_at switch (flight before i)
 
-  stands_so : (i : ℕ) → from ≤ i → stands_at switch (traveller after i) ≡ test i
+  stands_so : (i : ℕ) → from ≤ i → stands_at switch (flight after i) ≡ test i
   stands_so i above = ap (stands_at switch) (lost.later i above)
 
   -- a part of all is written
@@ -86,7 +86,7 @@ module _ (before : Travellers) (switch from : ℕ) (journal now : List Item) (af
         (λ i above below. between i above (omega (arith, below, next.0))))
 
     -- it is lost too
-    pub lost_more : (behind : List Item) (gone : Travellers)
+    pub lost_more : (behind : List Item) (gone : Flights)
         → behind ≡ now ++ item.Lost packet ∷ [] → WithOne after packet None gone
         → AreLostBelow before switch (packet + 1) journal behind gone
     lost_more behind gone pushed without = record {
@@ -99,23 +99,23 @@ module _ (before : Travellers) (switch from : ℕ) (journal now : List Item) (af
           ∙ ap (map item.Lost) (sym below_next));
       lost = λ i below. without i ∙ by_same i (i == packet) refl below;
       later = λ i above. without i
-          ∙ ap (λ b. if b then None else traveller after i)
+          ∙ ap (λ b. if b then None else flight after i)
           (ne_eqb i packet (λ e. absurd (omega (arith, e, above))))
           ∙ lost.later i (omega (arith, above, next.0));
     }
       where
         by_place : (i : ℕ) → (i < from) ⊎ (from ≤ i) → i < packet
-            → traveller after i ≡ (if test i then None else traveller before i)
+            → flight after i ≡ (if test i then None else flight before i)
         by_place i (inl low) below = lost.lost i low
         by_place i (inr high) below =
             lost.later i high
-            ∙ sym (ap (λ b. if b then None else traveller before i) (between i high below))
+            ∙ sym (ap (λ b. if b then None else flight before i) (between i high below))
 
         by_same : (i : ℕ) (b : Bool) → (i == packet) ≡ b → i < packet + 1
-            → (if b then None else traveller after i)
-            ≡ (if test i then None else traveller before i)
+            → (if b then None else flight after i)
+            ≡ (if test i then None else flight before i)
         by_same i true e below =
-            sym (ap (λ c. if c then None else traveller before i)
+            sym (ap (λ c. if c then None else flight before i)
             (ap test (eqb-true i packet e) ∙ stood))
         by_same i false e below =
             by_place i (cases_lt i from) (omega (arith, below, other))
@@ -144,8 +144,8 @@ module _ (before : Travellers) (switch from : ℕ) (journal now : List Item) (af
     lost_all = λ i. by_place i (cases_lt i from)
       where
         by_place : (i : ℕ) → (i < from) ⊎ (from ≤ i)
-            → traveller after i ≡ (if test i then None else traveller before i)
+            → flight after i ≡ (if test i then None else flight before i)
         by_place i (inl low) = lost.lost i low
         by_place i (inr high) =
             lost.later i high
-            ∙ sym (ap (λ b. if b then None else traveller before i) (none_more i high))
+            ∙ sym (ap (λ b. if b then None else flight before i) (none_more i high))

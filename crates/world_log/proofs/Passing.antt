@@ -6,19 +6,19 @@ use Rattle.journal.specs.declared.item.Item.TheVariants as item
 use Rattle.message_bag.specs.Posts.{Post}
 use Rattle.net_file.specs.declared.ports.Ports.{Ports}
 use Rattle.policy_rules.specs.declared.packet.Leg.{Leg}
-use Rattle.switch_core.specs.Answering.{arrived, arrived_on}
+use Rattle.switch_core.specs.Answering.{arrive_answer, arrived_on}
 use Rattle.switch_core.specs.Ends.{around}
-use Rattle.switch_core.specs.Moving.{Moved, link_found_down, hopped, hopped_to, is_free, moved}
+use Rattle.switch_core.specs.Moving.{Moved, link_found_down, hop_answer, hopped_to, is_free, move_answer}
 use Rattle.switch_core.specs.State.{SwitchValue, call_counted}
 use Rattle.switch_core.specs.declared.answers.Arrived.{Arrived}
 use Rattle.switch_core.specs.declared.answers.HopEnd.{HopEnd}
 use Rattle.switch_core.specs.declared.answers.HopEnd.TheVariants as hop
-use Rattle.tunnel.specs.Moves.{advanced, next}
+use Rattle.tunnel.specs.Moves.{advanced_tunnel, next}
 use Rattle.tunnel.specs.Tunnel.{TunnelValue}
 use Rattle.travelling.specs.Travelling.{Standing, placed_at, standing_at}
-use Rattle.travelling.specs.declared.travelling.Traveller.{Traveller}
-use Rattle.world_log.specs.Packets.{arrival, arrival_items, arrival_posts, ended_items, ended_posts, ended_switch, ended_traveller, hop_posts, hop_traveller, hop_written, hopped_switch, turned_items}
-use Rattle.world_log.specs.Writing.{IsPart, LogAfter, arrived_items, arrived_posts, arrived_traveller, packet_standing}
+use Rattle.travelling.specs.declared.travelling.Flight.{Flight}
+use Rattle.world_log.specs.Packets.{arrival, arrival_items, arrival_posts, ended_items, ended_posts, ended_switch, ended_flight, hop_posts, hop_flight, hop_written, hopped_switch, turned_items}
+use Rattle.world_log.specs.Writing.{IsPart, LogAfter, arrived_items, arrived_posts, arrived_flight, packet_standing}
 use Rattle.world_log.specs.declared.log.Log.{Log}
 use Rattle.world_log.proofs.Logs.{log_behind}
 use Rattle.world_log.proofs.Writing.{part_first}
@@ -66,7 +66,7 @@ module _ (s now : SwitchValue) (near : ℕ) (onward : Option ℕ) (answer : Opti
 
 -- ---- all that a hop wrote
 
-module _ (s : SwitchValue) (near : ℕ) (ports : Ports) (t : Traveller) where
+module _ (s : SwitchValue) (near : ℕ) (ports : Ports) (t : Flight) where
   abbrev pub items_by : ℕ → Option ℕ → Moved → List Item
   items_by number found m =
       turned_items t.tunnel.packet s.number found m.end m.tunnel.route
@@ -75,59 +75,62 @@ module _ (s : SwitchValue) (near : ℕ) (ports : Ports) (t : Traveller) where
   abbrev pub posts_by : Moved → List Post
   posts_by m = ended_posts (call_counted s) near ports (record t { tunnel = m.tunnel }) m.end
 
-  abbrev pub traveller_by : Moved → Option Traveller
-  traveller_by m =
-      ended_traveller (call_counted s) near ports (record t { tunnel = m.tunnel }) m.end
+  abbrev pub flight_by : Moved → Option Flight
+  flight_by m =
+      ended_flight (call_counted s) near ports (record t { tunnel = m.tunnel }) m.end
 
   pub hop_log : {T E : Type 0} (r : Result T E) (number packet : ℕ) (found : Option ℕ) (m : Moved)
-      (old new : Log) → link_found_down near (next t.tunnel) ≡ found → hopped s near t.tunnel ≡ m
-      → LogAfter r (items_by number found m) (posts_by m) packet (traveller_by m) old new
+      (old new : Log) → link_found_down near (next t.tunnel) ≡ found → hop_answer s near t.tunnel
+      ≡ m
+      → LogAfter r (items_by number found m) (posts_by m) packet (flight_by m) old new
       → LogAfter r (hop_written number s near ports t) (hop_posts s near ports t) packet
-      (hop_traveller s near ports t) old new
+      (hop_flight s near ports t) old new
   hop_log r number packet found m old new found_is moved_is log =
-      subst (λ f. LogAfter r (items_by number f (hopped s near t.tunnel))
-      (posts_by (hopped s near t.tunnel)) packet (traveller_by (hopped s near t.tunnel)) old new)
+      subst (λ f. LogAfter r (items_by number f (hop_answer s near t.tunnel))
+      (posts_by (hop_answer s near t.tunnel)) packet (flight_by (hop_answer s near t.tunnel)) old
+      new)
       (sym found_is)
-      (subst (λ m. LogAfter r (items_by number found m) (posts_by m) packet (traveller_by m) old new)
+      (subst (λ m. LogAfter r (items_by number found m) (posts_by m) packet (flight_by m) old new)
       (sym moved_is) log)
 
   -- where no link was found down
   pub free_hop : (onward : Option ℕ) → is_free near (next t.tunnel) ≡ true
-      → next t.tunnel ≡ onward → hopped s near t.tunnel ≡ moved t.tunnel onward
-  unfolding hopped
+      → next t.tunnel ≡ onward → hop_answer s near t.tunnel ≡ move_answer t.tunnel onward
+  unfolding hop_answer
   free_hop onward free is =
       ap (hopped_to s near t.tunnel) (free_none near (next t.tunnel) free)
-      ∙ ap (moved t.tunnel) is
+      ∙ ap (move_answer t.tunnel) is
 
   pub passed_log : {T E : Type 0} (r : Result T E) (number packet : ℕ) (onward : Option ℕ)
       (old new : Log) → is_free near (next t.tunnel) ≡ true → next t.tunnel ≡ onward
-      → LogAfter r (items_by number None (moved t.tunnel onward)) (posts_by (moved t.tunnel onward))
-      packet (traveller_by (moved t.tunnel onward)) old new
+      → LogAfter r (items_by number None (move_answer t.tunnel onward))
+      (posts_by (move_answer t.tunnel onward))
+      packet (flight_by (move_answer t.tunnel onward)) old new
       → LogAfter r (hop_written number s near ports t) (hop_posts s near ports t) packet
-      (hop_traveller s near ports t) old new
+      (hop_flight s near ports t) old new
   passed_log r number packet onward old new free is =
-      hop_log r number packet None (moved t.tunnel onward) old new
+      hop_log r number packet None (move_answer t.tunnel onward) old new
       (free_none near (next t.tunnel) free) (free_hop onward free is)
 
   pub passed_switch : (onward : Option ℕ) → is_free near (next t.tunnel) ≡ true
       → next t.tunnel ≡ onward
-      → hopped_switch s near t ≡ ended_switch (call_counted s) (moved t.tunnel onward).end
+      → hopped_switch s near t ≡ ended_switch (call_counted s) (move_answer t.tunnel onward).end
   passed_switch onward free is =
       ap (λ (m : Moved). ended_switch (call_counted s) m.end) (free_hop onward free is)
 
 -- it moved on over a usable link
 pub move_log : {T E : Type 0} (r : Result T E) (s : SwitchValue) (near : ℕ) (ports : Ports)
-    (t : Traveller) (number packet place other : ℕ) (there : Option Traveller) (old new : Log)
+    (t : Flight) (number packet place other : ℕ) (there : Option Flight) (old new : Log)
     → Some t ≡ there → t.tunnel.packet ≡ packet → place ≡ t.tunnel.place + 1
     → is_free near (next t.tunnel) ≡ true → next t.tunnel ≡ Some other
     → LogAfter r (item.Hopped packet other ∷ []) [] packet (option_map (placed_at place) there)
     old new
     → LogAfter r (hop_written number s near ports t) (hop_posts s near ports t) packet
-    (hop_traveller s near ports t) old new
+    (hop_flight s near ports t) old new
 move_log r s near ports t number packet place other there old new its same place_is free is log =
     passed_log s near ports t r number packet (Some other) old new free is
     (subst (λ k. LogAfter r (item.Hopped k other ∷ []) [] packet
-    (Some (record t { tunnel = advanced t.tunnel })) old new) (sym same)
+    (Some (record t { tunnel = advanced_tunnel t.tunnel })) old new) (sym same)
     (subst (λ o. LogAfter r (item.Hopped packet other ∷ []) [] packet
     (option_map (placed_at (t.tunnel.place + 1)) o) old new) (sym its)
     (subst (λ k. LogAfter r (item.Hopped packet other ∷ []) [] packet
@@ -142,33 +145,33 @@ moved_is m end tunnel end_is tunnel_is =
     ∙ ap (λ u. record { end = end; tunnel = u }) (sym tunnel_is)
 
 -- what the switch answered to a hop of this packet there
-pub record IsMet (s : SwitchValue) (near : ℕ) (t : Traveller) (packet here other : ℕ)
+pub record IsMet (s : SwitchValue) (near : ℕ) (t : Flight) (packet here other : ℕ)
     (end : HopEnd) (tunnel : TunnelValue) : Type 0 where
   pub same : t.tunnel.packet ≡ packet
   pub at : here ≡ s.number
   pub found : link_found_down near (next t.tunnel) ≡ Some other
-  pub ends : end ≡ (hopped s near t.tunnel).end
-  pub moves : tunnel ≡ (hopped s near t.tunnel).tunnel
+  pub ends : end ≡ (hop_answer s near t.tunnel).end
+  pub moves : tunnel ≡ (hop_answer s near t.tunnel).tunnel
 
 -- behind the link, and the route that was taken around it, if one was
 pub met_log : {T E : Type 0} (r : Result T E) (s : SwitchValue) (near : ℕ) (ports : Ports)
-    (t : Traveller) (number packet here other : ℕ) (end : HopEnd) (tunnel : TunnelValue)
+    (t : Flight) (number packet here other : ℕ) (end : HopEnd) (tunnel : TunnelValue)
     (old mid new : Log) → IsMet s near t packet here other end tunnel
     → mid.journal ≡ old.journal ++ turned_items packet here (Some other) end tunnel.route
     → mid.bag ≡ old.bag → mid.travelling ≡ old.travelling
     → LogAfter r
     (ended_items number (call_counted s) near ports (record t { tunnel = tunnel }) end)
     (ended_posts (call_counted s) near ports (record t { tunnel = tunnel }) end) packet
-    (ended_traveller (call_counted s) near ports (record t { tunnel = tunnel }) end) mid new
+    (ended_flight (call_counted s) near ports (record t { tunnel = tunnel }) end) mid new
     → LogAfter r (hop_written number s near ports t) (hop_posts s near ports t) packet
-    (hop_traveller s near ports t) old new
+    (hop_flight s near ports t) old new
 met_log r s near ports t number packet here other end tunnel old mid new is grown same_bag same log =
-    let u : Traveller = record t { tunnel = tunnel } in
+    let u : Flight = record t { tunnel = tunnel } in
     let ended : List Item = ended_items number (call_counted s) near ports u end in
     let posts : List Post = ended_posts (call_counted s) near ports u end in
-    let this : Option Traveller = ended_traveller (call_counted s) near ports u end in
+    let this : Option Flight = ended_flight (call_counted s) near ports u end in
     hop_log s near ports t r number packet (Some other) (record { end = end; tunnel = tunnel })
-    old new is.found (moved_is (hopped s near t.tunnel) end tunnel is.ends is.moves)
+    old new is.found (moved_is (hop_answer s near t.tunnel) end tunnel is.ends is.moves)
     (subst (λ k. LogAfter r (turned_items k s.number (Some other) end tunnel.route ++ ended) posts
     packet this old new) (sym is.same)
     (subst (λ n. LogAfter r (turned_items packet n (Some other) end tunnel.route ++ ended) posts
@@ -177,22 +180,22 @@ met_log r s near ports t number packet here other end tunnel old mid new is grow
     this old mid new grown (same_bag ∙ sym (append-nil old.bag)) same log)))
 
 -- where memory ran out, a part was written: up to the route that was taken, or the link alone
-module _ (s : SwitchValue) (near : ℕ) (ports : Ports) (t : Traveller)
+module _ (s : SwitchValue) (near : ℕ) (ports : Ports) (t : Flight)
     (number packet here other : ℕ) (end : HopEnd) (tunnel : TunnelValue) (old new : List Item)
     (is : IsMet s near t packet here other end tunnel) where
   part_by : IsPart old (items_by s near ports t number (Some other)
       (record { end = end; tunnel = tunnel })) new
       → IsPart old (hop_written number s near ports t) new
   part_by part =
-      subst (λ f. IsPart old (items_by s near ports t number f (hopped s near t.tunnel)) new)
+      subst (λ f. IsPart old (items_by s near ports t number f (hop_answer s near t.tunnel)) new)
       (sym is.found)
       (subst (λ m. IsPart old (items_by s near ports t number (Some other) m) new)
-      (sym (moved_is (hopped s near t.tunnel) end tunnel is.ends is.moves)) part)
+      (sym (moved_is (hop_answer s near t.tunnel) end tunnel is.ends is.moves)) part)
 
   pub met_turned : new ≡ old ++ turned_items packet here (Some other) end tunnel.route
       → IsPart old (hop_written number s near ports t) new
   met_turned grown =
-      let u : Traveller = record t { tunnel = tunnel } in
+      let u : Flight = record t { tunnel = tunnel } in
       part_by (record {
         written = turned_items t.tunnel.packet s.number (Some other) end tunnel.route;
         rest = ended_items number (call_counted s) near ports u end;
@@ -205,7 +208,7 @@ module _ (s : SwitchValue) (near : ℕ) (ports : Ports) (t : Traveller)
   pub met_first : new ≡ old ++ item.FoundDown packet here other ∷ []
       → IsPart old (hop_written number s near ports t) new
   met_first grown =
-      let u : Traveller = record t { tunnel = tunnel } in
+      let u : Flight = record t { tunnel = tunnel } in
       let told : new ≡ old ++ item.FoundDown t.tunnel.packet s.number other ∷ [] =
       grown ∙ ap (λ k. old ++ item.FoundDown k here other ∷ []) (sym is.same)
       ∙ ap (λ n. old ++ item.FoundDown t.tunnel.packet n other ∷ []) is.at in
@@ -219,8 +222,8 @@ module _ (s : SwitchValue) (near : ℕ) (ports : Ports) (t : Traveller)
       by_end (hop.Stuck cause) told = part_first old new _ _ told
 
 -- and the switch was asked so often
-pub met_switch : (s : SwitchValue) (near : ℕ) (t : Traveller) (end : HopEnd)
-    → end ≡ (hopped s near t.tunnel).end
+pub met_switch : (s : SwitchValue) (near : ℕ) (t : Flight) (end : HopEnd)
+    → end ≡ (hop_answer s near t.tunnel).end
     → ended_switch (call_counted s) end ≡ hopped_switch s near t
 met_switch s near t end is = ap (ended_switch (call_counted s)) is
 
@@ -228,22 +231,22 @@ met_switch s near t end is = ap (ended_switch (call_counted s)) is
 
 -- what was written of the packet that stands there is what its arrival writes
 pub arrival_log : {T E : Type 0} (r : Result T E) (number : ℕ) (w : SwitchValue) (near : ℕ)
-    (ports : Ports) (t : Traveller) (at : Standing) (version : ℕ) (rule : Option ℕ) (leg : Leg)
+    (ports : Ports) (t : Flight) (at : Standing) (version : ℕ) (rule : Option ℕ) (leg : Leg)
     (packet : ℕ) (old new : Log)
     → at ≡ standing_at w.number t → version ≡ t.version → rule ≡ t.rule → leg ≡ t.tunnel.leg
     → LogAfter r (arrived_items number at version rule
     (arrived_on w (around near ports) (packet_standing at) leg))
     (arrived_posts at (arrived_on w (around near ports) (packet_standing at) leg))
-    packet (arrived_traveller version rule
+    packet (arrived_flight version rule
     (arrived_on w (around near ports) (packet_standing at) leg)) old new
     → LogAfter r (arrival_items number w near ports t) (arrival_posts w near ports t) packet
     (arrival w near ports t) old new
-unfolding arrival_items arrival_posts arrival arrived
+unfolding arrival_items arrival_posts arrival arrive_answer
 arrival_log r number w near ports t at version rule leg packet old new at_is version_is rule_is
     leg_is log =
     let P : Standing → ℕ → Option ℕ → Arrived → Type 0 = λ at version rule what.
     LogAfter r (arrived_items number at version rule what) (arrived_posts at what) packet
-    (arrived_traveller version rule what) old new in
+    (arrived_flight version rule what) old new in
     subst (λ leg. P (standing_at w.number t) t.version t.rule
     (arrived_on w (around near ports) (packet_standing (standing_at w.number t)) leg)) leg_is
     (subst (λ rule. P (standing_at w.number t) t.version rule
@@ -254,9 +257,9 @@ arrival_log r number w near ports t at version rule leg packet old new at_is ver
     at_is log)))
 
 -- what holds of the packet that was looked up holds of any that is there
-pub of_kept : (P : Traveller → Type 0) (there : Option Traveller) (kept : Traveller)
-    → Some kept ≡ there → P kept → (t : Traveller) → there ≡ Some t → P t
+pub of_kept : (P : Flight → Type 0) (there : Option Flight) (kept : Flight)
+    → Some kept ≡ there → P kept → (t : Flight) → there ≡ Some t → P t
 of_kept P there kept is holds t its =
-    let both : ◌≡◌ {A = Option Traveller} (Some kept) (Some t) = is ∙ its in
+    let both : ◌≡◌ {A = Option Flight} (Some kept) (Some t) = is ∙ its in
     let same : kept ≡ t = cc in
     subst P same holds

@@ -2,7 +2,7 @@
 use Rattle.std.proofs.Common.{ℕ, ◌≡◌, ◌+◌, ◌<◌, ◌≤◌, List, [], ◌∷◌, ◌++◌, refl, ap, sym, ◌∙◌, length, length-append, length-take-le, append-nil, append_assoc, drop, get_or, map, subst, take, take-append-drop, arith}
 use Rattle.std.specs.Prelude.{All}
 use Rattle.std.proofs.lemmas.List.{get_or-append-add, get_or-map, get_or_append_left, length-map, map-append, take_more}
-use Rattle.message_bag.specs.Posts.{Post, posted}
+use Rattle.message_bag.specs.Posts.{Post, new_post}
 use Rattle.controller.specs.declared.sends.Act.{Act}
 use Rattle.controller.specs.declared.sends.Act.TheVariants as act
 use Rattle.ctrl_msg.specs.declared.message.Message.{Message}
@@ -86,7 +86,7 @@ pub record AreSent (journal : List Item) (bag : List Post) (messages : List Mess
 pub sent_more : (journal now after : List Item) (bag posts later : List Post)
     (messages : List Message) (k : ℕ) (one : Message) → k < length messages
     → one ≡ get_or messages k one → AreSent journal bag (take k messages) now posts
-    → after ≡ now ++ item.Sent (length posts + 1) one ∷ [] → later ≡ posts ++ posted one ∷ []
+    → after ≡ now ++ item.Sent (length posts + 1) one ∷ [] → later ≡ posts ++ new_post one ∷ []
     → AreSent journal bag (take (k + 1) messages) after later
 sent_more journal now after bag posts later messages k one within is so sent post =
     let first : List Message = take k messages in
@@ -96,8 +96,8 @@ sent_more journal now after bag posts later messages k one within is so sent pos
     omega (
       arith,
       ap length so.posted,
-      length-append bag (map posted first),
-      length-map first posted,
+      length-append bag (map new_post first),
+      length-map first new_post,
     ) in record {
       written = both_written journal now after (sent_from (length bag + 1) first)
           (item.Sent (length posts + 1) one ∷ []) so.written sent
@@ -105,9 +105,9 @@ sent_more journal now after bag posts later messages k one within is so sent pos
           (sym (sent_one (length posts + 1) one) ∙ ap (λ n. sent_from n (one ∷ [])) number)
           ∙ ap (λ items. journal ++ items) (sym (sent_append (length bag + 1) first (one ∷ [])))
           ∙ ap (λ these. journal ++ sent_from (length bag + 1) these) (sym next);
-      posted = both_written bag posts later (map posted first) (posted one ∷ []) so.posted post
-          ∙ ap (λ more. bag ++ more) (sym (map-append posted first (one ∷ [])))
-          ∙ ap (λ these. bag ++ map posted these) (sym next);
+      posted = both_written bag posts later (map new_post first) (new_post one ∷ []) so.posted post
+          ∙ ap (λ more. bag ++ more) (sym (map-append new_post first (one ∷ [])))
+          ∙ ap (λ these. bag ++ map new_post these) (sym next);
     }
 
 pub sent_part : (journal now : List Item) (bag posts : List Post) (messages : List Message)
@@ -127,8 +127,8 @@ pub sent_few : (journal now : List Item) (bag posts : List Post) (messages : Lis
 sent_few journal now bag posts messages k so within = omega (
   arith,
   ap length so.posted,
-  length-append bag (map posted (take k messages)),
-  length-map (take k messages) posted,
+  length-append bag (map new_post (take k messages)),
+  length-map (take k messages) new_post,
   length-take-le k messages (omega (arith, within)),
   within,
 )
@@ -244,14 +244,14 @@ sent_as_acts number (message ∷ messages) =
     ap (λ items. item.Sent number message ∷ items) (sent_as_acts (number + 1) messages)
 
 pub posts_as_acts : (messages : List Message)
-    → act_posts (map act.Post messages) ≡ map posted messages
+    → act_posts (map act.Post messages) ≡ map new_post messages
 unfolding act_posts
 posts_as_acts [] = refl
-posts_as_acts (message ∷ messages) = ap (λ posts. posted message ∷ posts) (posts_as_acts messages)
+posts_as_acts (message ∷ messages) = ap (λ posts. new_post message ∷ posts) (posts_as_acts messages)
 
 -- messages are acts too
 pub sent_done : (journal now : List Item) (bag posts : List Post) (messages : List Message)
-    → now ≡ journal ++ sent_from (length bag + 1) messages → posts ≡ bag ++ map posted messages
+    → now ≡ journal ++ sent_from (length bag + 1) messages → posts ≡ bag ++ map new_post messages
     → AreDone journal bag (map act.Post messages) now posts
 sent_done journal now bag posts messages sent post = record {
   written = sent

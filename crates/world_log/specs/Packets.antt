@@ -6,17 +6,17 @@ use Rattle.five_tuple.specs.declared.header.Header.{Header}
 use Rattle.journal.specs.declared.item.Item.{Item}
 use Rattle.journal.specs.declared.item.Item.TheVariants as item
 use Rattle.net_file.specs.declared.ports.Ports.{Ports}
-use Rattle.switch_core.specs.Answering.{arrived, entered, incoming}
+use Rattle.switch_core.specs.Answering.{arrive_answer, enter_answer, incoming_packet}
 use Rattle.switch_core.specs.Ends.{around}
-use Rattle.switch_core.specs.Moving.{link_found_down, hopped}
+use Rattle.switch_core.specs.Moving.{link_found_down, hop_answer}
 use Rattle.switch_core.specs.State.{SwitchValue, call_counted}
 use Rattle.switch_core.specs.declared.answers.Entered.{Entered}
 use Rattle.switch_core.specs.declared.answers.HopEnd.{HopEnd}
 use Rattle.switch_core.specs.declared.answers.HopEnd.TheVariants as hop
 use Rattle.tunnel.specs.Moves.{next}
 use Rattle.travelling.specs.Travelling.{Standing, standing_at}
-use Rattle.world_log.specs.Writing.{arrived_items, arrived_posts, arrived_traveller}
-use Rattle.travelling.specs.declared.travelling.Traveller.{Traveller}
+use Rattle.world_log.specs.Writing.{arrived_items, arrived_posts, arrived_flight}
+use Rattle.travelling.specs.declared.travelling.Flight.{Flight}
 
 -- a packet that comes in at a switch
 abbrev pub coming_in : ℕ → Header → ℕ → Standing
@@ -31,23 +31,23 @@ coming_in packet header switch = record {
 -- the switch's answer to it
 abbrev pub entry : SwitchValue → ℕ → Ports → ℕ → Header → Entered
 entry s near ports packet header =
-    entered s (around near ports) (incoming s packet header)
+    enter_answer s (around near ports) (incoming_packet s packet header)
 
 -- what its arrival writes where the next message has this number, what it posts, and where the
 -- packet is then
-unfoldable pub arrival_items : ℕ → SwitchValue → ℕ → Ports → Traveller → List Item
-arrival_items number s near ports traveller =
-    arrived_items number (standing_at s.number traveller) traveller.version traveller.rule
-    (arrived s (around near ports) traveller.tunnel)
+unfoldable pub arrival_items : ℕ → SwitchValue → ℕ → Ports → Flight → List Item
+arrival_items number s near ports flight =
+    arrived_items number (standing_at s.number flight) flight.version flight.rule
+    (arrive_answer s (around near ports) flight.tunnel)
 
-unfoldable pub arrival_posts : SwitchValue → ℕ → Ports → Traveller → List Post
-arrival_posts s near ports traveller =
-    arrived_posts (standing_at s.number traveller) (arrived s (around near ports) traveller.tunnel)
+unfoldable pub arrival_posts : SwitchValue → ℕ → Ports → Flight → List Post
+arrival_posts s near ports flight =
+    arrived_posts (standing_at s.number flight) (arrive_answer s (around near ports) flight.tunnel)
 
-unfoldable pub arrival : SwitchValue → ℕ → Ports → Traveller → Option Traveller
-arrival s near ports traveller =
-    arrived_traveller traveller.version traveller.rule
-    (arrived s (around near ports) traveller.tunnel)
+unfoldable pub arrival : SwitchValue → ℕ → Ports → Flight → Option Flight
+arrival s near ports flight =
+    arrived_flight flight.version flight.rule
+    (arrive_answer s (around near ports) flight.tunnel)
 
 -- ---- as it moves on
 
@@ -60,13 +60,13 @@ turned_items packet here (Some other) _ route =
     item.FoundDown packet here other ∷ item.Rerouted packet route ∷ []
 
 -- it is at the end of its route, moves to the next switch or is stuck
-abbrev pub ended_items : ℕ → SwitchValue → ℕ → Ports → Traveller → HopEnd → List Item
+abbrev pub ended_items : ℕ → SwitchValue → ℕ → Ports → Flight → HopEnd → List Item
 ended_items number s near ports t hop.Arrive = arrival_items number s near ports t
 ended_items number s near ports t (hop.Move other) = item.Hopped t.tunnel.packet other ∷ []
 ended_items number s near ports t (hop.Stuck cause) =
     item.Stuck t.tunnel.packet s.number cause t.tunnel.leg t.tunnel.down ∷ []
 
-abbrev pub ended_posts : SwitchValue → ℕ → Ports → Traveller → HopEnd → List Post
+abbrev pub ended_posts : SwitchValue → ℕ → Ports → Flight → HopEnd → List Post
 ended_posts s near ports t hop.Arrive = arrival_posts s near ports t
 ended_posts s near ports t _ = []
 
@@ -76,29 +76,31 @@ ended_switch s hop.Arrive = call_counted s
 ended_switch s _ = s
 
 -- the packet behind the switch's move
-abbrev pub hopped_traveller : SwitchValue → ℕ → Traveller → Traveller
-hopped_traveller s near t = record t { tunnel = (hopped s near t.tunnel).tunnel }
+abbrev pub hopped_flight : SwitchValue → ℕ → Flight → Flight
+hopped_flight s near t = record t { tunnel = (hop_answer s near t.tunnel).tunnel }
 
 -- all that a hop writes and posts, and where the packet is then
-abbrev pub hop_written : ℕ → SwitchValue → ℕ → Ports → Traveller → List Item
+abbrev pub hop_written : ℕ → SwitchValue → ℕ → Ports → Flight → List Item
 hop_written number s near ports t =
-    let moved = hopped s near t.tunnel in
+    let moved = hop_answer s near t.tunnel in
     turned_items t.tunnel.packet s.number (link_found_down near (next t.tunnel)) moved.end
     moved.tunnel.route
-    ++ ended_items number (call_counted s) near ports (hopped_traveller s near t) moved.end
+    ++ ended_items number (call_counted s) near ports (hopped_flight s near t) moved.end
 
-abbrev pub hop_posts : SwitchValue → ℕ → Ports → Traveller → List Post
+abbrev pub hop_posts : SwitchValue → ℕ → Ports → Flight → List Post
 hop_posts s near ports t =
-    ended_posts (call_counted s) near ports (hopped_traveller s near t) (hopped s near t.tunnel).end
+    ended_posts (call_counted s) near ports (hopped_flight s near t)
+    (hop_answer s near t.tunnel).end
 
-abbrev pub ended_traveller : SwitchValue → ℕ → Ports → Traveller → HopEnd → Option Traveller
-ended_traveller s near ports t hop.Arrive = arrival s near ports t
-ended_traveller s near ports t (hop.Move other) = Some t
-ended_traveller s near ports t (hop.Stuck cause) = None
+abbrev pub ended_flight : SwitchValue → ℕ → Ports → Flight → HopEnd → Option Flight
+ended_flight s near ports t hop.Arrive = arrival s near ports t
+ended_flight s near ports t (hop.Move other) = Some t
+ended_flight s near ports t (hop.Stuck cause) = None
 
-abbrev pub hop_traveller : SwitchValue → ℕ → Ports → Traveller → Option Traveller
-hop_traveller s near ports t =
-    ended_traveller (call_counted s) near ports (hopped_traveller s near t) (hopped s near t.tunnel).end
+abbrev pub hop_flight : SwitchValue → ℕ → Ports → Flight → Option Flight
+hop_flight s near ports t =
+    ended_flight (call_counted s) near ports (hopped_flight s near t)
+    (hop_answer s near t.tunnel).end
 
-abbrev pub hopped_switch : SwitchValue → ℕ → Traveller → SwitchValue
-hopped_switch s near t = ended_switch (call_counted s) (hopped s near t.tunnel).end
+abbrev pub hopped_switch : SwitchValue → ℕ → Flight → SwitchValue
+hopped_switch s near t = ended_switch (call_counted s) (hop_answer s near t.tunnel).end

@@ -1,6 +1,6 @@
 -- Messages that are sent one after another, and what a controller does, as items of the journal.
 use Rattle.std.specs.Prelude.{⊤, ℕ, ◌+◌, ◌^◌, ◌<◌, List, [], ◌∷◌, ◌++◌, length, All}
-use Rattle.message_bag.specs.Posts.{Post, posted}
+use Rattle.message_bag.specs.Posts.{Post, new_post}
 use Rattle.controller.specs.declared.sends.Act.{Act}
 use Rattle.controller.specs.declared.sends.Act.TheVariants as act
 use Rattle.ctrl_msg.specs.declared.message.Message.{Message}
@@ -26,7 +26,7 @@ act_items number (first ∷ acts) =
 
 -- what one act posts
 abbrev pub act_post : Act → List Post
-act_post (act.Post message) = posted message ∷ []
+act_post (act.Post message) = new_post message ∷ []
 act_post _ = []
 
 unfoldable pub act_posts : List Act → List Post

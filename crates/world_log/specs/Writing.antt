@@ -1,6 +1,6 @@
 -- What the answers of a switch to a packet make of the journal and of the packet.
 use Rattle.std.specs.Prelude.{ℕ, ◌≡◌, Option, Some, None, option_map, List, [], ◌∷◌, ◌++◌, map, Result, Ok, Err, OnOk, OnErr}
-use Rattle.message_bag.specs.Posts.{Post, posted}
+use Rattle.message_bag.specs.Posts.{Post, new_post}
 use Rattle.ctrl_msg.specs.declared.message.Body.{Body}
 use Rattle.ctrl_msg.specs.declared.message.Message.{Message}
 use Rattle.ctrl_msg.specs.declared.message.Receiver.TheVariants as receiver
@@ -26,7 +26,7 @@ use Rattle.tunnel.specs.Tunnel.{TunnelValue}
 use Rattle.update_machine.specs.Messages.{sent_from}
 use Rattle.update_machine.specs.Moves.{takes_route}
 use Rattle.travelling.specs.Travelling.{Standing, WithOne}
-use Rattle.travelling.specs.declared.travelling.Traveller.{Traveller}
+use Rattle.travelling.specs.declared.travelling.Flight.{Flight}
 use Rattle.world_log.specs.declared.log.Log.{Log}
 
 -- the items begin with what was written behind the old journal
@@ -39,7 +39,7 @@ pub record IsPart (old items new : List Item) : Type 0 where
 -- what a call leaves of a log: it wrote these items and posted these frames, and of the packets on
 -- their way this one alone is what it is now; where memory ran out, a part of the items is written
 pub record LogAfter {T E : Type 0} (result : Result T E) (items : List Item) (posts : List Post)
-    (packet : ℕ) (this : Option Traveller) (old new : Log) : Type 0 where
+    (packet : ℕ) (this : Option Flight) (old new : Log) : Type 0 where
   pub written : OnOk result (new.journal ≡ old.journal ++ items)
   pub posted : OnOk result (new.bag ≡ old.bag ++ posts)
   pub travels : OnOk result (WithOne old.travelling packet this new.travelling)
@@ -57,10 +57,10 @@ set_item at leg (Ok tunnel) = takes_route at.packet tunnel.leg tunnel.route
 set_item at leg (Err cause) = item.Stuck at.packet at.switch cause leg at.down
 
 -- where the packet had this version and this rule
-abbrev pub set_traveller : ℕ → Option ℕ → Result TunnelValue Cause → Option Traveller
-set_traveller version rule (Ok tunnel) =
+abbrev pub set_flight : ℕ → Option ℕ → Result TunnelValue Cause → Option Flight
+set_flight version rule (Ok tunnel) =
     Some (record { tunnel = tunnel; version = version; rule = rule })
-set_traveller version rule (Err cause) = None
+set_flight version rule (Err cause) = None
 
 -- ---- once it is decided
 
@@ -91,10 +91,10 @@ decided_items at decision sends onward =
     ∷ sends ++ end_item at decision onward ∷ []
 
 -- it travels on where it is to exit elsewhere
-abbrev pub decided_traveller : Decision → Next → Option Traveller
-decided_traveller decision (next.Exit tunnel) =
+abbrev pub decided_flight : Decision → Next → Option Flight
+decided_flight decision (next.Exit tunnel) =
     Some (record { tunnel = tunnel; version = decision.version; rule = decision.rule })
-decided_traveller decision _ = None
+decided_flight decision _ = None
 
 -- ---- by the answer of a lookup
 
@@ -125,15 +125,15 @@ answer_items number at (answer.Stuck cause leg) =
 
 -- what it posts
 abbrev pub answer_posts : Standing → Answer → List Post
-answer_posts at what = map posted (messages_in (answer_message at what))
+answer_posts at what = map new_post (messages_in (answer_message at what))
 
 -- where the packet had this version and this rule
-abbrev pub answer_traveller : ℕ → Option ℕ → Answer → Option Traveller
-answer_traveller version rule (answer.Decided decision cache onward) =
-    decided_traveller decision onward
-answer_traveller version rule (answer.Seek tunnel) =
+abbrev pub answer_flight : ℕ → Option ℕ → Answer → Option Flight
+answer_flight version rule (answer.Decided decision cache onward) =
+    decided_flight decision onward
+answer_flight version rule (answer.Seek tunnel) =
     Some (record { tunnel = tunnel; version = version; rule = rule })
-answer_traveller version rule (answer.Stuck cause leg) = None
+answer_flight version rule (answer.Stuck cause leg) = None
 
 -- ---- as it comes in
 
@@ -146,9 +146,9 @@ abbrev pub entered_posts : Standing → Entered → List Post
 entered_posts at entered.Closed = []
 entered_posts at (entered.Answered what) = answer_posts at what
 
-abbrev pub entered_traveller : Entered → Option Traveller
-entered_traveller entered.Closed = None
-entered_traveller (entered.Answered what) = answer_traveller 0 None what
+abbrev pub entered_flight : Entered → Option Flight
+entered_flight entered.Closed = None
+entered_flight (entered.Answered what) = answer_flight 0 None what
 
 -- ---- at the end of its route
 
@@ -161,6 +161,6 @@ abbrev pub arrived_posts : Standing → Arrived → List Post
 arrived_posts at (arrived.Out port) = []
 arrived_posts at (arrived.Answered what) = answer_posts at what
 
-abbrev pub arrived_traveller : ℕ → Option ℕ → Arrived → Option Traveller
-arrived_traveller version rule (arrived.Out port) = None
-arrived_traveller version rule (arrived.Answered what) = answer_traveller version rule what
+abbrev pub arrived_flight : ℕ → Option ℕ → Arrived → Option Flight
+arrived_flight version rule (arrived.Out port) = None
+arrived_flight version rule (arrived.Answered what) = answer_flight version rule what

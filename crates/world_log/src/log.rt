@@ -1,18 +1,18 @@
 ghost use Rattle.std.specs.Prelude.{◌≡◌, ◌+◌, ◌-◌, ◌^◌, ◌<◌, [], ◌∷◌, ◌++◌, Some, None, IsSomeAnd, OnOk, OnErr, length, option_map};
-ghost use Rattle.message_bag.specs.Posts.{posted};
+ghost use Rattle.message_bag.specs.Posts.{new_post};
 ghost use Rattle.message_bag.specs.Feeding.{HasShortSpelling};
 ghost use Rattle.journal.specs.declared.item.Item.TheVariants.{Hopped as HoppedItem, Sent as SentItem, Stuck as StuckItem};
 ghost use Rattle.switch_core.specs.Exports.{begun_by};
-ghost use Rattle.travelling.specs.Travelling.{HasPlace, WithOne, placed_at, standing_kept, traveller};
+ghost use Rattle.travelling.specs.Travelling.{HasPlace, WithOne, placed_at, standing_kept, flight};
 ghost use Rattle.update_machine.specs.Exports.{takes_route};
-ghost use Rattle.world_log.specs.Writing.{LogAfter, left_item, packet_standing, set_item, set_traveller};
+ghost use Rattle.world_log.specs.Writing.{LogAfter, left_item, packet_standing, set_item, set_flight};
 
 use failover::Route;
 use journal::{Item, Journal, Leaving, Message, SharedMessage, SharedRoute};
 use message_bag::Bag;
 use policy_rules::{Cause, Leg, Targets};
 use std::alloc::{AllocError, Global};
-use travelling::{Kept, Standing, Travelling};
+use travelling::{Standing, StoredFlight, Travelling};
 
 /// What happened so far, the packets that are on their way, and the messages that were sent.
 #[derive(Drop)]
@@ -32,7 +32,7 @@ impl Log {
         requires few { length self.old.bag < 2 ^ 32 - 1 }
         ensures written { OnOk result (self.new.journal
             ≡ self.old.journal ++ SentItem (length self.old.bag + 1) message ∷ []) }
-        ensures posted { OnOk result (self.new.bag ≡ self.old.bag ++ posted message ∷ []) }
+        ensures posted { OnOk result (self.new.bag ≡ self.old.bag ++ new_post message ∷ []) }
         ensures unwritten { OnErr result (self.new.journal ≡ self.old.journal) }
         ensures travelling { self.new.travelling ≡ self.old.travelling }
     {
@@ -54,7 +54,7 @@ impl Log {
         ensures { LogAfter result
             (set_item (standing_kept at) leg
             (begun_by (packet_standing (standing_kept at)) leg targets way) ∷ [])
-            [] at.packet (set_traveller at.version at.rule
+            [] at.packet (set_flight at.version at.rule
             (begun_by (packet_standing (standing_kept at)) leg targets way))
             self.old self.new }
     {
@@ -64,7 +64,7 @@ impl Log {
                 let route = SharedRoute::new(alloc, route)?;
                 let packet = at.packet;
                 let item = takes_route(packet, leg, route.clone()?);
-                let kept = Kept::begin(at, leg, targets, route);
+                let kept = StoredFlight::begin(at, leg, targets, route);
                 self.travelling.put(packet, kept)?;
                 self.journal.push(item)
             }
@@ -109,9 +109,9 @@ impl Log {
     // The packet moves on to this place of its route, at this switch. It takes no memory but the
     // journal's.
     pub(crate) fn move_on(&mut self, packet: u32, place: u32, switch: u32) -> Result<(), AllocError>
-        requires { IsSomeAnd (traveller self.old.travelling packet) (HasPlace place) }
+        requires { IsSomeAnd (flight self.old.travelling packet) (HasPlace place) }
         ensures { LogAfter result (HoppedItem packet switch ∷ []) [] packet
-            (option_map (placed_at place) (traveller self.old.travelling packet))
+            (option_map (placed_at place) (flight self.old.travelling packet))
             self.old self.new }
     {
         self.travelling.move_to(packet, place);

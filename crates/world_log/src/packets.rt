@@ -1,14 +1,14 @@
 ghost use Rattle.std.specs.Prelude.{◌≡◌, ◌+◌, ◌-◌, ◌^◌, ◌<◌, ◌++◌, [], ◌∷◌, Some, IfOk, IsSome, IsSomeAnd, IsTrue, OnOk, OnErr, length, map};
-ghost use Rattle.message_bag.specs.Posts.{posted};
-ghost use Rattle.switch_core.specs.Exports.{CanLookUp, IsAtAuthority, answer_of, arrived_on, cached_by, call_counted, hopped, link_found_down, next_of, serves, site_of};
+ghost use Rattle.message_bag.specs.Posts.{new_post};
+ghost use Rattle.switch_core.specs.Exports.{CanLookUp, IsAtAuthority, answer_of, arrived_on, cached_by, call_counted, hop_answer, link_found_down, next_of, serves, site_of};
 ghost use Rattle.switch_core.specs.declared.answers.HopEnd.TheVariants.{Arrive};
-ghost use Rattle.travelling.specs.Travelling.{standing_kept, traveller};
-ghost use Rattle.travelling.specs.declared.travelling.Traveller.{Traveller as TravellerValue};
+ghost use Rattle.travelling.specs.Travelling.{standing_kept, flight};
+ghost use Rattle.travelling.specs.declared.travelling.Flight.{Flight as TravellerValue};
 ghost use Rattle.journal.specs.declared.item.Item.TheVariants.{Rerouted};
 ghost use Rattle.tunnel.specs.Moves.{next};
 ghost use Rattle.update_machine.specs.Exports.{sent_from};
-ghost use Rattle.world_log.specs.Packets.{coming_in, entry, hop_posts, hop_traveller, hop_written, hopped_switch};
-ghost use Rattle.world_log.specs.Writing.{LogAfter, answer_items, answer_posts, answer_traveller, arrived_items, arrived_posts, arrived_traveller, cache_message, decided_traveller, end_item, entered_items, entered_posts, entered_traveller, messages_in, packet_standing};
+ghost use Rattle.world_log.specs.Packets.{coming_in, entry, hop_posts, hop_flight, hop_written, hopped_switch};
+ghost use Rattle.world_log.specs.Writing.{LogAfter, answer_items, answer_posts, answer_flight, arrived_items, arrived_posts, arrived_flight, cache_message, decided_flight, end_item, entered_items, entered_posts, entered_flight, messages_in, packet_standing};
 
 use crate::log::{Log, leaves};
 use five_tuple::Header;
@@ -17,7 +17,7 @@ use policy_rules::{Action, Cause, Leg, Targets};
 use std::alloc::{AllocError, Global};
 use switch_core::{Decision, HopEnd, Received, Site, Switch, Verdict};
 use ternary::Word;
-use travelling::{Kept, Standing, Traveller};
+use travelling::{Flight, Standing, StoredFlight};
 
 impl Log {
     /// A packet comes in at the switch, which is asked what becomes of it there.
@@ -40,7 +40,7 @@ impl Log {
             (entry switch.old site.entry.near site.entry.ports.now packet header.now))
             (entered_posts (coming_in packet header.now switch.old.number)
             (entry switch.old site.entry.near site.entry.ports.now packet header.now))
-            packet (entered_traveller
+            packet (entered_flight
             (entry switch.old site.entry.near site.entry.ports.now packet header.now))
             self.old self.new }
         ensures counted { switch.new ≡ call_counted switch.old }
@@ -89,24 +89,24 @@ impl Log {
         switch: &mut Switch,
         site: Site,
     ) -> Result<(), AllocError>
-        requires known { IsSomeAnd (traveller self.old.travelling packet)
+        requires known { IsSomeAnd (flight self.old.travelling packet)
             (λ t. t.tunnel.packet ≡ packet) }
         requires serving { IsTrue (serves switch.old) }
         requires stamped { CanLookUp switch.old }
-        requires authority { (t : TravellerValue) → traveller self.old.travelling packet ≡ Some t
-            → (hopped switch.old site.near t.tunnel).end ≡ Arrive
+        requires authority { (t : TravellerValue) → flight self.old.travelling packet ≡ Some t
+            → (hop_answer switch.old site.near t.tunnel).end ≡ Arrive
             → IsAtAuthority switch.old t.tunnel.header t.tunnel.leg }
-        requires ingress { (t : TravellerValue) → traveller self.old.travelling packet ≡ Some t
+        requires ingress { (t : TravellerValue) → flight self.old.travelling packet ≡ Some t
             → t.tunnel.ingress < 64 }
         requires few { length self.old.bag < 2 ^ 32 - 1 }
-        ensures log { (t : TravellerValue) → traveller self.old.travelling packet ≡ Some t
+        ensures log { (t : TravellerValue) → flight self.old.travelling packet ≡ Some t
             → LogAfter result
             (hop_written (length self.old.bag + 1) switch.old site.entry.near
             site.entry.ports.now t)
             (hop_posts switch.old site.entry.near site.entry.ports.now t) packet
-            (hop_traveller switch.old site.entry.near site.entry.ports.now t)
+            (hop_flight switch.old site.entry.near site.entry.ports.now t)
             self.old self.new }
-        ensures counted { (t : TravellerValue) → traveller self.old.travelling packet ≡ Some t
+        ensures counted { (t : TravellerValue) → flight self.old.travelling packet ≡ Some t
             → OnOk result (switch.new ≡ hopped_switch switch.old site.entry.near t) }
     {
         let kept = self.travelling.look(packet).unwrap();
@@ -135,32 +135,32 @@ impl Log {
         switch: &mut Switch,
         site: Site,
     ) -> Result<(), AllocError>
-        requires known { IsSomeAnd (traveller self.old.travelling packet)
+        requires known { IsSomeAnd (flight self.old.travelling packet)
             (λ t. t.tunnel.packet ≡ packet) }
         requires serving { IsTrue (serves switch.old) }
         requires stamped { CanLookUp switch.old }
-        requires authority { (t : TravellerValue) → traveller self.old.travelling packet ≡ Some t
-            → (hopped switch.old site.near t.tunnel).end ≡ Arrive
+        requires authority { (t : TravellerValue) → flight self.old.travelling packet ≡ Some t
+            → (hop_answer switch.old site.near t.tunnel).end ≡ Arrive
             → IsAtAuthority switch.old t.tunnel.header t.tunnel.leg }
-        requires ingress { (t : TravellerValue) → traveller self.old.travelling packet ≡ Some t
+        requires ingress { (t : TravellerValue) → flight self.old.travelling packet ≡ Some t
             → t.tunnel.ingress < 64 }
-        requires blocked { IsSomeAnd (traveller self.old.travelling packet)
+        requires blocked { IsSomeAnd (flight self.old.travelling packet)
             (λ t. IsSome (link_found_down site.near (next t.tunnel))) }
         requires few { length self.old.bag < 2 ^ 32 - 1 }
-        ensures log { (t : TravellerValue) → traveller self.old.travelling packet ≡ Some t
+        ensures log { (t : TravellerValue) → flight self.old.travelling packet ≡ Some t
             → LogAfter result
             (hop_written (length self.old.bag + 1) switch.old site.entry.near
             site.entry.ports.now t)
             (hop_posts switch.old site.entry.near site.entry.ports.now t) packet
-            (hop_traveller switch.old site.entry.near site.entry.ports.now t)
+            (hop_flight switch.old site.entry.near site.entry.ports.now t)
             self.old self.new }
-        ensures counted { (t : TravellerValue) → traveller self.old.travelling packet ≡ Some t
+        ensures counted { (t : TravellerValue) → flight self.old.travelling packet ≡ Some t
             → OnOk result (switch.new ≡ hopped_switch switch.old site.entry.near t) }
     {
         let kept = self.travelling.look(packet).unwrap();
         let leg = kept.leg();
-        let mut traveller = kept.traveller();
-        let hop = switch.hop(&mut traveller.tunnel, site.near);
+        let mut flight = kept.flight();
+        let hop = switch.hop(&mut flight.tunnel, site.near);
         let here = switch.number();
         let other = hop.found.unwrap();
         self.journal.push(Item::FoundDown {
@@ -170,11 +170,11 @@ impl Log {
         })?;
         match hop.end {
             HopEnd::Stuck(cause) => {
-                let at = Standing::of(alloc, &traveller, here)?;
+                let at = Standing::of(alloc, &flight, here)?;
                 self.stuck(alloc, at, cause, leg)
             }
             HopEnd::Move(next) => {
-                let kept = self.reroute(alloc, &traveller)?;
+                let kept = self.reroute(alloc, &flight)?;
                 self.travelling.put(packet, kept)?;
                 self.journal.push(Item::Hopped {
                     packet,
@@ -182,7 +182,7 @@ impl Log {
                 })
             }
             HopEnd::Arrive => {
-                let kept = self.reroute(alloc, &traveller)?;
+                let kept = self.reroute(alloc, &flight)?;
                 let at = kept.standing(here)?;
                 self.arrive(alloc, at, leg, switch, site)
             }
@@ -190,24 +190,18 @@ impl Log {
     }
 
     // The packet takes another route on its leg, which the item and what is kept of it share.
-    fn reroute(&mut self, alloc: Global, traveller: &Traveller) -> Result<Kept, AllocError>
-        ensures kept { IfOk result (λ kept. kept ≡ traveller.now) }
+    fn reroute(&mut self, alloc: Global, flight: &Flight) -> Result<StoredFlight, AllocError>
+        ensures kept { IfOk result (λ kept. kept ≡ flight.now) }
         ensures written { OnOk result (self.new.journal ≡ self.old.journal
-            ++ Rerouted traveller.now.tunnel.packet traveller.now.tunnel.route ∷ []) }
+            ++ Rerouted flight.now.tunnel.packet flight.now.tunnel.route ∷ []) }
         ensures unwritten { OnErr result (self.new.journal ≡ self.old.journal) }
         ensures unsent { self.new.bag ≡ self.old.bag }
         ensures travelling { self.new.travelling ≡ self.old.travelling }
     {
-        let tunnel = &traveller.tunnel;
+        let tunnel = &flight.tunnel;
         let packet = tunnel.packet;
         let route = SharedRoute::new(alloc, tunnel.route)?;
-        let kept = Kept::new(
-            alloc,
-            tunnel,
-            traveller.version,
-            traveller.rule,
-            route.clone()?,
-        )?;
+        let kept = StoredFlight::new(alloc, tunnel, flight.version, flight.rule, route.clone()?)?;
         self.journal.push(Item::Rerouted { packet, route })?;
         Ok(kept)
     }
@@ -231,7 +225,7 @@ impl Log {
             (arrived_on switch.old (site_of site.entry) (packet_standing (standing_kept at)) leg))
             (arrived_posts (standing_kept at)
             (arrived_on switch.old (site_of site.entry) (packet_standing (standing_kept at)) leg))
-            at.packet (arrived_traveller at.version at.rule
+            at.packet (arrived_flight at.version at.rule
             (arrived_on switch.old (site_of site.entry) (packet_standing (standing_kept at)) leg))
             self.old self.new }
         ensures counted { switch.new ≡ call_counted switch.old }
@@ -258,7 +252,7 @@ impl Log {
             (answer_of switch.now (site_of site.entry) (packet_standing (standing_kept at)) verdict))
             (answer_posts (standing_kept at)
             (answer_of switch.now (site_of site.entry) (packet_standing (standing_kept at)) verdict))
-            at.packet (answer_traveller at.version at.rule
+            at.packet (answer_flight at.version at.rule
             (answer_of switch.now (site_of site.entry) (packet_standing (standing_kept at)) verdict))
             self.old self.new }
     {
@@ -296,7 +290,7 @@ impl Log {
             ++ sent_from (length self.old.bag + 1)
             (messages_in (cache_message ingress (cached_by decision.now word)))) }
         ensures posted { OnOk result (self.new.bag ≡ self.old.bag
-            ++ map posted (messages_in (cache_message ingress (cached_by decision.now word)))) }
+            ++ map new_post (messages_in (cache_message ingress (cached_by decision.now word)))) }
         ensures unwritten { OnErr result (self.new.journal ≡ self.old.journal) }
         ensures travelling { self.new.travelling ≡ self.old.travelling }
     {
@@ -323,7 +317,7 @@ impl Log {
         ensures { LogAfter result
             (end_item (standing_kept at) decision (next_of switch.now (site_of site.entry)
             (packet_standing (standing_kept at)) decision.action) ∷ [])
-            [] at.packet (decided_traveller decision (next_of switch.now (site_of site.entry)
+            [] at.packet (decided_flight decision (next_of switch.now (site_of site.entry)
             (packet_standing (standing_kept at)) decision.action))
             self.old self.new }
     {

@@ -1,6 +1,6 @@
 //! Messages that are sent one after another, and what the controller does, written into the log.
 ghost use Rattle.std.specs.Prelude.{◌≡◌, ◌+◌, ◌^◌, ◌<◌, ◌++◌, ◌∷◌, [], OnOk, OnErr, length, map};
-ghost use Rattle.message_bag.specs.Posts.{posted};
+ghost use Rattle.message_bag.specs.Posts.{new_post};
 ghost use Rattle.controller.specs.declared.sends.Act.TheVariants.{Post};
 ghost use Rattle.update_machine.specs.Messages.{sent_from};
 ghost use Rattle.world_log.specs.Sending.{IsSpelled, MayNote, MaySend, act_item, act_items, act_post, act_posts};
@@ -21,7 +21,7 @@ impl Log {
         ensures written { OnOk result (self.new.journal
             ≡ self.old.journal ++ sent_from (length self.old.bag + 1) messages.now) }
         ensures posted { OnOk result (self.new.bag
-            ≡ self.old.bag ++ map posted messages.now) }
+            ≡ self.old.bag ++ map new_post messages.now) }
         ensures part { OnErr result (IsPart self.old.journal
             (sent_from (length self.old.bag + 1) messages.now) self.new.journal) }
         ensures travelling { self.new.travelling ≡ self.old.travelling }

@@ -98,7 +98,7 @@ fn take(
     requires { IsStep world.old.net (length world.old.policies) step.now }
     ensures { setting_at world.new ≡ setting_at world.old }
 {
-    world.tied();
+    world.refines();
     assert!(rt; !world.is_spent());
     assert!(rt; world.packets() < 1000);
     world.step(alloc, row, step)?;

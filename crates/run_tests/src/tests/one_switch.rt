@@ -1,6 +1,6 @@
 use crate::files::{NO_ROW, SAME_PRIORITY, WIDE};
 use crate::runs::{Ran, calls, ended, ran};
-use difane_cli::{Status, tell};
+use difane_cli::{Status, write_status};
 use shelf::{MemShelf, MemSink};
 use std::alloc::{AllocError, Global};
 use std::test::Fail;
@@ -194,7 +194,7 @@ fn refuses_a_policy_too_long(rt: HostRuntime) -> Result<(), Fail> {
 fn tells_a_full_play(rt: HostRuntime) -> Result<(), Fail> {
     let status = Status::Full { row: 247 };
     let mut errs = MemSink::new(rt.alloc(), u64::MAX, Vec::new(rt.alloc()));
-    tell(&status, &mut errs);
+    write_status(&status, &mut errs);
     assert_eq!(rt; status.number(), 6);
     assert_eq!(rt; errs.bytes(), b"difane: full row 247\n".as_slice());
     Ok(())

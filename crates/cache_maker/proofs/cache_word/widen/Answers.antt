@@ -11,7 +11,7 @@ use Rattle.ternary.specs.Word.{WordValue, holds}
 use Rattle.ternary.specs.WordBits.{IsWord}
 use Rattle.ternary.specs.Meets.{exact_word, free_of, is_fixed_of}
 use Rattle.cache_maker.specs.Differing.{differs_alone}
-use Rattle.cache_maker.specs.Independent.{IsIndependent, widen, widened}
+use Rattle.cache_maker.specs.Independent.{IsIndependent, widen, widening_of}
 use Rattle.cache_maker.proofs.Independence.{exact_independent}
 use Rattle.cache_maker.proofs.Turns.{IsGiven, IsLeft, fewer, independent_at, left_at_first, left_next, lowest_is, word_at_last, word_is_sound}
 use Rattle.cache_maker.proofs.Widening.{widened_holds, widest}
@@ -113,9 +113,9 @@ returns c =
     let held = widened_holds given.covers given.exact given.free number region rules index 104
     given.bound in
     record {
-      widened = made ∙ ap (λ n. widened n region rules index 104) same;
+      widened = made ∙ ap (λ n. widening_of n region rules index 104) same;
       header = subst (λ (w : WordValue). IsTrue (holds w (number_of c.args.h.now))) (sym made)
-          (subst (λ n. IsTrue (holds (widened number region rules index 104) n)) same held);
+          (subst (λ n. IsTrue (holds (widening_of number region rules index 104) n)) same held);
       independent = subst (λ (w : WordValue). IsIndependent region rules index w) (sym made)
           (independent_at given 104);
       widest = λ bit within fixed is. widest given.covers given.meet given.free number region rules

@@ -1,7 +1,7 @@
 use Rattle.std.proofs.Common.{◌≡◌, ◌∙◌, ap, arith, drop, get_or, suc, sym, take}
 use Rattle.std.proofs.lemmas.List.{take_all}
 use Rattle.std.specs.List.{flat_map}
-use Rattle.shelf.specs.Sink.{gained}
+use Rattle.shelf.specs.Sink.{with_gained}
 use Rattle.shelf.specs.SinkWrites.{gained-gained}
 use Rattle.difane_cli.specs.Texts.{meter_line}
 use Rattle.difane_cli.proofs.Gains.{flat_map-one, flat_map-there, middle_none}
@@ -18,9 +18,9 @@ loop-meter-preserved g c =
     let before = (g.K.Sink.state c.args.out.now).bytes in
     let so_far = c.loop-meter.invariant in record {
       written = c.in-Ok.ensures.after.whole
-          ∙ ap (λ bytes. gained bytes (line item)) so_far.written
+          ∙ ap (λ bytes. with_gained bytes (line item)) so_far.written
           ∙ gained-gained before (flat_map line (take i meters)) _
-          ∙ ap (gained before) (flat_map-one line meters i item c.loop-meter-test.true own);
+          ∙ ap (with_gained before) (flat_map-one line meters i item c.loop-meter-test.true own);
       untouched = λ none. c.in-Ok.ensures.no_line
           (middle_none (flat_map line (take i meters)) _ (flat_map line (drop (suc i) meters))
           (flat_map-there line meters i item c.loop-meter-test.true own
@@ -34,7 +34,7 @@ returns-clause-after g c =
     let i = c.loop-meter.meter-index in
     let line = λ (meter : g.row.M.Denot). meter_line (g.M.Meter.seen meter) in
     let before = (g.K.Sink.state c.args.out.now).bytes in record {
-      whole = c.loop-meter.invariant.written ∙ ap (gained before)
+      whole = c.loop-meter.invariant.written ∙ ap (with_gained before)
           (ap (flat_map line) (take_all i meters (omega (arith, c.loop-meter-test.false)))
           ∙ lines_of g.M.Meter.seen meters);
       part = tt;

@@ -10,13 +10,13 @@ returns-in-Ok-clause-planned c =
     let net = c.args.net.now in
     let policies = c.args.policies.items in
     let begun = c.in-Ok.ensures.begun in
-    let sound = sound_by_tie c.in-Ok.world begun.able c.tied.ensures in
+    let sound = sound_by_tie c.in-Ok.world begun.able c.refines.ensures in
     has_plan (names_seen c.args.names.now) net policies
     (planned_by net policies _ begun.own sound)
 
 pub returns-in-Ok-clause-sound : goal.returns-in-Ok-clause-sound
 returns-in-Ok-clause-sound c =
-    sound_by_tie c.in-Ok.world c.in-Ok.ensures.begun.able c.tied.ensures
+    sound_by_tie c.in-Ok.world c.in-Ok.ensures.begun.able c.refines.ensures
 
 pub returns-in-Err-clause-stopped : goal.returns-in-Err-clause-stopped
 returns-in-Err-clause-stopped c =

@@ -1,11 +1,11 @@
 use Rattle.std.proofs.Common.{◌≡◌, take}
 use Rattle.std.specs.List.{flat_map}
-use Rattle.shelf.specs.Sink.{gained}
+use Rattle.shelf.specs.Sink.{with_gained}
 use Rattle.difane_cli.proofs.status.write_pieces.Given as goal
 
 abbrev pub invariant-loop-piece : goal.invariant-loop-piece
 invariant-loop-piece g l = record {
-  written : (g.E.Sink.state l.errs).bytes ≡ gained (g.E.Sink.state l.fn.errs).bytes
+  written : (g.E.Sink.state l.errs).bytes ≡ with_gained (g.E.Sink.state l.fn.errs).bytes
       (flat_map (λ piece. piece.now) (take l.piece-index l.pieces));
   faults : (g.E.Sink.state l.errs).faults ≡ (g.E.Sink.state l.fn.errs).faults;
 }

@@ -3,8 +3,8 @@ use Rattle.failover.specs.Isolated.{links_of_each}
 use Rattle.failover.specs.RouteList.{IsRouteList}
 use Rattle.std.specs.Int.Bits.{bit_and}
 use Rattle.base.specs.ComputedMasks.{least_in}
-use Rattle.failover.specs.Routes.{nearer}
-use Rattle.failover.specs.Search.{along}
+use Rattle.failover.specs.Routes.{least_neighbour_in}
+use Rattle.failover.specs.Search.{path_by_balls}
 use Rattle.failover.proofs.Rows.{row_of}
 use Rattle.failover.proofs.Walking.{length-along, left_at, below_in, along-next, written_more, written_route}
 use Rattle.failover.proofs.search.walk.Goals as goal
@@ -35,15 +35,15 @@ bounds-switches-step c = omega (
 )
 
 pub loop-step-preserved : goal.loop-step-preserved
-unfolding nearer least_in
+unfolding least_neighbour_in least_in
 loop-step-preserved c =
     let links = links_of_each c.args.neighbours.now c.args.down.now in
-    let route = c.args.from ∷ along links c.args.balls.now c.args.distance c.args.from in
+    let route = c.args.from ∷ path_by_balls links c.args.balls.now c.args.distance c.args.from in
     let long = length-along links c.args.balls.now c.args.distance c.args.from in
     let fits = below_in _ c.loop-step.step _ _ c.requires c.loop-step.invariant.left in
     let here = left_at route c.loop-step.step _ _ c.loop-step.invariant.left in
     let ball = get_or c.args.balls.now (c.args.distance - 1 - c.loop-step.step) 0 in
-    let nearest : least_in c.links_within-at.result ≡ nearer links ball c.loop-step.at =
+    let nearest : least_in c.links_within-at.result ≡ least_neighbour_in links ball c.loop-step.at =
     ap least_in (c.links_within-at.ensures ∙ ap (λ row. bit_and row ball)
     (sym (row_of c.args.neighbours.now c.args.down.now c.loop-step.at fits))) in
     let next = here.2 ∙ along-next links c.args.balls.now (c.args.distance - c.loop-step.step)
@@ -55,9 +55,10 @@ loop-step-preserved c =
       written = written_more route c.loop-step.switches c.loop-step.step _ c.requires.few there.0
           (nearest ∙ sym there.1) c.loop-step.invariant.written;
       left = next
-          ∙ ap (λ (m : ℕ). nearer links ball c.loop-step.at ∷ along links c.args.balls.now m
-          (nearer links ball c.loop-step.at)) fewer
-          ∙ ap (λ (x : ℕ). x ∷ along links c.args.balls.now
+          ∙ ap (λ (m : ℕ). least_neighbour_in links ball c.loop-step.at
+          ∷ path_by_balls links c.args.balls.now m
+          (least_neighbour_in links ball c.loop-step.at)) fewer
+          ∙ ap (λ (x : ℕ). x ∷ path_by_balls links c.args.balls.now
           (c.args.distance - (c.loop-step.step + 1)) x) (sym nearest);
     }
 
@@ -72,13 +73,15 @@ pub new-requires-clause-list : goal.new-requires-clause-list
 new-requires-clause-list c =
     let long = length-along (links_of_each c.args.neighbours.now c.args.down.now) c.args.balls.now c.args.distance c.args.from in
     subst IsRouteList (sym (whole_of
-    (c.args.from ∷ along (links_of_each c.args.neighbours.now c.args.down.now) c.args.balls.now c.args.distance c.args.from)
+    (c.args.from ∷ path_by_balls (links_of_each c.args.neighbours.now c.args.down.now)
+    c.args.balls.now c.args.distance c.args.from)
     c.loop-step.switches c.args.distance c.loop-step.step (omega arith)
     (omega arith) c.loop-step.invariant.written)) c.requires
 
 pub returns : goal.returns
 returns c =
     let long = length-along (links_of_each c.args.neighbours.now c.args.down.now) c.args.balls.now c.args.distance c.args.from in
-    c.new.ensures ∙ whole_of (c.args.from ∷ along (links_of_each c.args.neighbours.now c.args.down.now) c.args.balls.now c.args.distance
+    c.new.ensures ∙ whole_of (c.args.from ∷ path_by_balls
+    (links_of_each c.args.neighbours.now c.args.down.now) c.args.balls.now c.args.distance
     c.args.from) c.loop-step.switches c.args.distance c.loop-step.step (omega arith)
     (omega arith) c.loop-step.invariant.written

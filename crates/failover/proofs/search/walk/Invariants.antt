@@ -1,11 +1,11 @@
 use Rattle.std.proofs.Common.{◌≡◌, ◌+◌, ◌-◌, ◌∷◌, ◌++◌, take, drop, replicate}
 use Rattle.failover.specs.Isolated.{links_of_each}
-use Rattle.failover.specs.Search.{along}
+use Rattle.failover.specs.Search.{path_by_balls}
 use Rattle.failover.proofs.search.walk.Given as goal
 
 abbrev pub invariant-loop-step : goal.invariant-loop-step
 invariant-loop-step l = let links = links_of_each l.neighbours l.down in
-    let route = l.from ∷ along links l.balls l.distance l.from in record {
+    let route = l.from ∷ path_by_balls links l.balls l.distance l.from in record {
       written : l.switches ≡ take (l.step + 1) route ++ replicate (63 - l.step) 0;
-      left : drop l.step route ≡ l.at ∷ along links l.balls (l.distance - l.step) l.at;
+      left : drop l.step route ≡ l.at ∷ path_by_balls links l.balls (l.distance - l.step) l.at;
     }

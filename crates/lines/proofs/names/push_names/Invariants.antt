@@ -1,7 +1,8 @@
 use Rattle.std.proofs.Common.{◌≡◌, take}
 use Rattle.net_file.specs.Net.{names_text}
-use Rattle.lines.specs.Pushes.{pushed}
+use Rattle.lines.specs.Pushes.{line_with}
 use Rattle.lines.proofs.names.push_names.Given as goal
 
 abbrev pub invariant-loop-s : goal.invariant-loop-s
-invariant-loop-s l = l.line ≡ pushed l.initial.line (names_text l.net (take l.s-index l.switches))
+invariant-loop-s l = l.line ≡ line_with l.initial.line
+    (names_text l.net (take l.s-index l.switches))

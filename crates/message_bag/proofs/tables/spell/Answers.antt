@@ -2,14 +2,15 @@ use Rattle.std.proofs.Common.{◌++◌, [], List, ℕ, get_or, length, ap, subst
 use Rattle.wire.specs.Frames.{frame}
 use Rattle.wire.specs.Messages.{spelled_front}
 use Rattle.switch_table.specs.declared.tables.Tables.{Tables}
-use Rattle.message_bag.specs.Kept.{SayTables}
+use Rattle.message_bag.specs.KeptFrames.{CarryTables}
 use Rattle.message_bag.proofs.Posting.{tables_are, tables_fit}
 use Rattle.message_bag.proofs.tables.spell.Goals as goal
 
-its : (c : goal.In_ok-put_first_of) → SayTables c.args.tables.now (get_or c.keep.new.kept.items c.in_ok-number.number [])
+its : (c : goal.In_ok-put_first_of) → CarryTables c.args.tables.now
+    (get_or c.keep.new.kept.items c.in_ok-number.number [])
 its c =
     let fs = get_or c.keep.new.kept.items c.in_ok-number.number [] in
-    subst (λ (t : Tables). SayTables t fs) c.tables.ensures c.in_ok-number.ensures.say
+    subst (λ (t : Tables). CarryTables t fs) c.tables.ensures c.in_ok-number.ensures.carry
 
 pub returns-clause-fits : goal.returns-clause-fits
 returns-clause-fits c =

@@ -1,5 +1,5 @@
 use Rattle.std.proofs.Common.{◌∙◌, ap, [], ◌∷◌, ◌++◌}
-use Rattle.policy_rules.specs.RuleList.{ranked, ranked_from}
+use Rattle.policy_rules.specs.RuleList.{ranked_rule, ranked_from}
 use Rattle.policy_rules.proofs.rule_list.push_rule.Goals as goal
 
 pub returns : goal.returns
@@ -7,5 +7,5 @@ unfolding ranked_from
 returns c =
     let before = c.args.rules.now in
     c.in_ok-push.ensures.items
-    ∙ ap (λ rank. before.items ++ ranked (rank, (c.args.word, c.args.hit)) ∷ [])
+    ∙ ap (λ rank. before.items ++ ranked_rule (rank, (c.args.word, c.args.hit)) ∷ [])
     (c.len-rank.ensures ∙ before.ok.0)

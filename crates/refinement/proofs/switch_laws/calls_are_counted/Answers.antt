@@ -1,5 +1,5 @@
-use Rattle.refinement.proofs.SwitchSteps.{call_ties}
+use Rattle.refinement.proofs.SwitchSteps.{calls_refine}
 use Rattle.refinement.proofs.switch_laws.calls_are_counted.Goals as goal
 
 pub returns : goal.returns
-returns c = call_ties
+returns c = calls_refine

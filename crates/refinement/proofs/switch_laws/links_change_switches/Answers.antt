@@ -1,5 +1,5 @@
-use Rattle.refinement.proofs.Links.{link_ties}
+use Rattle.refinement.proofs.Links.{links_refine}
 use Rattle.refinement.proofs.switch_laws.links_change_switches.Goals as goal
 
 pub returns : goal.returns
-returns c = link_ties
+returns c = links_refine

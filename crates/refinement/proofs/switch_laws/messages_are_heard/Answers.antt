@@ -1,5 +1,5 @@
-use Rattle.refinement.proofs.Delivered.{hear_ties}
+use Rattle.refinement.proofs.Delivered.{hearing_refines}
 use Rattle.refinement.proofs.switch_laws.messages_are_heard.Goals as goal
 
 pub returns : goal.returns
-returns c = hear_ties
+returns c = hearing_refines

@@ -2,7 +2,7 @@ use Rattle.std.proofs.Common.{◌≡◌, ◌++◌, ◌<◌, length, arith, get_o
 use Rattle.std.proofs.lemmas.Bool.{cases_lt}
 use Rattle.std.proofs.lemmas.List.{get_or-set_other, get_or-set_same, get_or_default, length-set}
 use Rattle.switch_core.specs.State.{SwitchValue}
-use Rattle.refinement.specs.Linking.{relinked_as, told_as}
+use Rattle.refinement.specs.Linking.{relinked_as, adverts_on_change}
 use Rattle.refinement.proofs.Relinking.{all_below, all_more, all_none, all_of_them}
 use Rattle.refinement.proofs.usable_links.relink.Goals as goal
 
@@ -47,11 +47,12 @@ loop-s-preserved c =
           ∙ inv.2 s d (omega (arith, past)),
       c.in_ok-relink_one.ensures.told
           ∙ ap (λ count. c.loop-s.messages.items
-          ++ told_as count (get_or had n 0) (get_or now n 0) own)
+          ++ adverts_on_change count (get_or had n 0) (get_or now n 0) own)
           count_is
-          ∙ ap (λ js. js ++ told_as (length old) (get_or had n 0) (get_or now n 0) own) inv.3
+          ∙ ap (λ js. js ++ adverts_on_change (length old) (get_or had n 0) (get_or now n 0) own)
+          inv.3
           ∙ ap (λ w. all_below (length old) had now old n
-          ++ told_as (length old) (get_or had n 0) (get_or now n 0) w) at
+          ++ adverts_on_change (length old) (get_or had n 0) (get_or now n 0) w) at
           ∙ sym (all_more (length old) had now old n own (omega (arith, within, inv.0))),
     )
 

@@ -2,7 +2,7 @@ use Rattle.std.proofs.Common.{◌≡◌, ◌++◌, ap, sym, ◌∙◌, arith, tr
 use Rattle.std.specs.Prelude.{not, ◌&&◌}
 use Rattle.switch_core.specs.Life.{near_changed, next_advert}
 use Rattle.refinement.proofs.Relinking.{told_all, told_below}
-use Rattle.refinement.specs.Linking.{changes}
+use Rattle.refinement.specs.Linking.{links_change}
 use Rattle.refinement.proofs.usable_links.relink_one.Goals as goal
 
 pub returns-clause-told : goal.returns-clause-told
@@ -10,7 +10,7 @@ returns-clause-told c =
     let old = c.args.switch.now in
     let near = c.args.near in
     let up : old.is_up ≡ true = sym c.if-not-is_up.ensures in
-    let changed : changes c.args.had near old ≡ true =
+    let changed : links_change c.args.had near old ≡ true =
     ap (λ b. b && not (c.args.had == near)) up
     ∙ ap not (ne_eqb c.args.had near c.if-had-near.false) in
     let all : c.loop-other.other ≡ c.args.count = omega arith in

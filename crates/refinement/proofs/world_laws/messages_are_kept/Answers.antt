@@ -1,5 +1,5 @@
-use Rattle.refinement.proofs.Ties.{bag_ties}
+use Rattle.refinement.proofs.StepLaws.{bags_refine}
 use Rattle.refinement.proofs.world_laws.messages_are_kept.Goals as goal
 
 pub returns : goal.returns
-returns c = bag_ties
+returns c = bags_refine

@@ -8,9 +8,9 @@ use Rattle.replay.specs.Playing.{StopsWithin}
 use Rattle.replay.proofs.Asked.{Asked, asked, brought_all, none_yet}
 use Rattle.replay.proofs.Keeping.{keep_up_next, keep_up_none, rest_is}
 use Rattle.replay.proofs.Stepping.{begins_next, begins_whole, happens_whole, on_err, same_error, stops_next, took_next, took_none}
-use Rattle.replay.proofs.Ties.{few_packets, tie_of}
+use Rattle.replay.proofs.Refining.{few_packets, tie_of}
 use Rattle.replay.proofs.event_steps.take_steps.Goals as goal
-use Rattle.replay.proofs.event_steps.take_steps.Goals.{After-tied}
+use Rattle.replay.proofs.event_steps.take_steps.Goals.{After-refines}
 use Rattle.replay.proofs.event_steps.take_steps.Given.{Over}
 
 pub loop-next-init : goal.loop-next-init
@@ -23,41 +23,42 @@ loop-next-init g c = record {
 }
 
 -- what holds of the step that is asked for next
-next_asked : (g : Over) (c : After-tied g)
+next_asked : (g : Over) (c : After-refines g)
     → Asked (setting_at c.loop-next.world) c.args.row c.args.event.now c.loop-next.is_begun
     c.loop-next.world.journal c.in-Some.next
 next_asked g c =
     asked c.drains_end.ensures.fewer c.deliveries_rise.ensures c.loop-next.world c.args.row
-    c.args.event.now c.loop-next.is_begun c.in-Some.next (c.tied.ensures c.loop-next.invariant.able)
+    c.args.event.now c.loop-next.is_begun c.in-Some.next
+    (c.refines.ensures c.loop-next.invariant.able)
     (sym c.in-Some.ensures)
 
 pub step-requires-clause-few : goal.step-requires-clause-few
 step-requires-clause-few g c =
     let so_far = c.loop-next.invariant in
-    let next = next_asked g (goal.at.step-requires-clause-few g c).After-tied in
-    few_packets c.loop-next.world c.args.world.now.packets (c.tied.ensures so_far.able)
+    let next = next_asked g (goal.at.step-requires-clause-few g c).After-refines in
+    few_packets c.loop-next.world c.args.world.now.packets (c.refines.ensures so_far.able)
     (omega (arith, so_far.packets, next.none)) c.requires.few
 
 pub step-requires-clause-may : goal.step-requires-clause-may
 step-requires-clause-may g c =
     let so_far = c.loop-next.invariant in
-    let tied = tie_of c.loop-next.world (c.tied.ensures so_far.able) in
-    let next = next_asked g (goal.at.step-requires-clause-may g c).After-tied in
+    let refines = tie_of c.loop-next.world (c.refines.ensures so_far.able) in
+    let next = next_asked g (goal.at.step-requires-clause-may g c).After-refines in
     next.may
     (subst (λ (s : Setting). IsEvent s.net (length s.policies) c.args.event.now)
     (sym so_far.setting) c.requires.may)
-    (omega (arith, tied.counted, so_far.packets, next.none, c.requires.few))
+    (omega (arith, refines.counted, so_far.packets, next.none, c.requires.few))
 
 pub loop-next-smaller : goal.loop-next-smaller
 loop-next-smaller g c =
-    let next = next_asked g (goal.at.loop-next-smaller g c).After-tied in
+    let next = next_asked g (goal.at.loop-next-smaller g c).After-refines in
     rw c.in_ok-step.ensures.written (next.fewer c.in_ok-step.ensures.room)
 
 pub loop-next-preserved : goal.loop-next-preserved
 loop-next-preserved g c =
     let so_far = c.loop-next.invariant in
     let world = c.loop-next.world in
-    let next = next_asked g (goal.at.loop-next-preserved g c).After-tied in record {
+    let next = next_asked g (goal.at.loop-next-preserved g c).After-refines in record {
       setting = c.in_ok-step.ensures.setting ∙ so_far.setting;
       able = c.in_ok-step.ensures.goes_on;
       packets = omega (
@@ -121,7 +122,7 @@ returns-in_err-step-clause-able_full g c = λ is.
 pub returns-in_err-step-clause-packets_full : goal.returns-in_err-step-clause-packets_full
 returns-in_err-step-clause-packets_full g c = λ is.
     let full = ap Err (same_error c.from_residual.result _ no_step c.from_residual.ensures.1 is) in
-    let next = next_asked g (goal.at.returns-in_err-step-clause-packets_full g c).After-tied in
+    let next = next_asked g (goal.at.returns-in_err-step-clause-packets_full g c).After-refines in
     rw (c.in_err-step.ensures.unchanged full)
     (omega (arith, c.loop-next.invariant.packets, next.none))
 

@@ -10,7 +10,7 @@ use Rattle.replay.specs.Leavings.{left_in}
 use Rattle.replay.proofs.Asked.{brought_few}
 use Rattle.replay.proofs.Events.{PlaysOn, plays_from_start, plays_no_more, plays_on_by, stops_by}
 use Rattle.replay.proofs.Keeping.{kept_up}
-use Rattle.replay.proofs.Ties.{tie_of}
+use Rattle.replay.proofs.Refining.{tie_of}
 use Rattle.replay.proofs.playing.play.Goals as goal
 
 pub loop-event-init : goal.loop-event-init
@@ -22,7 +22,7 @@ loop-event-init g c =
       able = begun.able;
       packets = omega (
         arith,
-        (tie_of world (c.tied.ensures begun.able)).counted,
+        (tie_of world (c.refines.ensures begun.able)).counted,
         ap next_packet begun.silent,
         start_laws.packets,
       );

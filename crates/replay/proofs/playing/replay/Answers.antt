@@ -1,7 +1,7 @@
 use Rattle.std.proofs.Common.{subst}
 use Rattle.update_machine.specs.Setting.{IsSetting}
 use Rattle.update_machine.proofs.CallerLemmas.{first_planned}
-use Rattle.replay.proofs.Ties.{tie_of}
+use Rattle.replay.proofs.Refining.{tie_of}
 use Rattle.replay.proofs.playing.replay.Goals as goal
 
 pub returns-clause-planned : goal.returns-clause-planned
@@ -9,4 +9,4 @@ returns-clause-planned g c =
     let begun = c.in_ok-world.ensures.begun in
     first_planned c.args.net.now c.args.policies.items
     (subst IsSetting begun.own
-    (tie_of c.in_ok-world.world (c.tied.ensures begun.able)).sound)
+    (tie_of c.in_ok-world.world (c.refines.ensures begun.able)).sound)

@@ -1,6 +1,6 @@
 use Rattle.std.proofs.Common.{◌∙◌, ◌&&◌, sym, ap, codes, bytes_eq, arith}
 use Rattle.csv.specs.Records.{fields_of}
-use Rattle.csv_records.specs.Texts.{field}
+use Rattle.csv_records.specs.Texts.{field_or_empty}
 use Rattle.schedule.proofs.Fields.{is_heading-two}
 use Rattle.schedule.proofs.row.is_heading.Goals as goal
 
@@ -8,5 +8,5 @@ pub returns-then-has_text : goal.returns-then-has_text
 returns-then-has_text c =
     c.has_text-then-has_text.ensures
     ∙ sym (is_heading-two (fields_of c.args.fields.now) (omega arith)
-    ∙ ap (λ first. first && bytes_eq (field (fields_of c.args.fields.now) 1)
+    ∙ ap (λ first. first && bytes_eq (field_or_empty (fields_of c.args.fields.now) 1)
     (codes "arguments")) (sym c.has_text.ensures ∙ c.if-has_text.true))

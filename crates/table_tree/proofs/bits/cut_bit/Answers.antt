@@ -7,17 +7,17 @@ use Rattle.table_tree.proofs.bits.cut_bit.Goals as goal
 
 pub returns-in-Some-clause-some : goal.returns-in-Some-clause-some
 returns-in-Some-clause-some c =
-    inl (least_free c.args.region.now (all_fix c.args.spots.now) c.fixed_by_all.result
+    inl (least_free c.args.region.now (all_fix c.args.candidates.now) c.fixed_by_all.result
     c.free_bits-free.result c.in-Some.bit c.fixed_by_all.ensures c.free_bits-free.ensures
     (MatchOption-at_some _ _ c.in-Some.bit c.in-Some.is c.lowest.ensures.some))
 
 pub returns-in-None-clause-some : goal.returns-in-None-clause-some
 returns-in-None-clause-some c =
     IfSome_then c.lowest-in-None.result c.lowest-in-None.ensures.some (λ bit low. inr (
-      none_free c.args.region.now (all_fix c.args.spots.now) c.fixed_by_all.result
+      none_free c.args.region.now (all_fix c.args.candidates.now) c.fixed_by_all.result
           c.free_bits-free.result c.fixed_by_all.ensures c.free_bits-free.ensures
           (MatchOption-at_none _ _ c.in-None.is c.lowest.ensures.none),
-      least_free c.args.region.now (some_fix c.args.spots.now) c.fixed_by_some.result
+      least_free c.args.region.now (some_fix c.args.candidates.now) c.fixed_by_some.result
           c.free_bits-free.result bit (λ k within. c.fixed_by_some.ensures k)
           c.free_bits-free.ensures low,
     ))
@@ -25,14 +25,15 @@ returns-in-None-clause-some c =
 pub returns-in-None-clause-none : goal.returns-in-None-clause-none
 returns-in-None-clause-none c =
     if_none_then c.lowest-in-None.result c.lowest-in-None.ensures.none
-    (none_free c.args.region.now (some_fix c.args.spots.now) c.fixed_by_some.result
+    (none_free c.args.region.now (some_fix c.args.candidates.now) c.fixed_by_some.result
     c.free_bits-free.result (λ k within. c.fixed_by_some.ensures k) c.free_bits-free.ensures)
 
 pub returns-in-Some-clause-free : goal.returns-in-Some-clause-free
 returns-in-Some-clause-free c =
-    cut_is_free c.args.spots.now c.args.region.now c.in-Some.bit (returns-in-Some-clause-some c)
+    cut_is_free c.args.candidates.now c.args.region.now c.in-Some.bit
+    (returns-in-Some-clause-some c)
 
 pub returns-in-None-clause-free : goal.returns-in-None-clause-free
 returns-in-None-clause-free c =
     IfSome_then c.lowest-in-None.result (returns-in-None-clause-some c)
-    (cut_is_free c.args.spots.now c.args.region.now)
+    (cut_is_free c.args.candidates.now c.args.region.now)

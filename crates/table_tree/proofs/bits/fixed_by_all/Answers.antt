@@ -4,16 +4,17 @@ use Rattle.table_tree.specs.Regions.{all_fix}
 use Rattle.table_tree.proofs.BitLemmas.{all_more, all_none}
 use Rattle.table_tree.proofs.bits.fixed_by_all.Goals as goal
 
-pub loop-spot-init : goal.loop-spot-init
-loop-spot-init c = λ bit within. all_none bit within
+pub loop-candidate-init : goal.loop-candidate-init
+loop-candidate-init c = λ bit within. all_none bit within
 
-pub loop-spot-preserved : goal.loop-spot-preserved
-loop-spot-preserved c = λ bit within.
-    all_more c.args.spots.now c.loop-spot.spot-index c.spot-item.result _ _ bit
-    c.loop-spot-test.true c.spot-item.is c.mask-bits.ensures.mask (c.loop-spot.invariant bit within)
+pub loop-candidate-preserved : goal.loop-candidate-preserved
+loop-candidate-preserved c = λ bit within.
+    all_more c.args.candidates.now c.loop-candidate.candidate-index c.candidate-item.result _ _ bit
+    c.loop-candidate-test.true c.candidate-item.is c.mask-bits.ensures.mask
+    (c.loop-candidate.invariant bit within)
 
 pub returns : goal.returns
 returns c = λ bit within.
-    c.loop-spot.invariant bit within
-    ∙ ap (λ spots. all_fix spots bit)
-    (take_all c.loop-spot.spot-index c.args.spots.now (omega arith))
+    c.loop-candidate.invariant bit within
+    ∙ ap (λ candidates. all_fix candidates bit)
+    (take_all c.loop-candidate.candidate-index c.args.candidates.now (omega arith))

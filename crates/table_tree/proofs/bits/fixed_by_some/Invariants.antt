@@ -4,6 +4,6 @@ use Rattle.std.specs.Int.{bit_at}
 use Rattle.table_tree.specs.Regions.{some_fix}
 use Rattle.table_tree.proofs.bits.fixed_by_some.Given as goal
 
-abbrev pub invariant-loop-spot : goal.invariant-loop-spot
-invariant-loop-spot l =
-    (bit : ℕ) → (bit_at l.bits bit == 1) ≡ some_fix (take l.spot-index l.spots) bit
+abbrev pub invariant-loop-candidate : goal.invariant-loop-candidate
+invariant-loop-candidate l =
+    (bit : ℕ) → (bit_at l.bits bit == 1) ≡ some_fix (take l.candidate-index l.candidates) bit

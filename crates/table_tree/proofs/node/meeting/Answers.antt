@@ -1,11 +1,12 @@
 use Rattle.std.proofs.Common.{◌∙◌, sym}
-use Rattle.table_tree.specs.Regions.{spot_meets}
+use Rattle.table_tree.specs.Regions.{candidate_meets}
 use Rattle.table_tree.proofs.NodeLemmas.{kept_more}
 use Rattle.table_tree.proofs.node.meeting.Goals as goal
 
-pub loop-spot-preserved : goal.loop-spot-preserved
-loop-spot-preserved c =
+pub loop-candidate-preserved : goal.loop-candidate-preserved
+loop-candidate-preserved c =
     rw c.in_ok-push.ensures.items
-    (kept_more (spot_meets c.args.region.now) c.args.spots.now c.loop-spot.kept.items
-    c.loop-spot.spot-index c.spot-item.result c.loop-spot-test.true c.spot-item.is
-    (sym c.meets.ensures ∙ c.if-not-meets.false) c.loop-spot.invariant)
+    (kept_more (candidate_meets c.args.region.now) c.args.candidates.now c.loop-candidate.kept.items
+    c.loop-candidate.candidate-index c.candidate-item.result c.loop-candidate-test.true
+    c.candidate-item.is
+    (sym c.meets.ensures ∙ c.if-not-meets.false) c.loop-candidate.invariant)

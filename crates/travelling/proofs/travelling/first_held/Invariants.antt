@@ -1,11 +1,11 @@
 use Rattle.std.proofs.Common.{ℕ, ◌≡◌, ◌-◌, ◌<◌, ◌≤◌, None, length}
-use Rattle.travelling.specs.Travelling.{traveller}
+use Rattle.travelling.specs.Travelling.{flight}
 use Rattle.travelling.proofs.travelling.first_held.Given as goal
 
 abbrev pub invariant-loop-number : goal.invariant-loop-number
 invariant-loop-number l = record {
   from : l.from ≤ l.number;
-  empty : (i : ℕ) → l.from ≤ i → i < l.number → traveller l.slots i ≡ None;
+  empty : (i : ℕ) → l.from ≤ i → i < l.number → flight l.slots i ≡ None;
 }
 
 abbrev pub decreases-loop-number : goal.decreases-loop-number

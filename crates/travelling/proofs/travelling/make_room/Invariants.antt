@@ -1,11 +1,11 @@
 use Rattle.std.proofs.Common.{ℕ, ◌≡◌, ◌+◌, ◌-◌, ◌≤◌, length, max}
-use Rattle.travelling.specs.Travelling.{traveller}
+use Rattle.travelling.specs.Travelling.{flight}
 use Rattle.travelling.proofs.travelling.make_room.Given as goal
 
 abbrev pub invariant-loop-slots : goal.invariant-loop-slots
 invariant-loop-slots l = record {
   few : length l.slots.items ≤ max (length l.initial.slots.items) (l.number + 1);
-  same : (i : ℕ) → traveller l.slots.items i ≡ traveller l.initial.slots.items i;
+  same : (i : ℕ) → flight l.slots.items i ≡ flight l.initial.slots.items i;
 }
 
 abbrev pub decreases-loop-slots : goal.decreases-loop-slots

@@ -1,6 +1,6 @@
 use Rattle.std.proofs.Common.{map, ap, sym, refl, ◌∙◌}
 use Rattle.std.proofs.lemmas.Result.{err_from_is_err_and}
-use Rattle.wire.specs.Frames.{cut}
+use Rattle.wire.specs.Frames.{chunks_behind_head}
 use Rattle.wire.proofs.Assembling.{frames_by, none_by, none_spelled}
 use Rattle.wire.proofs.Holding.{false_true}
 use Rattle.wire.proofs.assembly.decoded.Goals as goal
@@ -10,17 +10,18 @@ returns-in_err-message c =
     let p = err_from_is_err_and c.from_residual.result c.from_residual.ensures.1 in
     rw (p.1, p.2) (none_spelled c.args.frames.now c.args.bytes.now c.in_err-message.field-0.0 c.requires.bytes c.in_err-message.ensures.malformed)
 
-pub returns-then-are_pieces : goal.returns-then-are_pieces
-returns-then-are_pieces c =
+pub returns-then-are_chunks : goal.returns-then-are_chunks
+returns-then-are_chunks c =
     frames_by c.in_ok-message.message c.args.bytes.now c.args.frames.now c.requires.rising c.in_ok-message.ensures.found
-    (c.if-are_pieces.ensures.0 refl ∙ ap (map (λ p. p.now)) c.deref.ensures.value ∙ c.in_ok-parts.ensures
-    ∙ ap (λ n. cut n c.args.bytes.now) c.head_len.ensures)
+    (c.if-are_chunks.ensures.0 refl ∙ ap (map (λ p. p.now)) c.deref.ensures.value
+    ∙ c.in_ok-parts.ensures
+    ∙ ap (λ n. chunks_behind_head n c.args.bytes.now) c.head_len.ensures)
 
-pub returns-else-are_pieces : goal.returns-else-are_pieces
-returns-else-are_pieces c =
+pub returns-else-are_chunks : goal.returns-else-are_chunks
+returns-else-are_chunks c =
     let parts = ap (map (λ p. p.now)) c.deref.ensures.value ∙ c.in_ok-parts.ensures
-    ∙ ap (λ n. cut n c.args.bytes.now) c.head_len.ensures in (
+    ∙ ap (λ n. chunks_behind_head n c.args.bytes.now) c.head_len.ensures in (
       refl,
       none_by c.in_ok-message.message c.args.bytes.now c.args.frames.now c.requires.bytes c.in_ok-message.ensures.found
-          (λ e. false_true (c.if-are_pieces.ensures.1 (e ∙ sym parts))),
+          (λ e. false_true (c.if-are_chunks.ensures.1 (e ∙ sym parts))),
     )

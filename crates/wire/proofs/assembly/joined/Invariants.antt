@@ -1,8 +1,8 @@
 use Rattle.std.proofs.Common.{◌≡◌, take}
 use Rattle.std.specs.List.{flat_map}
-use Rattle.wire.specs.Frames.{piece_of}
+use Rattle.wire.specs.Frames.{chunk_of}
 use Rattle.wire.proofs.assembly.joined.Given as goal
 
 abbrev pub invariant-loop-frame : goal.invariant-loop-frame
 invariant-loop-frame l =
-    l.bytes.items ≡ flat_map piece_of (take l.frame-index l.frames)
+    l.bytes.items ≡ flat_map chunk_of (take l.frame-index l.frames)

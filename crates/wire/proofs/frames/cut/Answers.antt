@@ -1,11 +1,12 @@
 use Rattle.std.proofs.Common.{map}
 use Rattle.std.proofs.lemmas.List.{map_push}
-use Rattle.wire.specs.Frames.{cut, most_of_piece}
+use Rattle.wire.specs.Frames.{chunks_behind_head, most_of_chunk}
 use Rattle.wire.proofs.Cutting.{goes_on}
 use Rattle.wire.proofs.frames.cut.Goals as goal
 
 pub loop-preserved : goal.loop-preserved
 loop-preserved c =
     rw (c.in_ok-push-2.ensures.items, map_push, c.split_front-in-loop.ensures.front, c.split_front-in-loop.ensures.back)
-    (goes_on (map (λ p. p.now) c.loop.parts.items) c.div_ceil-count.result c.loop.counter most_of_piece c.loop.left.now
-    (cut c.args.head c.args.bytes.now) c.loop-test.true c.loop.invariant)
+    (goes_on (map (λ p. p.now) c.loop.parts.items) c.div_ceil-count.result c.loop.counter
+    most_of_chunk c.loop.left.now
+    (chunks_behind_head c.args.head c.args.bytes.now) c.loop-test.true c.loop.invariant)

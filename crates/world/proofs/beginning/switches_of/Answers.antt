@@ -2,7 +2,7 @@ use Rattle.std.proofs.Common.{ℕ, ◌≡◌, ◌<◌, ◌∷◌, [], ◌++◌, 
 use Rattle.std.specs.List.{range_with_len}
 use Rattle.std.proofs.lemmas.List.FromFn.{map-range_with_len_more}
 use Rattle.failover.specs.Adverts.{first_adverts}
-use Rattle.switch_core.specs.State.{HasOwnUpTo, SwitchValue, begun}
+use Rattle.switch_core.specs.State.{HasOwnUpTo, SwitchValue, new_switch}
 use Rattle.switch_core.proofs.SwitchLaws.{own_first}
 use Rattle.net_file.specs.Owners.{links_of}
 use Rattle.switch_table.specs.Tables.{tables_of}
@@ -39,9 +39,9 @@ loop-number-preserved c = λ plan is.
     ∙ first_near net c.args.near.now c.requires.net c.requires.near in
     let one : c.in_ok-begin.field-0 ≡ each number =
     c.in_ok-begin.ensures
-    ∙ ap (λ (tables : Tables). begun number net.cache tables c.begin-base.result)
+    ∙ ap (λ (tables : Tables). new_switch number net.cache tables c.begin-base.result)
     (first_tables net c.args.controller.now plan _ number is c.in_ok-tables.ensures.tables)
-    ∙ ap (begun number net.cache (tables_of plan.hosted 1 number)) told in
+    ∙ ap (new_switch number net.cache (tables_of plan.hosted 1 number)) told in
     c.in_ok-push.ensures.items
     ∙ ap (λ all. all ++ c.in_ok-begin.field-0 ∷ []) (c.loop-number.invariant plan is)
     ∙ ap (λ s. map each (range_with_len 0 number) ++ s ∷ []) one

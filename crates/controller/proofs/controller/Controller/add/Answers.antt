@@ -3,7 +3,7 @@ use Rattle.std.specs.Prelude.{not}
 use Rattle.version_update.specs.Marks.{with_version}
 use Rattle.version_update.specs.Record.{is_over}
 use Rattle.controller.specs.Controller.{KeptPlan, ControllerValue, StaysController}
-use Rattle.controller.specs.Sends.{boot_recorded, install_act, those, settling_acts, submitting}
+use Rattle.controller.specs.Sends.{boot_recorded, install_act, switches_where, settling_acts, submit_acts}
 use Rattle.controller.proofs.Versions.{IsWhole, pushed_next, whole_more, stays_more}
 use Rattle.controller.proofs.controller.Controller.add.Goals as goal
 use Rattle.controller.proofs.controller.Controller.add.Goals.{After-settle}
@@ -49,8 +49,8 @@ returns-clause-sends c =
     ∙ ap (λ l. l ++ settling_acts (with_version old) new)
     (c.in_ok-acts.ensures ∙ ap
     (λ (version : KeptPlan). map (λ s. install_act s (boot_recorded old s) version)
-    (those (λ known. not (is_over known.phase)) old.switches)) next)
-    ∙ ap (λ (value : ControllerValue). submitting value.marks c.args.plan new) c.self.view_is
+    (switches_where (λ known. not (is_over known.phase)) old.switches)) next)
+    ∙ ap (λ (value : ControllerValue). submit_acts value.marks c.args.plan new) c.self.view_is
 
 pub returns-clause-rule : goal.returns-clause-rule
 returns-clause-rule c = stays (goal.at.returns-clause-rule c).After-settle

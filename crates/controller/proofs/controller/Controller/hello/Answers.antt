@@ -4,7 +4,7 @@ use Rattle.ctrl_msg.specs.declared.message.Body.TheVariants.{Hello}
 use Rattle.version_update.specs.Marks.{at_switch, record_of}
 use Rattle.version_update.specs.Record.{hello_recorded, takes_hello}
 use Rattle.controller.specs.Controller.{KeptPlan, ControllerValue, plans_from}
-use Rattle.controller.specs.Sends.{install_act, settling_acts, hearing}
+use Rattle.controller.specs.Sends.{install_act, settling_acts, hear_acts}
 use Rattle.controller.proofs.Versions.{plans_twice, whole_at, settles_at, stays_at}
 use Rattle.controller.proofs.controller.Controller.hello.Goals as goal
 
@@ -30,7 +30,7 @@ returns c =
           c.hello-settled.ensures.taken
           ∙ ap (λ (plans : List KeptPlan). told ++ cond (takes_hello boot (record_of old s))
           (map (install_act s boot) plans) []) (sym once)
-          ∙ ap (λ (old : ControllerValue). hearing (Hello s boot) old.marks
+          ∙ ap (λ (old : ControllerValue). hear_acts (Hello s boot) old.marks
           (record { marks = marks; plans = kept })) c.self.view_is)
           (c.hello_sends.ensures.sends _ c.hello-settled.ensures.settled);
       rule = search stays_at;

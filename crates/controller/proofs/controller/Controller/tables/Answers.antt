@@ -3,7 +3,7 @@ use Rattle.std.proofs.Common.{◌≡◌, ◌≤◌, ◌-◌, Some, get_or, ap, s
 use Rattle.std.proofs.lemmas.Result.{IfOk-weaker}
 use Rattle.switch_table.specs.Tables.{AreSoundTables}
 use Rattle.controller.specs.Controller.{ControllerValue, KeptPlan, kept_tables}
-use Rattle.controller.proofs.Kept.{kept_sound, kept_tables_are, kept_there}
+use Rattle.controller.proofs.KeptPlans.{kept_sound, kept_tables_are, kept_there}
 use Rattle.controller.proofs.controller.Controller.tables.Goals as goal
 use Rattle.controller.proofs.controller.Controller.tables.Goals.{After-tables}
 

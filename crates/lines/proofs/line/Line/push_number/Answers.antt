@@ -1,12 +1,12 @@
 use Rattle.std.proofs.Common.{ℕ, ◌≡◌, ◌≤◌, List, ◌++◌, length, take, ap, ◌∙◌, sym, arith}
 use Rattle.std.specs.Prelude.{decimal}
 use Rattle.std.proofs.lemmas.List.{length-take, take_all}
-use Rattle.lines.specs.Pushes.{pushed}
+use Rattle.lines.specs.Pushes.{line_with}
 use Rattle.lines.proofs.line.Line.push_number.Goals as goal
 
 fits : (line piece now : List ℕ) → length now ≤ 2048 → now ≡ line ++ piece
-    → now ≡ pushed line piece
-unfolding pushed
+    → now ≡ line_with line piece
+unfolding line_with
 fits line piece now within is = sym (take_all 2048 now within) ∙ ap (take 2048) is
 
 pub returns-then-self : goal.returns-then-self

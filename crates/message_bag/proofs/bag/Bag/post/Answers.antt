@@ -1,8 +1,8 @@
 use Rattle.std.proofs.Common.{◌++◌, ◌∷◌, [], List, length, ap, sym, ◌∙◌, arith}
 use Rattle.std.specs.List.{zip}
 use Rattle.wire.specs.Frames.{frames}
-use Rattle.message_bag.specs.Deliveries.{waiting}
-use Rattle.message_bag.specs.Posts.{Post, framed, posted}
+use Rattle.message_bag.specs.Deliveries.{waiting_status}
+use Rattle.message_bag.specs.Posts.{Post, posted_frames, new_post}
 use Rattle.message_bag.proofs.Framed.{framed_is}
 use Rattle.message_bag.proofs.Zipped.{length_of_zip, zip_pushed}
 use Rattle.message_bag.proofs.bag.Bag.post.Goals as goal
@@ -41,8 +41,10 @@ returns-in-Ok-clause-posted c =
     let message = c.args.message.now in
     ap (λ all. zip all c.add.new.self) c.in-Ok.ensures.posted
     ∙ ap (zip (c.self.inside.frames ++ frames message ∷ [])) c.in_ok-add.ensures.added
-    ∙ ap (λ one. zip (c.self.inside.frames ++ one ∷ []) (c.self.inside.deliveries ++ waiting ∷ []))
+    ∙ ap (λ one. zip (c.self.inside.frames ++ one ∷ [])
+    (c.self.inside.deliveries ++ waiting_status ∷ []))
     (sym (framed_is message c.in-Ok.ensures.fits))
-    ∙ zip_pushed c.self.inside.frames c.self.inside.deliveries (framed message) waiting
+    ∙ zip_pushed c.self.inside.frames c.self.inside.deliveries (posted_frames message)
+    waiting_status
     c.self.invariant
-    ∙ ap (λ (posts : List Post). posts ++ posted message ∷ []) c.self.view_is
+    ∙ ap (λ (posts : List Post). posts ++ new_post message ∷ []) c.self.view_is

@@ -1,12 +1,12 @@
 use Rattle.std.proofs.Common.{◌≡◌, ◌++◌, ◌∷◌, [], ◌<◌, ◌+◌, ◌^◌, length, ap, sym, subst, arith}
 use Rattle.std.proofs.lemmas.Grind.{common_steps}
-use Rattle.message_bag.specs.Deliveries.{ArePassed, waiting}
+use Rattle.message_bag.specs.Deliveries.{ArePassed, waiting_status}
 use Rattle.message_bag.proofs.Waiting.{pushed_passed}
 use Rattle.message_bag.proofs.deliveries.Deliveries.add.Goals as goal
 
 pub invariant_of-self-2 : goal.invariant_of-self-2
 invariant_of-self-2 c =
-    let pushed : c.push.new.self.items ≡ c.self.inside.statuses.items ++ waiting ∷ [] =
+    let pushed : c.push.new.self.items ≡ c.self.inside.statuses.items ++ waiting_status ∷ [] =
     grind (arith, common_steps) in
     let few : length c.self.inside.statuses.items + 1 < 2 ^ 32 =
     omega (arith, ap length c.self.view_is) in

@@ -1,10 +1,10 @@
 use Rattle.std.proofs.Common.{arith}
-use Rattle.message_bag.specs.Deliveries.{delivered}
+use Rattle.message_bag.specs.Deliveries.{delivered_status}
 use Rattle.message_bag.proofs.Waiting.{changed_passed}
 use Rattle.message_bag.proofs.deliveries.Deliveries.deliver.Goals as goal
 
 pub invariant_of-self : goal.invariant_of-self
 invariant_of-self c =
-    changed_passed delivered _ c.args.number _ _ c.args.self.now _ _ (λ status. grind arith)
+    changed_passed delivered_status _ c.args.number _ _ c.args.self.now _ _ (λ status. grind arith)
     c.self.invariant c.requires c.self.view_is c.index_mut.ensures.value c.deref.ensures.value
     c.first_waiting-self-inside.ensures

@@ -1,7 +1,7 @@
 use Rattle.std.proofs.Common.{◌≡◌, ◌++◌, ◌∷◌, [], List, map, ap, ◌∙◌, arith}
 use Rattle.std.proofs.lemmas.Grind.{common_steps}
 use Rattle.wire.proofs.Holding.{on_err}
-use Rattle.message_bag.specs.Kept.{First, first_in}
+use Rattle.message_bag.specs.KeptFrames.{First, first_in}
 use Rattle.message_bag.proofs.Spans.{all_stay, pushed}
 use Rattle.message_bag.proofs.firsts.Firsts.push.Goals as goal
 

@@ -1,14 +1,15 @@
 use Rattle.std.proofs.Common.{◌≡◌, ◌++◌, ◌∷◌, [], ℕ, List, None, ap, ◌∙◌}
 use Rattle.wire.specs.Frames.{frames}
 use Rattle.wire.specs.Messages.{message}
-use Rattle.message_bag.specs.Kept.{frames_in}
+use Rattle.message_bag.specs.KeptFrames.{frames_in}
 use Rattle.message_bag.proofs.Posting.{alone_is, kept_after, posted_after, same_grown}
 use Rattle.message_bag.proofs.frame_bag.FrameBag.post_alone.Goals as goal
 
 its : (c : goal.After-push)
     → frames_in c.self.inside.tables.items (c.deref.result.now, None) ≡ frames c.args.message.now
 its c =
-    alone_is c.args.message.now c.self.inside.tables.items c.deref.result.now c.requires.alone
+    alone_is c.args.message.now c.self.inside.tables.items c.deref.result.now
+    c.requires.message_of_frame
     (c.deref.ensures.value ∙ c.in_ok-append.ensures.spelled
     ∙ ap (λ (b : List ℕ). b ++ message.spell c.args.message.now)
     (c.in_ok-extend_from_slice.ensures.items ∙ ap (λ (b : List ℕ). b ++ (0 ∷ 0 ∷ 0 ∷ 0 ∷ 0 ∷ 0 ∷ 0 ∷ 1 ∷ [])) c.clear.ensures.items))

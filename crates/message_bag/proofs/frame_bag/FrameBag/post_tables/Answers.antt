@@ -1,7 +1,7 @@
 use Rattle.std.proofs.Common.{◌≡◌, ℕ, List, Some, ap, ◌∙◌}
 use Rattle.wire.specs.Frames.{frames}
 use Rattle.wire.proofs.Holding.{on_err}
-use Rattle.message_bag.specs.Kept.{frames_in}
+use Rattle.message_bag.specs.KeptFrames.{frames_in}
 use Rattle.message_bag.proofs.Posting.{all_stay, kept_after, posted_after, still_kept, unchanged_after}
 use Rattle.message_bag.proofs.frame_bag.FrameBag.post_tables.Goals as goal
 

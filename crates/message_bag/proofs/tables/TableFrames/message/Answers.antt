@@ -1,7 +1,7 @@
 use Rattle.std.proofs.Common.{◌∷◌, List, ℕ, drop, ap, sym, subst, ◌∙◌}
 use Rattle.std.specs.Prelude.{IfOk}
 use Rattle.wire.specs.Frames.{AreFrames}
-use Rattle.message_bag.specs.Kept.{AreOfMessage}
+use Rattle.message_bag.specs.KeptFrames.{AreOfMessage}
 use Rattle.message_bag.proofs.tables.TableFrames.message.Goals as goal
 
 pub shared-requires-clause-fits : goal.shared-requires-clause-fits

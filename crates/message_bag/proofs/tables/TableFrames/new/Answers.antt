@@ -1,12 +1,13 @@
 use Rattle.std.proofs.Common.{sym, subst}
 use Rattle.switch_table.specs.declared.tables.Tables.{Tables}
-use Rattle.message_bag.specs.Kept.{SayTables}
+use Rattle.message_bag.specs.KeptFrames.{CarryTables}
 use Rattle.message_bag.proofs.Installs.{says}
 use Rattle.message_bag.proofs.tables.TableFrames.new.Goals as goal
 
 pub invariant_of-result : goal.invariant_of-result
 invariant_of-result c =
-    subst (λ (t : Tables). SayTables t c.in_ok-frames.frames) (sym c.in_ok-said.ensures) c.in_ok-tables_in.ensures
+    subst (λ (t : Tables). CarryTables t c.in_ok-frames.frames) (sym c.in_ok-said.ensures)
+    c.in_ok-tables_in.ensures
 
 pub returns : goal.returns
 returns c =

@@ -1,5 +1,5 @@
 use Rattle.std.proofs.Common.{◌≡◌, ◌∙◌, sym, ap, ◌∷◌, [], map, rules}
-use Rattle.meters.specs.Meters.{kept}
+use Rattle.meters.specs.Meters.{meters_after}
 use Rattle.meters.proofs.Keeping.{after_stay, after_leave, after_all, kept_on}
 use Rattle.meters.proofs.board.Board.note.Goals as goal
 use Rattle.meters.proofs.board.Board.note.Given.{Over}
@@ -21,7 +21,7 @@ loop-at-preserved g c =
 -- at the end each meter noted it
 noted : (g : Over) (c : goal.After-loop-at g)
     → map g.M.Meter.seen c.loop-at.self-inside.meters.items
-    ≡ kept ((c.args.port, c.args.leaving.now) ∷ []) (map g.M.Meter.seen c.args.self.now)
+    ≡ meters_after ((c.args.port, c.args.leaving.now) ∷ []) (map g.M.Meter.seen c.args.self.now)
 noted g c =
     sym (c.loop-at.invariant ∙ after_all g.M.Meter.seen ((c.args.port, c.args.leaving.now) ∷ [])
     c.loop-at.self-inside.meters.items c.loop-at.at (search rules))
@@ -32,5 +32,5 @@ returns-clause-noted g c = noted g c
 pub returns-clause-goes_on : goal.returns-clause-goes_on
 returns-clause-goes_on g c =
     λ ports left meters until_now. noted g c
-    ∙ ap (kept ((c.args.port, c.args.leaving.now) ∷ [])) until_now
+    ∙ ap (meters_after ((c.args.port, c.args.leaving.now) ∷ [])) until_now
     ∙ sym (kept_on left ((c.args.port, c.args.leaving.now) ∷ []) _)

@@ -1,6 +1,6 @@
 use Rattle.std.proofs.Common.{ap, sym, subst, ◌∙◌}
 use Rattle.failover.specs.Links.{no_links}
-use Rattle.switch_core.specs.Answering.{IsUncached, incoming}
+use Rattle.switch_core.specs.Answering.{IsUncached, incoming_packet}
 use Rattle.switch_core.specs.State.{SwitchValue}
 use Rattle.switch_core.proofs.Admitting.{admitted, not_admitted}
 use Rattle.switch_core.proofs.Lookups.{entry_uncached}
@@ -9,7 +9,8 @@ use Rattle.switch_core.proofs.switch.Switch.admit.Goals as goal
 pub returns-then-not-serves-clause-answer : goal.returns-then-not-serves-clause-answer
 returns-then-not-serves-clause-answer c = λ site number.
     not_admitted c.args.self.now site
-    (incoming c.args.self.now number c.args.h.now) (sym c.serves.ensures ∙ c.if-not-serves.true)
+    (incoming_packet c.args.self.now number c.args.h.now)
+    (sym c.serves.ensures ∙ c.if-not-serves.true)
 
 pub returns-clause-answer : goal.returns-clause-answer
 returns-clause-answer c = λ site number.

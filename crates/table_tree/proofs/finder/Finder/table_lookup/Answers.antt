@@ -9,16 +9,16 @@ use Rattle.switch_table.specs.declared.search.Found.TheVariants.{Authority, Redi
 use Rattle.switch_table.specs.declared.tables.PartRow.{PartRow}
 use Rattle.switch_table.specs.declared.tables.Tables.{Tables}
 use Rattle.table_tree.specs.declared.trees.Trees.{Trees}
-use Rattle.table_tree.specs.Finding.{FinderValue, spot_shape_of}
-use Rattle.table_tree.specs.Regions.{spots_of}
+use Rattle.table_tree.specs.Finding.{FinderValue, candidate_shape_of}
+use Rattle.table_tree.specs.Regions.{candidates_of}
 use Rattle.table_tree.specs.LookupTrees.{CutsHeaderBits}
 use Rattle.table_tree.proofs.FindLemmas.{cuts_bits, first_in, none_there, own_decides, own_has, place_is, place_within, row_decides}
 use Rattle.table_tree.proofs.finder.Finder.table_lookup.Goals as goal
 
 pub place-place-requires : goal.place-place-requires
-place-place-requires c = subst (λ (t : Trees). CutsHeaderBits (spot_shape_of t.tree))
-    (sym c.deref.ensures) (cuts_bits (spot_shape_of c.self.inside.trees.value.tree)
-    (spots_of c.self.inside.tables.value.parts) any_word c.self.invariant.tree)
+place-place-requires c = subst (λ (t : Trees). CutsHeaderBits (candidate_shape_of t.tree))
+    (sym c.deref.ensures) (cuts_bits (candidate_shape_of c.self.inside.trees.value.tree)
+    (candidates_of c.self.inside.tables.value.parts) any_word c.self.invariant.tree)
 
 pub first_at-requires : goal.first_at-requires
 first_at-requires c =

@@ -1,6 +1,6 @@
 use Rattle.std.proofs.Common.{length, sym, ◌∙◌, ap, arith}
-use Rattle.travelling.specs.Marks.{is_marked}
-use Rattle.travelling.specs.Travelling.{Travellers, stands_at, traveller}
+use Rattle.travelling.specs.SwitchIndex.{is_marked}
+use Rattle.travelling.specs.Travelling.{Flights, stands_at, flight}
 use Rattle.travelling.proofs.Marked.{none_marked}
 use Rattle.travelling.proofs.travelling.Travelling.new.Goals as goal
 
@@ -9,8 +9,8 @@ invariant_of-result c = record {
   few = omega (arith, ap length c.new.ensures.items);
   none = λ i below. absurd (omega (arith, below));
   room = λ i below. absurd (omega (arith, below, ap length c.new.ensures.items));
-  marked = λ i s below. ap (λ marks. is_marked marks i s) c.new-2.ensures ∙ none_marked i s
-      ∙ sym (ap (λ (slots : Travellers). stands_at s (traveller slots i)) c.new.ensures.items);
+  marked = λ i s below. ap (λ by_switch. is_marked by_switch i s) c.new-2.ensures ∙ none_marked i s
+      ∙ sym (ap (λ (slots : Flights). stands_at s (flight slots i)) c.new.ensures.items);
   below = λ i s past.
-      ap (λ (slots : Travellers). stands_at s (traveller slots i)) c.new.ensures.items;
+      ap (λ (slots : Flights). stands_at s (flight slots i)) c.new.ensures.items;
 }

@@ -1,7 +1,7 @@
 use Rattle.std.proofs.Common.{ℕ, ◌≡◌, ◌<◌, ◌≤◌, ◌∙◌, inl, inr, None, refl, ap, arith, length, length-set, get_or-set_other}
 use Rattle.std.proofs.lemmas.Bool.{cases_lt}
 use Rattle.std.proofs.lemmas.List.{get_or_past}
-use Rattle.travelling.specs.Travelling.{Travellers, stands_at, traveller}
+use Rattle.travelling.specs.Travelling.{Flights, stands_at, flight}
 use Rattle.travelling.proofs.Marked.{marked_on, room_on}
 use Rattle.travelling.proofs.travelling.Travelling.put.Goals.{then-self-len, else-self-len}
 use Rattle.travelling.proofs.travelling.Travelling.put.Goals as goal
@@ -12,7 +12,7 @@ invariant_of-self c = record {
   none = c.self.invariant.none;
   room = λ i below. omega (arith, c.self.invariant.room i below, c.make_bits.ensures.grown);
   marked = marked_on c.self.inside.slots.items c.self.inside.slots.items
-      c.self.inside.marks c.make_bits.new.self c.self.invariant.marked (λ i. refl)
+      c.self.inside.by_switch c.make_bits.new.self c.self.invariant.marked (λ i. refl)
       c.make_bits.ensures.same;
   below = c.self.invariant.below;
 }
@@ -22,10 +22,10 @@ invariant_of-self-in_err-make_room c = record {
   few = omega (arith, c.make_room.ensures.few, c.self.invariant.few, c.ranges.packet.fits);
   none = λ i below. c.make_room.ensures.same i ∙ c.self.invariant.none i below;
   room = room_on c.self.inside.slots.items c.make_room.new.slots.items
-      c.self.inside.marks c.make_bits.new.self c.args.packet c.self.invariant.room
+      c.self.inside.by_switch c.make_bits.new.self c.args.packet c.self.invariant.room
       c.make_room.ensures.few c.make_bits.ensures.grown c.in_ok-make_bits.ensures.room;
   marked = marked_on c.self.inside.slots.items c.make_room.new.slots.items
-      c.self.inside.marks c.make_bits.new.self c.self.invariant.marked
+      c.self.inside.by_switch c.make_bits.new.self c.self.invariant.marked
       c.make_room.ensures.same c.make_bits.ensures.same;
   below = λ i s past. ap (stands_at s) (c.make_room.ensures.same i)
       ∙ c.self.invariant.below i s past;
@@ -33,7 +33,7 @@ invariant_of-self-in_err-make_room c = record {
 
 pub set_slot-requires-clause-marked : goal.set_slot-requires-clause-marked
 set_slot-requires-clause-marked c =
-    marked_on c.self.inside.slots.items c.make_room.new.slots.items c.self.inside.marks
+    marked_on c.self.inside.slots.items c.make_room.new.slots.items c.self.inside.by_switch
     c.make_bits.new.self c.self.invariant.marked c.make_room.ensures.same
     c.make_bits.ensures.same
 
@@ -51,7 +51,7 @@ invariant_of-self-2 c =
       | else-self-len w ↦ omega (arith, w.first-is)
     ] in
     let before : (i : ℕ) → i < c.if-self-len.first
-    → traveller c.self.inside.slots.items i ≡ None =
+    → flight c.self.inside.slots.items i ≡ None =
     λ i below. elim c.if-self-len.branch [
       | then-self-len w ↦ c.self.invariant.none i
           (omega (arith, below, w.first-is, w.min-first.ensures))
@@ -62,7 +62,7 @@ invariant_of-self-2 c =
       ]
     ] in
     let all = room_on c.self.inside.slots.items c.make_room.new.slots.items
-    c.self.inside.marks c.make_bits.new.self c.args.packet c.self.invariant.room
+    c.self.inside.by_switch c.make_bits.new.self c.args.packet c.self.invariant.room
     c.make_room.ensures.few c.make_bits.ensures.grown c.in_ok-make_bits.ensures.room in
     record {
       few = omega (
@@ -72,7 +72,7 @@ invariant_of-self-2 c =
         c.self.invariant.few,
         c.ranges.packet.fits,
       );
-      none = λ i below. ap (λ (slots : Travellers). traveller slots i) c.set_slot.ensures.slots
+      none = λ i below. ap (λ (slots : Flights). flight slots i) c.set_slot.ensures.slots
           ∙ get_or-set_other c.make_room.new.slots.items c.args.packet i _ None
           (λ e. absurd (omega (arith, e, below, low))) ∙ c.make_room.ensures.same i
           ∙ before i below;

@@ -1,6 +1,6 @@
 use Rattle.std.proofs.Common.{◌≡◌, ◌<◌, true, ap, length, arith}
 use Rattle.std.specs.Prelude.{is_some}
-use Rattle.travelling.specs.Travelling.{traveller}
+use Rattle.travelling.specs.Travelling.{flight}
 use Rattle.travelling.proofs.Marked.{within_some}
 use Rattle.travelling.proofs.travelling.Travelling.remove.Goals as goal
 
@@ -8,7 +8,7 @@ pub set_slot-requires-clause-room : goal.set_slot-requires-clause-room
 set_slot-requires-clause-room c =
     let so = c.has.ensures in
     let held = c.if-not-has.false in
-    let is : is_some (traveller c.args.self.now c.args.packet) ≡ true = cc in
+    let is : is_some (flight c.args.self.now c.args.packet) ≡ true = cc in
     let there : c.args.packet < length c.args.self.now =
     within_some c.args.self.now c.args.packet is in
     c.self.invariant.room c.args.packet (omega (arith, there, ap length c.self.view_is))

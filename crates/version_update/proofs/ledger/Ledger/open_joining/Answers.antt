@@ -4,6 +4,10 @@ use Rattle.version_update.proofs.ledger.Ledger.open_joining.Goals as goal
 
 pub invariant_of-self : goal.invariant_of-self
 invariant_of-self c =
-    let front = take_put_back c.self.inside.number c.self.inside.switches c.open_at.new.switches
-    c.open_at.auto.switches in
-    (c.self.invariant.0, rw (front, c.open_at.ensures.opened) (opened-bounded _ c.self.invariant.1))
+    let front = take_put_back c.self.inside.number c.self.inside.switches
+    c.open_if_acked.new.switches
+    c.open_if_acked.auto.switches in (
+      c.self.invariant.0,
+      rw (front, c.open_if_acked.ensures.opened)
+          (opened-bounded _ c.self.invariant.1),
+    )

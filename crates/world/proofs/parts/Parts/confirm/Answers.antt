@@ -9,7 +9,7 @@ use Rattle.world_log.specs.Sending.{MayNote}
 use Rattle.world.proofs.Frame.{goes_nothing, net_stays, none_in, nothing_goes}
 use Rattle.world.proofs.GoesTold.{goes_acting}
 use Rattle.world.proofs.OverSwitches.{known_in, place_in}
-use Rattle.refinement.proofs.GoneSwitches.{gone_may, gone_piece, gone_tied, still_up}
+use Rattle.refinement.proofs.GoneSwitches.{gone_may, gone_piece, gone_refines, still_up}
 use Rattle.world.proofs.parts.Parts.confirm.Goals as goal
 
 pub index-requires : goal.index-requires
@@ -19,7 +19,7 @@ index-requires c = place_in c.args.switch c.requires c.requires.begins.ready.may
 
 pub returns-then-is_up : goal.returns-then-is_up
 returns-then-is_up c = λ before row begins.
-    goes_nothing begins refl (still_up _ _ _ _ _ _ row c.args.switch _ begins.ready.tied
+    goes_nothing begins refl (still_up _ _ _ _ _ _ row c.args.switch _ begins.ready.refines
     begins.ready.may c.index.ensures (sym c.is_up.ensures ∙ c.if-is_up.true)) c.push.ensures.pushed
     c.push.ensures.unchanged
 
@@ -45,7 +45,7 @@ note_acts-requires c =
     let ready = c.requires.begins.ready in
     subst (MayNote self.log.bag) (sym (c.items.ensures ∙ c.in_ok-sends.ensures.sends))
     (gone_may _ _ _ _ _ _ c.requires.row c.args.switch c.index.result.now
-    ready.tied ready.may c.index.ensures c.over.new.self
+    ready.refines ready.may c.index.ensures c.over.new.self
     (sym c.is_up.ensures ∙ c.if-is_up.false) c.over.ensures.after ready.room)
 
 pub returns : goal.returns
@@ -59,9 +59,11 @@ returns c = λ before row begins.
     let its = c.note_acts.ensures in
     goes_acting (item.OverNow s) acts c.items.result.now c.push-2.new.self begins
     (net_stays refl refl) (none_in _)
-    (gone_piece _ _ _ _ _ _ row s c.index.result.now ready.tied ready.may c.index.ensures new down
+    (gone_piece _ _ _ _ _ _ row s c.index.result.now ready.refines ready.may c.index.ensures new
+    down
     c.over.ensures.after)
     c.in_ok-push.ensures.pushed (c.items.ensures ∙ c.in_ok-sends.ensures.sends) its.travelling
     its.written its.posted its.part
-    (gone_tied _ _ _ _ _ _ row s c.index.result.now ready.tied ready.may c.index.ensures new down
+    (gone_refines _ _ _ _ _ _ row s c.index.result.now ready.refines ready.may c.index.ensures new
+    down
     c.over.ensures.after)

@@ -1,19 +1,19 @@
 use Rattle.std.proofs.Common.{◌≡◌, ◌+◌, ◌++◌, ◌∷◌, true, List, map, set, refl, ap, sym, subst, ◌∙◌, append_assoc, length, arith}
 use Rattle.std.proofs.lemmas.List.{length-set}
 use Rattle.std.proofs.lemmas.Result.{on_err_weaker, on_ok_weaker}
-use Rattle.message_bag.specs.Posts.{posted}
+use Rattle.message_bag.specs.Posts.{new_post}
 use Rattle.ctrl_msg.specs.declared.message.Message.{Message}
 use Rattle.journal.specs.declared.item.Item.{Item}
 use Rattle.journal.specs.declared.item.Item.TheVariants as item
 use Rattle.steps.specs.declared.step.Step.TheVariants.{Crash}
 use Rattle.switch_core.specs.State.{SwitchValue}
 use Rattle.update_machine.specs.Messages.{sent_from}
-use Rattle.refinement.specs.Linking.{all_told, near_all}
+use Rattle.refinement.specs.Linking.{all_adverts_sent, near_all}
 use Rattle.world.specs.Parts.{control_in, setting_in}
-use Rattle.refinement.specs.Tied.{AreTied}
+use Rattle.refinement.specs.Refinement.{RefineJournal}
 use Rattle.travelling.specs.Travelling.{WithoutAt, numbers_at}
 use Rattle.world_log.specs.Writing.{IsPart}
-use Rattle.refinement.proofs.Crashed.{crash_may, crash_next, crash_piece, crash_tied, same_switch, stays_down}
+use Rattle.refinement.proofs.Crashed.{crash_may, crash_next, crash_piece, crash_refines, same_switch, stays_down}
 use Rattle.world.proofs.Frame.{goes, goes_nothing, net_stays, none_ok, nothing_goes}
 use Rattle.world.proofs.GoesTold.{same_control}
 use Rattle.world.proofs.OverSwitches.{few_in, place_in, switch_in}
@@ -33,7 +33,7 @@ pub returns-then-not-is_up : goal.returns-then-not-is_up
 returns-then-not-is_up c = λ before row begins.
     let self = c.args.self.now in
     goes_nothing begins refl
-    (stays_down _ _ _ _ _ _ row c.args.switch c.index.result.now begins.ready.tied
+    (stays_down _ _ _ _ _ _ row c.args.switch c.index.result.now begins.ready.refines
     begins.ready.may c.index.ensures (sym c.is_up.ensures ∙ c.if-not-is_up.true))
     c.push.ensures.pushed c.push.ensures.unchanged
 
@@ -61,13 +61,13 @@ returns-in_err-lose_at c = λ before row begins.
     let changed = c.crash.new.self in
     let within = switch_in s c.requires begins.ready.may in
     let others = set self.switches.items s changed in
-    let messages : List Message = all_told self.near (near_all self.links others) others in
+    let messages : List Message = all_adverts_sent self.near (near_all self.links others) others in
     let sends = sent_from (length self.log.bag + 1) messages in
     let losses = map item.Lost (numbers_at self.log.travelling s) in
     let r = c.from_residual-in_err-lose_at.result in
     let failed = c.from_residual-in_err-lose_at.ensures.0 in
     goes begins (net_stays refl refl) (item.Down s ∷ losses ++ sends)
-    (crash_piece _ _ _ _ _ _ row s own changed begins.ready.tied begins.ready.may within
+    (crash_piece _ _ _ _ _ _ row s own changed begins.ready.refines begins.ready.may within
     c.index_mut.ensures.value c.crash.ensures
     (was_up (goal.at.returns-in_err-lose_at c).After-index_mut))
     (none_ok _ r failed) (none_ok _ r failed)
@@ -92,14 +92,14 @@ pub change_links-requires-clause-next : goal.change_links-requires-clause-next
 change_links-requires-clause-next c =
     let ready = c.requires.begins.ready in
     crash_next _ _ _ _ _ _ c.requires.row c.args.switch c.index_mut.result.now c.crash.new.self
-    ready.tied ready.may (switch_in c.args.switch c.requires ready.may) c.index_mut.ensures.value
+    ready.refines ready.may (switch_in c.args.switch c.requires ready.may) c.index_mut.ensures.value
     c.crash.ensures (was_up (goal.at.change_links-requires-clause-next c).After-index_mut) ready.room
 
 pub change_links-requires-clause-may : goal.change_links-requires-clause-may
 change_links-requires-clause-may c =
     let ready = c.requires.begins.ready in
     rw c.lose_at.ensures.unsent (crash_may _ _ _ _ _ _ c.requires.row c.args.switch
-    c.index_mut.result.now c.crash.new.self ready.tied ready.may
+    c.index_mut.result.now c.crash.new.self ready.refines ready.may
     (switch_in c.args.switch c.requires ready.may) c.index_mut.ensures.value c.crash.ensures
     (was_up (goal.at.change_links-requires-clause-may c).After-index_mut) ready.room)
 
@@ -115,7 +115,7 @@ returns c = λ before row begins.
     let within = switch_in s c.requires ready.may in
     let is_up = was_up (goal.at.returns c).After-index_mut in
     let others = set self.switches.items s changed in
-    let messages : List Message = all_told self.near (near_all self.links others) others in
+    let messages : List Message = all_adverts_sent self.near (near_all self.links others) others in
     let sends = sent_from (length self.log.bag + 1) messages in
     let losses = map item.Lost (numbers_at self.log.travelling s) in
     let rest = c.change_links.ensures.rest in
@@ -124,7 +124,7 @@ returns c = λ before row begins.
     goes begins
     (net_stays rest.files rest.ports)
     (item.Down s ∷ losses ++ sends)
-    (crash_piece _ _ _ _ _ _ row s own changed ready.tied ready.may within
+    (crash_piece _ _ _ _ _ _ row s own changed ready.refines ready.may within
     c.index_mut.ensures.value c.crash.ensures is_up)
     (on_ok_weaker r (λ done. omega (arith, rest.packets)) c.change_links.ensures.written)
     (step_written r self.log.journal down new.log.journal (losses ++ sends)
@@ -141,17 +141,18 @@ returns c = λ before row begins.
     c.lose_at.ensures.unsent part)) c.change_links.ensures.part))
     (three_ok r (λ near_is are posts_are.
     let all : List Item = before ++ (item.Row row (Crash s) ∷ item.Down s ∷ losses ++ sends) in
-    let posts = self.log.bag ++ map posted messages in
+    let posts = self.log.bag ++ map new_post messages in
     let bag_is : new.log.bag ≡ posts =
-    posts_are ∙ ap (λ bag. bag ++ map posted messages) c.lose_at.ensures.unsent in
-    subst (λ bag. AreTied (setting_in self) all new.switches.items new.log.travelling new.packets
+    posts_are ∙ ap (λ bag. bag ++ map new_post messages) c.lose_at.ensures.unsent in
+    subst (λ bag. RefineJournal (setting_in self) all new.switches.items new.log.travelling
+    new.packets
     (record (control_in new) { posts = bag })) (sym bag_is)
-    (subst (λ count. AreTied (setting_in self) all new.switches.items new.log.travelling count
+    (subst (λ count. RefineJournal (setting_in self) all new.switches.items new.log.travelling count
     (record (control_in new) { posts = posts })) (sym rest.packets)
-    (subst (λ control. AreTied (setting_in self) all new.switches.items new.log.travelling
+    (subst (λ control. RefineJournal (setting_in self) all new.switches.items new.log.travelling
     self.packets control) (same_control (control_in self) new posts
     (near_all self.links others) rest.controller rest.links near_is)
-    (crash_tied _ _ _ _ _ _ row s own changed ready.tied ready.may within
+    (crash_refines _ _ _ _ _ _ row s own changed ready.refines ready.may within
     c.index_mut.ensures.value c.crash.ensures is_up new.switches.items new.log.travelling are
     (subst (WithoutAt self.log.travelling s) (sym rest.travelling)
     c.in_ok-lose_at.ensures.lost)))))

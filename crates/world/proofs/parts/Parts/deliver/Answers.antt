@@ -1,12 +1,12 @@
 use Rattle.std.proofs.Common.{◌≡◌, ◌+◌, ◌<◌, ◌++◌, ◌∷◌, List, OnOk, OnErr, get_or, length, map, set, refl, ap, sym, subst, ◌∙◌, arith}
 use Rattle.std.specs.Prelude.{is_some}
-use Rattle.message_bag.specs.Deliveries.{delivered}
+use Rattle.message_bag.specs.Deliveries.{delivered_status}
 use Rattle.std.proofs.lemmas.List.{length-set}
 use Rattle.std.proofs.lemmas.Result.{on_ok_weaker}
-use Rattle.message_bag.specs.Posts.{posted, with_delivered, with_status}
+use Rattle.message_bag.specs.Posts.{new_post, with_delivered, with_status}
 use Rattle.message_bag.proofs.Numbered.{length_changed}
 use Rattle.controller.specs.Controller.{ControllerValue}
-use Rattle.controller.specs.Sends.{hearing}
+use Rattle.controller.specs.Sends.{hear_acts}
 use Rattle.ctrl_msg.specs.declared.message.Message.{Message}
 use Rattle.journal.specs.declared.item.Item.{Item}
 use Rattle.journal.specs.declared.item.Item.TheVariants as item
@@ -14,16 +14,16 @@ use Rattle.steps.specs.declared.step.Step.TheVariants.{Deliver}
 use Rattle.switch_core.specs.Hearing.{IsSoundBody, replies}
 use Rattle.update_machine.specs.Messages.{sent_from}
 use Rattle.world.specs.Parts.{control_in, setting_in}
-use Rattle.refinement.specs.Linking.{all_told, near_all}
+use Rattle.refinement.specs.Linking.{all_adverts_sent, near_all}
 use Rattle.world_log.specs.Sending.{MayNote, MaySend, act_items, act_posts}
-use Rattle.refinement.specs.Tied.{AreTied}
+use Rattle.refinement.specs.Refinement.{RefineJournal}
 use Rattle.refinement.proofs.Delivering.{found_there}
 use Rattle.world_log.specs.Writing.{IsPart}
 use Rattle.world.proofs.GoesTold.{first_goes, goes_told, same_control}
-use Rattle.refinement.proofs.HeardBy.{control_may, control_piece, control_tied, first_piece, names_known, shut_may, shut_piece, shut_tied, undelivered}
+use Rattle.refinement.proofs.HeardBy.{control_may, control_piece, control_refines, first_piece, names_known, shut_may, shut_piece, shut_refines, undelivered}
 use Rattle.world.proofs.OverSwitches.{few_in}
 use Rattle.refinement.proofs.HearReady.{hear_ready, usable_here}
-use Rattle.refinement.proofs.Opening.{opening_may, opening_next, opening_piece, opening_tied}
+use Rattle.refinement.proofs.Opening.{opening_may, opening_next, opening_piece, opening_refines}
 use Rattle.world.proofs.Frame.{goes_nothing, net_stays, none_in, nothing_goes}
 use Rattle.world_log.proofs.Writing.{both_ok, step_part, step_written}
 use Rattle.world.proofs.parts.Parts.deliver.Goals as goal
@@ -40,7 +40,7 @@ pub returns-in-None : goal.returns-in-None
 returns-in-None c = λ before row begins.
     let self = c.args.self.now in
     goes_nothing begins refl
-    (undelivered _ _ _ _ _ _ row c.args.number begins.ready.tied begins.ready.may
+    (undelivered _ _ _ _ _ _ row c.args.number begins.ready.refines begins.ready.may
     (sym c.in_ok-get.ensures.found ∙ ap is_some c.in-None.is))
     c.push.ensures.pushed c.push.ensures.unchanged
 
@@ -51,19 +51,19 @@ returns-in_err-push c = λ before row begins.
     nothing_goes begins (net_stays refl refl) c.from_residual-in_err-push.ensures.0
     c.in_err-push.ensures.unchanged
 
-pub tell_controller-requires-clause-there : goal.tell_controller-requires-clause-there
-tell_controller-requires-clause-there c =
+pub deliver_to_controller-requires-clause-there : goal.deliver_to_controller-requires-clause-there
+deliver_to_controller-requires-clause-there c =
     let self = c.args.self.now in
-    names_known _ _ _ _ _ _ c.args.number c.in-Some.message c.requires.begins.ready.tied
+    names_known _ _ _ _ _ _ c.args.number c.in-Some.message c.requires.begins.ready.refines
     (found_there _ _ _ _ c.in-Some.is c.in_ok-get.ensures.message) c.in-Controller.is
 
-pub tell_controller-requires-clause-may : goal.tell_controller-requires-clause-may
-tell_controller-requires-clause-may c = λ new settles.
+pub deliver_to_controller-requires-clause-may : goal.deliver_to_controller-requires-clause-may
+deliver_to_controller-requires-clause-may c = λ new settles.
     let self = c.args.self.now in
     let ready = c.requires.begins.ready in
-    subst (λ bag. MayNote bag (hearing c.in-Some.message.body self.controller.marks new))
+    subst (λ bag. MayNote bag (hear_acts c.in-Some.message.body self.controller.marks new))
     (sym c.deliver.ensures)
-    (control_may _ _ _ _ _ _ c.requires.row c.args.number c.in-Some.message new ready.tied
+    (control_may _ _ _ _ _ _ c.requires.row c.args.number c.in-Some.message new ready.refines
     ready.may (found_there _ _ _ _ c.in-Some.is c.in_ok-get.ensures.message) c.in-Controller.is settles ready.room)
 
 pub returns-in-Controller : goal.returns-in-Controller
@@ -71,28 +71,29 @@ returns-in-Controller c = λ before row begins.
     let self = c.args.self.now in
     let n = c.args.number in
     let message = c.in-Some.message in
-    let new : ControllerValue = c.tell_controller.new.controller in
-    let acts = hearing message.body self.controller.marks new in
+    let new : ControllerValue = c.deliver_to_controller.new.controller in
+    let acts = hear_acts message.body self.controller.marks new in
     let there = found_there _ _ _ _ c.in-Some.is c.in_ok-get.ensures.message in
     let ready = begins.ready in
     goes_told (item.Delivered n)
     (λ k. act_items k acts) c.push-2.new.self (length c.deliver.new.self)
     (with_delivered self.log.bag n) (act_posts acts) begins (net_stays refl refl) (record {
-      piece_is = control_piece _ _ _ _ _ _ row n message new ready.tied ready.may there
-          c.in-Controller.is c.tell_controller.ensures.after;
+      piece_is = control_piece _ _ _ _ _ _ row n message new ready.refines ready.may there
+          c.in-Controller.is c.deliver_to_controller.ensures.after;
       counted = none_in _;
       pushed = c.in_ok-push.ensures.pushed;
       number_is = ap length c.deliver.ensures
-          ∙ length_changed (with_status delivered) self.log.bag n;
-      travelling = c.tell_controller.ensures.travelling;
-      written = c.tell_controller.ensures.written;
-      part = c.tell_controller.ensures.part;
-      posted = subst (λ bag. OnOk c.tell_controller.result
-          (c.tell_controller.new.log.bag ≡ bag ++ act_posts acts)) c.deliver.ensures
-          c.tell_controller.ensures.posted;
-      tied = on_ok_weaker c.tell_controller.result (λ done. control_tied _ _ _ _ _ _ row n
-          message new ready.tied ready.may there c.in-Controller.is
-          c.tell_controller.ensures.after) c.tell_controller.ensures.written;
+          ∙ length_changed (with_status delivered_status) self.log.bag n;
+      travelling = c.deliver_to_controller.ensures.travelling;
+      written = c.deliver_to_controller.ensures.written;
+      part = c.deliver_to_controller.ensures.part;
+      posted = subst (λ bag. OnOk c.deliver_to_controller.result
+          (c.deliver_to_controller.new.log.bag ≡ bag ++ act_posts acts)) c.deliver.ensures
+          c.deliver_to_controller.ensures.posted;
+      refines = on_ok_weaker c.deliver_to_controller.result
+          (λ done. control_refines _ _ _ _ _ _ row n
+          message new ready.refines ready.may there c.in-Controller.is
+          c.deliver_to_controller.ensures.after) c.deliver_to_controller.ensures.written;
     })
 
 -- ---- what its switch needs
@@ -102,7 +103,7 @@ hears : (c : In-Switch) → (c.in-Switch.switch < length c.args.self.now.switche
 hears c =
     let self = c.args.self.now in
     hear_ready _ _ _ _ _ _ c.args.number c.in-Switch.switch c.in-Some.message
-    c.requires.begins.ready.tied
+    c.requires.begins.ready.refines
     (found_there _ _ _ _ c.in-Some.is c.in_ok-get.ensures.message) c.in-Switch.is
 
 pub bounds-self-switch : goal.bounds-self-switch
@@ -124,7 +125,7 @@ returns-in_err-heard c = λ before row begins.
     let self = c.args.self.now in
     first_goes
     (item.Delivered c.args.number) _ begins (net_stays refl refl)
-    (first_piece _ _ _ _ _ _ row c.args.number c.in-Some.message begins.ready.tied
+    (first_piece _ _ _ _ _ _ row c.args.number c.in-Some.message begins.ready.refines
     (found_there _ _ _ _ c.in-Some.is c.in_ok-get.ensures.message)) c.from_residual-in_err-heard.ensures.0
     c.in_ok-push.ensures.pushed
 
@@ -141,9 +142,9 @@ send_all-requires c =
     (get_or self.near c.in-Switch.switch 0) c.in-Some.message.body)) (sym c.deliver.ensures)
     (shut_may _ _ _ _ _ _ c.requires.row c.args.number c.in-Switch.switch
     c.in-Some.message c.index_mut.result.now c.hear.new.self
-    (get_or self.near c.in-Switch.switch 0) ready.tied ready.may there c.in-Switch.is within.0
+    (get_or self.near c.in-Switch.switch 0) ready.refines ready.may there c.in-Switch.is within.0
     c.index_mut.ensures.value
-    (usable_here _ _ _ _ _ _ c.in-Switch.switch ready.tied within.1)
+    (usable_here _ _ _ _ _ _ c.in-Switch.switch ready.refines within.1)
     c.in_ok-heard.ensures.after (sym c.in_ok-heard.ensures.opened ∙ c.in-None-opened.is)
     ready.room))
 
@@ -158,20 +159,20 @@ returns-in-None-opened c = λ before row begins.
     let own = c.index_mut.result.now in
     let near = get_or self.near s 0 in
     let within = hears (goal.at.returns-in-None-opened c).In-Switch in
-    let usable = usable_here _ _ _ _ _ _ s ready.tied within.1 in
+    let usable = usable_here _ _ _ _ _ _ s ready.refines within.1 in
     let shut = sym c.in_ok-heard.ensures.opened ∙ c.in-None-opened.is in
     let messages : List Message = replies own near message.body in
     let are : c.items.result.now ≡ messages = c.items.ensures ∙ c.in_ok-heard.ensures.replies in
     goes_told (item.Delivered n)
     (λ k. sent_from k messages) c.push-2.new.self (length c.deliver.new.self)
-    (with_delivered self.log.bag n) (map posted messages) begins (net_stays refl refl) (record {
-      piece_is = shut_piece _ _ _ _ _ _ row n s message own c.hear.new.self near ready.tied
+    (with_delivered self.log.bag n) (map new_post messages) begins (net_stays refl refl) (record {
+      piece_is = shut_piece _ _ _ _ _ _ row n s message own c.hear.new.self near ready.refines
           ready.may there c.in-Switch.is within.0 c.index_mut.ensures.value usable
           c.in_ok-heard.ensures.after shut;
       counted = none_in _;
       pushed = c.in_ok-push.ensures.pushed;
       number_is = ap length c.deliver.ensures
-          ∙ length_changed (with_status delivered) self.log.bag n;
+          ∙ length_changed (with_status delivered_status) self.log.bag n;
       travelling = c.send_all.ensures.travelling;
       written = subst (λ all. OnOk c.send_all.result (c.send_all.new.self.journal
           ≡ c.push-2.new.self ++ sent_from (length c.deliver.new.self + 1) all)) are
@@ -180,12 +181,12 @@ returns-in-None-opened c = λ before row begins.
           (sent_from (length c.deliver.new.self + 1) all) c.send_all.new.self.journal)) are
           c.send_all.ensures.part;
       posted = subst (λ all. OnOk c.send_all.result
-          (c.send_all.new.self.bag ≡ with_delivered self.log.bag n ++ map posted all)) are
+          (c.send_all.new.self.bag ≡ with_delivered self.log.bag n ++ map new_post all)) are
           (subst (λ bag. OnOk c.send_all.result
-          (c.send_all.new.self.bag ≡ bag ++ map posted c.items.result.now)) c.deliver.ensures
+          (c.send_all.new.self.bag ≡ bag ++ map new_post c.items.result.now)) c.deliver.ensures
           c.send_all.ensures.posted);
-      tied = on_ok_weaker c.send_all.result (λ done. shut_tied _ _ _ _ _ _ row n s
-          message own c.hear.new.self near ready.tied ready.may there c.in-Switch.is within.0
+      refines = on_ok_weaker c.send_all.result (λ done. shut_refines _ _ _ _ _ _ row n s
+          message own c.hear.new.self near ready.refines ready.may there c.in-Switch.is within.0
           c.index_mut.ensures.value usable c.in_ok-heard.ensures.after shut)
           c.send_all.ensures.written;
     })
@@ -196,7 +197,7 @@ pub returns-in_err-push-in-Some-opened : goal.returns-in_err-push-in-Some-opened
 returns-in_err-push-in-Some-opened c = λ before row begins.
     let self = c.args.self.now in
     first_goes (item.Delivered c.args.number) _ begins (net_stays refl refl)
-    (first_piece _ _ _ _ _ _ row c.args.number c.in-Some.message begins.ready.tied
+    (first_piece _ _ _ _ _ _ row c.args.number c.in-Some.message begins.ready.refines
     (found_there _ _ _ _ c.in-Some.is c.in_ok-get.ensures.message))
     c.from_residual-in_err-push-in-Some-opened.ensures.0
     (c.in_err-push-in-Some-opened.ensures.unchanged ∙ c.in_ok-push.ensures.pushed)
@@ -215,7 +216,7 @@ change_links-requires-clause-next c =
     let ready = c.requires.begins.ready in
     let within = hears (goal.at.change_links-requires-clause-next c).In-Switch in
     opening_next _ _ _ _ _ _ c.requires.row c.args.number c.in-Switch.switch
-    c.in-Some-opened.version c.in-Some.message c.index_mut.result.now c.hear.new.self ready.tied
+    c.in-Some-opened.version c.in-Some.message c.index_mut.result.now c.hear.new.self ready.refines
     ready.may (found_there _ _ _ _ c.in-Some.is c.in_ok-get.ensures.message) c.in-Switch.is within.0
     c.index_mut.ensures.value c.in_ok-heard.ensures.after
     (sym c.in_ok-heard.ensures.opened ∙ c.in-Some-opened.is) ready.room
@@ -225,7 +226,7 @@ change_links-requires-clause-may c =
     let ready = c.requires.begins.ready in
     let within = hears (goal.at.change_links-requires-clause-may c).In-Switch in
     rw c.deliver.ensures (opening_may _ _ _ _ _ _ c.requires.row c.args.number c.in-Switch.switch
-    c.in-Some-opened.version c.in-Some.message c.index_mut.result.now c.hear.new.self ready.tied
+    c.in-Some-opened.version c.in-Some.message c.index_mut.result.now c.hear.new.self ready.refines
     ready.may (found_there _ _ _ _ c.in-Some.is c.in_ok-get.ensures.message) c.in-Switch.is within.0
     c.index_mut.ensures.value c.in_ok-heard.ensures.after
     (sym c.in_ok-heard.ensures.opened ∙ c.in-Some-opened.is) ready.room)
@@ -244,21 +245,21 @@ returns c = λ before row begins.
     let within = hears (goal.at.returns c).In-Switch in
     let opens = sym c.in_ok-heard.ensures.opened ∙ c.in-Some-opened.is in
     let others = set self.switches.items s c.hear.new.self in
-    let messages : List Message = all_told self.near (near_all self.links others) others in
+    let messages : List Message = all_adverts_sent self.near (near_all self.links others) others in
     let rest = c.change_links.ensures.rest in
     let behind = c.push-in-Some-opened.new.self in
     let sends = sent_from (length c.deliver.new.self + 1) messages in
     goes_told (item.Delivered n)
     (λ k. item.Opened s stamp ∷ sent_from k messages) c.push-2.new.self
-    (length c.deliver.new.self) (with_delivered self.log.bag n) (map posted messages) begins
+    (length c.deliver.new.self) (with_delivered self.log.bag n) (map new_post messages) begins
     (net_stays rest.files rest.ports) (record {
-      piece_is = opening_piece _ _ _ _ _ _ row n s stamp message own c.hear.new.self ready.tied
+      piece_is = opening_piece _ _ _ _ _ _ row n s stamp message own c.hear.new.self ready.refines
           ready.may there c.in-Switch.is within.0 c.index_mut.ensures.value
           c.in_ok-heard.ensures.after opens;
       counted = omega (arith, rest.packets);
       pushed = c.in_ok-push.ensures.pushed;
       number_is = ap length c.deliver.ensures
-          ∙ length_changed (with_status delivered) self.log.bag n;
+          ∙ length_changed (with_status delivered_status) self.log.bag n;
       travelling = rest.travelling;
       written = step_written c.change_links.result c.push-2.new.self behind new.log.journal sends
           (item.Opened s stamp ∷ sends) (item.Opened s stamp) refl
@@ -267,18 +268,19 @@ returns c = λ before row begins.
           (item.Opened s stamp ∷ sends) (item.Opened s stamp) refl
           c.in_ok-push-in-Some-opened.ensures.pushed c.change_links.ensures.part;
       posted = subst (λ bag. OnOk c.change_links.result
-          (new.log.bag ≡ bag ++ map posted messages)) c.deliver.ensures
+          (new.log.bag ≡ bag ++ map new_post messages)) c.deliver.ensures
           c.change_links.ensures.posted;
-      tied = both_ok c.change_links.result (λ near_is are.
+      refines = both_ok c.change_links.result (λ near_is are.
           let all : List Item = before ++ item.Row row (Deliver n) ∷ item.Delivered n
           ∷ item.Opened s stamp ∷ sent_from (length self.log.bag + 1) messages in
-          let posts = with_delivered self.log.bag n ++ map posted messages in
-          subst (λ count. AreTied (setting_in self) all new.switches.items self.log.travelling
+          let posts = with_delivered self.log.bag n ++ map new_post messages in
+          subst (λ count. RefineJournal (setting_in self) all new.switches.items self.log.travelling
           count (record (control_in new) { posts = posts })) (sym rest.packets)
-          (subst (λ control. AreTied (setting_in self) all new.switches.items self.log.travelling
+          (subst (λ control. RefineJournal (setting_in self) all new.switches.items
+          self.log.travelling
           self.packets control) (same_control (control_in self) new posts
           (near_all self.links others) rest.controller rest.links near_is)
-          (opening_tied _ _ _ _ _ _ row n s stamp message own c.hear.new.self ready.tied
+          (opening_refines _ _ _ _ _ _ row n s stamp message own c.hear.new.self ready.refines
           ready.may there c.in-Switch.is within.0 c.index_mut.ensures.value
           c.in_ok-heard.ensures.after opens new.switches.items are)))
           c.change_links.ensures.near c.change_links.ensures.switches;

@@ -1,6 +1,6 @@
 use Rattle.std.proofs.Common.{Some, None, refl, sym, ◌∙◌}
 use Rattle.journal.specs.declared.item.Item.TheVariants as item
-use Rattle.refinement.proofs.Expiring.{expired_tied}
+use Rattle.refinement.proofs.Expiring.{expired_refines}
 use Rattle.world.proofs.Frame.{goes_one, net_stays, none_in, plane_stays}
 use Rattle.world.proofs.OverSwitches.{place_in}
 use Rattle.world.proofs.parts.Parts.expire.Goals as goal
@@ -13,8 +13,8 @@ returns-in-None c = λ before row begins.
     let self = c.args.self.now in
     goes_one begins
     (net_stays refl refl) item.Nothing self.log.bag (plane_stays refl refl refl) refl (none_in _)
-    (expired_tied _ _ _ _ _ _ row c.args.switch c.args.place c.index_mut.result.now
-    c.expire.new.self None begins.ready.tied begins.ready.may c.index_mut.ensures.value
+    (expired_refines _ _ _ _ _ _ row c.args.switch c.args.place c.index_mut.result.now
+    c.expire.new.self None begins.ready.refines begins.ready.may c.index_mut.ensures.value
     c.expire.ensures.after (sym c.in-None.is ∙ c.expire.ensures.message))
     c.push.ensures.pushed c.push.ensures.unchanged
 
@@ -24,7 +24,7 @@ returns-in-Some c = λ before row begins.
     goes_one begins
     (net_stays refl refl) (item.Expired c.args.switch c.args.place c.in-Some.message) self.log.bag (plane_stays refl refl refl) refl
     (none_in _)
-    (expired_tied _ _ _ _ _ _ row c.args.switch c.args.place c.index_mut.result.now
-    c.expire.new.self (Some c.in-Some.message) begins.ready.tied begins.ready.may
+    (expired_refines _ _ _ _ _ _ row c.args.switch c.args.place c.index_mut.result.now
+    c.expire.new.self (Some c.in-Some.message) begins.ready.refines begins.ready.may
     c.index_mut.ensures.value c.expire.ensures.after (sym c.in-Some.is ∙ c.expire.ensures.message))
     c.push-in-Some.ensures.pushed c.push-in-Some.ensures.unchanged

@@ -1,7 +1,7 @@
 use Rattle.std.proofs.Common.{refl, sym, ◌∙◌}
 use Rattle.journal.specs.declared.item.Item.TheVariants as item
 use Rattle.message_bag.specs.Posts.{with_forgotten}
-use Rattle.refinement.proofs.Delivering.{forgotten_tied, unforgotten}
+use Rattle.refinement.proofs.Delivering.{forgotten_refines, unforgotten}
 use Rattle.world.proofs.Frame.{goes_nothing, goes_one, net_stays, none_in, plane_stays}
 use Rattle.world.proofs.parts.Parts.forget.Goals as goal
 
@@ -9,7 +9,7 @@ pub returns-then-not-may_be_delivered : goal.returns-then-not-may_be_delivered
 returns-then-not-may_be_delivered c = λ before row begins.
     let self = c.args.self.now in
     goes_nothing begins refl
-    (unforgotten _ _ _ _ _ _ row c.args.number begins.ready.tied begins.ready.may
+    (unforgotten _ _ _ _ _ _ row c.args.number begins.ready.refines begins.ready.may
     (sym c.may_be_delivered.ensures ∙ c.if-not-may_be_delivered.true))
     c.push.ensures.pushed c.push.ensures.unchanged
 
@@ -19,6 +19,6 @@ returns c = λ before row begins.
     goes_one begins (net_stays refl refl)
     (item.Forgotten c.args.number) (with_forgotten self.log.bag c.args.number) (plane_stays refl refl refl) c.forget.ensures
     (none_in _)
-    (forgotten_tied _ _ _ _ _ _ row c.args.number begins.ready.tied begins.ready.may
+    (forgotten_refines _ _ _ _ _ _ row c.args.number begins.ready.refines begins.ready.may
     (sym c.may_be_delivered.ensures ∙ c.if-not-may_be_delivered.false))
     c.push-2.ensures.pushed c.push-2.ensures.unchanged

@@ -4,13 +4,13 @@ use Rattle.std.specs.Option.{option_copied}
 use Rattle.std.specs.Prelude.{IsSomeAnd, is_some, slice_index}
 use Rattle.std.proofs.lemmas.Result.{on_ok_weaker}
 use Rattle.switch_core.specs.Answering.{IsAtAuthority}
-use Rattle.switch_core.specs.Moving.{hopped}
+use Rattle.switch_core.specs.Moving.{hop_answer}
 use Rattle.switch_core.specs.declared.answers.HopEnd.TheVariants.{Arrive}
 use Rattle.world_log.proofs.Passing.{of_kept}
 use Rattle.refinement.proofs.Asking.{can_ask, ingress_below, within_here, number_of_packet}
 use Rattle.world.proofs.Frame.{goes_nothing, goes_quiet, net_stays, none_in, plane_stays}
-use Rattle.refinement.proofs.HopTie.{hop_left}
-use Rattle.world.proofs.OverParts.{hop_is, hop_ties}
+use Rattle.refinement.proofs.HopRefines.{hop_left}
+use Rattle.world.proofs.OverParts.{hop_is, hops_refine}
 use Rattle.world.proofs.parts.Parts.hop.Goals as goal
 
 -- ---- a packet that doesn't travel
@@ -19,7 +19,7 @@ pub returns-in-None : goal.returns-in-None
 returns-in-None c = λ before row begins.
     let self = c.args.self.now in
     goes_nothing begins refl
-    (hop_left _ _ _ _ _ _ row c.args.packet begins.ready.tied begins.ready.may
+    (hop_left _ _ _ _ _ _ row c.args.packet begins.ready.refines begins.ready.may
     (ap is_some (sym c.look.ensures ∙ ap option_copied c.in-None.is)))
     c.push.ensures.pushed c.push.ensures.unchanged
 
@@ -30,7 +30,8 @@ index_mut-requires c =
     let self = c.args.self.now in
     let there : c.here.result < length self.switches.items =
     within_here _ _ _ _ _ _ c.args.packet c.in-Some.kept.now c.here.result
-    c.requires.begins.ready.tied (sym c.look.ensures ∙ ap option_copied c.in-Some.is) c.here.ensures.here in
+    c.requires.begins.ready.refines (sym c.look.ensures ∙ ap option_copied c.in-Some.is)
+    c.here.ensures.here in
     omega (arith, there)
 
 pub hop-requires : goal.hop-requires
@@ -39,20 +40,21 @@ hop-requires c =
     let its = sym c.look.ensures ∙ ap option_copied c.in-Some.is in
     let ready = c.requires.begins.ready in
     let can = can_ask _ _ _ _ _ _ c.args.packet c.in-Some.kept.now c.here.result
-    c.index_mut.result.now self.ports ready.tied ready.sound.owners its c.here.ensures.here
+    c.index_mut.result.now self.ports ready.refines ready.sound.owners its c.here.ensures.here
     c.index_mut.ensures.value in
     record {
       known = subst (λ o. IsSomeAnd o (λ t. t.tunnel.packet ≡ c.args.packet)) (sym its)
           (number_of_packet _ _ _ _ _ _ c.args.packet c.in-Some.kept.now
-          c.requires.begins.ready.tied its);
+          c.requires.begins.ready.refines its);
       serving = can.serving;
       stamped = can.stamped;
-      authority = of_kept (λ t. (hopped c.index_mut.result.now (slice_index self.near c.here.result) t.tunnel).end ≡ Arrive
+      authority = of_kept (λ t. (hop_answer c.index_mut.result.now
+          (slice_index self.near c.here.result) t.tunnel).end ≡ Arrive
           → IsAtAuthority c.index_mut.result.now t.tunnel.header t.tunnel.leg) _ c.in-Some.kept.now
           (sym its) can.authority;
       ingress = of_kept (λ t. t.tunnel.ingress < 64) _ c.in-Some.kept.now (sym its)
           (ingress_below _ _ _ _ _ _ c.args.packet c.in-Some.kept.now
-          ready.tied its);
+          ready.refines its);
       few = omega (arith, c.requires.begins.ready.room);
     }
 
@@ -69,7 +71,7 @@ returns c = λ before row begins.
     c.index_mut.result.now begins.ready its c.here.ensures.here c.index_mut.ensures.value)
     (on_ok_weaker c.hop.result (λ done. none_in _) log.written)
     log.written log.part
-    (hop_ties self before row c.args.packet c.in-Some.kept.now c.here.result
+    (hops_refine self before row c.args.packet c.in-Some.kept.now c.here.result
     c.index_mut.result.now begins.ready its c.here.ensures.here c.index_mut.ensures.value
     c.hop.result c.hop.new.switch c.hop.new.self.travelling c.hop.new.self.bag
     (c.hop.ensures.counted c.in-Some.kept.now its) log.travels log.posted)

@@ -11,7 +11,7 @@ returns-then-not-remove c = λ before row begins.
     goes_one begins (net_stays refl refl) item.Nothing
     self.log.bag (plane_stays refl refl refl) refl (none_in _)
     (not_lost (control_in self) (setting_in self) before self.switches.items self.log.travelling
-    c.remove.new.self self.packets row c.args.packet begins.ready.tied begins.ready.may
+    c.remove.new.self self.packets row c.args.packet begins.ready.refines begins.ready.may
     (sym c.remove.ensures.was ∙ c.if-not-remove.true) c.remove.ensures.after)
     c.push.ensures.pushed c.push.ensures.unchanged
 
@@ -21,6 +21,6 @@ returns c = λ before row begins.
     goes_one begins (net_stays refl refl)
     (item.Lost c.args.packet) self.log.bag (plane_stays refl refl refl) refl (none_in _)
     (lost (control_in self) (setting_in self) before self.switches.items self.log.travelling
-    c.remove.new.self self.packets row c.args.packet begins.ready.tied begins.ready.may
+    c.remove.new.self self.packets row c.args.packet begins.ready.refines begins.ready.may
     (sym c.remove.ensures.was ∙ c.if-not-remove.false) c.remove.ensures.after)
     c.push-2.ensures.pushed c.push-2.ensures.unchanged

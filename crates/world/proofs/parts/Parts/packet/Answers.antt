@@ -3,14 +3,14 @@ use Rattle.std.proofs.lemmas.Result.{on_ok_weaker}
 use Rattle.world.proofs.Frame.{goes_quiet, net_stays, plane_stays}
 use Rattle.refinement.proofs.Asking.{can_look_up}
 use Rattle.refinement.proofs.Incoming.{come_fits}
-use Rattle.world.proofs.OverParts.{come_is, come_ties}
+use Rattle.world.proofs.OverParts.{come_is, entries_refine}
 use Rattle.world.proofs.OverSwitches.{place_in}
 use Rattle.world.proofs.parts.Parts.packet.Goals as goal
 
 pub overflow_add-self : goal.overflow_add-self
 overflow_add-self c =
     let self = c.args.self.now in
-    let fits = come_fits _ _ _ _ _ _ c.requires.begins.ready.tied c.requires.begins.ready.few in
+    let fits = come_fits _ _ _ _ _ _ c.requires.begins.ready.refines c.requires.begins.ready.few in
     omega (arith, fits)
 
 pub index_mut-requires : goal.index_mut-requires
@@ -22,7 +22,7 @@ enter-requires c =
     let self = c.args.self.now in
     record {
       stamped = can_look_up _ _ _ _ _ _ c.args.switch
-          c.index_mut.result.now c.requires.begins.ready.tied c.requires.begins.ready.may.0
+          c.index_mut.result.now c.requires.begins.ready.refines c.requires.begins.ready.may.0
           c.index_mut.ensures.value;
       few = omega (arith, c.requires.begins.ready.room);
     }
@@ -36,7 +36,8 @@ returns c = λ before row begins.
     c.index_mut.ensures.value)
     (on_ok_weaker c.enter.result (λ done. refl) c.enter.ensures.log.written)
     c.enter.ensures.log.written c.enter.ensures.log.part
-    (come_ties self before row c.args.switch c.args.header.now c.index_mut.result.now begins.ready
+    (entries_refine self before row c.args.switch c.args.header.now c.index_mut.result.now
+    begins.ready
     c.index_mut.ensures.value c.enter.result c.enter.new.switch c.enter.new.self.travelling
     c.enter.new.self.bag c.enter.ensures.counted c.enter.ensures.log.travels
     c.enter.ensures.log.posted)

@@ -1,17 +1,17 @@
 use Rattle.std.proofs.Common.{◌≡◌, ◌+◌, ◌++◌, ◌∷◌, ◌==◌, false, true, List, get_or, length, map, refl, sym, subst, ◌∙◌, arith}
 use Rattle.std.proofs.lemmas.Result.{on_ok_weaker}
-use Rattle.controller.specs.Sends.{resending}
+use Rattle.controller.specs.Sends.{resend_acts}
 use Rattle.controller.specs.declared.sends.Act.{Act}
 use Rattle.controller.specs.declared.sends.Act.TheVariants.{Post}
 use Rattle.journal.specs.declared.item.Item.TheVariants as item
 use Rattle.steps.specs.declared.step.Step.TheVariants.{Resend}
-use Rattle.refinement.specs.Linking.{told_again}
+use Rattle.refinement.specs.Linking.{adverts_again}
 use Rattle.world.specs.Parts.{control_in, setting_in}
 use Rattle.world_log.specs.Sending.{MayNote, act_items, act_posts}
 use Rattle.world.proofs.Frame.{goes_nothing, goes_quiet, net_stays, none_in, nothing_goes, plane_stays}
 use Rattle.world.proofs.GoesTold.{as_noted}
 use Rattle.world.proofs.OverSwitches.{few_in, known_in, place_in, switch_in}
-use Rattle.refinement.proofs.SentAgain.{acts_same, again_may, again_piece, again_tied, sent_tied, silent}
+use Rattle.refinement.proofs.SentAgain.{acts_same, again_may, again_piece, again_refines, sent_refines, silent}
 use Rattle.world.proofs.parts.Parts.resend.Goals as goal
 use Rattle.world.proofs.parts.Parts.resend.Goals.{After-are_none}
 
@@ -27,8 +27,8 @@ pub index-requires : goal.index-requires
 index-requires c =
     place_in c.args.switch c.requires c.requires.begins.ready.may
 
-pub told_again-requires : goal.told_again-requires
-told_again-requires c =
+pub adverts_again-requires : goal.adverts_again-requires
+adverts_again-requires c =
     omega (arith, few_in c.requires, c.args.self.now.switches.ok.0)
 
 pub resend-requires : goal.resend-requires
@@ -46,9 +46,9 @@ returns-in_err-sends c = λ before row begins.
 -- what the switch and the controller have to say, as acts
 said : (c : After-are_none)
     → map Post c.as_slice-messages.result.now ++ c.items-acts.result.now
-    ≡ map Post (told_again c.args.switch (length c.args.self.now.switches.items)
+    ≡ map Post (adverts_again c.args.switch (length c.args.self.now.switches.items)
     (get_or c.args.self.now.near c.args.switch 0) c.index.result.now)
-    ++ resending c.args.self.now.controller c.args.switch
+    ++ resend_acts c.args.self.now.controller c.args.switch
 said c =
     let self = c.args.self.now in
     acts_same self.controller c.args.switch c.len-count.result (length self.switches.items)
@@ -64,7 +64,7 @@ returns-then-are_none c = λ before row begins.
     let s = c.args.switch in
     let are = said (goal.at.returns-then-are_none c).After-are_none in
     goes_nothing begins refl
-    (silent _ _ _ _ _ _ row s c.index.result.now begins.ready.tied begins.ready.may
+    (silent _ _ _ _ _ _ row s c.index.result.now begins.ready.refines begins.ready.may
     c.index.ensures (subst (λ (acts : List Act). (length acts == 0) ≡ true) are
     (sym c.are_none.ensures ∙ c.if-are_none.true)))
     c.push.ensures.pushed c.push.ensures.unchanged
@@ -82,7 +82,7 @@ send_and_note-requires c =
     let own = c.index.result.now in
     let are = said (goal.at.send_and_note-requires c).After-are_none in
     subst (MayNote self.log.bag) (sym are)
-    (again_may _ _ _ _ _ _ c.requires.row c.args.switch own ready.tied ready.may
+    (again_may _ _ _ _ _ _ c.requires.row c.args.switch own ready.refines ready.may
     c.index.ensures
     (subst (λ (acts : List Act). (length acts == 0) ≡ false) are
     (sym c.are_none.ensures ∙ c.if-are_none.false)) ready.room)
@@ -95,19 +95,19 @@ returns c = λ before row begins.
     let are = said (goal.at.returns c).After-are_none in
     let some = subst (λ (acts : List Act). (length acts == 0) ≡ false) are
     (sym c.are_none.ensures ∙ c.if-are_none.false) in
-    let acts : List Act = map Post (told_again s (length self.switches.items)
-    (get_or self.near s 0) c.index.result.now) ++ resending self.controller s in
+    let acts : List Act = map Post (adverts_again s (length self.switches.items)
+    (get_or self.near s 0) c.index.result.now) ++ resend_acts self.controller s in
     let r = c.send_and_note.result in
     let noted = as_noted r self.log.journal (length self.log.bag) self.log.bag
     c.send_and_note.new.self _ acts are c.send_and_note.ensures.written
     c.send_and_note.ensures.posted c.send_and_note.ensures.part in
     goes_quiet begins (net_stays refl refl)
     (act_items (length self.log.bag + 1) acts) (plane_stays refl refl refl)
-    (again_piece _ _ _ _ _ _ row s _ ready.tied ready.may c.index.ensures some)
+    (again_piece _ _ _ _ _ _ row s _ ready.refines ready.may c.index.ensures some)
     (on_ok_weaker r (λ done. none_in _) noted.written) noted.written noted.part
-    (on_ok_weaker r (λ post. sent_tied (setting_in self) (before ++ item.Row row (Resend s)
+    (on_ok_weaker r (λ post. sent_refines (setting_in self) (before ++ item.Row row (Resend s)
     ∷ act_items (length self.log.bag + 1) acts) self.switches.items self.log.travelling
     c.send_and_note.new.self.travelling self.packets (control_in self)
     (self.log.bag ++ act_posts acts) c.send_and_note.new.self.bag post
-    c.send_and_note.ensures.travelling (again_tied _ _ _ _ _ _ row s _ ready.tied ready.may
+    c.send_and_note.ensures.travelling (again_refines _ _ _ _ _ _ row s _ ready.refines ready.may
     c.index.ensures some)) noted.posted)

@@ -1,14 +1,14 @@
 use Rattle.std.proofs.Common.{◌≡◌, ◌+◌, ◌<◌, ◌++◌, ◌∷◌, [], OnOk, false, length, refl, ap, sym, subst, ◌∙◌, arith}
 use Rattle.std.proofs.lemmas.List.{get_or_default}
 use Rattle.std.proofs.lemmas.Result.{on_err_weaker, on_ok_weaker}
-use Rattle.message_bag.specs.Posts.{posted}
+use Rattle.message_bag.specs.Posts.{new_post}
 use Rattle.ctrl_msg.specs.declared.message.Body.TheVariants.{Hello}
 use Rattle.ctrl_msg.specs.Kinds.{to_controller}
 use Rattle.message_bag.specs.Feeding.{HasShortSpelling}
 use Rattle.journal.specs.declared.item.Item.TheVariants as item
 use Rattle.switch_core.specs.State.{SwitchValue}
 use Rattle.refinement.proofs.Sendable.{hello_spelled}
-use Rattle.refinement.proofs.Booting.{boot_next, boot_piece, boot_tied, up_already}
+use Rattle.refinement.proofs.Booting.{boot_next, boot_piece, boot_refines, up_already}
 use Rattle.world.proofs.Frame.{goes_nothing, net_stays, none_in, nothing_goes}
 use Rattle.world.proofs.GoesTold.{goes_told}
 use Rattle.world.proofs.OverSwitches.{few_in, place_in, switch_in}
@@ -26,7 +26,7 @@ index_mut-requires c = place_in c.args.switch c.requires c.requires.begins.ready
 
 pub returns-then-is_up : goal.returns-then-is_up
 returns-then-is_up c = λ before row begins.
-    goes_nothing begins refl (up_already _ _ _ _ _ _ row c.args.switch _ begins.ready.tied
+    goes_nothing begins refl (up_already _ _ _ _ _ _ row c.args.switch _ begins.ready.refines
     begins.ready.may c.index.ensures (sym c.is_up.ensures ∙ c.if-is_up.true)) c.push.ensures.pushed
     c.push.ensures.unchanged
 
@@ -49,7 +49,7 @@ restart-boot-requires c =
     let ready = c.requires.begins.ready in
     let own = c.index_mut.result.now in
     let down = is_down (goal.at.restart-boot-requires c).After-index_mut in
-    let can = boot_next _ _ _ _ _ _ c.requires.row s own ready.tied ready.may
+    let can = boot_next _ _ _ _ _ _ c.requires.row s own ready.refines ready.may
     c.index_mut.ensures.value down ready.room in
     record { down = can.down; boot = can.boot }
 
@@ -87,9 +87,9 @@ returns c = λ before row begins.
     subst (λ message. OnOk c.send.result (c.send.new.self.journal
     ≡ begun ++ item.Sent (length self.log.bag + 1) message ∷ [])) said c.send.ensures.written in
     goes_told (item.Booted s boot)
-    (λ k. item.Sent k hello ∷ []) begun (length self.log.bag) self.log.bag (posted hello ∷ [])
+    (λ k. item.Sent k hello ∷ []) begun (length self.log.bag) self.log.bag (new_post hello ∷ [])
     begins (net_stays refl refl) (record {
-      piece_is = boot_piece _ _ _ _ _ _ row s own ready.tied ready.may
+      piece_is = boot_piece _ _ _ _ _ _ row s own ready.refines ready.may
           c.index_mut.ensures.value down;
       counted = none_in _;
       pushed = subst (λ b. begun ≡ self.log.journal ++ item.Booted s b ∷ []) told
@@ -101,8 +101,8 @@ returns c = λ before row begins.
           (item.Sent (length self.log.bag + 1) hello ∷ []) c.send.new.self.journal same)
           c.send.ensures.unwritten;
       posted = subst (λ message. OnOk c.send.result (c.send.new.self.bag
-          ≡ self.log.bag ++ posted message ∷ [])) said c.send.ensures.posted;
-      tied = on_ok_weaker c.send.result (λ done. boot_tied _ _ _ _ _ _ row s own ready.tied
+          ≡ self.log.bag ++ new_post message ∷ [])) said c.send.ensures.posted;
+      refines = on_ok_weaker c.send.result (λ done. boot_refines _ _ _ _ _ _ row s own ready.refines
           ready.may c.index_mut.ensures.value c.restart-boot.new.self down
           c.restart-boot.ensures.after) written;
     })

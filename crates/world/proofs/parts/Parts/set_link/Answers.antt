@@ -1,20 +1,20 @@
 use Rattle.std.proofs.Common.{ℕ, ◌≡◌, ◌+◌, ◌<◌, ◌++◌, ◌∷◌, [], Bool, true, false, List, length, map, max, min, refl, ap, sym, subst, ◌∙◌, arith}
 use Rattle.std.specs.Bool.{beq}
-use Rattle.message_bag.specs.Posts.{posted}
+use Rattle.message_bag.specs.Posts.{new_post}
 use Rattle.ctrl_msg.specs.declared.message.Message.{Message}
 use Rattle.journal.specs.declared.item.Item.{Item}
 use Rattle.journal.specs.declared.item.Item.TheVariants as item
 use Rattle.update_machine.specs.Messages.{sent_from}
-use Rattle.refinement.specs.Linking.{all_told, link_step, near_all}
+use Rattle.refinement.specs.Linking.{all_adverts_sent, link_step, near_all}
 use Rattle.world.specs.Parts.{HasBegun, control_in, setting_in}
 use Rattle.world.specs.declared.parts.Parts.{Parts}
 use Rattle.world.specs.State.{comes_in}
-use Rattle.refinement.specs.Tied.{AreTied}
+use Rattle.refinement.specs.Refinement.{RefineJournal}
 use Rattle.world.proofs.Frame.{goes_nothing, net_stays, nothing_goes}
 use Rattle.world.proofs.GoesTold.{goes_told, same_control}
 use Rattle.world.proofs.OverSwitches.{few_in}
 use Rattle.refinement.proofs.LinksChange.{numbers_left}
-use Rattle.refinement.proofs.LinkRows.{ends_below, same_tied, set_may, set_piece, set_tied}
+use Rattle.refinement.proofs.LinkRows.{ends_below, same_refines, set_may, set_piece, set_refines}
 use Rattle.world_log.proofs.Writing.{both_ok}
 use Rattle.world.proofs.parts.Parts.set_link.Goals as goal
 
@@ -27,7 +27,7 @@ none_come one two false = refl
 ends : (self : Parts) (one two : ℕ) (up : Bool) (begun : HasBegun (link_step up one two) self)
     → (one < 64) × (two < 64)
 ends self one two up begun = ends_below _ _ _ _ _ _ begun.row one two up
-    begun.begins.ready.tied begun.begins.ready.may
+    begun.begins.ready.refines begun.begins.ready.may
 
 pub bounds-self-one : goal.bounds-self-one
 bounds-self-one c =
@@ -55,7 +55,7 @@ returns-then-has-up c = λ before row begins.
     let up = c.args.up in
     goes_nothing begins
     (none_come one two up)
-    (same_tied _ _ _ _ _ _ row one two up begins.ready.tied begins.ready.may
+    (same_refines _ _ _ _ _ _ row one two up begins.ready.refines begins.ready.may
     (ap (λ b. beq b up) (sym c.has.ensures.has) ∙ c.if-has-up.true))
     c.push.ensures.pushed c.push.ensures.unchanged
 
@@ -73,13 +73,13 @@ pub change_links-requires-clause-next : goal.change_links-requires-clause-next
 change_links-requires-clause-next c =
     let self = c.args.self.now in
     let ready = c.requires.begins.ready in
-    numbers_left _ _ _ _ _ _ ready.tied ready.room
+    numbers_left _ _ _ _ _ _ ready.refines ready.room
 
 pub change_links-requires-clause-may : goal.change_links-requires-clause-may
 change_links-requires-clause-may c =
     let self = c.args.self.now in
     let ready = c.requires.begins.ready in
-    set_may _ _ _ _ _ _ c.requires.row c.args.one c.args.two c.args.up ready.tied
+    set_may _ _ _ _ _ _ c.requires.row c.args.one c.args.two c.args.up ready.refines
     ready.may c.set_ends.new.links
     (ap (λ b. beq b c.args.up) (sym c.has.ensures.has) ∙ c.if-has-up.false) c.set_ends.ensures.set
     c.set_ends.ensures.fits ready.room
@@ -95,14 +95,14 @@ returns c = λ before row begins.
     let links = c.set_ends.new.links in
     let other = ap (λ b. beq b up) (sym c.has.ensures.has) ∙ c.if-has-up.false in
     let near = near_all links self.switches.items in
-    let messages : List Message = all_told self.near near self.switches.items in
+    let messages : List Message = all_adverts_sent self.near near self.switches.items in
     let told : Item = item.LinkIs (min one two) (max one two) up in
     let rest = c.change_links.ensures.rest in
     goes_told told
     (λ k. sent_from k messages) c.push-2.new.self (length self.log.bag) self.log.bag
-    (map posted messages) begins
+    (map new_post messages) begins
     (net_stays rest.files rest.ports) (record {
-      piece_is = set_piece _ _ _ _ _ _ row one two up ready.tied ready.may links other
+      piece_is = set_piece _ _ _ _ _ _ row one two up ready.refines ready.may links other
           c.set_ends.ensures.set c.set_ends.ensures.fits;
       counted = omega (arith, rest.packets, none_come one two up);
       pushed = c.in_ok-push.ensures.pushed
@@ -113,16 +113,17 @@ returns c = λ before row begins.
       written = c.change_links.ensures.written;
       part = c.change_links.ensures.part;
       posted = c.change_links.ensures.posted;
-      tied = both_ok c.change_links.result (λ near_is are.
+      refines = both_ok c.change_links.result (λ near_is are.
           let all : List Item = before ++ item.Row row (link_step up one two) ∷ told
           ∷ sent_from (length self.log.bag + 1) messages in
-          let posts = self.log.bag ++ map posted messages in
-          subst (λ count. AreTied (setting_in self) all new.switches.items self.log.travelling
+          let posts = self.log.bag ++ map new_post messages in
+          subst (λ count. RefineJournal (setting_in self) all new.switches.items self.log.travelling
           count (record (control_in new) { posts = posts })) (sym rest.packets)
-          (subst (λ control. AreTied (setting_in self) all new.switches.items self.log.travelling
+          (subst (λ control. RefineJournal (setting_in self) all new.switches.items
+          self.log.travelling
           self.packets control) (same_control (record (control_in self) { links = links }) new
           posts near rest.controller rest.links near_is)
-          (set_tied _ _ _ _ _ _ row one two up ready.tied ready.may links other
+          (set_refines _ _ _ _ _ _ row one two up ready.refines ready.may links other
           c.set_ends.ensures.set c.set_ends.ensures.fits new.switches.items are)))
           c.change_links.ensures.near c.change_links.ensures.switches;
     })

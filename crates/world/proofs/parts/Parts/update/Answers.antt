@@ -3,7 +3,7 @@ use Rattle.std.specs.Prelude.{OnErr, OnOk, Result}
 use Rattle.refinement.specs.Controller.{IsPlanOfNext}
 use Rattle.base.specs.declared.error.Failure.TheVariants.{Refused}
 use Rattle.controller.specs.Controller.{ControllerValue}
-use Rattle.controller.specs.Sends.{submitting}
+use Rattle.controller.specs.Sends.{submit_acts}
 use Rattle.controller.specs.declared.sends.Act.{Act}
 use Rattle.journal.specs.declared.item.Item.{Item}
 use Rattle.journal.specs.declared.item.Item.TheVariants as item
@@ -15,7 +15,7 @@ use Rattle.world.specs.declared.parts.Parts.{Parts}
 use Rattle.world_log.specs.Sending.{MayNote}
 use Rattle.world.proofs.Frame.{goes_one, net_stays, none_in, not_err, nothing_goes, plane_stays}
 use Rattle.world.proofs.GoesTold.{goes_acting}
-use Rattle.refinement.proofs.Submitting.{live_piece, planned_next, refused_piece, refused_tied, submitted_may, submitted_piece, submitted_tied, unplanned_next, versions_piece}
+use Rattle.refinement.proofs.Submitting.{live_piece, planned_next, refused_piece, refused_refines, submitted_may, submitted_piece, submitted_refines, unplanned_next, versions_piece}
 use Rattle.world.proofs.parts.Parts.update.Goals as goal
 use Rattle.world.proofs.parts.Parts.update.Goals.{In-Planned}
 
@@ -36,7 +36,7 @@ refused {row} {file} code {self} begins same stays is pushed unchanged =
     goes_one begins (net_stays same refl)
     (item.Refused file code) self.log.bag (plane_stays stays refl refl) refl (none_in _) (
       is,
-      refused_tied _ _ _ _ _ _ row file begins.ready.tied begins.ready.may code is,
+      refused_refines _ _ _ _ _ _ row file begins.ready.refines begins.ready.may code is,
     ) pushed unchanged
 
 -- ---- the policy has no plan
@@ -89,7 +89,7 @@ note_acts-requires c =
     let ready = c.requires.begins.ready in
     let of_next = planned (goal.at.note_acts-requires c).In-Planned c.requires.before in
     subst (MayNote self.log.bag) (sym (c.items.ensures ∙ c.in-Ok.ensures.sends))
-    (submitted_may _ _ _ _ _ _ c.requires.row file ready.tied
+    (submitted_may _ _ _ _ _ _ c.requires.row file ready.refines
     ready.may c.in-Planned.plan c.submit.new.self of_next
     (λ e. not_err _ _ (c.in-Ok.ensures.live.1 e))
     (λ e. not_err _ _ (c.in-Ok.ensures.versions.1 (
@@ -109,18 +109,19 @@ returns-in_ok-push-in-Ok c = λ before row begins.
     let versions : self.controller.marks.count ≢ 64 =
     λ e. not_err _ _ (c.in-Ok.ensures.versions.1 (live, e)) in
     let new : ControllerValue = c.submit.new.self in
-    let acts : List Act = submitting self.controller.marks c.in-Planned.plan new.marks in
+    let acts : List Act = submit_acts self.controller.marks c.in-Planned.plan new.marks in
     let one = item.Submitted file (self.controller.marks.count + 1) in
     let its = c.note_acts.ensures in
     goes_acting one acts c.items.result.now c.push-in-Ok.new.self begins
     (net_stays c.in_ok-code.ensures.same refl) (none_in _)
-    (submitted_piece _ _ _ _ _ _ row file ready.tied ready.may c.in-Planned.plan new of_next live
+    (submitted_piece _ _ _ _ _ _ row file ready.refines ready.may c.in-Planned.plan new of_next live
     versions c.in-Ok.ensures.after)
     (subst (λ v. c.push-in-Ok.new.self ≡ self.log.journal ++ item.Submitted file (v + 1) ∷ [])
     (c.count-version.ensures.count ∙ ap (λ marks. marks.count) c.marks.ensures)
     c.in_ok-push-in-Ok.ensures.pushed)
     (c.items.ensures ∙ c.in-Ok.ensures.sends) its.travelling its.written its.posted its.part
-    (submitted_tied _ _ _ _ _ _ row file ready.tied ready.may c.in-Planned.plan new of_next live
+    (submitted_refines _ _ _ _ _ _ row file ready.refines ready.may c.in-Planned.plan new of_next
+    live
     versions c.in-Ok.ensures.after)
 
 -- ---- the marks refuse it
@@ -131,7 +132,7 @@ returns-in-Err-Refused-TooManyLive c = λ before row begins.
     let is = c.in-Err-Refused-TooManyLive.field-0-is in
     let why = is ∙ ap Refused (rw is at c.in-Err-Refused-TooManyLive.field-0-0-is) in
     refused 16 begins c.in_ok-code.ensures.same (rw is at said.refused)
-    (live_piece _ _ _ _ _ _ row c.args.file c.in-Planned.plan begins.ready.tied
+    (live_piece _ _ _ _ _ _ row c.args.file c.in-Planned.plan begins.ready.refines
     (planned (goal.at.returns-in-Err-Refused-TooManyLive c).In-Planned before) (said.live.0 (ap Err why)))
     c.push-in-Err-Refused-TooManyLive.ensures.pushed c.push-in-Err-Refused-TooManyLive.ensures.unchanged
 
@@ -142,7 +143,7 @@ returns-in-Err-Refused-TooManyVersions c = λ before row begins.
     let why = is ∙ ap Refused (rw is at c.in-Err-Refused-TooManyVersions.field-0-0-is) in
     let many = said.versions.0 (ap Err why) in
     refused 17 begins c.in_ok-code.ensures.same (rw is at said.refused)
-    (versions_piece _ _ _ _ _ _ row c.args.file c.in-Planned.plan begins.ready.tied
+    (versions_piece _ _ _ _ _ _ row c.args.file c.in-Planned.plan begins.ready.refines
     (planned (goal.at.returns-in-Err-Refused-TooManyVersions c).In-Planned before) many.0 many.1)
     c.push-in-Err-Refused-TooManyVersions.ensures.pushed c.push-in-Err-Refused-TooManyVersions.ensures.unchanged
 

@@ -3,7 +3,7 @@ use Rattle.std.specs.Prelude.{Ok}
 use Rattle.std.proofs.lemmas.List.{get_or_default}
 use Rattle.partition.specs.Plan.{plan_of}
 use Rattle.world.proofs.Begun.{as_begun, net_begun, owners_begun}
-use Rattle.refinement.proofs.Starting.{begun_tied}
+use Rattle.refinement.proofs.Starting.{begun_refines}
 use Rattle.world.proofs.world.World.begin.Goals as goal
 
 pub invariant_of-result : goal.invariant_of-result
@@ -25,10 +25,10 @@ invariant_of-result c =
         sound = net_begun net files.net of_net c.requires.net;
         owners = owners_begun net files.net c.ports.result of_net c.ports.ensures;
       };
-      tied = λ able. as_begun net policies files c.empty.result c.new-2.result c.new-3.result
+      refines = λ able. as_begun net policies files c.empty.result c.new-2.result c.new-3.result
           switches controller near of_net c.in_ok-files.ensures.policies c.empty.ensures
           c.new-2.ensures c.new-3.ensures
-          (begun_tied net policies c.in_ok-plan.plan switches controller near c.requires.net
+          (begun_refines net policies c.in_ok-plan.plan switches controller near c.requires.net
           c.requires.some c.requires.sound c.requires.ports
           (c.in_ok-plan.ensures.policy ∙ first) planned
           (c.in_ok-switches.ensures c.in_ok-plan.plan c.in_ok-controller.ensures.first)

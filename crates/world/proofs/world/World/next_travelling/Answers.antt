@@ -10,5 +10,5 @@ returns-clause-first c = λ able is_one.
     let own = world_value c.self.inside.parts c.self.inside.is_spent in
     subst (λ (w : WorldValue). w.is_spent ≡ false → c.next.result ≡ next_travelling w.journal)
     c.self.view_is
-    (λ spent. least_travels_in own _ (c.self.invariant.tied spent) (rw is_one at c.next.ensures))
+    (λ spent. least_travels_in own _ (c.self.invariant.refines spent) (rw is_one at c.next.ensures))
     able

@@ -10,4 +10,4 @@ returns-clause-first c = λ able is_one.
     let own = world_value c.self.inside.parts c.self.inside.is_spent in
     let is = rw is_one at c.next_waiting.ensures in
     subst (λ (w : WorldValue). w.is_spent ≡ false → c.next_waiting.result ≡ next_waiting w.journal)
-    c.self.view_is (λ spent. is ∙ least_waits_in own (c.self.invariant.tied spent)) able
+    c.self.view_is (λ spent. is ∙ least_waits_in own (c.self.invariant.refines spent)) able

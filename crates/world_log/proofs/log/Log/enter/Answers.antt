@@ -8,7 +8,7 @@ use Rattle.switch_core.specs.declared.answers.Entered.{Entered}
 use Rattle.switch_core.specs.declared.answers.Entered.TheVariants as entered
 use Rattle.travelling.specs.Travelling.{Standing}
 use Rattle.world_log.specs.Packets.{coming_in}
-use Rattle.world_log.specs.Writing.{LogAfter, entered_items, entered_posts, entered_traveller, packet_standing}
+use Rattle.world_log.specs.Writing.{LogAfter, entered_items, entered_posts, entered_flight, packet_standing}
 use Rattle.world_log.proofs.Logs.{log_behind, log_failed}
 use Rattle.world_log.proofs.Writing.{part_none}
 use Rattle.world_log.proofs.log.Log.enter.Goals as goal
@@ -18,7 +18,7 @@ returns-in-None-clause-log c =
     let P : ℕ → Entered → Type 0 = λ number what.
     let at : Standing = coming_in c.args.packet c.args.header.now number in
     LogAfter c.end.result (entered_items (length c.args.self.now.bag + 1) at what)
-    (entered_posts at what) c.args.packet (entered_traveller what) c.args.self.now
+    (entered_posts at what) c.args.packet (entered_flight what) c.args.self.now
     c.end.new.self in
     subst (P c.args.switch.now.number) (c.in-None.ensures.answer (site_of c.args.site) c.args.packet)
     (subst (λ n. P n entered.Closed) c.number-number.ensures.number c.end.ensures)
@@ -33,7 +33,7 @@ returns-in_ok-push-in-Some-clause-log c =
     let P : ℕ → Entered → Type 0 = λ number what.
     let at : Standing = coming_in c.args.packet c.args.header.now number in
     LogAfter c.settle.result (entered_items (length c.args.self.now.bag + 1) at what)
-    (entered_posts at what) c.args.packet (entered_traveller what) c.args.self.now
+    (entered_posts at what) c.args.packet (entered_flight what) c.args.self.now
     c.settle.new.self in
     let what : ℕ → Answer = λ number. answer_of c.admit.new.self (site_of c.args.site)
     (packet_standing (coming_in c.args.packet c.args.header.now number)) c.in-Some.verdict in

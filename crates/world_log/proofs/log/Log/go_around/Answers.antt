@@ -8,15 +8,15 @@ use Rattle.message_bag.specs.Posts.{Post}
 use Rattle.policy_rules.specs.declared.packet.Leg.{Leg}
 use Rattle.switch_core.specs.Answering.{IsAtAuthority, arrived_on}
 use Rattle.switch_core.specs.Ends.{around}
-use Rattle.switch_core.specs.Moving.{hopped}
+use Rattle.switch_core.specs.Moving.{hop_answer}
 use Rattle.switch_core.specs.State.{SwitchValue, call_counted}
 use Rattle.switch_core.specs.declared.answers.HopEnd.{HopEnd}
 use Rattle.switch_core.specs.declared.answers.HopEnd.TheVariants as hop
-use Rattle.travelling.specs.Travelling.{Standing, WithOne, standing_at, standing_kept, traveller}
-use Rattle.travelling.specs.declared.travelling.Traveller.{Traveller}
+use Rattle.travelling.specs.Travelling.{Standing, WithOne, standing_at, standing_kept, flight}
+use Rattle.travelling.specs.declared.travelling.Flight.{Flight}
 use Rattle.tunnel.specs.Tunnel.{TunnelValue}
-use Rattle.world_log.specs.Packets.{hop_posts, hop_traveller, hop_written}
-use Rattle.world_log.specs.Writing.{LogAfter, arrived_items, arrived_posts, arrived_traveller, packet_standing}
+use Rattle.world_log.specs.Packets.{hop_posts, hop_flight, hop_written}
+use Rattle.world_log.specs.Writing.{LogAfter, arrived_items, arrived_posts, arrived_flight, packet_standing}
 use Rattle.world_log.specs.declared.log.Log.{Log}
 use Rattle.world_log.proofs.Hopping.{SamePacket, authority_counted, hopped_same}
 use Rattle.world_log.proofs.Logs.{log_failed, log_one}
@@ -25,16 +25,16 @@ use Rattle.world_log.proofs.Writing.{both_written}
 use Rattle.world_log.proofs.log.Log.go_around.Goals as goal
 use Rattle.world_log.proofs.log.Log.go_around.Goals.{After-unwrap-other}
 
-its : (c : After-unwrap-other) → ◌≡◌ {A = Option Traveller} (Some c.traveller-traveller.result)
-    (traveller c.args.self.now.travelling c.args.packet)
-its c = ap Some c.traveller-traveller.ensures
+its : (c : After-unwrap-other) → ◌≡◌ {A = Option Flight} (Some c.flight-flight.result)
+    (flight c.args.self.now.travelling c.args.packet)
+its c = ap Some c.flight-flight.ensures
     ∙ sym (ap option_copied c.unwrap-kept.ensures) ∙ c.look.ensures
 
 met : (c : After-unwrap-other) (end : HopEnd) → c.hop-hop.result.end ≡ end
-    → IsMet c.args.switch.now c.args.site.near c.traveller-traveller.result c.args.packet
+    → IsMet c.args.switch.now c.args.site.near c.flight-flight.result c.args.packet
     c.number-here.result c.unwrap-other.result end c.hop-hop.new.t
 met c end is = record {
-  same = subst (λ o. IsSomeAnd o (λ (t : Traveller). t.tunnel.packet ≡ c.args.packet))
+  same = subst (λ o. IsSomeAnd o (λ (t : Flight). t.tunnel.packet ≡ c.args.packet))
       (sym (its c)) c.requires.known;
   at = c.number-here.ensures.number ∙ ap (λ (w : SwitchValue). w.number) c.hop-hop.ensures.after;
   found = sym c.hop-hop.ensures.found ∙ c.unwrap-other.ensures;
@@ -43,17 +43,17 @@ met c end is = record {
 }
 
 -- it is the same packet behind the switch's move
-same : (c : After-unwrap-other) → SamePacket c.traveller-traveller.result.tunnel
-    (hopped c.args.switch.now c.args.site.near c.traveller-traveller.result.tunnel).tunnel
-same c = hopped_same c.args.switch.now c.args.site.near c.traveller-traveller.result.tunnel
+same : (c : After-unwrap-other) → SamePacket c.flight-flight.result.tunnel
+    (hop_answer c.args.switch.now c.args.site.near c.flight-flight.result.tunnel).tunnel
+same c = hopped_same c.args.switch.now c.args.site.near c.flight-flight.result.tunnel
 
 packet_is : (c : After-unwrap-other) → c.hop-hop.new.t.packet ≡ c.args.packet
 packet_is c = ap (λ (u : TunnelValue). u.packet) c.hop-hop.ensures.tunnel ∙ (same c).packet
     ∙ (met c c.hop-hop.result.end refl).same
 
-leg_was : (c : After-unwrap-other) → c.leg-leg.result ≡ c.traveller-traveller.result.tunnel.leg
+leg_was : (c : After-unwrap-other) → c.leg-leg.result ≡ c.flight-flight.result.tunnel.leg
 leg_was c = c.leg-leg.ensures
-    ∙ ap (λ (t : Traveller). t.tunnel.leg) (sym c.traveller-traveller.ensures)
+    ∙ ap (λ (t : Flight). t.tunnel.leg) (sym c.flight-flight.ensures)
 
 leg_is : (c : After-unwrap-other) → c.leg-leg.result ≡ c.hop-hop.new.t.leg
 leg_is c = leg_was c
@@ -76,7 +76,7 @@ rerouted c old begun new first grown =
 pub returns-in_ok-at-in-Stuck-clause-log : goal.returns-in_ok-at-in-Stuck-clause-log
 returns-in_ok-at-in-Stuck-clause-log c =
     let before = (goal.at.returns-in_ok-at-in-Stuck-clause-log c).After-unwrap-other in
-    let t = c.traveller-traveller.result in
+    let t = c.flight-flight.result in
     let s = c.args.switch.now in
     let near = c.args.site.near in
     let ports = c.args.site.ports.now in
@@ -89,7 +89,7 @@ returns-in_ok-at-in-Stuck-clause-log c =
     (item.Stuck tunnel.packet here c.in-Stuck.cause leg tunnel.down ∷ []) [] k None begun
     c.stuck.new.self in
     of_kept (λ t. LogAfter c.stuck.result (hop_written n s near ports t) (hop_posts s near ports t)
-    c.args.packet (hop_traveller s near ports t) c.args.self.now c.stuck.new.self) _ t (its before)
+    c.args.packet (hop_flight s near ports t) c.args.self.now c.stuck.new.self) _ t (its before)
     (met_log c.stuck.result s near ports t n c.args.packet c.number-here.result
     c.unwrap-other.result end tunnel c.args.self.now begun c.stuck.new.self is
     c.in_ok-push.ensures.pushed refl refl
@@ -105,7 +105,7 @@ returns-in_ok-at-in-Stuck-clause-log c =
 pub returns-in_err-put-in-Move-clause-log : goal.returns-in_err-put-in-Move-clause-log
 returns-in_err-put-in-Move-clause-log c =
     let before = (goal.at.returns-in_err-put-in-Move-clause-log c).After-unwrap-other in
-    let t = c.traveller-traveller.result in
+    let t = c.flight-flight.result in
     let s = c.args.switch.now in
     let near = c.args.site.near in
     let ports = c.args.site.ports.now in
@@ -118,7 +118,7 @@ returns-in_err-put-in-Move-clause-log c =
       bag = c.reroute.new.self.bag;
     } in
     of_kept (λ t. LogAfter r (hop_written n s near ports t) (hop_posts s near ports t)
-    c.args.packet (hop_traveller s near ports t) c.args.self.now now) _ t (its before)
+    c.args.packet (hop_flight s near ports t) c.args.self.now now) _ t (its before)
     (log_failed r _ _ c.args.packet _ c.args.self.now now
     c.from_residual-in_err-put-in-Move.ensures.0
     (met_turned s near ports t n c.args.packet c.number-here.result c.unwrap-other.result end
@@ -130,7 +130,7 @@ returns-in_err-put-in-Move-clause-log c =
 pub returns-in_ok-put-in-Move-clause-log : goal.returns-in_ok-put-in-Move-clause-log
 returns-in_ok-put-in-Move-clause-log c =
     let before = (goal.at.returns-in_ok-put-in-Move-clause-log c).After-unwrap-other in
-    let t = c.traveller-traveller.result in
+    let t = c.flight-flight.result in
     let s = c.args.switch.now in
     let near = c.args.site.near in
     let ports = c.args.site.ports.now in
@@ -138,7 +138,7 @@ returns-in_ok-put-in-Move-clause-log c =
     let r = c.push-in-Move.result in
     let end = hop.Move c.in-Move.next in
     let tunnel = c.hop-hop.new.t in
-    let u : Traveller = record t { tunnel = tunnel } in
+    let u : Flight = record t { tunnel = tunnel } in
     let mid : Log = c.reroute.new.self in
     let now : Log = record {
       journal = c.push-in-Move.new.self;
@@ -146,7 +146,7 @@ returns-in_ok-put-in-Move-clause-log c =
       bag = c.reroute.new.self.bag;
     } in
     of_kept (λ t. LogAfter r (hop_written n s near ports t) (hop_posts s near ports t)
-    c.args.packet (hop_traveller s near ports t) c.args.self.now now) _ t (its before)
+    c.args.packet (hop_flight s near ports t) c.args.self.now now) _ t (its before)
     (met_log r s near ports t n c.args.packet c.number-here.result c.unwrap-other.result end
     tunnel c.args.self.now mid now (met before end c.in-Move.is)
     (rerouted before c.args.self.now.journal c.push.new.self mid.journal
@@ -156,7 +156,7 @@ returns-in_ok-put-in-Move-clause-log c =
     (sym (packet_is before))
     (log_one r (item.Hopped c.args.packet c.in-Move.next) c.args.packet (Some u) mid now
     c.push-in-Move.ensures.pushed c.push-in-Move.ensures.unchanged refl
-    (subst (λ (k : Traveller). WithOne mid.travelling c.args.packet (Some k) c.put.new.self)
+    (subst (λ (k : Flight). WithOne mid.travelling c.args.packet (Some k) c.put.new.self)
     c.in_ok-kept-in-Move.ensures.kept c.in_ok-put-in-Move.ensures))))
 
 -- ---- or it is at its end
@@ -164,7 +164,7 @@ returns-in_ok-put-in-Move-clause-log c =
 pub returns-in_err-at-in-Arrive-clause-log : goal.returns-in_err-at-in-Arrive-clause-log
 returns-in_err-at-in-Arrive-clause-log c =
     let before = (goal.at.returns-in_err-at-in-Arrive-clause-log c).After-unwrap-other in
-    let t = c.traveller-traveller.result in
+    let t = c.flight-flight.result in
     let s = c.args.switch.now in
     let near = c.args.site.near in
     let ports = c.args.site.ports.now in
@@ -172,7 +172,7 @@ returns-in_err-at-in-Arrive-clause-log c =
     let r = c.from_residual-in_err-at-in-Arrive.result in
     let now : Log = c.reroute-in-Arrive.new.self in
     of_kept (λ t. LogAfter r (hop_written n s near ports t) (hop_posts s near ports t)
-    c.args.packet (hop_traveller s near ports t) c.args.self.now now) _ t (its before)
+    c.args.packet (hop_flight s near ports t) c.args.self.now now) _ t (its before)
     (log_failed r _ _ c.args.packet _ c.args.self.now now
     c.from_residual-in_err-at-in-Arrive.ensures.0
     (met_turned s near ports t n c.args.packet c.number-here.result c.unwrap-other.result
@@ -184,11 +184,11 @@ returns-in_err-at-in-Arrive-clause-log c =
 pub arrive-requires-clause-authority : goal.arrive-requires-clause-authority
 arrive-requires-clause-authority c =
     let before = (goal.at.arrive-requires-clause-authority c).After-unwrap-other in
-    let t = c.traveller-traveller.result in
+    let t = c.flight-flight.result in
     let s = c.args.switch.now in
     let header : c.in_ok-at-in-Arrive.at.header ≡ t.tunnel.header =
     ap (λ (a : Standing). a.header) c.in_ok-at-in-Arrive.ensures.at
-    ∙ ap (λ (k : Traveller). k.tunnel.header) c.in_ok-kept-in-Arrive.ensures.kept
+    ∙ ap (λ (k : Flight). k.tunnel.header) c.in_ok-kept-in-Arrive.ensures.kept
     ∙ ap (λ (u : TunnelValue). u.header) c.hop-hop.ensures.tunnel ∙ (same before).header in
     subst (λ w. IsAtAuthority w c.in_ok-at-in-Arrive.at.header c.leg-leg.result)
     (sym c.hop-hop.ensures.after)
@@ -200,24 +200,24 @@ arrive-requires-clause-authority c =
 pub arrive-requires-clause-ingress : goal.arrive-requires-clause-ingress
 arrive-requires-clause-ingress c =
     let before = (goal.at.arrive-requires-clause-ingress c).After-unwrap-other in
-    let ingress : c.in_ok-at-in-Arrive.at.ingress ≡ c.traveller-traveller.result.tunnel.ingress =
+    let ingress : c.in_ok-at-in-Arrive.at.ingress ≡ c.flight-flight.result.tunnel.ingress =
     ap (λ (a : Standing). a.ingress) c.in_ok-at-in-Arrive.ensures.at
-    ∙ ap (λ (k : Traveller). k.tunnel.ingress) c.in_ok-kept-in-Arrive.ensures.kept
+    ∙ ap (λ (k : Flight). k.tunnel.ingress) c.in_ok-kept-in-Arrive.ensures.kept
     ∙ ap (λ (u : TunnelValue). u.ingress) c.hop-hop.ensures.tunnel ∙ (same before).ingress in
     subst (λ i. i < 64) (sym ingress)
-    (c.requires.ingress c.traveller-traveller.result (sym (its before)))
+    (c.requires.ingress c.flight-flight.result (sym (its before)))
 
 pub returns-in_ok-at-in-Arrive-clause-log : goal.returns-in_ok-at-in-Arrive-clause-log
 returns-in_ok-at-in-Arrive-clause-log c =
     let before = (goal.at.returns-in_ok-at-in-Arrive-clause-log c).After-unwrap-other in
-    let t = c.traveller-traveller.result in
+    let t = c.flight-flight.result in
     let s = c.args.switch.now in
     let near = c.args.site.near in
     let ports = c.args.site.ports.now in
     let n = length c.args.self.now.bag + 1 in
     let r = c.arrive.result in
     let tunnel = c.hop-hop.new.t in
-    let u : Traveller = record t { tunnel = tunnel } in
+    let u : Flight = record t { tunnel = tunnel } in
     let mid : Log = c.reroute-in-Arrive.new.self in
     let now : Log = c.arrive.new.self in
     let at = c.in_ok-at-in-Arrive.at in
@@ -231,11 +231,11 @@ returns-in_ok-at-in-Arrive-clause-log c =
     (arrived_on w (around near ports) (packet_standing (standing_kept at)) c.leg-leg.result))
     (arrived_posts (standing_kept at)
     (arrived_on w (around near ports) (packet_standing (standing_kept at)) c.leg-leg.result))
-    packet (arrived_traveller at.version at.rule
+    packet (arrived_flight at.version at.rule
     (arrived_on w (around near ports) (packet_standing (standing_kept at)) c.leg-leg.result))
     mid now in
     of_kept (λ t. LogAfter r (hop_written n s near ports t) (hop_posts s near ports t)
-    c.args.packet (hop_traveller s near ports t) c.args.self.now now) _ t (its before)
+    c.args.packet (hop_flight s near ports t) c.args.self.now now) _ t (its before)
     (met_log r s near ports t n c.args.packet c.number-here.result c.unwrap-other.result
     hop.Arrive tunnel c.args.self.now mid now is
     (rerouted before c.args.self.now.journal c.push.new.self mid.journal
@@ -243,8 +243,8 @@ returns-in_ok-at-in-Arrive-clause-log c =
     c.reroute-in-Arrive.ensures.unsent c.reroute-in-Arrive.ensures.travelling
     (arrival_log r n (call_counted s) near ports u (standing_kept at) at.version at.rule
     c.leg-leg.result c.args.packet mid now stands
-    (says.version ∙ ap (λ (k : Traveller). k.version) kept)
-    (says.rule ∙ ap (λ (k : Traveller). k.rule) kept) (leg_is before)
+    (says.version ∙ ap (λ (k : Flight). k.version) kept)
+    (says.rule ∙ ap (λ (k : Flight). k.rule) kept) (leg_is before)
     (subst (P c.args.self.now.bag (call_counted s))
     (ap (λ (a : Standing). a.packet) stands ∙ packet_is before)
     (subst (λ w. P c.args.self.now.bag w at.packet) c.hop-hop.ensures.after

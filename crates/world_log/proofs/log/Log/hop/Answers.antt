@@ -5,21 +5,21 @@ use Rattle.std.specs.Prelude.{IsSomeAnd, OnOk}
 use Rattle.std.proofs.lemmas.Result.{on_ok_weaker}
 use Rattle.switch_core.specs.Answering.{IsAtAuthority, arrived_on}
 use Rattle.switch_core.specs.Ends.{around}
-use Rattle.switch_core.specs.Moving.{Moved, hopped, is_free}
+use Rattle.switch_core.specs.Moving.{Moved, hop_answer, is_free}
 use Rattle.switch_core.specs.State.{SwitchValue, call_counted}
 use Rattle.switch_core.specs.declared.answers.HopEnd.TheVariants.{Arrive}
-use Rattle.travelling.specs.Travelling.{Standing, standing_at, standing_kept, traveller}
-use Rattle.travelling.specs.declared.travelling.Traveller.{Traveller}
+use Rattle.travelling.specs.Travelling.{Standing, standing_at, standing_kept, flight}
+use Rattle.travelling.specs.declared.travelling.Flight.{Flight}
 use Rattle.tunnel.specs.Moves.{next}
-use Rattle.world_log.specs.Packets.{hop_posts, hop_traveller, hop_written, hopped_switch}
-use Rattle.world_log.specs.Writing.{LogAfter, arrived_items, arrived_posts, arrived_traveller, packet_standing}
+use Rattle.world_log.specs.Packets.{hop_posts, hop_flight, hop_written, hopped_switch}
+use Rattle.world_log.specs.Writing.{LogAfter, arrived_items, arrived_posts, arrived_flight, packet_standing}
 use Rattle.world_log.proofs.Hopping.{authority_counted}
 use Rattle.world_log.proofs.Passing.{IsPassed, arrival_log, free_hop, move_log, of_kept, passed_by, passed_log, passed_switch, passed_to}
 use Rattle.world_log.proofs.log.Log.hop.Goals as goal
 use Rattle.world_log.proofs.log.Log.hop.Goals.{After-pass}
 
-its : (c : After-pass) → ◌≡◌ {A = Option Traveller} (Some c.unwrap-kept.result.now)
-    (traveller c.args.self.now.travelling c.args.packet)
+its : (c : After-pass) → ◌≡◌ {A = Option Flight} (Some c.unwrap-kept.result.now)
+    (flight c.args.self.now.travelling c.args.packet)
 its c = sym (ap option_copied c.unwrap-kept.ensures) ∙ c.look.ensures
 
 passed : (c : After-pass) → IsPassed c.args.switch.now c.pass.new.self c.args.site.near
@@ -37,7 +37,7 @@ onward c to some = passed_to c.args.switch.now c.pass.new.self c.args.site.near
     (next c.unwrap-kept.result.now.tunnel) c.pass.result (passed c) to some
 
 number : (c : After-pass) → c.unwrap-kept.result.now.tunnel.packet ≡ c.args.packet
-number c = subst (λ o. IsSomeAnd o (λ (t : Traveller). t.tunnel.packet ≡ c.args.packet))
+number c = subst (λ o. IsSomeAnd o (λ (t : Flight). t.tunnel.packet ≡ c.args.packet))
     (sym (its c)) c.requires.known
 
 -- ---- it moves on
@@ -53,11 +53,11 @@ returns-in-Some-Some-clause-log c =
     let on = onward before (Some other) (c.in-Some-Some.is ∙ ap Some c.in-Some-Some.field-0-is) in
     of_kept (λ t. LogAfter c.move_on.result
     (hop_written (length c.args.self.now.bag + 1) s near ports t)
-    (hop_posts s near ports t) c.args.packet (hop_traveller s near ports t)
+    (hop_posts s near ports t) c.args.packet (hop_flight s near ports t)
     c.args.self.now c.move_on.new.self) _ k (its before)
     (move_log c.move_on.result s near ports k (length c.args.self.now.bag + 1)
     c.args.packet (c.place-place.result + 1) other
-    (traveller c.args.self.now.travelling c.args.packet) c.args.self.now
+    (flight c.args.self.now.travelling c.args.packet) c.args.self.now
     c.move_on.new.self (its before) (number before)
     (ap (λ place. place + 1) c.place-place.ensures.place) on.0 on.1 c.move_on.ensures)
 
@@ -77,7 +77,7 @@ returns-in-Some-Some-clause-counted c =
 -- ---- it is at the end of its route
 
 ended : (c : After-pass) → c.pass.result ≡ Some None
-    → (hopped c.args.switch.now c.args.site.near c.unwrap-kept.result.now.tunnel).end ≡ Arrive
+    → (hop_answer c.args.switch.now c.args.site.near c.unwrap-kept.result.now.tunnel).end ≡ Arrive
 ended c last =
     let on = onward c None last in
     ap (λ (m : Moved). m.end) (free_hop c.args.switch.now c.args.site.near c.args.site.ports.now
@@ -116,11 +116,11 @@ returns-in_ok-at-in-Some-None-clause-log c =
     (arrived_on w (around near ports) (packet_standing (standing_kept at)) c.leg-leg.result))
     (arrived_posts (standing_kept at)
     (arrived_on w (around near ports) (packet_standing (standing_kept at)) c.leg-leg.result))
-    packet (arrived_traveller at.version at.rule
+    packet (arrived_flight at.version at.rule
     (arrived_on w (around near ports) (packet_standing (standing_kept at)) c.leg-leg.result))
     c.args.self.now c.arrive.new.self in
     of_kept (λ t. LogAfter c.arrive.result (hop_written n s near ports t)
-    (hop_posts s near ports t) c.args.packet (hop_traveller s near ports t)
+    (hop_posts s near ports t) c.args.packet (hop_flight s near ports t)
     c.args.self.now c.arrive.new.self) _ k (its before)
     (passed_log s near ports k c.arrive.result n c.args.packet None c.args.self.now
     c.arrive.new.self on.0 on.1

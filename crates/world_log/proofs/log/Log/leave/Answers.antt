@@ -11,7 +11,7 @@ use Rattle.switch_core.specs.Ends.{next_of, set_out, site_of}
 use Rattle.switch_core.specs.declared.answers.Decision.{Decision}
 use Rattle.travelling.specs.Travelling.{standing_kept}
 use Rattle.tunnel.specs.Tunnel.{TunnelValue}
-use Rattle.world_log.specs.Writing.{LogAfter, packet_standing, set_item, set_traveller}
+use Rattle.world_log.specs.Writing.{LogAfter, packet_standing, set_item, set_flight}
 use Rattle.world_log.proofs.Going.{by_action, exits, owned, unowned, way_is}
 use Rattle.world_log.proofs.log.Log.leave.Goals as goal
 
@@ -54,7 +54,7 @@ returns-else-owner-number c =
     (c.way-way.ensures at.packet at.header at.ingress) in
     let Q : Result TunnelValue Cause → Type 0 = λ way.
     LogAfter c.set_out.result (set_item at leg way ∷ []) [] c.args.at.packet
-    (set_traveller decision.version decision.rule way) c.args.self.now c.set_out.new.self in
+    (set_flight decision.version decision.rule way) c.args.self.now c.set_out.new.self in
     owned c.set_out.result at c.args.at.packet c.args.self.now c.set_out.new.self s site
     c.args.decision c.in-Out.port c.in-Some.owner false c.in-Out.is
     (sym c.owner.ensures ∙ c.in-Some.is)

@@ -1,7 +1,7 @@
 use Rattle.std.proofs.Common.{◌≡◌, ◌∙◌, List, OnOk, ap, sym, subst, length, map, length-append, ◌+◌, ◌++◌, arith}
 use Rattle.std.proofs.lemmas.List.{length-map}
 use Rattle.std.proofs.lemmas.Result.{on_err_weaker, on_ok_weaker}
-use Rattle.message_bag.specs.Posts.{posted}
+use Rattle.message_bag.specs.Posts.{new_post}
 use Rattle.controller.specs.declared.sends.Act.{Act}
 use Rattle.controller.specs.declared.sends.Act.TheVariants.{Post}
 use Rattle.ctrl_msg.specs.declared.message.Message.{Message}
@@ -33,7 +33,7 @@ counted messages acts =
     ap length (posts_append (map Post messages) acts)
     ∙ length-append (act_posts (map Post messages)) (act_posts acts)
     ∙ ap (λ n. n + length (act_posts acts)) (ap length (posts_as_acts messages)
-    ∙ length-map messages posted)
+    ∙ length-map messages new_post)
 
 pub send_all-requires : goal.send_all-requires
 send_all-requires c =
@@ -51,8 +51,8 @@ note_acts-requires c =
         arith,
         c.requires.few,
         ap length c.in_ok-send_all.ensures.posted,
-        length-append c.args.self.now.bag (map posted messages),
-        length-map messages posted,
+        length-append c.args.self.now.bag (map new_post messages),
+        length-map messages new_post,
         counted messages c.args.acts.now,
       );
       spelled = later_spelled (map Post messages) c.args.acts.now c.requires.spelled;

@@ -5,7 +5,7 @@ use Rattle.ctrl_msg.specs.declared.message.Body.{Body}
 use Rattle.ctrl_msg.specs.declared.message.Receiver.TheVariants as receiver
 use Rattle.journal.specs.declared.item.Item.TheVariants as item
 use Rattle.message_bag.specs.Feeding.{HasShortSpelling}
-use Rattle.message_bag.specs.Posts.{posted}
+use Rattle.message_bag.specs.Posts.{new_post}
 use Rattle.switch_core.specs.Verdicts.{cached_by}
 use Rattle.ternary.specs.Word.{WordValue}
 use Rattle.update_machine.specs.Messages.{sent_from}
@@ -40,9 +40,10 @@ pub returns-in-Some-clause-posted : goal.returns-in-Some-clause-posted
 returns-in-Some-clause-posted c =
     let P : Option WordValue → Type 0 = λ word. OnOk c.send.result (c.send.new.self.bag
     ≡ c.args.self.now.bag
-    ++ map posted (messages_in (cache_message c.args.ingress (cached_by c.args.decision.now word)))) in
+    ++ map new_post (messages_in (cache_message c.args.ingress
+    (cached_by c.args.decision.now word)))) in
     let Q : Body → Type 0 = λ body. OnOk c.send.result (c.send.new.self.bag
-    ≡ c.args.self.now.bag ++ posted (record {
+    ≡ c.args.self.now.bag ++ new_post (record {
       to = receiver.Switch c.args.ingress;
       body = body;
     }) ∷ []) in
@@ -59,5 +60,6 @@ returns-in-None-clause-written c =
 pub returns-in-None-clause-posted : goal.returns-in-None-clause-posted
 returns-in-None-clause-posted c =
     let P : Option WordValue → Type 0 = λ word. c.args.self.now.bag ≡ c.args.self.now.bag
-    ++ map posted (messages_in (cache_message c.args.ingress (cached_by c.args.decision.now word))) in
+    ++ map new_post (messages_in (cache_message c.args.ingress
+    (cached_by c.args.decision.now word))) in
     subst P (sym c.in-None.is) (sym (append-nil c.args.self.now.bag))

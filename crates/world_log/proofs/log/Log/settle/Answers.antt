@@ -5,7 +5,7 @@ use Rattle.std.specs.Prelude.{Result, unwrap_or}
 use Rattle.failover.specs.Links.{no_links}
 use Rattle.journal.specs.declared.item.Item.{Item}
 use Rattle.journal.specs.declared.item.Item.TheVariants as item
-use Rattle.message_bag.specs.Posts.{Post, posted}
+use Rattle.message_bag.specs.Posts.{Post, new_post}
 use Rattle.policy_rules.specs.declared.packet.Cause.{Cause}
 use Rattle.switch_core.specs.Ends.{set_out, site_of}
 use Rattle.switch_core.specs.Verdicts.{answer_of, cached_by}
@@ -13,7 +13,7 @@ use Rattle.switch_core.specs.declared.verdicts.Verdict.{Verdict}
 use Rattle.travelling.specs.Travelling.{standing_kept}
 use Rattle.tunnel.specs.Tunnel.{TunnelValue}
 use Rattle.update_machine.specs.Messages.{sent_from}
-use Rattle.world_log.specs.Writing.{LogAfter, answer_items, answer_posts, answer_traveller, cache_message, messages_in, packet_standing, set_item, set_traveller}
+use Rattle.world_log.specs.Writing.{LogAfter, answer_items, answer_posts, answer_flight, cache_message, messages_in, packet_standing, set_item, set_flight}
 use Rattle.world_log.proofs.Going.{sought, way_is}
 use Rattle.world_log.proofs.Logs.{log_ends, log_failed}
 use Rattle.world_log.proofs.Writing.{both_written, part_first, part_none}
@@ -31,7 +31,7 @@ returns-in_err-send_rule-in-Decided c =
     let what = answer_of c.args.switch.now (site_of c.args.site) (packet_standing at) verdict in
     LogAfter c.from_residual-in_err-send_rule-in-Decided.result
     (answer_items (length c.args.self.now.bag + 1) at what) (answer_posts at what)
-    c.args.at.packet (answer_traveller c.args.at.version c.args.at.rule what) c.args.self.now
+    c.args.at.packet (answer_flight c.args.at.version c.args.at.rule what) c.args.self.now
     c.send_rule.new.self in
     subst P (sym c.in-Decided.is)
     (log_failed c.from_residual-in_err-send_rule-in-Decided.result _ _ _ _ _ _
@@ -46,12 +46,12 @@ returns-in_ok-send_rule-in-Decided c =
     let decided : Item = item.Decided at.packet decision.version decision.rule decision.action
     decision.how in
     let sends : List Item = sent_from (length c.args.self.now.bag + 1) (messages_in message) in
-    let posts : List Post = map posted (messages_in message) in
+    let posts : List Post = map new_post (messages_in message) in
     let P : Verdict → Type 0 = λ verdict.
     let what = answer_of c.args.switch.now (site_of c.args.site) (packet_standing at) verdict in
     LogAfter c.leave.result
     (answer_items (length c.args.self.now.bag + 1) at what) (answer_posts at what)
-    c.args.at.packet (answer_traveller c.args.at.version c.args.at.rule what) c.args.self.now
+    c.args.at.packet (answer_flight c.args.at.version c.args.at.rule what) c.args.self.now
     c.leave.new.self in
     subst P (sym c.in-Decided.is)
     (log_ends c.leave.result (decided ∷ sends) _ posts c.args.at.packet _ c.args.self.now
@@ -70,14 +70,14 @@ returns-in-Seek c =
     let what = answer_of s site (packet_standing at) verdict in
     LogAfter c.set_out.result
     (answer_items (length c.args.self.now.bag + 1) at what) (answer_posts at what)
-    c.args.at.packet (answer_traveller c.args.at.version c.args.at.rule what) c.args.self.now
+    c.args.at.packet (answer_flight c.args.at.version c.args.at.rule what) c.args.self.now
     c.set_out.new.self in
     let is = way_is s site.near at leg c.in-Seek.targets
     (unwrap_or (option_copied c.links.result) no_links) c.way-way.result c.links.ensures
     (c.way-way.ensures at.packet at.header at.ingress) in
     let Q : Result TunnelValue Cause → Type 0 = λ way.
     LogAfter c.set_out.result (set_item at leg way ∷ []) [] c.args.at.packet
-    (set_traveller c.args.at.version c.args.at.rule way) c.args.self.now c.set_out.new.self in
+    (set_flight c.args.at.version c.args.at.rule way) c.args.self.now c.set_out.new.self in
     subst P (sym c.in-Seek.is)
     (sought c.set_out.result at c.args.at.packet c.args.self.now c.set_out.new.self
     (length c.args.self.now.bag + 1) leg c.args.at.version c.args.at.rule

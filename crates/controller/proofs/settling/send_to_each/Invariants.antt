@@ -1,0 +1,10 @@
+use Rattle.std.proofs.Common.{◌≡◌, ◌++◌}
+use Rattle.controller.specs.News.{body_of, switches_named}
+use Rattle.controller.specs.Sends.{posts_to}
+use Rattle.controller.proofs.settling.send_to_each.Given as goal
+
+-- those of the switches so far that the mask names are told
+abbrev pub invariant-loop-s : goal.invariant-loop-s
+invariant-loop-s l = l.acts.items ≡ l.initial.acts.items
+    ++ posts_to l.marks (body_of l.news l.version)
+    (switches_named l.mask l.s)

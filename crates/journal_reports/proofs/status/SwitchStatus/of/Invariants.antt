@@ -1,0 +1,6 @@
+use Rattle.std.proofs.Common.{◌≡◌, take}
+use Rattle.journal_reports.specs.Judging.{status_in}
+use Rattle.journal_reports.proofs.status.SwitchStatus.of.Given as goal
+
+abbrev pub invariant-loop-item : goal.invariant-loop-item
+invariant-loop-item l = l.status ≡ status_in (take l.item-index l.items) l.switch

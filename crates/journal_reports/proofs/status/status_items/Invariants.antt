@@ -1,0 +1,6 @@
+use Rattle.std.proofs.Common.{ℕ, ◌≡◌, take}
+use Rattle.journal_reports.specs.Judging.{status_in}
+use Rattle.journal_reports.proofs.status.status_items.Given as goal
+
+abbrev pub invariant-loop-item : goal.invariant-loop-item
+invariant-loop-item l = (s : ℕ) → status_in l.told.items s ≡ status_in (take l.item-index l.items) s

@@ -1,0 +1,102 @@
+//! What a journal says of a switch, at its end.
+ghost use Rattle.std.specs.Prelude.{ℕ, ◌≡◌, ◌++◌, IfOk, OnOk};
+ghost use Rattle.journal_reports.specs.Judging.{is_missed, status_after, status_in, status_item};
+
+use journal::Item;
+use std::alloc::{AllocError, Global};
+
+/// The status of a switch as far as it matters, and the current version.
+#[derive(Clone, Copy, Debug)]
+pub struct SwitchStatus {
+    pub switch: u32,
+    pub is_up: bool,
+    pub boot: u32,
+    /// It went down, and the controller still waits for it.
+    pub is_waited_for: bool,
+    pub current: u32,
+}
+
+impl SwitchStatus {
+    /// The status of the switch, and the current version, at the end of the journal.
+    pub fn of(items: &[Item], switch: u32) -> SwitchStatus
+        ensures { result ≡ status_in items.now switch }
+    {
+        let mut status = SwitchStatus {
+            switch,
+            is_up: true,
+            boot: 1,
+            is_waited_for: false,
+            current: 1,
+        };
+        for item in items {
+            status.go_on(item);
+        }
+        status
+    }
+
+    /// Whether the switch is down, and the controller waits for it.
+    pub fn is_missed(self) -> bool
+        ensures { result ≡ is_missed self }
+    {
+        !self.is_up && self.is_waited_for
+    }
+
+    // What one more item makes of it.
+    fn go_on(&mut self, item: &Item)
+        ensures { self.new ≡ status_after item.now self.old }
+    {
+        match item {
+            Item::Down { switch } => {
+                if *switch == self.switch {
+                    self.is_up = false;
+                    self.is_waited_for = true;
+                }
+            }
+            Item::Booted { switch, boot } => {
+                if *switch == self.switch {
+                    self.is_up = true;
+                    self.boot = *boot;
+                }
+            }
+            Item::OverNow { switch } => {
+                if *switch == self.switch {
+                    self.is_waited_for = false;
+                }
+            }
+            Item::Current { version } => self.current = *version,
+            _ => {}
+        }
+    }
+}
+
+/// The items that tell of statuses, alone: what they say of each switch is what the journal says.
+/// They are few.
+///
+/// # Errors
+/// Want of memory alone.
+pub fn status_items(alloc: Global, items: &[Item]) -> Result<Vec<Item>, AllocError>
+    ensures { IfOk result (λ told. (s : ℕ) → status_in told.items s ≡ status_in items.now s) }
+{
+    let mut told = Vec::new(alloc);
+    for item in items {
+        push_status_item(&mut told, item)?;
+    }
+    Ok(told)
+}
+
+// Adds the item, if it tells of statuses.
+fn push_status_item(told: &mut Vec<Item>, item: &Item) -> Result<(), AllocError>
+    ensures { OnOk result (told.new.items ≡ told.old.items ++ status_item item.now) }
+{
+    match item {
+        Item::Down { switch } => told.push(Item::Down { switch: *switch })?,
+        Item::Booted { switch, boot } => told.push(Item::Booted {
+            switch: *switch,
+            boot: *boot,
+        })?,
+        Item::OverNow { switch } => told.push(Item::OverNow { switch: *switch })?,
+        Item::Current { version } => told.push(Item::Current { version: *version })?,
+        _ => {}
+    }
+    Ok(())
+}

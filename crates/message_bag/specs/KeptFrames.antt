@@ -1,0 +1,80 @@
+-- Messages that are kept as their frames.
+use Rattle.std.specs.Prelude.{ℕ, ◌≡◌, ◌+◌, ◌-◌, ◌<◌, ◌≤◌, true, Option, Some, None, List, [], ◌∷◌, ◌++◌, length, take, drop, get_or, slice_get}
+use Rattle.ctrl_msg.specs.declared.message.Body.{Body}
+use Rattle.ctrl_msg.specs.declared.message.Body.TheVariants.{Install}
+use Rattle.ctrl_msg.specs.declared.message.Message.{Message}
+use Rattle.message_bag.specs.Feeding.{HasFrames, HasShortSpelling}
+use Rattle.message_bag.specs.Installing.{AreBehind, frame_count}
+use Rattle.switch_table.specs.declared.tables.Tables.{Tables}
+use Rattle.wire.specs.Fields.{n4}
+use Rattle.wire.specs.Frames.{frames}
+use Rattle.wire.specs.Messages.{message}
+use Rattle.message_bag.specs.declared.firsts.Span.{Span}
+
+-- the version of the tables that an installation carries
+abbrev pub tables_version : Body → Option ℕ
+tables_version (Install boot tables) = Some tables.version
+tables_version _ = None
+
+-- the message of this number is this one, and it has a spelling
+pub record IsPosted (bag : List (List (List ℕ))) (number : ℕ) (m : Message) : Type 0 where
+  pub fits : message.fits m ≡ true
+  pub posted : slice_get bag (number - 1) ≡ Some (frames m)
+
+-- the message is an installation of these tables, and has a short spelling
+abbrev pub IsInstallOf : Message → Tables → Type 0
+IsInstallOf m tables = HasShortSpelling m × ((boot : ℕ) × (m.body ≡ Install boot tables))
+
+-- ---- how they are kept
+
+-- a first frame, and the number of kept frames that have the others, if there are others
+abbrev pub First : Type 0
+First = List ℕ × Option ℕ
+
+-- first frames that lie one after the other
+abbrev pub first_in : List ℕ → Span → First
+first_in bytes span = (take span.len (drop span.start bytes), span.tables)
+
+abbrev pub IsWithin : List ℕ → Span → Type 0
+IsWithin bytes span = span.start + span.len ≤ length bytes
+
+-- all frames of a message; kept frames have a first one of their own
+abbrev pub frames_in : List (List (List ℕ)) → First → List (List ℕ)
+frames_in kept (first, None) = first ∷ []
+frames_in kept (first, Some number) = first ∷ drop 1 (get_or kept number [])
+
+abbrev pub IsThere : List (List (List ℕ)) → Option ℕ → Type 0
+IsThere kept None = Unit {0}
+IsThere kept (Some number) = number < length kept
+
+-- they are the frames of a message
+abbrev pub AreOfMessage : List (List ℕ) → Type 0
+AreOfMessage fs = (m : Message) × HasFrames m × (fs ≡ frames m)
+
+pub record AreKeptFrames (kept : List (List (List ℕ))) (first : First) : Type 0 where
+  pub there : IsThere kept first.1
+  pub are : AreOfMessage (frames_in kept first)
+
+-- they are the frames of an installation
+pub record AreOfInstall (fs : List (List ℕ)) : Type 0 where
+  pub message_is : Message
+  pub boot : ℕ
+  pub tables : Tables
+  pub has : HasFrames message_is
+  pub are : fs ≡ frames message_is
+  pub carries : message_is.body ≡ Install boot tables
+
+-- these are the frames of an installation of these tables, whatever its receiver and its boot are
+pub record CarryTables (t : Tables) (fs : List (List ℕ)) : Type 0 where
+  pub behind : AreBehind t fs
+  pub count : length fs ≡ frame_count t
+  pub header : take 8 (get_or fs 0 []) ≡ n4.spell 0 ++ n4.spell (frame_count t)
+
+-- these are the frames of an installation of these tables under some version
+pub record CarryRows (t : Tables) (fs : List (List ℕ)) : Type 0 where
+  pub version : ℕ
+  pub carry : CarryTables (record t { version = version }) fs
+
+-- what was kept is there still, under its number
+abbrev pub IsGrown : List (List (List ℕ)) → List (List (List ℕ)) → Type 0
+IsGrown before after = take (length before) after ≡ before

@@ -1,0 +1,567 @@
+-- Items that have their causes keep each packet on its way.
+use Rattle.std.proofs.Common.{rules, ℕ, ◌≡◌, ◌<◌, ◌≤◌, ◌==◌, ◌&&◌, true, false, Option, Some, None, List, [], ◌∷◌, length, refl, ap, sym, subst, ◌∙◌, arith, inl, inr, ◌⊎◌}
+use Rattle.std.specs.Prelude.{All, Contains, IsTrue, is_some, find, option_map, slice_get, unwrap_or}
+use Rattle.std.specs.Option.{option_map_or}
+use Rattle.std.proofs.lemmas.Bool.{and_parts, eqb-true}
+use Rattle.std.proofs.lemmas.List.Elements.{All-contains}
+use Rattle.five_tuple.specs.Header.{IsHeader, number_of}
+use Rattle.five_tuple.specs.declared.header.Header.{Header}
+use Rattle.net_file.specs.Net.{IsLink, IsNet}
+use Rattle.net_file.specs.Joins.{are_linked, joins, owner_of}
+use Rattle.net_file.proofs.Places.{joined_below}
+use Rattle.std.specs.List.{Any}
+use Rattle.std.proofs.lemmas.List.Folds.{Any-from_list_any}
+use Rattle.policy_rules.specs.Hosted.{is_in}
+use Rattle.policy_rules.specs.Scan.{scan}
+use Rattle.policy_rules.specs.declared.packet.How.{How}
+use Rattle.policy_rules.specs.declared.packet.How.TheVariants as how
+use Rattle.policy_rules.specs.declared.packet.Leg.{Leg}
+use Rattle.policy_rules.specs.declared.packet.Leg.TheVariants.{Seek, Exit}
+use Rattle.policy_rules.specs.declared.policy.Action.{Action}
+use Rattle.policy_rules.specs.declared.policy.Action.TheVariants as action
+use Rattle.policy_rules.specs.declared.rules.Partition.{Partition}
+use Rattle.switch_table.specs.Cache.{first_entry}
+use Rattle.switch_table.specs.Lookup.{authority_of, redirect_of, table_lookup}
+use Rattle.switch_table.specs.Tables.{Hosted}
+use Rattle.switch_table.specs.declared.cache.CacheEntry.{CacheEntry}
+use Rattle.switch_table.specs.declared.search.Found.TheVariants as found
+use Rattle.switch_table.specs.declared.tables.Tables.{Tables}
+use Rattle.switch_table.proofs.TableLemmas.{find-there}
+use Rattle.ternary.specs.Word.{holds}
+use Rattle.journal.specs.declared.item.Item.{Item}
+use Rattle.journal.specs.declared.item.Item.TheVariants as item
+use Rattle.update_machine.specs.Caches.{cache_of, lookup_at}
+use Rattle.update_machine.specs.Causes.{HaveCauses}
+use Rattle.update_machine.specs.Marks.{current_mark, retired_mark}
+use Rattle.update_machine.specs.Moves.{AuthorityRule}
+use Rattle.update_machine.specs.Adverts.{route_from}
+use Rattle.update_machine.specs.Packets.{Decision}
+use Rattle.update_machine.specs.Setting.{Setting, IsSetting, NamesOwnPort}
+use Rattle.update_machine.specs.Versions.{policy_at, stamp_of, tables_at, plan_at}
+use Rattle.update_machine.specs.Ways.{found_down, no_switch, owner, targets_of}
+use Rattle.control_laws.specs.ItemCauses.{HasItemCause}
+use Rattle.control_laws.specs.Adverts.{LinksAreThere}
+use Rattle.control_laws.proofs.BothCauses.{HasBothCauses}
+use Rattle.packet_laws.specs.Rules.{IsRightEntry}
+use Rattle.packet_laws.specs.OnWay.{IsOnLeg, IsOnWay, IsPartitionOf, IsSought, IsUnderWay, LeadsTo}
+use Rattle.packet_laws.specs.Facts.{PacketFacts, facts_after, what_is_known}
+use Rattle.packet_laws.specs.KeptFacts.{Avoids, IsJudged, IsKept}
+use Rattle.packet_laws.specs.Stages.{Blocked, CameIn, Judged, OnWay, Stage, stage_of}
+use Rattle.packet_laws.specs.WayCauses.{AuthorityDecides, CacheDecides, DecidesBy, IsAt, IsDecided, IsRedirected, MeetsDown, MovesOver, TakesDetour, TakesExit, TakesRoute}
+use Rattle.packet_laws.proofs.Here.{IsHere, Rules, found_in, here_of, leg_in, next_in, decision_in, rules_of, seeking_of, some_same}
+use Rattle.packet_laws.proofs.Lookups.{FindsTargets, redirect_found}
+use Rattle.packet_laws.proofs.PacketBlocks.{WhenDecided}
+use Rattle.packet_laws.proofs.Plans.{scan_named}
+use Rattle.packet_laws.proofs.Routes.{IsWay, route_way}
+
+-- what is known of the journal before an item, and kept of its packet
+pub record Knows (setting : Setting) (before : List Item) (i : ℕ) (stage : Option Stage) : Type 0
+  where
+    pub is : IsSetting setting
+    pub have : HaveCauses (HasItemCause setting) [] before
+    pub both : HaveCauses (HasBothCauses setting) [] before
+    pub links : LinksAreThere setting before
+    pub kept : IsKept setting before (what_is_known before i) stage
+
+-- where it stands
+pub here_known : (setting : Setting) (before : List Item) (i s : ℕ)
+    → Knows setting before i (stage_of before i) → IsAt before i s → IsHere setting before i s
+here_known setting before i s knows at =
+    here_of setting before i s (stage_of before i) knows.is knows.have knows.kept at
+
+-- a packet that moves on
+moving_on : (setting : Setting) (before : List Item) (facts : PacketFacts)
+    → IsOnWay setting before facts → Avoids facts.found facts.route
+    → IsKept setting before facts (Some OnWay)
+moving_on setting before facts on avoids = record {
+  under_way = λ travels. on.under_way;
+  came_in = λ travels is. absurd cc;
+  judged = λ travels is header entered. absurd cc;
+  on_way = λ travels is. on;
+  avoids = λ travels is. avoids;
+}
+
+-- a packet that doesn't travel
+pub gone : (setting : Setting) (before : List Item) (facts : PacketFacts) (stage : Option Stage)
+    → facts.travels ≡ false → IsKept setting before facts stage
+gone setting before facts stage ended = record {
+  under_way = λ travels. absurd cc;
+  came_in = λ travels is. absurd cc;
+  judged = λ travels is header entered. absurd cc;
+  on_way = λ travels is. absurd cc;
+  avoids = λ travels is. absurd cc;
+}
+
+linked_there : (setting : Setting) (one two : ℕ) → IsNet setting.net
+    → IsTrue (are_linked setting.net.links one two) → two < length setting.net.switches
+linked_there setting one two net linked =
+    by_link (Any-from_list_any (joins one two) setting.net.links linked)
+  where
+    by_link : Any (λ link. joins one two link ≡ true) setting.net.links
+        → two < length setting.net.switches
+    by_link any =
+        let is : IsLink (length setting.net.switches) any.1 =
+        subst (IsLink (length setting.net.switches)) any.3 (net.links any.0 any.1 any.2) in
+        joined_below (length setting.net.switches) one two any.1 is any.4
+
+-- ---- undecided packets
+
+pub undecided_of : (setting : Setting) (before : List Item) (i s : ℕ) (stage : Option Stage)
+    → IsKept setting before (what_is_known before i) stage
+    → (here : IsHere setting before i s) → (stage ≡ Some CameIn) ⊎ ((stage ≡ Some OnWay)
+    × ((v : ℕ) × (p : ℕ) × ((what_is_known before i).leg ≡ Some (Seek v p))))
+    → (what_is_known before i).decision ≡ None
+undecided_of setting before i s stage kept here (inl came) =
+    (kept.came_in here.travelling came).0
+undecided_of setting before i s stage kept here (inr moving) =
+    (seeking_of setting before (what_is_known before i) here.under.header moving.1.0
+    moving.1.1 (kept.on_way here.travelling (inl moving.0)) here.under.entered
+    moving.1.2).undecided
+
+sought_of : (setting : Setting) (before : List Item) (i s : ℕ) (stage : Option Stage)
+    → IsKept setting before (what_is_known before i) stage
+    → (here : IsHere setting before i s) → (stage ≡ Some CameIn) ⊎ (stage ≡ Some OnWay)
+    → (v p : ℕ) → (what_is_known before i).leg ≡ Some (Seek v p)
+    → IsSought setting before (what_is_known before i).mark here.under.header v p
+sought_of setting before i s stage kept here (inl came) v p seeks =
+    let none : (what_is_known before i).leg ≡ None = (kept.came_in here.travelling came).1 in
+    absurd cc
+sought_of setting before i s stage kept here (inr moving) v p seeks =
+    (seeking_of setting before (what_is_known before i) here.under.header v p
+    (kept.on_way here.travelling (inl moving)) here.under.entered seeks).sought
+
+-- where a packet is looked up or arrives
+pub stage_when : (before : List Item) (i s version : ℕ) → WhenDecided before i s version
+    → (stage_of before i ≡ Some CameIn) ⊎ ((stage_of before i ≡ Some OnWay)
+    × ((v : ℕ) × (p : ℕ) × ((what_is_known before i).leg ≡ Some (Seek v p))))
+stage_when before i s version (inl (inl came)) = inl came
+stage_when before i s version (inl (inr misses)) =
+    inr (
+      misses.arrives.moving,
+      (
+        misses.version,
+        misses.partition,
+        leg_in before i (Some (Seek misses.version misses.partition)) misses.seeks,
+      ),
+    )
+stage_when before i s version (inr reaches) =
+    inr (
+      reaches.arrives.moving,
+      (
+        version,
+        reaches.partition,
+        leg_in before i (Some (Seek version reaches.partition)) reaches.seeks,
+      ),
+    )
+
+stage_alone : {one two three : Type 0} → one ⊎ (two × three) → one ⊎ two
+stage_alone (inl x) = inl x
+stage_alone (inr x) = inr x.0
+
+-- ---- what each item makes of its packet
+
+-- the partition to which a lookup sends it
+pub redirected_to : (setting : Setting) (before : List Item) (i s version partition : ℕ)
+    → (here : IsHere setting before i s) → IsRedirected setting before i s version partition
+    → (hosted : Hosted)
+    × IsPartitionOf setting before here.under.header version partition hosted
+redirected_to setting before i s version partition here takes =
+    let leads : FindsTargets setting before s here.under.header partition takes.targets =
+    redirect_found setting before s here.under.header partition takes.targets here.stamped
+    here.under.sound (ap (lookup_at setting before s) (sym here.header) ∙ takes.answer) in
+    let hosted : Hosted = leads.part.hosted in (
+      hosted,
+      subst (λ v. IsPartitionOf setting before here.under.header v partition hosted)
+          (sym takes.stamp) (record {
+            found = ap (slice_get (plan_at setting before (stamp_of before s)))
+                (sym leads.part.number) ∙ leads.part.finds.at;
+            number = leads.part.number;
+            first = leads.part.finds.first;
+            holds = leads.part.finds.holds;
+          }),
+    )
+
+-- whose targets the leg to it has
+seek_targets : (setting : Setting) (before : List Item) (header : Header)
+    (version partition : ℕ) (hosted : Hosted)
+    → IsPartitionOf setting before header version partition hosted
+    → targets_of setting before (Seek version partition) ≡ hosted.1
+seek_targets setting before header version partition hosted own =
+    ap (λ o. unwrap_or (option_map (λ (p : Hosted). p.1) o) []) own.found
+
+-- a packet that takes a route where it stands
+sets_out : (setting : Setting) (before : List Item) (i s : ℕ) (taken : Option Leg) (leg : Leg)
+    (targets route : List ℕ) (here : IsHere setting before i s) → taken ≡ Some leg
+    → IsWay setting s targets (what_is_known before i).found route
+    → let after = record (what_is_known before i) { leg = taken; route = route; hops = 0 } in
+    IsOnLeg setting before after here.under.header leg → IsKept setting before after (Some OnWay)
+sets_out setting before i s taken leg targets route here takes way on =
+    moving_on setting before _ (record {
+      under_way = record {
+        entry = here.under.entry;
+        place = here.under.place;
+        mark = here.under.mark;
+      };
+      leg = leg;
+      takes = takes;
+      on_leg = on;
+      stands = way.begins ∙ ap Some here.at;
+    }) way.avoids
+
+pub seeking_after : (setting : Setting) (before : List Item) (i mark version partition : ℕ)
+    (route : List ℕ) → Knows setting before i (stage_of before i)
+    → TakesRoute setting before i (Seek version partition) route
+    → IsKept setting before
+    (facts_after mark (item.Seeking i version partition route) (what_is_known before i)) (Some OnWay)
+seeking_after setting before i mark version partition route knows takes =
+    let facts : PacketFacts = what_is_known before i in
+    let s : ℕ = takes.switch in
+    let here : IsHere setting before i s = here_known setting before i s knows takes.at in
+    let part = redirected_to setting before i s version partition here takes.takes in
+    let hosted : Hosted = part.0 in
+    let targets : targets_of setting before (Seek version partition) ≡ hosted.1 =
+    seek_targets setting before here.under.header version partition hosted part.1 in
+    let way : IsWay setting s hosted.1 facts.found route =
+    route_way setting before s hosted.1 facts.found route knows.links
+    (subst (λ down. route_from setting before s hosted.1 down ≡ Some route) (found_in before i)
+    (ap (λ all. route_from setting before s all (found_down before i)) (sym targets)
+    ∙ takes.leads)) in
+    sets_out setting before i s _ (Seek version partition) hosted.1 route here refl way (record {
+      undecided = undecided_of setting before i s (stage_of before i) knows.kept here
+          (stage_when before i s 0 (inl takes.takes.looked_up));
+      sought = record {
+        not_retired = omega (arith, here.under.mark, here.stamped.retired, takes.takes.stamp);
+        current = omega (arith, here.stamped.current, takes.takes.stamp);
+        hosted = hosted;
+        own = part.1;
+      };
+      leads = way.leads;
+    })
+
+is_home : (o : Option ℕ) → IsTrue (is_some o) → o ≡ Some (unwrap_or o no_switch)
+is_home None e = absurd cc
+is_home (Some x) e = refl
+
+pub port_named : (setting : Setting) (port : ℕ) (act : Action) → act ≡ action.Out port
+    → NamesOwnPort setting act
+    → owner_of setting.net.switches port ≡ Some (owner setting port)
+port_named setting port act is named =
+    is_home (owner_of setting.net.switches port) (subst (NamesOwnPort setting) is named)
+
+pub exiting_after : (setting : Setting) (before : List Item) (i mark : ℕ) (route : List ℕ)
+    → Knows setting before i (stage_of before i) → TakesExit setting before i route
+    → IsKept setting before (facts_after mark (item.Exiting i route) (what_is_known before i)) (Some OnWay)
+exiting_after setting before i mark route knows exits =
+    let facts : PacketFacts = what_is_known before i in
+    let s : ℕ = exits.by.switch in
+    let out = exits.by.takes in
+    let here : IsHere setting before i s = here_known setting before i s knows exits.by.at in
+    let judged : IsJudged setting before facts here.under.header =
+    knows.kept.judged here.travelling out.judged here.under.header here.under.entered in
+    let decided : facts.decision ≡ Some out.decision =
+    decision_in before i (Some out.decision) out.decided in
+    let same : judged.decision ≡ out.decision =
+    some_same facts.decision judged.decision out.decision judged.decided decided in
+    let home : List ℕ = owner setting exits.port ∷ [] in
+    let way : IsWay setting s home facts.found route =
+    route_way setting before s home facts.found route knows.links
+    (subst (λ down. route_from setting before s home down ≡ Some route) (found_in before i)
+    exits.by.leads) in
+    sets_out setting before i s _ (Exit exits.port) home route here (rw (decided, out.action) refl)
+    way (record {
+      decision = out.decision;
+      decided = decided;
+      action = out.action;
+      owner = owner setting exits.port;
+      has_port = port_named setting exits.port judged.decision.action
+          (ap (λ (d : Decision). d.action) same ∙ out.action) judged.named;
+      leads = way.leads;
+    })
+
+-- on its leg with another route
+leg_by : (setting : Setting) (before : List Item) (facts : PacketFacts) (route : List ℕ)
+    (header : Header) (leg : Leg) → IsOnLeg setting before facts header leg
+    → LeadsTo setting (targets_of setting before leg) route
+    → IsOnLeg setting before (record facts { route = route }) header leg
+leg_by setting before facts route header (Seek version partition) on leads = record {
+  undecided = on.undecided;
+  sought = on.sought;
+  leads = subst (λ targets. LeadsTo setting targets route)
+      (seek_targets setting before header version partition on.hosted on.own) leads;
+}
+leg_by setting before facts route header (Exit port) on leads = record {
+  decision = on.decision;
+  decided = on.decided;
+  action = on.action;
+  owner = on.owner;
+  has_port = on.has_port;
+  leads = subst (λ home. LeadsTo setting (home ∷ []) route)
+      (ap (λ o. unwrap_or o no_switch) on.has_port) leads;
+}
+
+pub rerouted_after : (setting : Setting) (before : List Item) (i mark : ℕ) (route : List ℕ)
+    → Knows setting before i (stage_of before i) → TakesDetour setting before i route
+    → IsKept setting before (facts_after mark (item.Rerouted i route) (what_is_known before i)) (Some OnWay)
+rerouted_after setting before i mark route knows turns =
+    let facts : PacketFacts = what_is_known before i in
+    let s : ℕ = turns.switch in
+    let here : IsHere setting before i s = here_known setting before i s knows turns.at in
+    let was : IsOnWay setting before facts =
+    knows.kept.on_way here.travelling (inr turns.blocked.blocked) in
+    let leg : was.leg ≡ turns.leg =
+    some_same facts.leg was.leg turns.leg was.takes
+    (leg_in before i (Some turns.leg) turns.blocked.takes) in
+    let header : was.under_way.header ≡ here.under.header =
+    some_same facts.header was.under_way.header here.under.header was.under_way.entered
+    here.under.entered in
+    let targets : List ℕ = targets_of setting before turns.leg in
+    let way : IsWay setting s targets facts.found route =
+    route_way setting before s targets facts.found route knows.links
+    (subst (λ down. route_from setting before s targets down ≡ Some route) (found_in before i)
+    turns.leads) in
+    sets_out setting before i s facts.leg turns.leg targets route here (was.takes ∙ ap Some leg)
+    way (leg_by setting before facts route here.under.header turns.leg
+    (subst (λ l. IsOnLeg setting before facts here.under.header l) leg
+    (subst (λ h. IsOnLeg setting before facts h was.leg) header was.on_leg)) way.leads)
+
+pub hopped_after : (setting : Setting) (before : List Item) (i mark next : ℕ)
+    → Knows setting before i (stage_of before i) → MovesOver setting before i next
+    → IsKept setting before (facts_after mark (item.Hopped i next) (what_is_known before i)) (Some OnWay)
+hopped_after setting before i mark next knows moves =
+    let here = here_known setting before i moves.switch knows moves.at in
+    let was = knows.kept.on_way here.travelling (inl moves.moving) in
+    moving_on setting before _ (record {
+      under_way = record {
+        entry = was.under_way.entry;
+        place = record {
+          switch = next;
+          stands = refl;
+          now = linked_there setting moves.switch next knows.is.net
+              (knows.links.usable moves.switch next moves.usable);
+        };
+        mark = was.under_way.mark;
+      };
+      leg = was.leg;
+      takes = was.takes;
+      on_leg = was.on_leg;
+      stands = sym (next_in before i) ∙ moves.goes_on;
+    }) (knows.kept.avoids here.travelling moves.moving)
+
+pub found_after : (setting : Setting) (before : List Item) (i mark one two : ℕ)
+    → Knows setting before i (stage_of before i) → MeetsDown setting before i one two
+    → IsKept setting before (facts_after mark (item.FoundDown i one two) (what_is_known before i))
+    (Some Blocked)
+found_after setting before i mark one two knows meets = record {
+  under_way = λ travels. under;
+  came_in = λ travels is. absurd cc;
+  judged = λ travels is header entered. absurd cc;
+  on_way = λ travels is. record {
+    under_way = under;
+    leg = was.leg;
+    takes = was.takes;
+    on_leg = was.on_leg;
+    stands = was.stands;
+  };
+  avoids = λ travels is. absurd cc;
+}
+  where
+    here : IsHere setting before i one
+    here = here_known setting before i one knows meets.at
+
+    was : IsOnWay setting before (what_is_known before i)
+    was = knows.kept.on_way here.travelling (inl meets.moving)
+
+    under : IsUnderWay setting before
+        (facts_after mark (item.FoundDown i one two) (what_is_known before i))
+    under = record {
+      entry = was.under_way.entry;
+      place = was.under_way.place;
+      mark = was.under_way.mark;
+    }
+
+pub entered_after : (setting : Setting) (before : List Item) (i s : ℕ) (header : Header)
+    (facts : PacketFacts) → s < length setting.net.switches → IsHeader header
+    → facts.decision ≡ None → facts.leg ≡ None
+    → IsKept setting before (facts_after (retired_mark before) (item.Entered i s header) facts)
+    (Some CameIn)
+entered_after setting before i s header facts there sound undecided no_leg = record {
+  under_way = λ travels. record {
+    entry = search (rules, sound, there);
+    place = record { switch = s; stands = refl; now = there };
+    mark = omega arith;
+  };
+  came_in = λ travels is. (undecided, no_leg);
+  judged = λ travels is other entered. absurd cc;
+  on_way = λ travels is. grind arith;
+  avoids = λ travels is. absurd cc;
+}
+
+-- ---- decisions
+
+table_not_cached : (tables : Tables) (header : Header) (entry : CacheEntry)
+    → table_lookup tables header ≡ found.Cached entry → ⊥
+table_not_cached tables header entry = by_part (find (is_in header) tables.auth)
+  where
+    by_part : (o : Option Partition)
+        → option_map_or (authority_of header) o (redirect_of header tables.parts)
+        ≡ found.Cached entry → ⊥
+    by_part None e = cc
+    by_part (Some part) e = cc
+
+cached_found : (setting : Setting) (journal : List Item) (s : ℕ) (header : Header)
+    (entry : CacheEntry) → lookup_at setting journal s header ≡ found.Cached entry
+    → first_entry (stamp_of journal s) (number_of header) (cache_of setting journal s).entries
+    ≡ Some entry
+unfolding lookup_at
+cached_found setting journal s header entry answer =
+    by_entry (first_entry (stamp_of journal s) (number_of header)
+    (cache_of setting journal s).entries) answer
+  where
+    by_entry : (o : Option CacheEntry)
+        → option_map_or found.Cached o
+        (table_lookup (tables_at setting journal (stamp_of journal s) s) header)
+        ≡ found.Cached entry → o ≡ Some entry
+    by_entry None e =
+        absurd (table_not_cached (tables_at setting journal (stamp_of journal s) s) header entry e)
+    by_entry (Some other) e = cc
+
+-- what decides the packet
+pub record DecidesRightly (setting : Setting) (before : List Item) (facts : PacketFacts)
+    (header : Header) (version : ℕ) (rule : Option ℕ) (act : Action) : Type 0 where
+  pub not_retired : facts.mark < version
+  pub current : version ≤ current_mark before
+  pub first_match : scan (policy_at setting before version) header
+      ≡ record { rule = rule; action = act }
+  pub named : NamesOwnPort setting act
+
+cache_decides : (setting : Setting) (before : List Item) (i s version : ℕ) (rule : Option ℕ)
+    (act : Action) (message : ℕ) → (here : IsHere setting before i s)
+    → All (IsRightEntry setting before) (cache_of setting before s).entries
+    → CacheDecides setting before i s version rule act message
+    → DecidesRightly setting before (what_is_known before i) here.under.header version rule act
+cache_decides setting before i s version rule act message here right by =
+    let entry : CacheEntry = by.entry in
+    let header : Header = here.under.header in
+    let first : first_entry (stamp_of before s) (number_of header)
+    (cache_of setting before s).entries ≡ Some entry =
+    cached_found setting before s header entry
+    (ap (lookup_at setting before s) (sym here.header) ∙ by.answer) in
+    let there : Contains (cache_of setting before s).entries entry
+    × (((entry.version == stamp_of before s) && holds entry.word (number_of header)) ≡ true) =
+    find-there (λ (x : CacheEntry). (x.version == stamp_of before s)
+    && holds x.word (number_of header)) (cache_of setting before s).entries entry first in
+    let own : IsRightEntry setting before entry =
+    All-contains (IsRightEntry setting before) (cache_of setting before s).entries entry right
+    there.0 in
+    let stamp : entry.version ≡ stamp_of before s =
+    eqb-true entry.version (stamp_of before s) (and_parts _ _ there.1).0 in
+    let match : scan (policy_at setting before version) header
+    ≡ record { rule = rule; action = act } =
+    ap (λ v. scan (policy_at setting before v) header) by.of_version
+    ∙ own.decides header here.under.sound (and_parts _ _ there.1).1
+    ∙ ap (λ r. record { rule = r; action = entry.action }) (sym by.by_rule)
+    ∙ ap (λ a. record { rule = rule; action = a }) (sym by.says) in
+    record {
+      not_retired = omega (
+        arith,
+        by.of_version,
+        stamp,
+        here.under.mark,
+        here.stamped.retired,
+      );
+      current = omega (arith, by.of_version, own.current);
+      first_match = match;
+      named = subst (λ hit. NamesOwnPort setting hit.action)
+          (ap (λ v. scan (policy_at setting before v) header) (sym (by.of_version ∙ stamp)) ∙ match)
+          (scan_named setting (policy_at setting before (stamp_of before s))
+          (plan_at setting before (stamp_of before s)) header here.stamped.planned);
+    }
+
+authority_decides : (setting : Setting) (before : List Item) (i s version : ℕ) (rule : Option ℕ)
+    (act : Action) (partition : ℕ) → Knows setting before i (stage_of before i)
+    → (here : IsHere setting before i s)
+    → AuthorityDecides setting before i s version rule act partition
+    → DecidesRightly setting before (what_is_known before i) here.under.header version rule act
+authority_decides setting before i s version rule act partition knows here by =
+    let header : Header = here.under.header in
+    let rules : Rules setting before (what_is_known before i) header version by.found =
+    rules_of setting before i s version by.found knows.is knows.have here
+    (sought_of setting before i s (stage_of before i) knows.kept here
+    (stage_alone (stage_when before i s version by.when))) by.finds in
+    let match : scan (policy_at setting before version) header
+    ≡ record { rule = rule; action = act } =
+    sym rules.finds.decides
+    ∙ ap (λ (f : AuthorityRule). record { rule = f.rule.rule; action = f.rule.action })
+    (sym rules.same)
+    ∙ ap (λ r. record { rule = r; action = by.found.rule.action }) (sym by.by_rule)
+    ∙ ap (λ a. record { rule = rule; action = a }) (sym by.says) in
+    record {
+      not_retired = rules.not_retired;
+      current = rules.current;
+      first_match = match;
+      named = subst (λ hit. NamesOwnPort setting hit.action) match
+          (scan_named setting (policy_at setting before version) (plan_at setting before version)
+          header rules.planned);
+    }
+
+-- when the packet was decided, and by what
+pub record IsDecidedNow (setting : Setting) (before : List Item) (i s version : ℕ) (rule : Option ℕ)
+    (act : Action) (header : Header) : Type 0 where
+  pub when : WhenDecided before i s version
+  pub rightly : DecidesRightly setting before (what_is_known before i) header version rule act
+
+pub decided_now : (setting : Setting) (before : List Item) (i s version : ℕ) (rule : Option ℕ)
+    (act : Action) (by : How) → Knows setting before i (stage_of before i)
+    → (here : IsHere setting before i s)
+    → All (IsRightEntry setting before) (cache_of setting before s).entries
+    → DecidesBy setting before i s version rule act by
+    → IsDecidedNow setting before i s version rule act here.under.header
+decided_now setting before i s version rule act (how.Cached message) knows here right decides =
+    record {
+      when = inl decides.looked_up;
+      rightly = cache_decides setting before i s version rule act message here right decides;
+    }
+decided_now setting before i s version rule act (how.Authority home partition) knows here right
+    decides =
+    record {
+      when = decides.1.when;
+      rightly = authority_decides setting before i s version rule act partition knows here
+          decides.1;
+    }
+
+pub decided_after : (setting : Setting) (before : List Item) (i mark version : ℕ) (rule : Option ℕ)
+    (act : Action) (by : How) → Knows setting before i (stage_of before i)
+    → ((s : ℕ) → All (IsRightEntry setting before) (cache_of setting before s).entries)
+    → IsDecided setting before i version rule act by
+    → IsKept setting before (facts_after mark (item.Decided i version rule act by) (what_is_known before i))
+    (Some Judged)
+decided_after setting before i mark version rule act by knows right decided =
+    let facts : PacketFacts = what_is_known before i in
+    let after : PacketFacts = facts_after mark (item.Decided i version rule act by) facts in
+    let s : ℕ = decided.switch in
+    let here : IsHere setting before i s = here_known setting before i s knows decided.at in
+    let now : IsDecidedNow setting before i s version rule act here.under.header =
+    decided_now setting before i s version rule act by knows here (right s) decided.by in
+    let judged : IsJudged setting before after here.under.header = record {
+      decision = record { version = version; rule = rule; action = act };
+      decided = refl;
+      not_retired = now.rightly.not_retired;
+      current = now.rightly.current;
+      first_match = now.rightly.first_match;
+      named = now.rightly.named;
+      sought = sought_of setting before i s (stage_of before i) knows.kept here
+          (stage_alone (stage_when before i s version now.when));
+    } in
+    record {
+      under_way = λ travels. record {
+        entry = here.under.entry;
+        place = here.under.place;
+        mark = here.under.mark;
+      };
+      came_in = λ travels is. absurd cc;
+      judged = λ travels is header entered.
+          subst (IsJudged setting before after)
+          (some_same facts.header here.under.header header here.under.entered entered) judged;
+      on_way = λ travels is. grind arith;
+      avoids = λ travels is. absurd cc;
+    }

@@ -1,0 +1,112 @@
+-- What a switch answers to a packet, and what the step of the same packet is in the definitions
+-- over journals.
+use Rattle.std.specs.Prelude.{ℕ, ◌≡◌, ◌+◌, ◌<◌, ◌≤◌, ◌==◌, false, Some, List, [], ◌∷◌, ◌++◌, length, IsTrue}
+use Rattle.message_bag.specs.Posts.{Post, new_post, with_delivered, with_forgotten}
+use Rattle.ctrl_msg.specs.declared.message.Message.{Message}
+use Rattle.five_tuple.specs.Header.{IsHeader}
+use Rattle.five_tuple.specs.declared.header.Header.{Header}
+use Rattle.journal.specs.declared.item.Item.{Item}
+use Rattle.journal.specs.declared.item.Item.TheVariants as item
+use Rattle.net_file.specs.Owners.{AreOwners}
+use Rattle.net_file.specs.declared.ports.Ports.{Ports}
+use Rattle.steps.specs.declared.step.Step.TheVariants.{Packet, Hop}
+use Rattle.switch_core.specs.Answering.{CanLookUp, IsAtAuthority}
+use Rattle.switch_core.specs.Moving.{hop_answer}
+use Rattle.switch_core.specs.State.{serves}
+use Rattle.switch_core.specs.declared.answers.Entered.{Entered}
+use Rattle.switch_core.specs.declared.answers.HopEnd.TheVariants as hop
+use Rattle.refinement.specs.SwitchOf.{switch_of}
+use Rattle.travelling.specs.declared.travelling.Flight.{Flight}
+use Rattle.tunnel.specs.Moves.{here}
+use Rattle.update_machine.specs.Answers.{IsReached}
+use Rattle.update_machine.specs.Concerns.{NoneConcern, concerns_messages}
+use Rattle.update_machine.specs.LinkMasks.{near}
+use Rattle.update_machine.specs.Messages.{next_message}
+use Rattle.update_machine.specs.Packets.{next_packet}
+use Rattle.update_machine.specs.Pieces.{piece}
+use Rattle.update_machine.specs.Setting.{Setting, IsSetting}
+use Rattle.world_log.specs.Packets.{coming_in, entry, hop_written, hop_flight}
+use Rattle.world_log.specs.Writing.{entered_items, entered_flight}
+use Rattle.refinement.specs.Bags.{IsBagOf}
+use Rattle.refinement.specs.Flights.{flight_in}
+
+-- the journal is of steps of the network, and the table of the ports is the network's
+pub record IsOfNet (setting : Setting) (journal : List Item) (ports : Ports) : Type 0 where
+  pub sound : IsSetting setting
+  pub reached : IsReached setting journal
+  pub owners : AreOwners setting.net.switches ports
+
+-- ---- a packet comes in
+
+-- the answer of the switch that the journal says to the next packet
+abbrev pub entry_at : Setting → List Item → Ports → ℕ → Header → Entered
+entry_at setting journal ports s header =
+    entry (switch_of setting journal s) (near setting journal s) ports (next_packet journal) header
+
+-- the switch may be asked, its answer is what the step writes, and the packet is then where the
+-- answer leaves it, as all others are where they were
+pub record Comes (setting : Setting) (journal : List Item) (row s : ℕ) (header : Header)
+    (ports : Ports) : Type 0 where
+  pub may : CanLookUp (switch_of setting journal s)
+  pub written : piece setting journal row (Packet s header)
+      ≡ item.Row row (Packet s header) ∷ entered_items (next_message journal)
+      (coming_in (next_packet journal) header s) (entry_at setting journal ports s header)
+  pub goes : flight_in setting (journal ++ piece setting journal row (Packet s header))
+      (next_packet journal) ≡ entered_flight (entry_at setting journal ports s header)
+  pub others : (i : ℕ) → (i == next_packet journal) ≡ false
+      → flight_in setting (journal ++ piece setting journal row (Packet s header)) i
+      ≡ flight_in setting journal i
+
+abbrev pub EntriesRefine : Type 0
+EntriesRefine = (setting : Setting) (journal : List Item) (row s : ℕ) (header : Header)
+    (ports : Ports) → IsOfNet setting journal ports → s < length setting.net.switches
+    → IsHeader header → Comes setting journal row s header ports
+
+-- ---- a packet moves on
+
+-- what a hop asks of the switch where the packet stands
+pub record MayHop (setting : Setting) (journal : List Item) (t : Flight) : Type 0 where
+  pub there : here t.tunnel < length setting.net.switches
+  pub serving : IsTrue (serves (switch_of setting journal (here t.tunnel)))
+  pub stamped : CanLookUp (switch_of setting journal (here t.tunnel))
+  pub authority : (hop_answer (switch_of setting journal (here t.tunnel))
+      (near setting journal (here t.tunnel)) t.tunnel).end ≡ hop.Arrive
+      → IsAtAuthority (switch_of setting journal (here t.tunnel)) t.tunnel.header t.tunnel.leg
+
+-- so too for a packet on its way, at the switch where it stands
+pub record GoesOn (setting : Setting) (journal : List Item) (row i : ℕ) (t : Flight)
+    (ports : Ports) : Type 0 where
+  pub may : MayHop setting journal t
+  pub written : piece setting journal row (Hop i)
+      ≡ item.Row row (Hop i) ∷ hop_written (next_message journal)
+      (switch_of setting journal (here t.tunnel)) (near setting journal (here t.tunnel)) ports t
+  pub goes : flight_in setting (journal ++ piece setting journal row (Hop i)) i
+      ≡ hop_flight (switch_of setting journal (here t.tunnel))
+      (near setting journal (here t.tunnel)) ports t
+  pub others : (k : ℕ) → (i == k) ≡ false
+      → flight_in setting (journal ++ piece setting journal row (Hop i)) k
+      ≡ flight_in setting journal k
+
+abbrev pub HopsRefine : Type 0
+HopsRefine = (setting : Setting) (journal : List Item) (row i : ℕ) (t : Flight) (ports : Ports)
+    → IsOfNet setting journal ports → flight_in setting journal i ≡ Some t
+    → GoesOn setting journal row i t ports
+
+-- ---- messages
+
+-- posts are those of the journal as messages are sent, delivered and forgotten, and no other item
+-- changes them
+pub record BagsRefine : Type 0 where
+  pub begun : IsBagOf [] []
+  pub sent : (before : List Item) (posts : List Post) (message : Message) → IsBagOf before posts
+      → IsBagOf (before ++ item.Sent (length posts + 1) message ∷ [])
+      (posts ++ new_post message ∷ [])
+  pub delivered : (before : List Item) (posts : List Post) (n : ℕ) → n ≤ length posts
+      → IsBagOf before posts
+      → IsBagOf (before ++ item.Delivered n ∷ []) (with_delivered posts n)
+  pub forgotten : (before : List Item) (posts : List Post) (n : ℕ) → n ≤ length posts
+      → IsBagOf before posts
+      → IsBagOf (before ++ item.Forgotten n ∷ []) (with_forgotten posts n)
+  pub others : (before items : List Item) (posts : List Post)
+      → NoneConcern concerns_messages before items → IsBagOf before posts
+      → IsBagOf (before ++ items) posts

@@ -1,0 +1,63 @@
+-- How all that a world holds is tied to its journal.
+use Rattle.std.specs.Prelude.{ℕ, ◌≡◌, ◌+◌, ◌<◌, Bool, filter, slice_index, List, length, slice_index_or}
+use Rattle.message_bag.specs.Posts.{Post}
+use Rattle.controller.specs.Controller.{ControllerValue}
+use Rattle.refinement.specs.Controller.{IsControllerOf}
+use Rattle.refinement.specs.Bags.{IsBagOf}
+use Rattle.refinement.specs.Flights.{flight_in}
+use Rattle.journal.specs.declared.item.Item.{Item}
+use Rattle.net_file.specs.Owners.{links_of}
+use Rattle.net_file.specs.declared.net.LinkRow.{LinkRow}
+use Rattle.switch_core.specs.State.{SwitchValue}
+use Rattle.refinement.specs.SwitchOf.{switch_of}
+use Rattle.update_machine.specs.Answers.{IsReached}
+use Rattle.update_machine.specs.Links.{is_link_up}
+use Rattle.update_machine.specs.Packets.{next_packet}
+use Rattle.update_machine.specs.Setting.{Setting, IsSetting}
+use Rattle.update_machine.specs.LinkMasks.{near as near_of}
+use Rattle.travelling.specs.Travelling.{Flights, flight}
+
+-- what is known in the control plane: the controller, the messages that were sent, and the
+-- switches to which each switch has a link that is up, and to which it has a usable one, as masks
+pub record Control : Type 0 where
+  pub controller : ControllerValue
+  pub posts : List Post
+  pub links : List ℕ
+  pub near : List ℕ
+
+-- the links that are up
+abbrev pub is_up_link : List Item → LinkRow → Bool
+is_up_link journal link = is_link_up journal link.one link.two
+
+abbrev pub up_links : Setting → List Item → List LinkRow
+up_links setting journal = filter (is_up_link journal) setting.net.links
+
+-- the masks are those of the links that are up
+abbrev pub AreUp : Setting → List Item → List ℕ → Type 0
+AreUp setting journal links = (s : ℕ) → s < 64
+    → slice_index links s ≡ links_of (up_links setting journal) s
+
+-- the masks are those of the links that can be used
+abbrev pub AreUsable : Setting → List Item → List ℕ → Type 0
+AreUsable setting journal near = (s : ℕ) → s < 64 → slice_index near s ≡ near_of setting journal s
+
+-- the journal is of steps of the network, and the switches, the packets on their way, the
+-- controller, the messages and the links are as it says
+pub record Refinement (setting : Setting) (journal : List Item) (switches : List SwitchValue)
+    (travelling : Flights) (count : ℕ) (control : Control) : Type 0 where
+  pub sound : IsSetting setting
+  pub reached : IsReached setting journal
+  pub many : length switches ≡ length setting.net.switches
+  pub each : (s : ℕ) (d : SwitchValue) → s < length switches →
+      slice_index_or switches s d ≡ switch_of setting journal s
+  pub packet : (i : ℕ) → flight travelling i ≡ flight_in setting journal i
+  pub counted : next_packet journal ≡ count + 1
+  pub controller : IsControllerOf setting journal control.controller
+  pub bag : IsBagOf journal control.posts
+  pub up : AreUp setting journal control.links
+  pub usable : AreUsable setting journal control.near
+
+unfoldable pub RefineJournal : Setting → List Item → List SwitchValue → Flights → ℕ → Control
+    → Type 0
+RefineJournal setting journal switches travelling count control =
+    Refinement setting journal switches travelling count control

@@ -1,0 +1,28 @@
+-- What a world that is as its journal says is.
+use Rattle.std.proofs.Common.{ℕ, ◌≤◌, arith}
+use Rattle.steps.specs.Limits.{max_events}
+use Rattle.update_machine.specs.Answers.{IsReached}
+use Rattle.update_machine.specs.Packets.{next_packet}
+use Rattle.world.specs.State.{RefinesJournal, WorldValue, setting_at}
+use Rattle.refinement.specs.Refinement.{RefineJournal, Refinement}
+
+pub tie_of : (world : WorldValue) → RefinesJournal world
+    → Refinement (setting_at world) world.journal world.switches world.travelling world.packets
+    (record {
+      controller = world.controller;
+      posts = world.bag;
+      links = world.links;
+      near = world.near;
+    })
+unfolding RefineJournal
+tie_of world refines = refines
+
+-- its journal is of steps of the network
+pub reached_of : (world : WorldValue) → RefinesJournal world
+    → IsReached (setting_at world) world.journal
+reached_of world refines = (tie_of world refines).reached
+
+-- few packets came in, so that another one may
+pub few_packets : (world : WorldValue) (count : ℕ) → RefinesJournal world → world.packets ≤ count
+    → count ≤ max_events → next_packet world.journal ≤ 4_000_000_000
+few_packets world count refines few most = omega (arith, (tie_of world refines).counted, few, most)

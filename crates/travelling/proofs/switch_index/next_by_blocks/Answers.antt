@@ -1,0 +1,27 @@
+use Rattle.std.proofs.Common.{◌+◌, ◌*◌, ◌/◌, subst}
+use Rattle.travelling.specs.SwitchIndex.{IsNextInBlock, IsNoneMarked}
+use Rattle.travelling.proofs.Blocks.{block_has, least_beyond, none_beyond}
+use Rattle.travelling.proofs.switch_index.next_by_blocks.Goals as goal
+use Rattle.travelling.proofs.switch_index.next_by_blocks.Goals.{In_default}
+
+none_here : (c : In_default) → IsNoneMarked c.args.masks.now c.args.switch c.args.from
+    ((c.args.from / 64 + 1) * 64)
+none_here c = subst (IsNextInBlock c.args.masks.now c.args.switch c.args.from) c.in_default.is
+    c.next_in_block.ensures
+
+pub first_of_block-requires-clause-some : goal.first_of_block-requires-clause-some
+first_of_block-requires-clause-some c =
+    block_has c.args.masks.now c.args.blocks.now c.args.switch c.args.from c.requires.switch
+    c.requires.blocks (none_here (goal.at.first_of_block-requires-clause-some c).In_default)
+    c.in-Some-next_marked.block c.in-Some-next_marked.ensures
+
+pub returns-in-Some-next_marked : goal.returns-in-Some-next_marked
+returns-in-Some-next_marked c =
+    least_beyond c.args.masks.now c.args.blocks.now c.args.switch c.args.from c.requires.switch
+    c.requires.blocks (none_here (goal.at.returns-in-Some-next_marked c).In_default)
+    c.in-Some-next_marked.block c.in-Some-next_marked.ensures _ c.first_of_block.ensures
+
+pub returns-in-None : goal.returns-in-None
+returns-in-None c =
+    none_beyond c.args.masks.now c.args.blocks.now c.args.switch c.args.from c.requires.switch
+    c.requires.blocks (none_here (goal.at.returns-in-None c).In_default) c.in-None.ensures

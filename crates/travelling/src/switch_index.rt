@@ -1,0 +1,197 @@
+//! Where packets stand: a bit for each packet and each switch.
+//!
+//! The bits of a block, 64 packets, lie in one mask for each switch. Bits of the same form say
+//! which of these masks have one, and again which of theirs: so a search for the packets at a
+//! switch reads no packet, and passes 262,144 of them by one mask where none stands there.
+ghost use Rattle.std.specs.Prelude.{◌≡◌, ◌+◌, ◌*◌, ◌/◌, ◌<◌, ◌≤◌, ◌==◌, ◌&&◌, ℕ, [], false, true, length, max, slice_index_or, OnOk};
+ghost use Rattle.travelling.specs.SwitchIndex.{AreOfBlocks, IsLeastMarked, IsNextInBlock, IsNextMarked, flipped_if, has_marks, is_marked};
+ghost use Rattle.travelling.specs.Travelling.{stands_at};
+
+use crate::stored_flight::StoredFlight;
+use base::only_if;
+use std::alloc::{AllocError, Global};
+use std::marker::Model;
+
+/// The marks of where packets stand. Contracts see those of the packets.
+#[derive(Drop)]
+pub struct SwitchIndex {
+    packets: Vec<u64>,
+    // Which blocks of packets have marks.
+    blocks: Vec<u64>,
+    // Which blocks of these have marks.
+    groups: Vec<u64>,
+}
+
+impl Model for SwitchIndex {
+    ghost use Rattle.std.specs.Prelude.{List, ℕ};
+    ghost use Rattle.travelling.specs.SwitchIndex.{AreLevels};
+
+    ghost Value = { List ℕ };
+
+    ghost view = { λ m. m.packets.items };
+
+    ghost invariant = { λ m. AreLevels m.packets.items m.blocks.items m.groups.items };
+}
+
+impl SwitchIndex {
+    /// No packet is marked. It takes no memory yet.
+    pub fn new(alloc: Global) -> SwitchIndex
+        ensures { result ≡ [] }
+    {
+        SwitchIndex {
+            packets: Vec::new(alloc),
+            blocks: Vec::new(alloc),
+            groups: Vec::new(alloc),
+        }
+    }
+
+    /// There is a bit for the packet of this number. Each new mask is pushed, so that n packets
+    /// take O(n) in all.
+    pub fn make_bits(&mut self, number: usize) -> Result<(), AllocError>
+        requires { number < 4_294_967_296 }
+        ensures room { OnOk result (number + 64 ≤ length self.new) }
+        ensures grown { length self.old ≤ length self.new }
+        ensures same { (j : ℕ) → slice_index_or self.new j 0 ≡ slice_index_or self.old j 0 }
+    {
+        make_masks(&mut self.groups, number / 64 / 64)?;
+        make_masks(&mut self.blocks, number / 64)?;
+        make_masks(&mut self.packets, number)
+    }
+
+    /// Where the slot's packet stands it is marked if it wasn't, and not marked if it was.
+    pub fn mark_slot(&mut self, number: usize, slot: &Option<StoredFlight>)
+        requires { number + 64 ≤ length self.old }
+        ensures room { length self.new ≡ length self.old }
+        ensures marks { (i s : ℕ) → s < 64 → is_marked self.new i s
+            ≡ flipped_if (i == number && stands_at s slot.now) (is_marked self.old i s) }
+        ensures below { (s : ℕ) → 64 ≤ s → stands_at s slot.now ≡ false }
+    {
+        if let Some(kept) = slot {
+            self.flip(number, kept.here());
+        }
+    }
+
+    // The mark of the packet at the switch is turned, and that of its block where it is the
+    // block's only one.
+    fn flip(&mut self, number: usize, switch: u32)
+        requires room { number + 64 ≤ length self.old }
+        requires switch { switch < 64 }
+        ensures room { length self.new ≡ length self.old }
+        ensures marks { (i s : ℕ) → s < 64 → is_marked self.new i s
+            ≡ flipped_if (i == number && switch == s) (is_marked self.old i s) }
+    {
+        if !turn(&mut self.packets, number, switch) {
+            return;
+        }
+        if !turn(&mut self.blocks, number / 64, switch) {
+            return;
+        }
+        let _ = turn(&mut self.groups, number / 64 / 64, switch);
+    }
+
+    /// The least number at or above `from` of a packet that is marked at the switch, if there is
+    /// one.
+    pub fn next(&self, from: usize, switch: u32) -> Option<usize>
+        requires { switch < 64 }
+        ensures { IsNextMarked self.now switch from result }
+    {
+        if let Some(packet) = next_in_block(&self.packets, from, switch) {
+            return Some(packet);
+        }
+        match next_by_blocks(&self.blocks, &self.groups, from / 64 + 1, switch) {
+            Some(block) => Some(first_of_block(&self.packets, block, switch)),
+            None => None,
+        }
+    }
+}
+
+// There are masks up to that of this number at each switch.
+fn make_masks(masks: &mut Vec<u64>, number: usize) -> Result<(), AllocError>
+    requires { number < 4_294_967_296 }
+    ensures room { OnOk result (number + 64 ≤ length masks.new.items) }
+    ensures grown { length masks.old.items ≤ length masks.new.items }
+    ensures few { length masks.new.items ≤ max (length masks.old.items) (number + 64) }
+    ensures same { (j : ℕ) → slice_index_or masks.new.items j 0
+        ≡ slice_index_or masks.old.items j 0 }
+{
+    while masks.len() < number + 64 {
+        masks.push(0)?;
+    }
+    Ok(())
+}
+
+// The mark of the number at the switch is turned. Answers whether its block has marks there and
+// had none, or has none and had one.
+fn turn(masks: &mut Vec<u64>, number: usize, switch: u32) -> bool
+    requires room { number + 64 ≤ length masks.old.items }
+    requires switch { switch < 64 }
+    ensures room { length masks.new.items ≡ length masks.old.items }
+    ensures marks { (i s : ℕ) → s < 64 → is_marked masks.new.items i s
+        ≡ flipped_if (i == number && switch == s) (is_marked masks.old.items i s) }
+    ensures blocks { (block s : ℕ) → s < 64 → has_marks masks.new.items block s
+        ≡ flipped_if (result && (block == number / 64 && switch == s))
+        (has_marks masks.old.items block s) }
+{
+    let place = number / 64 * 64 + switch as usize;
+    let old = masks[place];
+    let new = old ^ only_if(true, (number % 64) as u32);
+    masks[place] = new;
+    (old == 0) != (new == 0)
+}
+
+// The least number at or above `from` that is marked at the switch, if there is one, by the marks
+// of the blocks. It goes over those of 64 blocks at once.
+fn next_by_blocks(masks: &[u64], blocks: &[u64], from: usize, switch: u32) -> Option<usize>
+    requires blocks { AreOfBlocks masks.now blocks.now }
+    requires switch { switch < 64 }
+    ensures { IsNextMarked masks.now switch from result }
+{
+    if let Some(number) = next_in_block(masks, from, switch) {
+        return Some(number);
+    }
+    match next_marked(blocks, from / 64 + 1, switch) {
+        Some(block) => Some(first_of_block(masks, block, switch)),
+        None => None,
+    }
+}
+
+// The least number at or above `from` that is marked at the switch, if there is one. It goes over
+// 64 at once.
+fn next_marked(masks: &[u64], from: usize, switch: u32) -> Option<usize>
+    requires { switch < 64 }
+    ensures { IsNextMarked masks.now switch from result }
+{
+    let mut next = from;
+    while next / 64 * 64 + (switch as usize) < masks.len() {
+        if let Some(number) = next_in_block(masks, next, switch) {
+            return Some(number);
+        }
+        next = (next / 64 + 1) * 64;
+    }
+    None
+}
+
+// That number, if it is of the block of `from`.
+fn next_in_block(masks: &[u64], from: usize, switch: u32) -> Option<usize>
+    requires { switch < 64 }
+    ensures { IsNextInBlock masks.now switch from result }
+{
+    let place = from / 64 * 64 + switch as usize;
+    if place >= masks.len() {
+        return None;
+    }
+    let rest = masks[place] >> (from % 64);
+    if rest == 0 {
+        return None;
+    }
+    Some(from + rest.trailing_zeros() as usize)
+}
+
+// The least number of the block that is marked at the switch.
+fn first_of_block(masks: &[u64], block: usize, switch: u32) -> usize
+    requires switch { switch < 64 }
+    requires some { has_marks masks.now block switch ≡ true }
+    ensures { IsLeastMarked masks.now switch (block * 64) result }
+{
+    block * 64 + masks[block * 64 + switch as usize].trailing_zeros() as usize
+}

@@ -1,0 +1,12 @@
+use Rattle.std.proofs.Common.{◌≡◌, ◌++◌, take, drop, map}
+use Rattle.version_update.specs.Record.{opens_at, opened_record}
+use Rattle.version_update.specs.Settling.{Names}
+use Rattle.version_update.proofs.switches.open_if_acked.Given as goal
+
+-- those of the switches so far are opened, and named
+abbrev pub invariant-loop-s : goal.invariant-loop-s
+invariant-loop-s l = record {
+  named : Names l.mask (opens_at l.current) (take l.s l.initial.switches);
+  opened : l.switches ≡ map (opened_record l.current) (take l.s l.initial.switches) ++ drop l.s
+      l.initial.switches;
+}

@@ -1,0 +1,32 @@
+use Rattle.std.proofs.Common.{◌≡◌, ℕ, Option, List, refl, sym, ap, ◌∙◌, arith}
+use Rattle.wire.specs.Frames.{place_in_frame}
+use Rattle.wire.specs.Assembly.{held_at, another_frame}
+use Rattle.wire.proofs.Laws.{AreBytes}
+use Rattle.wire.proofs.Holding.{false_true, index_of, check_held, check_new}
+use Rattle.wire.proofs.assembler.check_among.Goals as goal
+
+-- what is held at the place that was read is held at the frame's place
+at_place : (frames : List (List ℕ)) (frame : List ℕ) (place : ℕ) (held : Option (List ℕ))
+    → place ≡ place_in_frame frame → held ≡ held_at frames place
+    → held_at frames (place_in_frame frame) ≡ held
+at_place frames frame place held is found = ap (held_at frames) (sym is) ∙ sym found
+
+pub returns-then-are_same : goal.returns-then-are_same
+returns-then-are_same c =
+    check_held c.args.frames.now c.args.frame.now c.in-Some.held.now c.requires.long
+    c.requires.short c.requires.below c.requires.rising
+    (at_place _ _ _ _ c.place_of-place.ensures c.in-Some.ensures)
+    (sym c.bytes.ensures.bytes ∙ c.if-are_same.ensures.0 refl)
+
+pub returns-else-are_same : goal.returns-else-are_same
+returns-else-are_same c =
+    another_frame c.in-Some.held.now (at_place _ _ _ _ c.place_of-place.ensures c.in-Some.ensures)
+    (λ e. false_true (c.if-are_same.ensures.1 (c.bytes.ensures.bytes ∙ e)))
+
+pub returns-in-None : goal.returns-in-None
+returns-in-None c =
+    let are : AreBytes c.args.frame.now = λ i. omega (arith, c.type_inv.frame i) in
+    check_new c.args.frames.now c.args.frame.now c.index_of.result c.requires.long c.requires.short
+    are c.requires.below c.requires.rising
+    (at_place _ _ _ _ c.place_of-place.ensures c.in-None.ensures)
+    (c.index_of.ensures ∙ ap (index_of c.args.frames.now) c.place_of-place.ensures)
