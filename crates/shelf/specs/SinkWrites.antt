@@ -17,7 +17,7 @@ pub record IsGathered (text : List ℕ) (before now : Option (List ℕ)) (waitin
     : Type 0 where
   pub written : ℕ
   pub within : written ≤ length text
-  pub gained : now ≡ gained before (take written text)
+  pub gained : now ≡ with_gained before (take written text)
   pub waits : waiting ≡ drop written text
 
 -- what a write of these bytes leaves of a sink: all of them where it succeeds, and else a part; and

@@ -200,5 +200,5 @@ IsReceiver Controller = Unit {0}
 -- switches below 64, lists shorter than 2^32, and a receiver for the body
 pub record HasSpelling (m : Message) : Type 0 where
   pub switch : IsReceiver m.to
-  pub suits : suits m.to m.body ≡ true
+  pub suits : suits_receiver m.to m.body ≡ true
   pub fields : FieldsSuit m.body

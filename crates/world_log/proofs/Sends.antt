@@ -81,7 +81,7 @@ spelled_at P xs k one within is all = subst P (sym is) (all k one within)
 pub record AreSent (journal : List Item) (bag : List Post) (messages : List Message)
     (now : List Item) (posts : List Post) : Type 0 where
   pub written : now ≡ journal ++ sent_from (length bag + 1) messages
-  pub posted : posts ≡ bag ++ map posted messages
+  pub posted : posts ≡ bag ++ map new_post messages
 
 pub sent_more : (journal now after : List Item) (bag posts later : List Post)
     (messages : List Message) (k : ℕ) (one : Message) → k < length messages
