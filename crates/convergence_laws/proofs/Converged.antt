@@ -259,7 +259,7 @@ edge_holds setting journal are at next origin small up linked holds = by_place (
       where
         by_next : (origin ≡ next) ⊎ (origin ≢ next) → HoldsOwn setting journal next origin
             → IsHad setting journal next own
-        by_next (inl same) held_advert = inl (ap (own_advert setting journal) same)
+        by_next (inl same) held = inl (ap (own_advert setting journal) same)
         by_next (inr apart) (inl same) = absurd (apart (sym same))
         by_next (inr apart) (inr known) =
             inr (record {

@@ -14,7 +14,7 @@ use Rattle.net_file.specs.declared.error.NetRefusal.TheVariants as refusal
 use Rattle.net_file.specs.declared.net.SwitchRow.{SwitchRow}
 use Rattle.net_file.specs.declared.net.LinkRow.{LinkRow}
 use Rattle.net_file.specs.declared.net.Net.{Net}
-use Rattle.net_file.specs.Keys.{at_key, number_within, of_type, integer_within}
+use Rattle.net_file.specs.Keys.{at_key, number_within, of_type}
 use Rattle.base.specs.ComputedMasks.{mask_of}
 use Rattle.base.proofs.CallerLemmas.{mask_of_lt}
 use Rattle.net_file.specs.Net.{AreApart, AreOther, IsLink, IsNet, IsSwitchRow, is_name}
@@ -197,8 +197,8 @@ AreSwitches rows = All IsSwitchRow rows × AllPairs AreApart rows
 
 none_passes : {X : Type 0} (test : X → Bool) (xs : List X) (i : ℕ) (d : X) → i < length xs
     → list_any test xs ≡ false → test (get_or xs i d) ≡ false
-none_passes test xs i d integer_within none = false_from_ne_true _
-    (λ passes. both_ways _ none (list_any_at test xs i d integer_within passes))
+none_passes test xs i d within none = false_from_ne_true _
+    (λ passes. both_ways _ none (list_any_at test xs i d within passes))
 
 switches_push : (earlier : List SwitchRow) (d : Data) (row : SwitchRow) → AreSwitches earlier
     → switch_read earlier d ≡ Ok row → AreSwitches (earlier ++ row ∷ [])
@@ -206,11 +206,11 @@ switches_push earlier d row sound e =
     let new = switch_new earlier d row e in (
       All-push IsSwitchRow earlier row sound.0 new.switch,
       all_pairs_push AreApart earlier row sound.1 (λ k x within. record {
-        names = none_passes (λ other. bytes_eq other.name row.name) earlier k x integer_within
+        names = none_passes (λ other. bytes_eq other.name row.name) earlier k x within
             new.name;
         ports = λ port has. false_from_ne_true _
             (λ shared. both_ways _ (new.ports port shared)
-            (list_any_at (has_port port) earlier k x integer_within has));
+            (list_any_at (has_port port) earlier k x within has));
       }),
     )
 

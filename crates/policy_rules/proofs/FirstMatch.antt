@@ -90,7 +90,7 @@ top_of row [] = (
   row,
   record {
     member = (0, omega arith, refl);
-    highest_row =
+    highest =
         All-cons (λ (x : Row). x.priority ≤ row.priority) row [] (omega arith) (All-nil _);
   },
 )
@@ -103,7 +103,7 @@ top_of row (next ∷ rows) = by_case (top_of next rows)
         row,
         record {
           member = (0, omega arith, refl);
-          highest_row =
+          highest =
               All-cons (λ (x : Row). x.priority ≤ row.priority) row (next ∷ rows) (omega arith)
               (All-weaker (λ (x : Row). x.priority ≤ best.priority)
               (λ (x : Row). x.priority ≤ row.priority) (λ x h. omega (arith, lower)) (next ∷ rows)
@@ -114,7 +114,7 @@ top_of row (next ∷ rows) = by_case (top_of next rows)
         best,
         record {
           member = in_tail row (next ∷ rows) best is.member;
-          highest_row =
+          highest =
               All-cons (λ (x : Row). x.priority ≤ best.priority) row (next ∷ rows) upper is.highest;
         },
       )
@@ -185,7 +185,7 @@ best_takes kept row best new true here is now matches exceeds known =
     let top : IsHighestIn (kept ++ row ∷ []) row =
     record {
       member = Contains-push kept row;
-      highest_row =
+      highest =
           All-push (λ (x : Row). x.priority ≤ row.priority) kept row (lower best exceeds known)
           (omega arith);
     } in
@@ -215,6 +215,6 @@ best_keeps kept row (Some best) true lower is =
     (lower refl) in
     record {
       member = Contains-append_left kept (row ∷ []) best.now is.member;
-      highest_row =
+      highest =
           All-push (λ (x : Row). x.priority ≤ best.now.priority) kept row is.highest below;
     }

@@ -102,8 +102,8 @@ hears_tables s w stamp collected boot all others tables =
         ap (λ list. filled s w stamp collected list others)
         (above_more collected all tables ∙ rw over refl)
 
-    held_advert : Bool
-    held_advert = is_some (find (λ other. other.version == tables.version) old)
+    held : Bool
+    held = is_some (find (λ other. other.version == tables.version) old)
 
     by_held : (past b : Bool) → kept (b || past) (tables ∷ [])
         ≡ (if b || past then filled s w stamp collected old others
@@ -124,18 +124,18 @@ hears_tables s w stamp collected boot all others tables =
     past_any false false = refl
 
     same : (past : Bool) → nat_le tables.version collected ≡ past
-        → kept (came || past) (tables ∷ []) ≡ kept (held_advert || past) (tables ∷ [])
-    same true is = past_any came held_advert
+        → kept (came || past) (tables ∷ []) ≡ kept (held || past) (tables ∷ [])
+    same true is = past_any came held
     same false is = ap (λ b. kept (b || false) (tables ∷ []))
         (sym (found_above collected tables.version (over_mark false is) all))
 
     by_mark : (past : Bool) → nat_le tables.version collected ≡ past
         → filled s w stamp collected (above collected (with_tables all tables)) others
-        ≡ (if held_advert || nat_le tables.version collected
+        ≡ (if held || nat_le tables.version collected
         then filled s w stamp collected old others
         else filled s w stamp collected (old ++ tables ∷ []) others)
     by_mark past is = rw is (by_came past (over_mark past is) came ∙ same past is
-        ∙ by_held past held_advert)
+        ∙ by_held past held)
 
 -- a greater stamp raises the cache
 hears_stamp : (s : ℕ) (w : SwitchFacts) (stamp collected version : ℕ) (tables : List Tables)
