@@ -1,8 +1,8 @@
 #!/usr/bin/env python3
 """Sees that what pages and scripts lead to is there: `checks/links.py`.
 
-It looks at each link of a page to a file of this repository, and at each name in backticks of a
-file of a crate, as `CRATE/src/FILE`. In pages, scripts and sources it looks at each name of a file
+It looks at each link of a page to a file of this repository or to a heading, and at each name in
+backticks of a file of a crate, as `CRATE/src/FILE`. In pages, scripts and sources it looks at each name of a file
 of docs/, checks/, model/ or bench/. It ends with 1 where there is no such file.
 """
 import os
@@ -14,8 +14,16 @@ from crates import HOME
 PAGES = ("*.md", "docs/*.md", "bench/*.md", "model/*.md", "crates/examples/data/*/README.md")
 OTHERS = ("bench/*.py", "checks/*.py", "checks/*.c", "model/*.py", "crates/*/src/**/*.rt")
 LINK = re.compile(r"\]\(([^)#:\s]+)(?:#[^)]*)?\)")
+HEADING = re.compile(r"\]\(([^)#:\s]*)#([^)]*)\)")
 NAME = re.compile(r"\b(?:docs|checks|model|bench)/[\w-]+\.\w+")
 IN_CRATE = re.compile(r"`(?:crates/)?((?!crate/)\w+/(?:src|specs|proofs|must-fail)(?:/[\w./-]*)?)`")
+
+
+def headings(path):
+    """The names by which links lead to the headings of a page."""
+    for line in path.read_text().splitlines():
+        if line.startswith("#"):
+            yield re.sub(r"[^\w\- ]", "", line.lstrip("# ").lower()).replace(" ", "-")
 
 
 def missing(path):
@@ -25,6 +33,10 @@ def missing(path):
         if path.suffix == ".md":
             named += [path.parent / link for link in LINK.findall(line)]
             named += [HOME / "crates" / name for name in IN_CRATE.findall(line)]
+        for page, heading in HEADING.findall(line) if path.suffix == ".md" else ():
+            page = path.parent / page if page else path
+            if page.is_file() and heading not in headings(page):
+                yield f"{path.relative_to(HOME)}:{number}: no heading {heading}"
         for file in named:
             if not file.exists():
                 yield f"{path.relative_to(HOME)}:{number}: no {os.path.relpath(file, HOME)}"

@@ -1,7 +1,8 @@
 #!/usr/bin/env python3
 """Looks for long prose: `checks/prose.py [FILE..]`.
 
-Without a file it looks at README.md, docs/PROVED.md and docs/MAP.md, and the pages of the examples.
+Without a file it looks at all pages: README.md, those of docs/, and the README of bench, model and
+of each example.
 It ends with 1 where a sentence or a cell of a table has more than 40 words, or a line that is no
 row of a table, no link and no code more than 100 columns. What stands in backticks counts as one
 word.
@@ -15,7 +16,8 @@ LONGEST, COLUMNS = 40, 100
 
 
 def pages():
-    yield from (HOME / "README.md", HOME / "docs/PROVED.md", HOME / "docs/MAP.md")
+    yield from (HOME / "README.md", HOME / "bench/README.md", HOME / "model/README.md")
+    yield from sorted((HOME / "docs").glob("*.md"))
     yield from sorted((HOME / "crates/examples/data").glob("*/README.md"))
 
 
@@ -30,7 +32,7 @@ def texts_of(lines):
             parts = []
         if plain:
             start = start if parts else number
-            parts.append(line.strip())
+            parts.append(line.removeprefix("> ").strip())
         elif line.startswith("|"):
             yield from ((number, cell) for cell in line.strip("|").split("|"))
 

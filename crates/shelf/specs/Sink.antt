@@ -22,5 +22,4 @@ with_gained (Some bytes) piece = Some (bytes ++ piece)
 
 -- the sink gained some of these bytes from the front, and not all
 abbrev pub GainedPart : Option (List ℕ) → List ℕ → Option (List ℕ) → Type 0
-GainedPart before bytes now = (n : ℕ) × (n < length bytes)
-    × (now ≡ with_gained before (take n bytes))
+GainedPart old bytes new = (n : ℕ) × (n < length bytes) × (new ≡ with_gained old (take n bytes))
