@@ -3,7 +3,7 @@ ghost use Rattle.std.specs.Prelude.{◌≡◌, ◌≤◌, ◌↔◌, IfOk, IsErr
 ghost use Rattle.std.specs.Option.{ForSome, ForNone, option_copied};
 ghost use Rattle.std.specs.Str.{bytes_eq};
 ghost use Rattle.shelf.specs.Sink.{Rose, next_count};
-ghost use Rattle.shelf.specs.Shelf.{ShelfState, HasFile, LacksFile, HasLongerFile, IsNoFault, file_named, files_of, is_read_fault};
+ghost use Rattle.shelf.specs.Shelf.{ShelfState, HasFile, LacksFile, HasLongerFile, IsNoFault, file_named, files_of, is_read_fault, is_refusal};
 ghost use Rattle.shelf.specs.declared.source.ShelfError.TheVariants.{NoMemory};
 
 use std::alloc::{AllocError, Global};
@@ -49,6 +49,13 @@ pub trait Shelf {
         ensures faults { (state self.old).faults ≤ (state self.new).faults }
         ensures failed { IsErrOf result ShelfError.Failed
             → Rose (state self.old).faults (state self.new).faults }
+
+        // A call that is served counts no fault, nor one that finds no memory; where files are
+        // known, none but a failed one does.
+        ensures calm { is_refusal result ≡ false
+            → (state self.new).faults ≡ (state self.old).faults }
+        ensures calm_known { ForSome (state self.old).files (λ _.
+            is_read_fault result ≡ false → (state self.new).faults ≡ (state self.old).faults) }
 
         ensures within { IfOk result (λ content. length content.items ≤ limit) }
 
