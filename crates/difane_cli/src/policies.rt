@@ -21,18 +21,10 @@ use policy_file::{NoPort, PolicyError, check_ports, read_policy};
 use policy_rules::Policy;
 use std::alloc::Global;
 use world::World;
+use world::codes::{NO_ROOM, TOO_MANY_LEAVES, TOO_MANY_WORDS};
 
 /// The code of a row that names a port that the network lacks.
 pub const NO_PORT: u32 = 13;
-
-/// The code of a first policy that has too many words.
-pub const TOO_MANY_WORDS: u32 = 12;
-
-/// The code of a first policy whose tree has too many leaves.
-pub const TOO_MANY_LEAVES: u32 = 14;
-
-/// The code of a first policy with a partition for which too few switches have room.
-pub const NO_ROOM: u32 = 15;
 
 /// The code of a switch that the network lacks.
 pub const NO_SWITCH: u32 = 21;

@@ -6,6 +6,7 @@ ghost use Rattle.controller.specs.declared.sends.Act.TheVariants.{Post};
 ghost use Rattle.steps.specs.declared.step.Step.TheVariants.{Confirm as ConfirmStep, Resend as ResendStep, Update as UpdateStep};
 ghost use Rattle.world.specs.Parts.{HasBegun, Plays};
 
+use crate::codes::{TOO_MANY_LIVE, TOO_MANY_VERSIONS};
 use crate::files::Compiled;
 use crate::parts::Parts;
 use base::Failure;
@@ -31,19 +32,16 @@ impl Parts {
             Compiled::Planned(plan) => plan,
         };
         let version = self.controller.marks().count() + 1;
-        match self.controller.submit(alloc, plan) {
+        let code = match self.controller.submit(alloc, plan) {
             Ok(sends) => {
                 self.log.journal.push(Item::Submitted { file, version })?;
-                self.log.note_acts(alloc, sends.items())
+                return self.log.note_acts(alloc, sends.items());
             }
-            Err(Failure::Refused(SubmitError::TooManyLive)) => {
-                self.log.journal.push(Item::Refused { file, code: 16 })
-            }
-            Err(Failure::Refused(SubmitError::TooManyVersions)) => {
-                self.log.journal.push(Item::Refused { file, code: 17 })
-            }
-            Err(Failure::NoMemory) => Err(AllocError),
-        }
+            Err(Failure::Refused(SubmitError::TooManyLive)) => TOO_MANY_LIVE,
+            Err(Failure::Refused(SubmitError::TooManyVersions)) => TOO_MANY_VERSIONS,
+            Err(Failure::NoMemory) => return Err(AllocError),
+        };
+        self.log.journal.push(Item::Refused { file, code })
     }
 
     /// The controller is told that the switch is down, and waits for it no longer. Nothing happens

@@ -4,6 +4,7 @@ ghost use Rattle.net_file.specs.Net.{IsNet};
 ghost use Rattle.world.specs.Files.{IsCompiled};
 ghost use Rattle.world.specs.declared.files.Compiled.TheVariants.{Planned};
 
+use crate::codes::{NO_ROOM, TOO_MANY_LEAVES, TOO_MANY_WORDS};
 use controller::{Plan, PlanError, compile};
 use net_file::Net;
 use policy_rules::Policy;
@@ -102,11 +103,12 @@ fn plan_or_code(alloc: Global, policy: &Policy, net: &Net) -> Result<Compiled, A
     requires { IsNet net.now }
     ensures { IfOk result (IsCompiled net.now policy.now) }
 {
-    match compile(alloc, policy, net) {
-        Ok(plan) => Ok(Compiled::Planned(plan)),
-        Err(PlanError::TooManyWords { .. }) => Ok(Compiled::Refused { code: 12 }),
-        Err(PlanError::TooManyLeaves) => Ok(Compiled::Refused { code: 14 }),
-        Err(PlanError::NoRoom { .. }) => Ok(Compiled::Refused { code: 15 }),
-        Err(PlanError::NoMemory) => Err(AllocError),
-    }
+    let code = match compile(alloc, policy, net) {
+        Ok(plan) => return Ok(Compiled::Planned(plan)),
+        Err(PlanError::TooManyWords { .. }) => TOO_MANY_WORDS,
+        Err(PlanError::TooManyLeaves) => TOO_MANY_LEAVES,
+        Err(PlanError::NoRoom { .. }) => NO_ROOM,
+        Err(PlanError::NoMemory) => return Err(AllocError),
+    };
+    Ok(Compiled::Refused { code })
 }

@@ -19,6 +19,7 @@
 #![tactic(auto)]
 
 mod beginning;
+pub mod codes;
 mod control;
 mod delivery;
 mod error;

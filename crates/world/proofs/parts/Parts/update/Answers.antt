@@ -8,6 +8,7 @@ use Rattle.controller.specs.declared.sends.Act.{Act}
 use Rattle.journal.specs.declared.item.Item.{Item}
 use Rattle.journal.specs.declared.item.Item.TheVariants as item
 use Rattle.steps.specs.declared.step.Step.TheVariants.{Update}
+use Rattle.version_update.specs.declared.marks.SubmitError.TheVariants.{TooManyLive, TooManyVersions}
 use Rattle.world.specs.Files.{FilesValue, IsCompiled}
 use Rattle.update_machine.specs.Pieces.{piece}
 use Rattle.world.specs.Parts.{BeginsStep, Goes, setting_in}
@@ -17,7 +18,7 @@ use Rattle.world.proofs.Frame.{goes_one, net_stays, none_in, not_err, nothing_go
 use Rattle.world.proofs.GoesTold.{goes_acting}
 use Rattle.refinement.proofs.Submitting.{live_piece, planned_next, refused_piece, refused_refines, submitted_may, submitted_piece, submitted_refines, unplanned_next, versions_piece}
 use Rattle.world.proofs.parts.Parts.update.Goals as goal
-use Rattle.world.proofs.parts.Parts.update.Goals.{In-Planned}
+use Rattle.world.proofs.parts.Parts.update.Goals.{In-Planned, in-Err-Refused-TooManyLive, in-Err-Refused-TooManyVersions}
 
 -- the update is refused by this code
 refused : {T E : Type 0} {r : Result T E} {before : List Item} {row file : ℕ} (code : ℕ)
@@ -98,12 +99,12 @@ note_acts-requires c =
     )))
     c.in-Ok.ensures.after ready.room)
 
-pub returns-in_ok-push-in-Ok : goal.returns-in_ok-push-in-Ok
-returns-in_ok-push-in-Ok c = λ before row begins.
+pub returns-in-Ok : goal.returns-in-Ok
+returns-in-Ok c = λ before row begins.
     let self = c.args.self.now in
     let file = c.args.file in
     let ready = begins.ready in
-    let of_next = planned (goal.at.returns-in_ok-push-in-Ok c).In-Planned before in
+    let of_next = planned (goal.at.returns-in-Ok c).In-Planned before in
     let live : self.controller.marks.count - self.controller.marks.retired ≢ 8 =
     λ e. not_err _ _ (c.in-Ok.ensures.live.1 e) in
     let versions : self.controller.marks.count ≢ 64 =
@@ -126,26 +127,32 @@ returns-in_ok-push-in-Ok c = λ before row begins.
 
 -- ---- the marks refuse it
 
-pub returns-in-Err-Refused-TooManyLive : goal.returns-in-Err-Refused-TooManyLive
-returns-in-Err-Refused-TooManyLive c = λ before row begins.
-    let said = c.in-Err-Refused-TooManyLive.ensures in
-    let is = c.in-Err-Refused-TooManyLive.field-0-is in
-    let why = is ∙ ap Refused (rw is at c.in-Err-Refused-TooManyLive.field-0-0-is) in
-    refused 16 begins c.in_ok-code.ensures.same (rw is at said.refused)
-    (live_piece _ _ _ _ _ _ row c.args.file c.in-Planned.plan begins.ready.refines
-    (planned (goal.at.returns-in-Err-Refused-TooManyLive c).In-Planned before) (said.live.0 (ap Err why)))
-    c.push-in-Err-Refused-TooManyLive.ensures.pushed c.push-in-Err-Refused-TooManyLive.ensures.unchanged
-
-pub returns-in-Err-Refused-TooManyVersions : goal.returns-in-Err-Refused-TooManyVersions
-returns-in-Err-Refused-TooManyVersions c = λ before row begins.
-    let said = c.in-Err-Refused-TooManyVersions.ensures in
-    let is = c.in-Err-Refused-TooManyVersions.field-0-is in
-    let why = is ∙ ap Refused (rw is at c.in-Err-Refused-TooManyVersions.field-0-0-is) in
-    let many = said.versions.0 (ap Err why) in
-    refused 17 begins c.in_ok-code.ensures.same (rw is at said.refused)
-    (versions_piece _ _ _ _ _ _ row c.args.file c.in-Planned.plan begins.ready.refines
-    (planned (goal.at.returns-in-Err-Refused-TooManyVersions c).In-Planned before) many.0 many.1)
-    c.push-in-Err-Refused-TooManyVersions.ensures.pushed c.push-in-Err-Refused-TooManyVersions.ensures.unchanged
+pub returns : goal.returns
+returns c = λ before row begins.
+    let self = c.args.self.now in
+    let file = c.args.file in
+    let code = c.match-this-2.code in
+    let submitted = c.submit.ensures in
+    let of_next = planned (goal.at.returns c).In-Planned before in
+    let is : (c.submit.new.self ≡ self.controller) × (piece (setting_in self) before row (Update file)
+    ≡ item.Row row (Update file) ∷ item.Refused file code ∷ []) =
+    elim c.match-this-2.branch [
+      | in-Err-Refused-TooManyLive w ↦
+          let live : c.submit.result ≡ Err (Refused TooManyLive) = search rules in (
+            rw live at submitted.refused,
+            rw w.code-is (live_piece _ _ _ _ _ _ row file c.in-Planned.plan begins.ready.refines of_next
+                (submitted.live.0 live)),
+          )
+      | in-Err-Refused-TooManyVersions w ↦
+          let versions : c.submit.result ≡ Err (Refused TooManyVersions) = search rules in
+          let many = submitted.versions.0 versions in (
+            rw versions at submitted.refused,
+            rw w.code-is (versions_piece _ _ _ _ _ _ row file c.in-Planned.plan begins.ready.refines
+                of_next many.0 many.1),
+          )
+    ] in
+    refused code begins c.in_ok-code.ensures.same is.0 is.1 c.push-2.ensures.pushed
+    c.push-2.ensures.unchanged
 
 pub returns-in-Err-NoMemory : goal.returns-in-Err-NoMemory
 returns-in-Err-NoMemory c = λ before row begins.
