@@ -3,29 +3,40 @@ ghost use Rattle.base.specs.declared.error.Failure.TheVariants.{Refused};
 ghost use Rattle.net_file.specs.Refusals.{net_code};
 
 use base::{Failure, InRow};
+use thiserror::Error;
 
 /// What is wrong with a network's text.
-#[derive(Clone, Copy, Debug, PartialEq, Eq)]
+#[derive(Clone, Copy, Debug, PartialEq, Eq, Error)]
 pub enum NetRefusal {
     /// The bytes are no TOML document.
+    #[error("the bytes are no TOML document")]
     Toml = 1,
     /// A key that must stand is absent: `switch`, `name` or `ends`.
+    #[error("a key is missing")]
     MissingKey = 2,
     /// A value is not of the type that its key wants.
+    #[error("a value has the wrong type")]
     WrongType = 3,
     /// A number or a name is outside what its key takes, or there is no switch.
+    #[error("a value is out of range")]
     Range = 4,
     /// An end of a link is no switch's name.
+    #[error("no switch has the name")]
     UnknownName = 5,
     /// An earlier switch has the name.
+    #[error("an earlier switch has the name")]
     DuplicateName = 6,
     /// A port stands earlier in this or in another switch.
+    #[error("the port stands twice")]
     DuplicatePort = 7,
     /// Both ends of a link are one switch.
+    #[error("both ends are one switch")]
     SelfLink = 8,
     /// An earlier link has these ends, in either order.
+    #[error("an earlier link has these ends")]
     DuplicateLink = 9,
     /// There are more than 64 switches, or more than 256 links.
+    #[error("there are too many switches or links")]
     TooMany = 10,
 }
 

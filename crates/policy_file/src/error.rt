@@ -2,31 +2,43 @@ ghost use Rattle.std.specs.Prelude.{◌≡◌};
 ghost use Rattle.policy_file.specs.Reading.{policy_code};
 
 use base::{Failure, InRow};
+use thiserror::Error;
 
 /// Why a policy's text is refused.
-#[derive(Clone, Copy, Debug, PartialEq, Eq)]
+#[derive(Clone, Copy, Debug, PartialEq, Eq, Error)]
 pub enum PolicyRefusal {
     /// There is no first record, or it is not the heading.
+    #[error("the heading is missing or another one")]
     Heading = 1,
     /// The row has other than seven fields.
+    #[error("the row has not seven fields")]
     Width = 2,
     /// The priority is no number from 0 to 4294967295.
+    #[error("the priority is no number")]
     Priority = 3,
     /// The source is no prefix.
+    #[error("the source is no prefix")]
     Src = 4,
     /// The destination is no prefix.
+    #[error("the destination is no prefix")]
     Dst = 5,
     /// The source ports are no range.
+    #[error("the source ports are no range")]
     Sport = 6,
     /// The destination ports are no range.
+    #[error("the destination ports are no range")]
     Dport = 7,
     /// The protocol has no such name or number.
+    #[error("there is no such protocol")]
     Proto = 8,
     /// The action is neither `drop` nor `out:` and a port from 0 to 63.
+    #[error("there is no such action")]
     Action = 9,
     /// An earlier row has the priority.
+    #[error("an earlier row has the priority")]
     SamePriority = 10,
     /// There is a row 2,001.
+    #[error("there are too many rows")]
     TooManyRows = 11,
 }
 

@@ -2,27 +2,37 @@ ghost use Rattle.std.specs.Prelude.{◌≡◌, ◌≤◌};
 ghost use Rattle.schedule.specs.Refusals.{schedule_code};
 
 use base::{Failure, InRow};
+use thiserror::Error;
 
 /// Why a schedule's text is refused.
-#[derive(Clone, Copy, Debug, PartialEq, Eq)]
+#[derive(Clone, Copy, Debug, PartialEq, Eq, Error)]
 pub enum ScheduleRefusal {
     /// There is no first record, or it is not the heading.
+    #[error("the heading is missing or another one")]
     Heading = 1,
     /// The row has another number of fields than its kind.
+    #[error("the row has not as many fields as its kind")]
     Width = 2,
     /// The first field is no kind.
+    #[error("there is no such kind of row")]
     Kind = 3,
     /// No switch has the name.
+    #[error("no switch has the name")]
     Switch = 4,
     /// A packet, a message or a place is no number from 0 to 999999999.
+    #[error("a packet, a message or a place is no number")]
     Number = 5,
     /// A field of the packet's header is no address, port or protocol.
+    #[error("a field of the packet's header can't be read")]
     Address = 6,
     /// The file is no number from 1 to that of the policy files.
+    #[error("there is no policy file of this number")]
     File = 7,
     /// There is a row 100,001.
+    #[error("there are too many rows")]
     TooManyRows = 8,
     /// No link joins the two switches.
+    #[error("no link joins the two switches")]
     NoLink = 9,
 }
 

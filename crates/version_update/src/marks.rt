@@ -7,6 +7,7 @@ ghost use Rattle.version_update.specs.declared.marks.SubmitError.TheVariants.{To
 use crate::ledger::Ledger;
 use crate::record::Phase;
 use std::marker::Model;
+use thiserror::Error;
 
 /// The most versions.
 const MAX_VERSIONS: u32 = 64;
@@ -34,11 +35,13 @@ pub struct Settled {
 }
 
 /// Why no version was added.
-#[derive(Clone, Copy, Debug, PartialEq, Eq)]
+#[derive(Clone, Copy, Debug, PartialEq, Eq, Error)]
 pub enum SubmitError {
     /// 8 versions are not retired.
+    #[error("too many versions are not retired")]
     TooManyLive,
     /// There are 64 versions.
+    #[error("there are too many versions")]
     TooManyVersions,
 }
 
