@@ -3,6 +3,7 @@ pub use Rattle.base.proofs.ListLemmas.{append_not_nil, count-filter-le, count_by
 pub use Rattle.policy_rules.proofs.FirstMatch.{first_match-only, first_match-scan, highest_is, one_of_priority}
 pub use Rattle.policy_rules.proofs.Counting.{filter_more, range_more}
 pub use Rattle.policy_rules.proofs.Distinct.{distinct_push}
+pub use Rattle.policy_rules.proofs.Editing.{fresh_edits}
 pub use Rattle.policy_rules.proofs.Finding.{at_item, find-position}
 pub use Rattle.policy_rules.proofs.RowWords.{IsWord-word_of_row, holds-word_of_row}
 pub use Rattle.policy_rules.proofs.Ranks.{length-words_of_row}

@@ -9,3 +9,6 @@ mod RuleLaw
 mod RuleShape
 pub mod CallerLemmas
 mod Counting
+mod Editing
+mod Changes
+mod Touched

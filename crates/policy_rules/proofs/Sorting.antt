@@ -229,7 +229,7 @@ first_passes p (row ∷ rows) falling = by_case (p row) refl (find p rows)
           (λ passes. absurd (cc)) rest.2,
     )
 
-filter_none : (p : Row → Bool) (rows : List Row) → All (λ row. p row ≡ false) rows
+pub filter_none : (p : Row → Bool) (rows : List Row) → All (λ row. p row ≡ false) rows
     → filter p rows ≡ []
 filter_none p [] all = refl
 filter_none p (row ∷ rows) all =

@@ -1,18 +1,24 @@
--- The laws of policies and of their rule lists: a function of the crate ensures the record of each.
-use Rattle.std.specs.Prelude.{◌≡◌, ◌+◌, Some, List, length, All, option_map}
+-- The laws of policies, of their rule lists and of changes: a function of the crate ensures the
+-- record of each.
+use Rattle.std.specs.Prelude.{◌≡◌, ◌≤◌, ◌+◌, ◌⊎◌, IsTrue, IsFalse, Some, Ok, List, ◌++◌, length, All, Contains, option_map}
 use Rattle.std.specs.List.{list_any}
 use Rattle.std.specs.List.Sorted.{IsPermutation}
 use Rattle.five_tuple.specs.Header.{IsHeader, fields_of, number_of}
 use Rattle.five_tuple.specs.declared.header.Header.{Header}
-use Rattle.ternary.specs.Word.{holds}
+use Rattle.ternary.specs.Meets.{meets}
+use Rattle.ternary.specs.Word.{WordValue, holds}
 use Rattle.ternary.specs.WordBits.{IsWord}
 use Rattle.policy_rules.specs.Policy.{IsFirstMatch, IsPolicy, IsSoundRow, row_matches}
 use Rattle.policy_rules.specs.Rules.{first_rule}
 use Rattle.policy_rules.specs.RuleList.{IsRuleList, by_falling_priority, hit_of_rule, rules_of, word_count, word_total}
 use Rattle.policy_rules.specs.Words.{words_of_row}
+use Rattle.policy_rules.specs.Applied.{applied, staying_rows}
+use Rattle.policy_rules.specs.Edits.{IsAmendment, additions}
+use Rattle.policy_rules.specs.declared.amendment.Edit.{Edit}
 use Rattle.policy_rules.specs.declared.policy.Hit.{Hit}
 use Rattle.policy_rules.specs.declared.policy.Row.{Row}
 use Rattle.policy_rules.specs.Scan.{scan}
+use Rattle.policy_rules.specs.Touched.{touched_rows, touched_words}
 use Rattle.policy_rules.specs.Repeats.{IsFalling}
 
 pub record PolicyLaws : Type 0 where
@@ -46,3 +52,29 @@ pub record RuleListLaws : Type 0 where
   -- .. of which the first that holds a header has the rule and the action of the first match
   pub first_match : (rows : List Row) (header : Header) → IsPolicy rows → IsHeader header
       → option_map hit_of_rule (first_rule (rules_of rows) header) ≡ Some (scan rows header)
+
+-- what a change leaves of a policy ..
+pub record AmendmentLaws : Type 0 where
+  -- .. is a policy ..
+  pub policy : (rows after : List Row) (change : List Edit) → IsPolicy rows → IsAmendment change
+      → applied rows change ≡ Ok after → IsPolicy after
+  -- .. of at most 2,000 rows ..
+  pub few : (rows after : List Row) (change : List Edit) → applied rows change ≡ Ok after
+      → length after ≤ 2000
+  -- .. each of which is a row of the policy or one that the change adds; ..
+  pub rows : (rows after : List Row) (change : List Edit) → applied rows change ≡ Ok after
+      → All (λ row. Contains rows row ⊎ Contains (additions change) row) after
+  -- .. the rows that stay and those that it adds decide each header alone; ..
+  pub decides : (rows after : List Row) (change : List Edit) (header : Header)
+      → applied rows change ≡ Ok after
+      → IsFirstMatch (staying_rows rows change ++ additions change) header (scan after header)
+  -- .. a header that no row which it removes or adds matches has the first match that it had, ..
+  pub same : (rows after : List Row) (change : List Edit) (header : Header) → IsPolicy rows
+      → applied rows change ≡ Ok after
+      → All (λ row. IsFalse (row_matches row (fields_of header))) (touched_rows rows change)
+      → scan after header ≡ scan rows header
+  -- .. and so has each header of a word that meets no word of these rows
+  pub apart : (rows after : List Row) (change : List Edit) (word : WordValue) (header : Header)
+      → IsPolicy rows → IsAmendment change → IsHeader header → applied rows change ≡ Ok after
+      → All (λ touched. IsFalse (meets word touched)) (touched_words rows change)
+      → IsTrue (holds word (number_of header)) → scan after header ≡ scan rows header

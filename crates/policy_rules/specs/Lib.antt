@@ -9,4 +9,8 @@ pub mod RuleList
 pub mod Laws
 pub mod Partitions
 pub mod Hosted
+pub mod Edits
+pub mod Applied
+pub mod PolicyFiles
+pub mod Touched
 pub mod Exports

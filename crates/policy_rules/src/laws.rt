@@ -1,4 +1,4 @@
-ghost use Rattle.policy_rules.specs.Laws.{PolicyLaws, RowWordsLaws, RuleListLaws};
+ghost use Rattle.policy_rules.specs.Laws.{AmendmentLaws, PolicyLaws, RowWordsLaws, RuleListLaws};
 
 /// The scan is the first match, and one list of the rows is in falling order: laws of the
 /// definitions alone.
@@ -14,4 +14,11 @@ pub fn row_words_laws()
 /// The rules of a policy's rows decide as the first match does: laws of the definitions alone.
 pub fn rule_list_laws()
     ensures { RuleListLaws }
+{}
+
+/// What a change leaves of a policy is a policy of at most 2,000 rows, each of which is a row of
+/// that policy or an added one. A header that no removed and no added row matches is decided as
+/// before, and any other by the rows that stay and the added ones: laws of the definitions alone.
+pub fn amendment_laws()
+    ensures { AmendmentLaws }
 {}

@@ -1,11 +1,13 @@
 //! Access-control policies: prioritised rows of five-tuple fields, the first match of a header
-//! among them, and the list of rules over ternary words that a policy gives.
+//! among them, the list of rules over ternary words that a policy gives, and changes of policies.
 //!
 //! `Policy::scan` promises the first match by its definition: of all rows that match a header, the
 //! one that no matching row exceeds in priority, and a drop where no row matches. `to_rules`
 //! promises the defined list, in which the first rule that holds a header has the rule and the
-//! action of that first match. What holds of policies, of a row's words and of rule lists without a
-//! call stands in `policy_laws`, `row_words_laws` and `rule_list_laws`.
+//! action of that first match. `apply` promises the policy with a change applied to it: the rows
+//! that stay, in order, and then the added ones. What holds of policies, of a row's words, of rule
+//! lists and of changes without a call stands in `policy_laws`, `row_words_laws`, `rule_list_laws`
+//! and `amendment_laws`.
 //!
 //! ```text
 //! fn first_rule(alloc: Global, rows: Vec<Row>, header: &Header) -> anyhow::Result<Option<Rule>> {
@@ -14,9 +16,18 @@
 //!     let place = first_hit(&rules, header);   // always some: the last rule holds each header
 //!     Ok(place.map(|place| rules[place]))      // decides as policy.scan(header) does
 //! }
+//!
+//! fn replace(alloc: Global, policy: &Policy, row: Row) -> anyhow::Result<Policy> {
+//!     let removed = Vec::from_slice(alloc, &[row.priority])?;
+//!     let change = Amendment::new(alloc, removed, Vec::from_slice(alloc, &[row])?)?;
+//!     Ok(apply(alloc, policy, &change)?)       // Absent, where no row has the priority
+//! }
 //! ```
 #![tactic(auto)]
 
+mod amendment;
+mod applying;
+mod file;
 mod laws;
 mod packet;
 mod policy;
@@ -27,8 +38,11 @@ mod rules;
 mod targets;
 mod words;
 
+pub use amendment::{Amendment, Edit, Repeated};
+pub use applying::{ApplyError, Inapplicable, apply};
+pub use file::PolicyFile;
 pub use five_tuple::{Fields, Header, PortRange, Prefix, Proto};
-pub use laws::{policy_laws, row_words_laws, rule_list_laws};
+pub use laws::{amendment_laws, policy_laws, row_words_laws, rule_list_laws};
 pub use packet::{Cause, How, Leaving, Leg};
 pub use policy::{Action, Hit, Policy, Row, SamePriority};
 pub use print::RuleName;

@@ -113,6 +113,15 @@ impl Policy {
         Ok(Policy { rows })
     }
 
+    /// The policy of rows that are known to be one.
+    pub(crate) fn from_sound(rows: Vec<Row>) -> Policy
+        requires { IsPolicy rows.items }
+        ensures rows { result ≡ rows.items }
+        ensures policy { IsPolicy result }
+    {
+        Policy { rows }
+    }
+
     /// The rows as they were given.
     pub fn rows(&self) -> &[Row]
         ensures rows { result.now ≡ self.now }
@@ -185,9 +194,9 @@ fn check_rows(alloc: Global, rows: &[Row]) -> Result<(), Failure<SamePriority>>
     Ok(())
 }
 
-// Each field of a row is as its type has it, which is known where the field is read: here, once for
-// all rows of a policy.
-fn row_is_sound(row: &Row)
+/// Each field of a row is as its type has it, which is known where the field is read: here, once
+/// for all rows of a policy, and once for those that a change adds.
+pub fn row_is_sound(row: &Row)
     ensures { IsSoundRow row.now }
 {
     let _priority = row.priority;

@@ -1,0 +1,40 @@
+use Rattle.std.proofs.Common.{◌≡◌, ◌∙◌, sym, ap, subst, ◌+◌, ◌++◌, ◌∷◌, [], nat_eq, take, All, false, arith}
+use Rattle.std.specs.HashSet.{contains}
+use Rattle.std.proofs.lemmas.Bool.{not-true}
+use Rattle.std.proofs.lemmas.List.{take_all, take_more}
+use Rattle.std.proofs.lemmas.List.Elements.{All-more}
+use Rattle.policy_rules.specs.Edits.{AreDistinctEdits, AreSeen, IsSoundEdit, repeats}
+use Rattle.policy_rules.proofs.Editing.{distinct_edits_push}
+use Rattle.policy_rules.proofs.amendment.check_edits.Goals as goal
+
+pub loop-edit-preserved : goal.loop-edit-preserved
+loop-edit-preserved c =
+    let edits = c.args.edits.now in
+    let i = c.loop-edit.edit-index in
+    let edit = c.edit-item.result in
+    let known = c.loop-edit.invariant in
+    let within = c.loop-edit-test.true in
+    let more : take (i + 1) edits ≡ take i edits ++ edit ∷ [] = take_more edits i edit within
+    ∙ ap (λ next. take i edits ++ next ∷ []) (sym c.edit-item.is) in
+    let new : repeats (take i edits) edit ≡ false =
+    not-true _ (sym (c.in_ok-is_new.ensures.new (take i edits) known.seen)
+    ∙ c.if-not-branch.false) in
+    record {
+      counts = ap (λ n. n + 1) known.counts;
+      seen = subst (AreSeen (contains nat_eq c.is_new.new.removed)
+          (contains nat_eq c.is_new.new.added)) (sym more)
+          (c.in_ok-is_new.ensures.seen (take i edits) known.seen);
+      sound = All-more IsSoundEdit edits i edit within known.sound
+          (subst IsSoundEdit c.edit-item.is c.edit_is_sound.ensures);
+      distinct = subst AreDistinctEdits (sym more)
+          (distinct_edits_push (take i edits) edit known.distinct new);
+    }
+
+pub returns-clause-amendment : goal.returns-clause-amendment
+returns-clause-amendment c =
+    let all = take_all c.loop-edit.edit-index c.args.edits.now (omega arith) in
+    record {
+      sound = subst (All IsSoundEdit) all c.loop-edit.invariant.sound;
+      distinct = subst AreDistinctEdits all c.loop-edit.invariant.distinct;
+      few = c.requires;
+    }

@@ -1,0 +1,20 @@
+-- What a change touches of a policy: the rows that it removes, those that it adds, and their words.
+use Rattle.std.specs.Prelude.{◌==◌, List, ◌++◌, filter_map, find, flat_map}
+use Rattle.ternary.specs.Word.{WordValue}
+use Rattle.policy_rules.specs.Edits.{additions, removals}
+use Rattle.policy_rules.specs.Words.{words_of_row}
+use Rattle.policy_rules.specs.declared.amendment.Edit.{Edit}
+use Rattle.policy_rules.specs.declared.policy.Row.{Row}
+
+-- the rows of the policy that the change removes, in the order in which it does
+abbrev pub removed_rows : List Row → List Edit → List Row
+removed_rows rows change =
+    filter_map (λ priority. find (λ row. row.priority == priority) rows) (removals change)
+
+-- the rows that it removes, and then those that it adds
+abbrev pub touched_rows : List Row → List Edit → List Row
+touched_rows rows change = removed_rows rows change ++ additions change
+
+-- their words, those of each row in the order of the rule list
+abbrev pub touched_words : List Row → List Edit → List WordValue
+touched_words rows change = flat_map words_of_row (touched_rows rows change)

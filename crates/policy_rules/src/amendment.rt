@@ -1,0 +1,218 @@
+ghost use Rattle.std.specs.Prelude.{◌≡◌, ◌+◌, ◌<◌, ◌^◌, ◌++◌, ◌∷◌, [], List, IfOk, IfErr, OnOk, length, vec_len, nat_eq, not};
+ghost use Rattle.std.specs.HashSet.{contains};
+ghost use Rattle.policy_rules.specs.Exports.{AreSeen, IsAmendment, IsSoundEdit, RefusesEdits, addition, additions, edits_of, removal, removals, repeats};
+ghost use Rattle.policy_rules.specs.declared.amendment.Edit.{Edit};
+ghost use Rattle.base.specs.Refusals.{IfRefused};
+
+use crate::policy::{Row, row_is_sound};
+use base::Failure;
+use std::alloc::{AllocError, Global};
+use std::collections::HashSet;
+use std::marker::Model;
+use thiserror::Error;
+
+/// A row of a change: what becomes of the row of one priority.
+#[derive(Clone, Copy, Debug, PartialEq, Eq)]
+pub enum Edit {
+    /// The policy's row of this priority is removed.
+    Remove(u32),
+    /// This row is added.
+    Add(Row),
+}
+
+/// Why edits are no amendment: this one, counted from 1, is the first that repeats an earlier one.
+/// Both remove the row of one priority, or both add a row of it.
+#[derive(Clone, Copy, Debug, PartialEq, Eq, Error)]
+#[error("edit {edit} repeats an earlier one")]
+pub struct Repeated {
+    pub edit: u32,
+}
+
+/// A change of a policy, as an operator gives it: edits of distinct priorities among those that
+/// remove, and among those that add. Contracts see the list of the edits, of which `IsAmendment`
+/// holds.
+///
+/// A priority may be removed and added again, which replaces its row.
+#[derive(Drop)]
+pub struct Amendment {
+    edits: Vec<Edit>,
+    // What the edits remove and add.
+    removed: Vec<u32>,
+    added: Vec<Row>,
+}
+
+impl Model for Amendment {
+    ghost use Rattle.std.specs.Prelude.{List};
+    ghost use Rattle.policy_rules.specs.declared.amendment.Edit.{Edit};
+    ghost use Rattle.policy_rules.specs.Edits.{AreHeld};
+
+    ghost Value = { List Edit };
+
+    ghost view = { λ a. a.edits.items };
+
+    ghost invariant = { λ a. AreHeld a.edits.items a.removed.items a.added.items };
+}
+
+impl Amendment {
+    /// The amendment that removes the rows of these priorities and then adds these rows.
+    ///
+    /// # Errors
+    /// `Repeated` exactly where a priority stands twice in one of the lists. The edits are counted
+    /// over the removed priorities and, behind these, the added rows: a number above that of the
+    /// removed priorities is one of the added rows.
+    pub fn new(
+        alloc: Global,
+        removed: Vec<u32>,
+        added: Vec<Row>,
+    ) -> Result<Amendment, Failure<Repeated>>
+        requires { vec_len removed + vec_len added < 2 ^ 32 }
+        ensures edits { IfOk result (λ change. change ≡ edits_of removed.items added.items) }
+        ensures removed { IfOk result (λ change. removals change ≡ removed.items) }
+        ensures added { IfOk result (λ change. additions change ≡ added.items) }
+        ensures amendment { OnOk result (IsAmendment (edits_of removed.items added.items)) }
+        ensures refused { IfErr result
+            (IfRefused (RefusesEdits (edits_of removed.items added.items))) }
+    {
+        let edits = list_edits(alloc, &removed, &added)?;
+        check_edits(alloc, &edits)?;
+        Ok(Amendment {
+            edits,
+            removed,
+            added,
+        })
+    }
+
+    /// The amendment of these edits.
+    ///
+    /// # Errors
+    /// `Repeated` exactly where an edit repeats an earlier one.
+    pub fn of_edits(alloc: Global, edits: Vec<Edit>) -> Result<Amendment, Failure<Repeated>>
+        requires { vec_len edits < 2 ^ 32 }
+        ensures edits { IfOk result (λ change. change ≡ edits.items) }
+        ensures amendment { OnOk result (IsAmendment edits.items) }
+        ensures refused { IfErr result (IfRefused (RefusesEdits edits.items)) }
+    {
+        check_edits(alloc, &edits)?;
+        let removed = list_removals(alloc, &edits)?;
+        let added = list_additions(alloc, &edits)?;
+        Ok(Amendment {
+            edits,
+            removed,
+            added,
+        })
+    }
+
+    /// The edits, in the order in which they were given.
+    pub fn edits(&self) -> &[Edit]
+        ensures edits { result.now ≡ self.now }
+        ensures amendment { IsAmendment self.now }
+    {
+        &self.edits
+    }
+
+    /// The priorities of the rows that are removed, in the order of the edits.
+    pub fn removed(&self) -> &[u32]
+        ensures { result.now ≡ removals self.now }
+    {
+        &self.removed
+    }
+
+    /// The rows that are added, in the order of the edits.
+    pub fn added(&self) -> &[Row]
+        ensures rows { result.now ≡ additions self.now }
+        ensures amendment { IsAmendment self.now }
+    {
+        &self.added
+    }
+}
+
+// The edits that remove the rows of these priorities and then add these rows.
+fn list_edits(alloc: Global, removed: &[u32], added: &[Row]) -> Result<Vec<Edit>, AllocError>
+    ensures { IfOk result (λ edits. edits.items ≡ edits_of removed.now added.now) }
+{
+    let removals = removed.iter().map(|priority| Edit::Remove(*priority));
+    let additions = added.iter().map(|row| Edit::Add(*row));
+    removals.chain(additions).collect(alloc)
+}
+
+fn removal(edit: &Edit) -> Option<u32>
+    ensures { result ≡ removal edit.now }
+{
+    match edit {
+        Edit::Remove(priority) => Some(*priority),
+        Edit::Add(_) => None,
+    }
+}
+
+fn addition(edit: &Edit) -> Option<Row>
+    ensures { result ≡ addition edit.now }
+{
+    match edit {
+        Edit::Remove(_) => None,
+        Edit::Add(row) => Some(*row),
+    }
+}
+
+fn list_removals(alloc: Global, edits: &[Edit]) -> Result<Vec<u32>, AllocError>
+    ensures { IfOk result (λ removed. removed.items ≡ removals edits.now) }
+{
+    edits.iter().filter_map(removal).collect(alloc)
+}
+
+fn list_additions(alloc: Global, edits: &[Edit]) -> Result<Vec<Row>, AllocError>
+    ensures { IfOk result (λ added. added.items ≡ additions edits.now) }
+{
+    edits.iter().filter_map(addition).collect(alloc)
+}
+
+// Finds the first edit that repeats an earlier one.
+fn check_edits(alloc: Global, edits: &[Edit]) -> Result<(), Failure<Repeated>>
+    requires { length edits.now < 2 ^ 32 }
+    ensures amendment { OnOk result (IsAmendment edits.now) }
+    ensures refused { IfErr result (IfRefused (RefusesEdits edits.now)) }
+{
+    let mut removed: HashSet<u32> = HashSet::new(alloc);
+    let mut added: HashSet<u32> = HashSet::new(alloc);
+    let mut number = 0u32;
+    for edit in edits {
+        number += 1;
+        edit_is_sound(edit);
+        if !is_new(&mut removed, &mut added, edit)? {
+            return Err(Failure::Refused(Repeated { edit: number }));
+        }
+    }
+    Ok(())
+}
+
+// Whether no earlier edit did the same to the row of this one's priority, where the sets have the
+// priorities of the rows that earlier ones removed and added. They then have this one's too.
+fn is_new(
+    removed: &mut HashSet<u32>,
+    added: &mut HashSet<u32>,
+    edit: &Edit,
+) -> Result<bool, AllocError>
+    ensures new { IfOk result (λ new. (earlier : List Edit)
+        → AreSeen (contains nat_eq removed.old) (contains nat_eq added.old) earlier
+        → new ≡ not (repeats earlier edit.now)) }
+    ensures seen { OnOk result ((earlier : List Edit)
+        → AreSeen (contains nat_eq removed.old) (contains nat_eq added.old) earlier
+        → AreSeen (contains nat_eq removed.new) (contains nat_eq added.new)
+        (earlier ++ edit.now ∷ [])) }
+{
+    match edit {
+        Edit::Remove(priority) => Ok(removed.insert(*priority)?),
+        Edit::Add(row) => Ok(added.insert(row.priority)?),
+    }
+}
+
+// Each field of an edit is as its type has it.
+fn edit_is_sound(edit: &Edit)
+    ensures { IsSoundEdit edit.now }
+{
+    match edit {
+        Edit::Remove(priority) => {
+            let _priority = *priority;
+        }
+        Edit::Add(row) => row_is_sound(row),
+    }
+}
