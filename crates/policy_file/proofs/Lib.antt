@@ -1,4 +1,6 @@
 mod Fields
+mod Edits
 mod Rows
 mod Plain
 mod Lines
+mod Adding

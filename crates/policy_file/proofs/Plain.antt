@@ -12,7 +12,10 @@ use Rattle.policy_rules.specs.Read.{HasSmallPort}
 use Rattle.policy_rules.specs.declared.policy.Action.{Action}
 use Rattle.policy_rules.specs.declared.policy.Action.TheVariants.{Drop, Out}
 use Rattle.policy_rules.specs.declared.policy.Row.{Row}
-use Rattle.policy_file.specs.Printing.{row_fields}
+use Rattle.policy_rules.specs.Edits.{AddsOnly, IsSoundEdit}
+use Rattle.policy_rules.specs.declared.amendment.Edit.{Edit}
+use Rattle.policy_rules.specs.declared.amendment.Edit.TheVariants.{Remove, Add}
+use Rattle.policy_file.specs.Printing.{edit_fields, row_fields}
 
 abbrev pub IsPlain : List ℕ → Type 0
 IsPlain text = list_any (needs_byte default_writer) text ≡ false
@@ -20,6 +23,11 @@ IsPlain text = list_any (needs_byte default_writer) text ≡ false
 abbrev pub ArePlain : List (List ℕ) → Type 0
 ArePlain [] = ⊤
 ArePlain (field ∷ fields) = IsPlain field × ArePlain fields
+
+-- fields of which a line is one record: two or more, without quotes
+abbrev pub IsPlainRecord : List (List ℕ) → Type 0
+IsPlainRecord (x ∷ y ∷ fields) = ArePlain (x ∷ y ∷ fields)
+IsPlainRecord _ = ⊥
 
 plain_char : (c : ℕ) → is_plain_char c ≡ true → needs_byte default_writer c ≡ false
 plain_char c plain = grind (arith, nat_tests)
@@ -54,3 +62,9 @@ plain_row laws row sound small = (
     ),
   ),
 )
+
+pub plain_edit : PlainTextLaws → (edit : Edit) → IsSoundEdit edit
+    → AddsOnly (λ row. HasSmallPort row.action) edit → IsPlainRecord (edit_fields edit)
+plain_edit laws (Remove priority) sound small =
+    (refl, (plain_text (decimal priority) (laws.number priority (omega (arith, sound))), tt))
+plain_edit laws (Add row) sound small = (refl, plain_row laws row sound small)

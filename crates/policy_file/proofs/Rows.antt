@@ -1,7 +1,7 @@
 -- What records state, from the rows that were read of the first of them.
-use Rattle.std.proofs.Common.{ℕ, zero, suc, ◌≡◌, ◌∙◌, ◌+◌, ◌<◌, ◌≤◌, inl, inr, Bool, true, false, cond, ◌||◌, eqb, Option, Some, None, option_map, Result, Ok, Err, List, [], ◌∷◌, ◌++◌, length, map, take, drop, get_or, refl, ap, sym, subst, arith}
+use Rattle.std.proofs.Common.{ℕ, zero, suc, ◌≡◌, ◌∙◌, ◌+◌, ◌<◌, ◌≤◌, inl, inr, Bool, true, false, cond, eqb, Option, Some, None, option_map, Result, Ok, Err, List, [], ◌∷◌, ◌++◌, length, map, take, drop, get_or, refl, ap, sym, subst, arith}
 use Rattle.std.specs.Prelude.{filter_map}
-use Rattle.std.specs.List.{cons_option, list_any}
+use Rattle.std.specs.List.{cons_option}
 use Rattle.std.specs.Option.{option_map_or, option_or}
 use Rattle.std.specs.Result.{result_ok}
 use Rattle.std.proofs.lemmas.Bool.{cases_lt, eq-eqb, ne_eqb}
@@ -10,11 +10,14 @@ use Rattle.std.proofs.lemmas.List.Folds.{list_any_none}
 use Rattle.csv_records.specs.Texts.{TakesRecord, is_heading}
 use Rattle.policy_rules.specs.Policy.{HaveDistinctPriorities}
 use Rattle.policy_rules.specs.declared.policy.Row.{Row}
-use Rattle.policy_rules.specs.Repeats.{IsFirstRepeat, has_priority}
+use Rattle.policy_rules.specs.Edits.{AreDistinctEdits}
+use Rattle.policy_rules.specs.declared.amendment.Edit.{Edit}
+use Rattle.policy_rules.proofs.CallerLemmas.{fresh_edits}
 use Rattle.policy_file.specs.declared.error.PolicyRefusal.{PolicyRefusal}
 use Rattle.policy_file.specs.declared.error.PolicyRefusal.TheVariants as why
 use Rattle.base.specs.declared.row.InRow.{InRow}
-use Rattle.policy_file.specs.Reading.{IsReadUpTo, State, first_some, policy_heading, refusal_after, refusal_at, row_read, rows_of, rows_under_heading, states_priority}
+use Rattle.policy_file.specs.Changes.{change_heading, change_rows, has_change_heading}
+use Rattle.policy_file.specs.Reading.{IsReadUpTo, RowFormat, State, first_some, policy_rows, refusal_after, refusal_at, rows_of, rows_stated, rows_under_heading}
 
 -- ---- the first number that has something
 
@@ -38,98 +41,151 @@ first_is at (suc n) p x within is none =
 
 -- ---- rows that records state
 
-abbrev fine : Row → Result Row PolicyRefusal
-fine row = Ok row
-
 abbrev Records : Type 0
 Records = List (List (List ℕ))
 
-pub state_push : (records : Records) (rows : List Row) (fields : List (List ℕ)) (row : Row)
-    → State records rows → row_read fields ≡ Ok row
-    → State (records ++ fields ∷ []) (rows ++ row ∷ [])
-state_push records rows fields row stated is =
-    map-append row_read records (fields ∷ []) ∙ ap (λ xs. xs ++ row_read fields ∷ []) stated
-    ∙ ap (λ r. map fine rows ++ r ∷ []) is ∙ sym (map-append fine rows (row ∷ []))
+module _ {X : Type 0} (format : RowFormat X) where
+  abbrev fine : X → Result X PolicyRefusal
+  fine row = Ok row
 
-state_take : (records : Records) (rows : List Row) (k : ℕ) → State records rows
-    → State (take k records) (take k rows)
-state_take records rows k stated = sym (take-map row_read k records) ∙ ap (take k) stated
-    ∙ take-map fine k rows
+  pub state_push : (records : Records) (rows : List X) (fields : List (List ℕ)) (row : X)
+      → State format records rows → format.read fields ≡ Ok row
+      → State format (records ++ fields ∷ []) (rows ++ row ∷ [])
+  state_push records rows fields row stated is =
+      map-append format.read records (fields ∷ [])
+      ∙ ap (λ xs. xs ++ format.read fields ∷ []) stated
+      ∙ ap (λ r. map fine rows ++ r ∷ []) is ∙ sym (map-append fine rows (row ∷ []))
 
-state_length : (records : Records) (rows : List Row) → State records rows
-    → length records ≡ length rows
-state_length records rows stated = sym (length-map records row_read) ∙ ap length stated
-    ∙ length-map rows fine
+  state_take : (records : Records) (rows : List X) (k : ℕ) → State format records rows
+      → State format (take k records) (take k rows)
+  state_take records rows k stated = sym (take-map format.read k records) ∙ ap (take k) stated
+      ∙ take-map fine k rows
 
-state_at : (records : Records) (rows : List Row) (k : ℕ) (d : Row) → State records rows
-    → k < length rows → row_read (get_or records k []) ≡ Ok (get_or rows k d)
-state_at records rows k d stated within =
-    let inside : k < length records = omega (arith, state_length records rows stated) in
-    sym (get_or-map row_read records k [] (fine d) inside) ∙ ap (λ xs. get_or xs k (fine d)) stated
-    ∙ get_or-map fine rows k d (fine d) within
+  state_length : (records : Records) (rows : List X) → State format records rows
+      → length records ≡ length rows
+  state_length records rows stated = sym (length-map records format.read) ∙ ap length stated
+      ∙ length-map rows fine
 
-stated_rows : (records : Records) (rows : List Row) → State records rows
-    → filter_map (λ fields. result_ok (row_read fields)) records ≡ rows
-stated_rows records rows stated = outcomes records ∙ ap (filter_map result_ok) stated
-    ∙ all_fine rows
-  where
-    outcomes : (records : Records) → filter_map (λ fields. result_ok (row_read fields)) records
-        ≡ filter_map result_ok (map row_read records)
-    outcomes [] = refl
-    outcomes (fields ∷ records) = ap (cons_option (result_ok (row_read fields))) (outcomes records)
+  state_at : (records : Records) (rows : List X) (k : ℕ) (d : X) → State format records rows
+      → k < length rows → format.read (get_or records k []) ≡ Ok (get_or rows k d)
+  state_at records rows k d stated within =
+      let inside : k < length records = omega (arith, state_length records rows stated) in
+      sym (get_or-map format.read records k [] (fine d) inside)
+      ∙ ap (λ xs. get_or xs k (fine d)) stated ∙ get_or-map fine rows k d (fine d) within
 
-    all_fine : (rows : List Row) → filter_map result_ok (map fine rows) ≡ rows
-    all_fine [] = refl
-    all_fine (row ∷ rows) = ap (λ xs. row ∷ xs) (all_fine rows)
+  state_rows : (records : Records) (rows : List X) → State format records rows
+      → rows_stated format records ≡ rows
+  state_rows records rows stated = outcomes records ∙ ap (filter_map result_ok) stated
+      ∙ all_fine rows
+    where
+      outcomes : (records : Records) → rows_stated format records ≡ filter_map result_ok
+          (map format.read records)
+      outcomes [] = refl
+      outcomes (fields ∷ records) = ap (cons_option (result_ok (format.read fields)))
+          (outcomes records)
 
-has_stated : ℕ → Result Row PolicyRefusal → Bool
-has_stated q outcome = option_map_or (λ row. eqb row.priority q) (result_ok outcome) false
+      all_fine : (rows : List X) → filter_map result_ok (map fine rows) ≡ rows
+      all_fine [] = refl
+      all_fine (row ∷ rows) = ap (λ xs. row ∷ xs) (all_fine rows)
 
--- the priorities that the records state are those of the rows
-same_priorities : (q : ℕ) (records : Records) (rows : List Row) → State records rows
-    → list_any (states_priority q) records ≡ has_priority rows q
-unfolding has_stated
-same_priorities q records rows stated = outcomes records ∙ ap (list_any (has_stated q)) stated
-    ∙ all_fine rows
-  where
-    outcomes : (records : Records) → list_any (states_priority q) records ≡ list_any (has_stated q)
-        (map row_read records)
-    outcomes [] = refl
-    outcomes (fields ∷ records) = ap (λ b. has_stated q (row_read fields) || b) (outcomes records)
+  -- ---- why a record is refused
 
-    all_fine : (rows : List Row) → list_any (has_stated q) (map fine rows) ≡ has_priority rows q
-    all_fine [] = refl
-    all_fine (row ∷ rows) = ap (λ b. eqb row.priority q || b) (all_fine rows)
+  abbrev pub Stated : Records → List X → Type 0
+  Stated records rows = State format (take (length rows) records) rows
 
--- ---- why a record is refused
+  -- none of the first p rows repeats an earlier one
+  abbrev pub NoneRepeats : List X → ℕ → Type 0
+  NoneRepeats rows p = (k : ℕ) (d : X) → k < p → k < length rows
+      → format.repeats (take k rows) (get_or rows k d) ≡ false
 
-abbrev pub Stated : Records → List Row → Type 0
-Stated records rows = State (take (length rows) records) rows
+  -- after rows that the first records state: only what an earlier row has
+  refused_in : (records : Records) (rows : List X) (k : ℕ) (d : X) → Stated records rows
+      → k < length rows → length rows ≤ 2000
+      → refusal_at format records k ≡ cond (format.repeats (take k rows) (get_or rows k d))
+      (Some why.SamePriority) None
+  refused_in records rows k d stated within few =
+      let n = length rows in
+      let first : get_or records k [] ≡ get_or (take n records) k [] =
+      sym (get_or-take n records k [] within) in
+      let row = get_or rows k d in
+      let earlier : State format (take k records) (take k rows) =
+      subst (λ xs. State format xs (take k rows)) (take-take k n records (omega arith))
+      (state_take (take n records) rows k stated) in
+      ap (λ b. cond b (Some why.TooManyRows) (refusal_after format
+      (rows_stated format (take k records)) (format.read (get_or records k []))))
+      (ne_eqb k 2000 (λ full. absurd (omega arith)))
+      ∙ ap (λ fields. refusal_after format (rows_stated format (take k records))
+      (format.read fields)) first
+      ∙ ap (refusal_after format (rows_stated format (take k records)))
+      (state_at (take n records) rows k d stated within)
+      ∙ ap (λ earlier. cond (format.repeats earlier row) (Some why.SamePriority) None)
+      (state_rows (take k records) (take k rows) earlier)
 
--- after rows that the first records state: only an earlier row's priority
-refused_in : (records : Records) (rows : List Row) (k : ℕ) (d : Row) → Stated records rows
-    → k < length rows → length rows ≤ 2000
-    → refusal_at records k ≡ cond (has_priority (take k rows) (get_or rows k d).priority)
-    (Some why.SamePriority) None
-refused_in records rows k d stated within few =
-    let n = length rows in
-    let first : get_or records k [] ≡ get_or (take n records) k [] =
-    sym (get_or-take n records k [] within) in
-    let row = get_or rows k d in
-    let earlier : State (take k records) (take k rows) = subst (λ xs. State xs (take k rows))
-    (take-take k n records (omega arith)) (state_take (take n records) rows k stated) in
-    ap (λ b. cond b (Some why.TooManyRows)
-    (refusal_after (take k records) (row_read (get_or records k []))))
-    (ne_eqb k 2000 (λ full. absurd (omega arith)))
-    ∙ ap (λ fields. refusal_after (take k records) (row_read fields)) first
-    ∙ ap (refusal_after (take k records)) (state_at (take n records) rows k d stated within)
-    ∙ ap (λ b. cond b (Some why.SamePriority) None)
-    (same_priorities row.priority (take k records) (take k rows) earlier)
+  clean : (records : Records) (rows : List X) (p : ℕ) → Stated records rows
+      → length rows ≤ 2000 → p ≤ length rows → NoneRepeats rows p → (k : ℕ) → k < p
+      → refusal_at format records k ≡ None
+  clean records [] p stated few most none k less = absurd (omega arith)
+  clean records (row ∷ rows) p stated few most none k less =
+      refused_in records (row ∷ rows) k row stated (omega arith) few
+      ∙ ap (λ b. cond b (Some why.SamePriority) None) (none k row less (omega arith))
 
--- rows of distinct priorities repeat none
-fresh : (rows : List Row) (p k : ℕ) (d : Row) → HaveDistinctPriorities (take p rows) → k < p
-    → k < length rows → has_priority (take k rows) (get_or rows k d).priority ≡ false
-fresh rows p k d distinct less within =
+  abbrev at_row : ℕ → PolicyRefusal → InRow PolicyRefusal
+  at_row place refusal = record { refusal = refusal; row = place + 1 }
+
+  -- the first refused record decides
+  refused_first : (records : Records) (p : ℕ) (refusal : PolicyRefusal) → p < length records
+      → refusal_at format records p ≡ Some refusal
+      → ((k : ℕ) → k < p → refusal_at format records k ≡ None)
+      → rows_of format records ≡ Err (at_row p refusal)
+  refused_first records p refusal within is none =
+      ap (λ first. option_map_or Err first (Ok (rows_stated format records)))
+      (first_is (λ place. option_map (at_row place) (refusal_at format records place))
+      (length records) p (at_row p refusal) within (ap (option_map (at_row p)) is)
+      (λ k h. ap (option_map (at_row k)) (none k h)))
+
+  -- ---- what was read
+
+  -- a row repeats an earlier one
+  pub repeated : (records : Records) (rows : List X) (refusal : Option PolicyRefusal)
+      (place : ℕ) → IsReadUpTo format records rows refusal → place < length rows
+      → ((d : X) → format.repeats (take place rows) (get_or rows place d) ≡ true)
+      → NoneRepeats rows place
+      → rows_of format records ≡ Err (record { refusal = why.SamePriority; row = place + 1 })
+  repeated records [] refusal place read there repeats none = absurd (omega arith)
+  repeated records (row ∷ rows) refusal place read there repeats none =
+      refused_first records place why.SamePriority (omega (arith, read.within))
+      (refused_in records (row ∷ rows) place row read.stated there read.few
+      ∙ ap (λ b. cond b (Some why.SamePriority) None) (repeats row))
+      (clean records (row ∷ rows) place read.stated read.few (omega arith) none)
+
+  -- the record after the rows is refused
+  pub refused_next : (records : Records) (rows : List X) (refusal : PolicyRefusal)
+      → IsReadUpTo format records rows (Some refusal) → NoneRepeats rows (length rows)
+      → rows_of format records ≡ Err (record { refusal = refusal; row = length rows + 1 })
+  refused_next records rows refusal read none =
+      refused_first records (length rows) refusal read.ends.0 read.ends.1
+      (clean records rows (length rows) read.stated read.few (omega arith) none)
+
+  -- the records end with the rows
+  pub all_read : (records : Records) (rows : List X) → IsReadUpTo format records rows None
+      → NoneRepeats rows (length rows) → rows_of format records ≡ Ok rows
+  all_read records rows read none =
+      let end : length records ≡ length rows = read.ends in
+      let stated : State format records rows = subst (λ xs. State format xs rows)
+      (take_all (length rows) records (omega arith)) read.stated in
+      ap (λ first. option_map_or Err first (Ok (rows_stated format records)))
+      (none_below (λ place. option_map (at_row place) (refusal_at format records place))
+      (length records)
+      (λ k h. ap (option_map (at_row k))
+      (clean records rows (length rows) read.stated read.few (omega arith) none k
+      (omega arith))))
+      ∙ ap Ok (state_rows records rows stated)
+
+-- ---- rows of distinct priorities, and distinct edits
+
+pub fresh_rows : (rows : List Row) (p : ℕ) → HaveDistinctPriorities (take p rows)
+    → NoneRepeats policy_rows rows p
+fresh_rows rows p distinct k d less within =
     list_any_none (λ (x : Row). eqb x.priority (get_or rows k d).priority) (take k rows)
     (λ j e inside.
     let before : j < k = omega (arith, length-take k rows) in
@@ -141,70 +197,15 @@ fresh rows p k d distinct less within =
     ne_eqb _ _ (λ same. distinct j k e before room
     (sym (ap (λ (x : Row). x.priority) one) ∙ same ∙ ap (λ (x : Row). x.priority) other)))
 
-clean : (records : Records) (rows : List Row) (p : ℕ) → Stated records rows → length rows ≤ 2000
-    → p ≤ length rows → HaveDistinctPriorities (take p rows) → (k : ℕ) → k < p
-    → refusal_at records k ≡ None
-clean records [] p stated few most distinct k less = absurd (omega arith)
-clean records (row ∷ rows) p stated few most distinct k less =
-    refused_in records (row ∷ rows) k row stated (omega arith) few
-    ∙ ap (λ b. cond b (Some why.SamePriority) None)
-    (fresh (row ∷ rows) p k row distinct less (omega arith))
+pub all_fresh_rows : (rows : List Row) → HaveDistinctPriorities rows
+    → NoneRepeats policy_rows rows (length rows)
+all_fresh_rows rows distinct = fresh_rows rows (length rows)
+    (subst HaveDistinctPriorities (sym (take_all (length rows) rows (omega arith))) distinct)
 
-abbrev at_row : ℕ → PolicyRefusal → InRow PolicyRefusal
-at_row place refusal = record { refusal = refusal; row = place + 1 }
-
--- the first refused record decides
-refused_first : (records : Records) (p : ℕ) (refusal : PolicyRefusal) → p < length records
-    → refusal_at records p ≡ Some refusal → ((k : ℕ) → k < p → refusal_at records k ≡ None)
-    → rows_of records ≡ Err (at_row p refusal)
-refused_first records p refusal within is none =
-    ap (λ first. option_map_or Err first
-    (Ok (filter_map (λ fields. result_ok (row_read fields)) records)))
-    (first_is (λ place. option_map (at_row place) (refusal_at records place)) (length records) p
-    (at_row p refusal) within (ap (option_map (at_row p)) is)
-    (λ k h. ap (option_map (at_row k)) (none k h)))
-
--- ---- what was read
-
--- a row repeats a priority
-pub repeated : (records : Records) (rows : List Row) (refusal : Option PolicyRefusal) (place : ℕ)
-    → IsReadUpTo records rows refusal → IsFirstRepeat rows place
-    → rows_of records ≡ Err (record { refusal = why.SamePriority; row = place + 1 })
-repeated records [] refusal place read repeat = absurd (omega (arith, repeat.there))
-repeated records (row ∷ rows) refusal place read repeat =
-    refused_first records place why.SamePriority (omega (arith, repeat.there, read.within))
-    (refused_in records (row ∷ rows) place row read.stated repeat.there read.few
-    ∙ ap (λ b. cond b (Some why.SamePriority) None) (repeat.repeats row))
-    (clean records (row ∷ rows) place read.stated read.few (omega (arith, repeat.there))
-    repeat.first)
-
-whole : (rows : List Row) → HaveDistinctPriorities rows
-    → HaveDistinctPriorities (take (length rows) rows)
-whole rows distinct = subst HaveDistinctPriorities (sym (take_all (length rows) rows (omega arith)))
-    distinct
-
--- the record after the rows is refused
-pub refused_next : (records : Records) (rows : List Row) (refusal : PolicyRefusal)
-    → IsReadUpTo records rows (Some refusal) → HaveDistinctPriorities rows
-    → rows_of records ≡ Err (record { refusal = refusal; row = length rows + 1 })
-refused_next records rows refusal read distinct =
-    refused_first records (length rows) refusal read.ends.0 read.ends.1
-    (clean records rows (length rows) read.stated read.few (omega arith) (whole rows distinct))
-
--- the records end with the rows
-pub all_read : (records : Records) (rows : List Row) → IsReadUpTo records rows None
-    → HaveDistinctPriorities rows → rows_of records ≡ Ok rows
-all_read records rows read distinct =
-    let end : length records ≡ length rows = read.ends in
-    let stated : State records rows = subst (λ xs. State xs rows)
-    (take_all (length rows) records (omega arith)) read.stated in
-    ap (λ first. option_map_or Err first
-    (Ok (filter_map (λ fields. result_ok (row_read fields)) records)))
-    (none_below (λ place. option_map (at_row place) (refusal_at records place)) (length records)
-    (λ k h. ap (option_map (at_row k))
-    (clean records rows (length rows) read.stated read.few (omega arith) (whole rows distinct) k
-    (omega arith))))
-    ∙ ap Ok (stated_rows records rows stated)
+pub all_fresh_edits : (edits : List Edit) → AreDistinctEdits edits
+    → NoneRepeats change_rows edits (length edits)
+all_fresh_edits edits distinct k d = fresh_edits edits (length edits) k d
+    (subst AreDistinctEdits (sym (take_all (length edits) edits (omega arith))) distinct)
 
 -- ---- one record more
 
@@ -251,39 +252,56 @@ ends_at records n fields after left false is at takes most =
       | inr past ↦ omega arith
     ]
 
--- no record is left behind those that state these rows
-pub ended : (records : Records) (rows : List Row) (fields : List (List ℕ)) (after left : Records)
-    (found : Bool) → State (take (length rows) records) rows → length rows ≤ 2000
-    → length rows ≤ length records → found ≡ false → left ≡ drop (length rows) records
-    → TakesRecord left found fields after → IsReadUpTo records rows None
-ended records rows fields after left found stated few within none at takes = record {
-  stated = stated;
-  few = few;
-  within = within;
-  ends = ends_at records (length rows) fields after left found none at takes within;
-}
+module _ {X : Type 0} (format : RowFormat X) where
+  -- no record is left behind those that state these rows
+  pub ended : (records : Records) (rows : List X) (fields : List (List ℕ)) (after left : Records)
+      (found : Bool) → State format (take (length rows) records) rows → length rows ≤ 2000
+      → length rows ≤ length records → found ≡ false → left ≡ drop (length rows) records
+      → TakesRecord left found fields after → IsReadUpTo format records rows None
+  ended records rows fields after left found stated few within none at takes = record {
+    stated = stated;
+    few = few;
+    within = within;
+    ends = ends_at records (length rows) fields after left found none at takes within;
+  }
 
--- the next record states no row
-pub refused_row : (records : Records) (n : ℕ) (fields : List (List ℕ)) (after : Records)
-    (refusal : PolicyRefusal) → IsNext records n fields after → n < 2000
-    → row_read fields ≡ Err refusal → refusal_at records n ≡ Some refusal
-refused_row records n fields after refusal next room is =
-    ap (λ b. cond b (Some why.TooManyRows)
-    (refusal_after (take n records) (row_read (get_or records n []))))
-    (ne_eqb n 2000 (λ full. absurd (omega arith)))
-    ∙ ap (λ fields. refusal_after (take n records) (row_read fields)) next.here
-    ∙ ap (refusal_after (take n records)) is
+  -- the next record states no row
+  pub refused_row : (records : Records) (n : ℕ) (fields : List (List ℕ)) (after : Records)
+      (refusal : PolicyRefusal) → IsNext records n fields after → n < 2000
+      → format.read fields ≡ Err refusal → refusal_at format records n ≡ Some refusal
+  refused_row records n fields after refusal next room is =
+      ap (λ b. cond b (Some why.TooManyRows) (refusal_after format
+      (rows_stated format (take n records)) (format.read (get_or records n []))))
+      (ne_eqb n 2000 (λ full. absurd (omega arith)))
+      ∙ ap (λ fields. refusal_after format (rows_stated format (take n records))
+      (format.read fields)) next.here
+      ∙ ap (refusal_after format (rows_stated format (take n records))) is
 
--- there are too many
-pub too_many : (records : Records) (n : ℕ) → n ≡ 2000 → refusal_at records n ≡ Some why.TooManyRows
-too_many records n full =
-    ap (λ b. cond b (Some why.TooManyRows)
-    (refusal_after (take n records) (row_read (get_or records n [])))) (eq-eqb n 2000 full)
+  -- there are too many
+  pub too_many : (records : Records) (n : ℕ) → n ≡ 2000
+      → refusal_at format records n ≡ Some why.TooManyRows
+  too_many records n full =
+      ap (λ b. cond b (Some why.TooManyRows) (refusal_after format
+      (rows_stated format (take n records)) (format.read (get_or records n []))))
+      (eq-eqb n 2000 full)
 
--- ---- the heading
+  -- ---- the heading
 
-pub under_heading : (before after : Records) (fields : List (List ℕ)) (found : Bool) → found ≡ true
-    → TakesRecord before found fields after → is_heading policy_heading fields ≡ true
-    → rows_under_heading before ≡ rows_of after
-under_heading before after fields false is takes heading = cc is
-under_heading before after fields true is takes heading = rw (takes, heading) refl
+  pub under_heading : (before after : Records) (fields : List (List ℕ)) (found : Bool)
+      → found ≡ true → TakesRecord before found fields after
+      → is_heading format.heading fields ≡ true
+      → rows_under_heading format before ≡ rows_of format after
+  under_heading before after fields false is takes heading = cc is
+  under_heading before after fields true is takes heading = rw (takes, heading) refl
+
+-- what the first record says of a change's heading
+pub none_heads : (before after : Records) (fields : List (List ℕ)) (found : Bool) → found ≡ false
+    → TakesRecord before found fields after → has_change_heading before ≡ false
+none_heads before after fields true none takes = cc none
+none_heads before after fields false none takes = ap has_change_heading takes.0
+
+pub first_heads : (before after : Records) (fields : List (List ℕ)) (found : Bool) → found ≡ true
+    → TakesRecord before found fields after
+    → has_change_heading before ≡ is_heading change_heading fields
+first_heads before after fields false is takes = cc is
+first_heads before after fields true is takes = ap has_change_heading takes

@@ -3,6 +3,10 @@ use Rattle.std.specs.Prelude.{ℕ, ◌+◌, ◌==◌, Bool, true, not, Option, o
 use Rattle.std.specs.Int.{bit_at}
 use Rattle.policy_rules.specs.declared.policy.Action.{Action}
 use Rattle.policy_rules.specs.declared.policy.Action.TheVariants.{Drop, Out}
+use Rattle.policy_rules.specs.declared.amendment.Edit.{Edit}
+use Rattle.policy_rules.specs.declared.amendment.Edit.TheVariants.{Remove, Add}
+use Rattle.policy_rules.specs.declared.file.PolicyFile.{PolicyFile}
+use Rattle.policy_rules.specs.declared.file.PolicyFile.TheVariants.{Whole, Change}
 use Rattle.policy_rules.specs.declared.policy.Row.{Row}
 use Rattle.policy_file.specs.declared.ports.NoPort.{NoPort}
 
@@ -16,3 +20,19 @@ abbrev pub first_without_port : ℕ → List Row → Option NoPort
 first_without_port ports rows =
     option_map (λ place. record { row = place + 1 })
     (position (λ row. not (names_port_of ports row.action)) rows)
+
+-- the edit adds no row, or one whose action names no port or one of the mask
+abbrev pub adds_port_of : ℕ → Edit → Bool
+adds_port_of ports (Remove priority) = true
+adds_port_of ports (Add row) = names_port_of ports row.action
+
+-- the first edit, counted from 1, that adds a row whose action names a port outside the mask
+abbrev pub first_in_change : ℕ → List Edit → Option NoPort
+first_in_change ports edits =
+    option_map (λ place. record { row = place + 1 })
+    (position (λ edit. not (adds_port_of ports edit)) edits)
+
+-- the first row of the file of which this is so
+abbrev pub first_in_file : ℕ → PolicyFile → Option NoPort
+first_in_file ports (Whole rows) = first_without_port ports rows
+first_in_file ports (Change edits) = first_in_change ports edits

@@ -1,9 +1,12 @@
--- The text of a policy, as it is printed.
-use Rattle.std.specs.Prelude.{ℕ, List, [], ◌∷◌, ◌++◌, decimal, flat_map}
+-- The text of a policy, and of a change, as it is printed.
+use Rattle.std.specs.Prelude.{ℕ, List, [], ◌∷◌, ◌++◌, codes, decimal, flat_map}
 use Rattle.std.specs.List.{join_with_byte}
 use Rattle.five_tuple.specs.RowPrinting.{prefix_text, range_text, proto_text}
 use Rattle.policy_rules.specs.Policy.{action_text}
+use Rattle.policy_rules.specs.declared.amendment.Edit.{Edit}
+use Rattle.policy_rules.specs.declared.amendment.Edit.TheVariants.{Remove, Add}
 use Rattle.policy_rules.specs.declared.policy.Row.{Row}
+use Rattle.policy_file.specs.Changes.{change_heading}
 use Rattle.policy_file.specs.Reading.{policy_heading}
 
 -- a record's line: its fields joined by commas, and a line feed
@@ -16,10 +19,19 @@ row_fields row =
     decimal row.priority ∷ prefix_text row.src ∷ prefix_text row.dst ∷ range_text row.sport
     ∷ range_text row.dport ∷ proto_text row.proto ∷ action_text row.action ∷ []
 
--- the lines of the rows
-abbrev pub rows_text : List Row → List ℕ
-rows_text rows = flat_map (λ row. fields_line (row_fields row)) rows
+-- the printed forms of an edit's fields
+abbrev pub edit_fields : Edit → List (List ℕ)
+edit_fields (Remove priority) = codes "remove" ∷ decimal priority ∷ []
+edit_fields (Add row) = codes "add" ∷ row_fields row
+
+-- the lines of rows, of any kind, by the printed forms of their fields
+abbrev pub rows_text : {X : Type 0} → (X → List (List ℕ)) → List X → List ℕ
+rows_text fields rows = flat_map (λ row. fields_line (fields row)) rows
 
 -- the heading's line, and then the rows'
 abbrev pub policy_text : List Row → List ℕ
-policy_text rows = fields_line policy_heading ++ rows_text rows
+policy_text rows = fields_line policy_heading ++ rows_text row_fields rows
+
+-- the heading's line, and then the edits'
+abbrev pub change_text : List Edit → List ℕ
+change_text edits = fields_line change_heading ++ rows_text edit_fields edits

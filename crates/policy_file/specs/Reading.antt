@@ -1,11 +1,11 @@
 -- The policy that a text states, as CSV records: a heading, and a record for each row.
-use Rattle.std.specs.Prelude.{ℕ, zero, suc, ◌≡◌, ◌+◌, ◌<◌, ◌≤◌, ◌==◌, Bool, false, if◌then◌else◌, MatchOption, Option, Some, None, option_map, Result, Ok, Err, List, [], ◌∷◌, length, map, take, filter_map, slice_index_or, codes}
-use Rattle.std.specs.List.{list_any}
+use Rattle.std.specs.Prelude.{ℕ, zero, suc, ◌≡◌, ◌+◌, ◌<◌, ◌≤◌, ◌==◌, Bool, if◌then◌else◌, MatchOption, Option, Some, None, option_map, Result, Ok, Err, List, [], ◌∷◌, length, map, take, filter_map, slice_index_or, codes}
 use Rattle.std.specs.Option.{option_map_or, option_or}
 use Rattle.std.specs.Result.{result_ok}
 use Rattle.csv_records.specs.Texts.{is_heading, records_of}
 use Rattle.five_tuple.specs.Texts.{number_up_to, prefix_of, range_of, proto_of}
 use Rattle.policy_rules.specs.Read.{action_of}
+use Rattle.policy_rules.specs.Repeats.{has_priority}
 use Rattle.policy_rules.specs.declared.policy.Row.{Row}
 use Rattle.base.specs.declared.row.InRow.{InRow}
 use Rattle.policy_file.specs.declared.error.PolicyRefusal.{PolicyRefusal}
@@ -24,6 +24,7 @@ policy_code why.Proto = 8
 policy_code why.Action = 9
 policy_code why.SamePriority = 10
 policy_code why.TooManyRows = 11
+policy_code why.Op = 22
 
 abbrev pub policy_heading : List (List ℕ)
 policy_heading =
@@ -31,8 +32,8 @@ policy_heading =
     ∷ codes "action" ∷ []
 
 -- what follows from a field's value; or why there is none, where the text has none
-abbrev pub with_field : {X : Type 0} → Option X → PolicyRefusal → (X → Result Row PolicyRefusal)
-    → Result Row PolicyRefusal
+abbrev pub with_field : {X Y : Type 0} → Option X → PolicyRefusal → (X → Result Y PolicyRefusal)
+    → Result Y PolicyRefusal
 with_field (Some value) refusal next = next value
 with_field None refusal next = Err refusal
 
@@ -57,23 +58,33 @@ row_read (priority ∷ src ∷ dst ∷ sport ∷ dport ∷ proto ∷ action ∷ 
     }))))))))
 row_read _ = Err why.Width
 
--- the record states a row of this priority
-abbrev pub states_priority : ℕ → List (List ℕ) → Bool
-states_priority priority fields =
-    option_map_or (λ row. row.priority == priority) (result_ok (row_read fields)) false
+-- ---- the rows of a file, of any kind
 
--- why a record is refused after the earlier ones: it states no row, or one of an earlier row's
--- priority
-abbrev pub refusal_after : List (List (List ℕ)) → Result Row PolicyRefusal → Option PolicyRefusal
-refusal_after earlier (Err refusal) = Some refusal
-refusal_after earlier (Ok row) =
-    if list_any (states_priority row.priority) earlier then Some why.SamePriority else None
+-- how a file states its rows: its heading, what a record states, and which row repeats an earlier
+-- one
+pub record RowFormat (X : Type 0) : Type 0 where
+  pub heading : List (List ℕ)
+  pub read : List (List ℕ) → Result X PolicyRefusal
+  pub repeats : List X → X → Bool
 
--- why the record at this place is refused, if it is: a policy has at most 2,000 rows
-abbrev pub refusal_at : List (List (List ℕ)) → ℕ → Option PolicyRefusal
-refusal_at records place =
+-- the rows that records state
+abbrev pub rows_stated : {X : Type 0} → RowFormat X → List (List (List ℕ)) → List X
+rows_stated format records = filter_map (λ fields. result_ok (format.read fields)) records
+
+-- why a record is refused after earlier rows: it states no row, or one that repeats an earlier one
+abbrev pub refusal_after : {X : Type 0} → RowFormat X → List X → Result X PolicyRefusal
+    → Option PolicyRefusal
+refusal_after format earlier (Err refusal) = Some refusal
+refusal_after format earlier (Ok row) =
+    if format.repeats earlier row then Some why.SamePriority else None
+
+-- why the record at this place is refused, if it is: a file has at most 2,000 rows
+abbrev pub refusal_at : {X : Type 0} → RowFormat X → List (List (List ℕ)) → ℕ
+    → Option PolicyRefusal
+refusal_at format records place =
     if place == 2000 then Some why.TooManyRows
-    else refusal_after (take place records) (row_read (slice_index_or records place []))
+    else refusal_after format (rows_stated format (take place records))
+    (format.read (slice_index_or records place []))
 
 -- what the least of the numbers below n has that has something
 abbrev pub first_some : {X : Type 0} → (ℕ → Option X) → ℕ → Option X
@@ -81,45 +92,71 @@ first_some at zero = None
 first_some at (suc n) = option_or (first_some at n) (at n)
 
 -- the same, with the row, counted from 1
-abbrev pub refused_at : List (List (List ℕ)) → ℕ → Option (InRow PolicyRefusal)
-refused_at records place =
-    option_map (λ refusal. record { refusal = refusal; row = place + 1 }) (refusal_at records place)
+abbrev pub refused_at : {X : Type 0} → RowFormat X → List (List (List ℕ)) → ℕ
+    → Option (InRow PolicyRefusal)
+refused_at format records place =
+    option_map (λ refusal. record { refusal = refusal; row = place + 1 })
+    (refusal_at format records place)
 
 -- the first refusal among the records
-abbrev pub first_refusal : List (List (List ℕ)) → Option (InRow PolicyRefusal)
-first_refusal records = first_some (refused_at records) (length records)
+abbrev pub first_refusal : {X : Type 0} → RowFormat X → List (List (List ℕ))
+    → Option (InRow PolicyRefusal)
+first_refusal format records = first_some (refused_at format records) (length records)
 
 -- the rows that the records state, one each, or the first refusal among them
-abbrev pub rows_of : List (List (List ℕ)) → Result (List Row) (InRow PolicyRefusal)
-rows_of records =
-    option_map_or Err (first_refusal records)
-    (Ok (filter_map (λ fields. result_ok (row_read fields)) records))
+abbrev pub rows_of : {X : Type 0} → RowFormat X → List (List (List ℕ))
+    → Result (List X) (InRow PolicyRefusal)
+rows_of format records =
+    option_map_or Err (first_refusal format records) (Ok (rows_stated format records))
 
-abbrev pub no_policy_heading : Result (List Row) (InRow PolicyRefusal)
-no_policy_heading = Err (record { refusal = why.Heading; row = 0 })
+abbrev pub no_heading : {X : Type 0} → Result (List X) (InRow PolicyRefusal)
+no_heading = Err (record { refusal = why.Heading; row = 0 })
 
 -- the rows under the heading
-abbrev pub rows_under_heading : List (List (List ℕ)) → Result (List Row) (InRow PolicyRefusal)
-rows_under_heading [] = no_policy_heading
-rows_under_heading (first ∷ records) =
-    if is_heading policy_heading first then rows_of records else no_policy_heading
+abbrev pub rows_under_heading : {X : Type 0} → RowFormat X → List (List (List ℕ))
+    → Result (List X) (InRow PolicyRefusal)
+rows_under_heading format [] = no_heading
+rows_under_heading format (first ∷ records) =
+    if is_heading format.heading first then rows_of format records else no_heading
+
+-- the rows that a text states
+abbrev pub rows_in : {X : Type 0} → RowFormat X → List ℕ
+    → Result (List X) (InRow PolicyRefusal)
+rows_in format bytes = rows_under_heading format (records_of bytes)
+
+-- ---- policies
+
+-- no two rows of a policy have one priority
+abbrev pub policy_rows : RowFormat Row
+policy_rows = record {
+  heading = policy_heading;
+  read = row_read;
+  repeats = λ earlier row. has_priority earlier row.priority;
+}
 
 -- the policy that a text states
 unfoldable pub policy_of : List ℕ → Result (List Row) (InRow PolicyRefusal)
-policy_of bytes = rows_under_heading (records_of bytes)
+policy_of bytes = rows_in policy_rows bytes
 
 -- ---- rows that were read of records
 
 -- the records state these rows, one each
-abbrev pub State : List (List (List ℕ)) → List Row → Type 0
-State records rows = map row_read records ≡ map (λ row. Ok row) rows
+abbrev pub State : {X : Type 0} → RowFormat X → List (List (List ℕ)) → List X → Type 0
+State format records rows = map format.read records ≡ map (λ row. Ok row) rows
 
 -- the first records state these rows; then the records end, or the next is refused for this
-pub record IsReadUpTo (records : List (List (List ℕ))) (rows : List Row)
-    (end : Option PolicyRefusal) : Type 0 where
-  pub stated : State (take (length rows) records) rows
+pub record IsReadUpTo {X : Type 0} (format : RowFormat X) (records : List (List (List ℕ)))
+    (rows : List X) (end : Option PolicyRefusal) : Type 0 where
+  pub stated : State format (take (length rows) records) rows
   pub few : length rows ≤ 2000
   pub within : length rows ≤ length records
   pub ends : MatchOption end (length records ≡ length rows)
       (λ refusal. (length rows < length records)
-      × (refusal_at records (length rows) ≡ Some refusal))
+      × (refusal_at format records (length rows) ≡ Some refusal))
+
+-- under the text's heading stand records that state these rows and end so
+pub record IsReadFrom {X : Type 0} (format : RowFormat X) (bytes : List ℕ) (rows : List X)
+    (end : Option PolicyRefusal) : Type 0 where
+  pub records : List (List (List ℕ))
+  pub under : rows_in format bytes ≡ rows_of format records
+  pub read : IsReadUpTo format records rows end

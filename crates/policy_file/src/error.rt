@@ -4,14 +4,15 @@ ghost use Rattle.policy_file.specs.Reading.{policy_code};
 use base::{Failure, InRow};
 use thiserror::Error;
 
-/// Why a policy's text is refused.
+/// Why the text of a policy, or of a change, is refused.
 #[derive(Clone, Copy, Debug, PartialEq, Eq, Error)]
 pub enum PolicyRefusal {
     /// There is no first record, or it is not the heading.
     #[error("the heading is missing or another one")]
     Heading = 1,
-    /// The row has other than seven fields.
-    #[error("the row has not seven fields")]
+    /// The row of a policy has other than seven fields. That of a change has as many behind `add`,
+    /// and one behind `remove`.
+    #[error("the row has another number of fields")]
     Width = 2,
     /// The priority is no number from 0 to 4294967295.
     #[error("the priority is no number")]
@@ -34,16 +35,19 @@ pub enum PolicyRefusal {
     /// The action is neither `drop` nor `out:` and a port from 0 to 63.
     #[error("there is no such action")]
     Action = 9,
-    /// An earlier row has the priority.
+    /// An earlier row has the priority; in a change, an earlier one that does the same.
     #[error("an earlier row has the priority")]
     SamePriority = 10,
     /// There is a row 2,001.
     #[error("there are too many rows")]
     TooManyRows = 11,
+    /// The first field of the row of a change is neither `remove` nor `add`.
+    #[error("the first field is neither remove nor add")]
+    Op = 22,
 }
 
 impl PolicyRefusal {
-    /// The refusal's number, from 1 to 11 in the order of the variants.
+    /// The refusal's number.
     pub fn code(self) -> u32
         ensures { result ≡ policy_code self }
     {
@@ -51,5 +55,6 @@ impl PolicyRefusal {
     }
 }
 
-/// Why a text is read as no policy. Rows are counted from 1; the row of the heading is 0.
+/// Why a text is read as no policy, or no change. Rows are counted from 1; the row of the heading
+/// is 0.
 pub type PolicyError = Failure<InRow<PolicyRefusal>>;

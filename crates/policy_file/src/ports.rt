@@ -1,9 +1,10 @@
 ghost use Rattle.std.specs.Prelude.{◌≡◌, ◌<◌, All, IfNone, IfSome, IsTrue, OnOk, length, not, position};
 ghost use Rattle.std.specs.Result.{result_err};
-ghost use Rattle.policy_file.specs.Ports.{first_without_port, names_port_of};
+ghost use Rattle.policy_rules.specs.Exports.{AddsOnly, GivesOnly};
+ghost use Rattle.policy_file.specs.Ports.{adds_port_of, first_in_change, first_in_file, first_without_port, names_port_of};
 
 use base::has;
-use policy_rules::{Action, Policy, Row};
+use policy_rules::{Action, Amendment, Edit, Policy, PolicyFile, Row};
 use thiserror::Error;
 
 /// A row, counted from 1, whose action names a port that is not there.
@@ -41,6 +42,54 @@ pub fn check_ports(policy: &Policy, ports: u64) -> Result<(), NoPort>
     ensures all { OnOk result (All (λ row. IsTrue (names_port_of ports row.action)) policy.now) }
 {
     match place_without_port(ports, policy.rows()) {
+        None => Ok(()),
+        Some(place) => Err(NoPort {
+            row: place as u32 + 1,
+        }),
+    }
+}
+
+// Whether the edit adds no row, or one whose action names no port or one of the mask.
+fn adds_port(ports: u64, edit: &Edit) -> bool
+    ensures { result ≡ adds_port_of ports edit.now }
+{
+    match edit {
+        Edit::Remove(_) => true,
+        Edit::Add(row) => has_port(ports, row.action),
+    }
+}
+
+// The place of the first edit that adds a row whose action names a port outside the mask.
+fn place_of_edit(ports: u64, edits: &[Edit]) -> Option<usize>
+    ensures place { result ≡ position (λ edit. not (adds_port_of ports edit)) edits.now }
+    ensures there { IfSome result (λ place. place < length edits.now) }
+    ensures all { IfNone result (All (λ edit. IsTrue (adds_port_of ports edit)) edits.now) }
+{
+    edits.iter().position(|edit| !adds_port(ports, edit))
+}
+
+/// Checks of each row that the file gives that its action names a port of the mask, or none: the
+/// rows of a policy, or those that a change adds.
+///
+/// # Errors
+/// The first row of the file whose action names another port.
+pub fn check_file_ports(file: &PolicyFile, ports: u64) -> Result<(), NoPort>
+    ensures first { result_err result ≡ first_in_file ports file.now }
+    ensures all { OnOk result
+        (GivesOnly (λ row. IsTrue (names_port_of ports row.action)) file.now) }
+{
+    match file {
+        PolicyFile::Whole(policy) => check_ports(policy, ports),
+        PolicyFile::Change(change) => check_change_ports(change, ports),
+    }
+}
+
+fn check_change_ports(change: &Amendment, ports: u64) -> Result<(), NoPort>
+    ensures first { result_err result ≡ first_in_change ports change.now }
+    ensures all { OnOk result
+        (All (AddsOnly (λ row. IsTrue (names_port_of ports row.action))) change.now) }
+{
+    match place_of_edit(ports, change.edits()) {
         None => Ok(()),
         Some(place) => Err(NoPort {
             row: place as u32 + 1,

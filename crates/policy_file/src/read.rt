@@ -1,17 +1,13 @@
 ghost use Rattle.std.specs.Prelude.{◌≡◌, ◌≤◌, Ok, IfOk, IfErr, All, length};
 ghost use Rattle.policy_rules.specs.Exports.{HasSmallPort, IsPolicy};
-ghost use Rattle.policy_file.specs.Reading.{IsReadUpTo, policy_of};
+ghost use Rattle.policy_file.specs.Reading.{policy_of};
 ghost use Rattle.base.specs.Refusals.{IsRefusal};
 
 use crate::error::{PolicyError, PolicyRefusal};
-use crate::row::{is_heading, read_row};
+use crate::file_rows::{Reading, read_rows};
 use base::{Failure, InRow};
-use csv_records::{ByteRecord, Records};
-use policy_rules::{Policy, Row};
-use std::alloc::{AllocError, Global};
-
-/// The most rows of a policy's text.
-const MAX_ROWS: usize = 2000;
+use policy_rules::Policy;
+use std::alloc::Global;
 
 /// The policy that the text states.
 ///
@@ -30,15 +26,7 @@ pub fn read_policy(alloc: Global, bytes: &[u8]) -> Result<Policy, PolicyError>
     ensures small_ports { IfOk result (All (λ row. HasSmallPort row.action)) }
     ensures refused { IfErr result (IsRefusal (policy_of bytes.now)) }
 {
-    let mut records = Records::new(alloc, bytes);
-    let mut fields = ByteRecord::new(alloc);
-    if !records.read_next(&mut fields)? || !is_heading(&fields) {
-        return Err(PolicyError::Refused(InRow {
-            refusal: PolicyRefusal::Heading,
-            row: 0,
-        }));
-    }
-    let Reading { rows, refusal } = read_rows(alloc, &mut records, &mut fields)?;
+    let Reading { rows, refusal } = read_rows(alloc, bytes)?;
     let number = rows.len() as u32;
     let policy = match Policy::new(alloc, rows) {
         Ok(policy) => policy,
@@ -57,53 +45,4 @@ pub fn read_policy(alloc: Global, bytes: &[u8]) -> Result<Policy, PolicyError>
             row: number + 1,
         })),
     }
-}
-
-// The rows that records state, up to their end or to the first that states none, and why it does
-// not.
-#[derive(Drop)]
-struct Reading {
-    rows: Vec<Row>,
-    refusal: Option<PolicyRefusal>,
-}
-
-// Reads rows until the records end, one states no row, or there are too many.
-fn read_rows(
-    alloc: Global,
-    records: &mut Records<'_>,
-    fields: &mut ByteRecord,
-) -> Result<Reading, AllocError>
-    ensures read { IfOk result (λ reading.
-        IsReadUpTo records.old reading.rows.items reading.refusal) }
-    ensures small_ports { IfOk result (λ reading.
-        All (λ row. HasSmallPort row.action) reading.rows.items) }
-{
-    let mut rows = Vec::new(alloc);
-    while rows.len() < MAX_ROWS {
-        if !records.read_next(fields)? {
-            return Ok(Reading {
-                rows,
-                refusal: None,
-            });
-        }
-        match read_row(fields, 0) {
-            Ok(row) => rows.push(row)?,
-            Err(refusal) => {
-                return Ok(Reading {
-                    rows,
-                    refusal: Some(refusal),
-                });
-            }
-        }
-    }
-    if !records.read_next(fields)? {
-        return Ok(Reading {
-            rows,
-            refusal: None,
-        });
-    }
-    Ok(Reading {
-        rows,
-        refusal: Some(PolicyRefusal::TooManyRows),
-    })
 }

@@ -1,4 +1,4 @@
-ghost use Rattle.std.specs.Prelude.{◌≡◌, ◌<◌, ◌+◌, ◌&&◌, drop, IfOk, bytes_eq};
+ghost use Rattle.std.specs.Prelude.{◌≡◌, ◌<◌, ◌+◌, ◌^◌, ◌&&◌, drop, IfOk, bytes_eq};
 ghost use Rattle.csv.specs.Records.{fields_of};
 ghost use Rattle.csv_records.specs.Texts.{field_or_empty, is_heading};
 ghost use Rattle.five_tuple.specs.Texts.{number_up_to};
@@ -30,28 +30,30 @@ pub const ACTION: &str = "action";
 
 // Whether the fields at this place and the next are these texts.
 fn has_texts(fields: &ByteRecord, place: usize, one: &str, next: &str) -> bool
-    requires { place < WIDTH }
+    requires { place + 1 < 2 ^ 64 }
     ensures { result ≡ (bytes_eq (field_or_empty (fields_of fields.now) place) one.now
         && bytes_eq (field_or_empty (fields_of fields.now) (place + 1)) next.now) }
 {
     has_text(fields, place, one) && has_text(fields, place + 1, next)
 }
 
-/// Whether the record is the heading.
+/// Whether the record's fields from this place on are the names of a row's fields: from the first
+/// one on, whether it is the heading of a policy.
 #[tactic(auto, using(crate::proofs::Fields::sevens))]
-pub fn is_heading(fields: &ByteRecord) -> bool
-    ensures { result ≡ is_heading policy_heading (fields_of fields.now) }
+pub fn is_heading(fields: &ByteRecord, from: usize) -> bool
+    ensures { result ≡ is_heading policy_heading (drop from (fields_of fields.now)) }
 {
-    if fields.len() != WIDTH {
+    if fields.len() < from || fields.len() - from != WIDTH {
         return false;
     }
-    has_text(fields, 0, PRIORITY)
-        && has_texts(fields, 1, SRC, DST)
-        && has_texts(fields, 3, SPORT, DPORT)
-        && has_texts(fields, 5, PROTO, ACTION)
+    has_text(fields, from, PRIORITY)
+        && has_texts(fields, from + 1, SRC, DST)
+        && has_texts(fields, from + 3, SPORT, DPORT)
+        && has_texts(fields, from + 5, PROTO, ACTION)
 }
 
-fn read_priority(text: &[u8]) -> Option<u32>
+/// The priority that the field has.
+pub fn read_priority(text: &[u8]) -> Option<u32>
     ensures { result ≡ number_up_to 4294967295 text.now }
 {
     let priority = read_number(text, 4294967295)?;

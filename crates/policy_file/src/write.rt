@@ -1,13 +1,19 @@
-ghost use Rattle.std.specs.Prelude.{◌≡◌, ◌≤◌, Ok, Some, All, IfOk, List, length};
+ghost use Rattle.std.specs.Prelude.{ℕ, ◌≡◌, ◌<◌, ◌≤◌, ◌^◌, ◌++◌, Ok, Some, All, IfOk, List, OnOk, decimal, length};
 ghost use Rattle.std.specs.List.{join_with_byte};
-ghost use Rattle.policy_rules.specs.Exports.{HasSmallPort, IsPolicy};
+ghost use Rattle.std.specs.String.{string_bytes};
+ghost use Rattle.five_tuple.specs.Texts.{number_up_to};
+ghost use Rattle.policy_rules.specs.Exports.{AddsOnly, HasSmallPort, IsAmendment, IsPolicy, IsSoundRow};
+ghost use Rattle.policy_rules.specs.declared.amendment.Edit.{Edit};
+ghost use Rattle.policy_rules.specs.declared.file.PolicyFile.TheVariants.{Whole, Change};
 ghost use Rattle.policy_rules.specs.declared.policy.Row.{Row};
-ghost use Rattle.policy_file.specs.Printing.{policy_text, row_fields};
-ghost use Rattle.policy_file.specs.Reading.{policy_of};
+ghost use Rattle.policy_file.specs.Changes.{change_heading, change_of, policy_file_of};
+ghost use Rattle.policy_file.specs.Printing.{change_text, edit_fields, fields_line, policy_text, row_fields, rows_text};
+ghost use Rattle.policy_file.specs.Reading.{policy_heading, policy_of, row_read};
 
+use crate::edit::{ADD, OP, REMOVE};
 use crate::row::{ACTION, DPORT, DST, PRIORITY, PROTO, SPORT, SRC};
 use five_tuple::{printed_forms_are_plain, printed_forms_are_read_back};
-use policy_rules::{Policy, Row, printed_actions_are_read_back};
+use policy_rules::{Amendment, Edit, Policy, Row, printed_actions_are_read_back};
 use std::alloc::{AllocError, Global};
 use std::fmt;
 use std::fmt::Write;
@@ -23,27 +29,154 @@ pub fn write_policy(alloc: Global, policy: &Policy) -> Result<Vec<u8>, AllocErro
         → All (λ row. HasSmallPort row.action) policy.now → policy_of bytes.items ≡ Ok policy.now) }
 {
     policy_texts_are_read_back();
-    let mut text = String::new(alloc);
-    writeln!(
-        text,
-        "{PRIORITY},{SRC},{DST},{SPORT},{DPORT},{PROTO},{ACTION}"
-    )?;
-    for row in policy.rows() {
-        let record = RowRecord(*row);
-        writeln!(text, "{record}")?;
-    }
-    Ok(text.into_bytes())
+    Ok(text_of(alloc, policy.rows())?)
+}
+
+/// The change's text: the heading, and then a record for each edit, each of them ended by a line
+/// feed.
+///
+/// # Errors
+/// Want of memory alone.
+pub fn write_change(alloc: Global, change: &Amendment) -> Result<Vec<u8>, AllocError>
+    ensures text { IfOk result (λ bytes. bytes.items ≡ change_text change.now) }
+    ensures read_back { IfOk result (λ bytes. length change.now ≤ 2000
+        → All (AddsOnly (λ row. HasSmallPort row.action)) change.now
+        → policy_file_of bytes.items ≡ Ok (Change change.now)) }
+{
+    change_texts_are_read_back();
+    Ok(text_of(alloc, change.edits())?)
 }
 
 /// The text of a policy is read back to the policy, for at most 2,000 rows with ports below 64: a
 /// law on the texts alone.
 pub fn policy_texts_are_read_back()
-    ensures { (rows : List Row) → IsPolicy rows → length rows ≤ 2000
+    ensures policy { (rows : List Row) → IsPolicy rows → length rows ≤ 2000
         → All (λ row. HasSmallPort row.action) rows → policy_of (policy_text rows) ≡ Ok rows }
+    ensures file { (rows : List Row) → IsPolicy rows → length rows ≤ 2000
+        → All (λ row. HasSmallPort row.action) rows
+        → policy_file_of (policy_text rows) ≡ Ok (Whole rows) }
+{
+    row_fields_state_the_row();
+    printed_forms_are_plain();
+}
+
+/// The text of a change is read back to the change, for at most 2,000 edits that add rows with
+/// ports below 64: a law on the texts alone.
+pub fn change_texts_are_read_back()
+    ensures change { (edits : List Edit) → IsAmendment edits → length edits ≤ 2000
+        → All (AddsOnly (λ row. HasSmallPort row.action)) edits
+        → change_of (change_text edits) ≡ Ok edits }
+    ensures file { (edits : List Edit) → IsAmendment edits → length edits ≤ 2000
+        → All (AddsOnly (λ row. HasSmallPort row.action)) edits
+        → policy_file_of (change_text edits) ≡ Ok (Change edits) }
+{
+    row_fields_state_the_row();
+    priorities_are_read_back();
+    printed_forms_are_plain();
+}
+
+// The printed fields of a row whose port is below 64 state the row: a law on the texts alone.
+fn row_fields_state_the_row()
+    ensures { (row : Row) → IsSoundRow row → HasSmallPort row.action
+        → row_read (row_fields row) ≡ Ok row }
+{
+    priorities_are_read_back();
+    printed_forms_are_read_back();
+    printed_actions_are_read_back();
+}
+
+// A priority is read back from its digits: a law on the texts alone.
+fn priorities_are_read_back()
+    ensures { (priority : ℕ) → priority < 2 ^ 32
+        → number_up_to 4294967295 (decimal priority) ≡ Some priority }
 {
     printed_forms_are_read_back();
-    printed_forms_are_plain();
-    printed_actions_are_read_back();
+}
+
+// What is written as a record.
+trait Line {
+    /// The heading of such records.
+    ghost heading: { List (List ℕ) };
+
+    /// The printed forms of the record's fields.
+    ghost fields: { Self → List (List ℕ) };
+
+    /// Appends the heading's line.
+    fn write_heading(text: &mut String) -> Result<(), AllocError>
+        ensures { OnOk result
+            (string_bytes text.new ≡ string_bytes text.old ++ fields_line heading) };
+
+    /// Appends the record's line.
+    fn write(&self, text: &mut String) -> Result<(), AllocError>
+        ensures { OnOk result
+            (string_bytes text.new ≡ string_bytes text.old ++ fields_line (fields self.now)) };
+}
+
+impl Line for Row {
+    ghost heading = { policy_heading };
+
+    ghost fields = { row_fields };
+
+    fn write_heading(text: &mut String) -> Result<(), AllocError> {
+        writeln!(
+            text,
+            "{PRIORITY},{SRC},{DST},{SPORT},{DPORT},{PROTO},{ACTION}"
+        )?;
+        Ok(())
+    }
+
+    fn write(&self, text: &mut String) -> Result<(), AllocError> {
+        let record = RowRecord(*self);
+        writeln!(text, "{record}")?;
+        Ok(())
+    }
+}
+
+impl Line for Edit {
+    ghost heading = { change_heading };
+
+    ghost fields = { edit_fields };
+
+    fn write_heading(text: &mut String) -> Result<(), AllocError> {
+        writeln!(
+            text,
+            "{OP},{PRIORITY},{SRC},{DST},{SPORT},{DPORT},{PROTO},{ACTION}"
+        )?;
+        Ok(())
+    }
+
+    fn write(&self, text: &mut String) -> Result<(), AllocError> {
+        match self {
+            Edit::Remove(priority) => writeln!(text, "{REMOVE},{priority}")?,
+            Edit::Add(row) => {
+                let record = RowRecord(*row);
+                writeln!(text, "{ADD},{record}")?
+            }
+        }
+        Ok(())
+    }
+}
+
+// The heading's line, and then a line for each row.
+fn text_of<R: Line>(alloc: Global, rows: &[R]) -> Result<Vec<u8>, AllocError>
+    ensures { IfOk result (λ bytes.
+        bytes.items ≡ fields_line R.heading ++ rows_text R.fields rows.now) }
+{
+    let mut text = String::new(alloc);
+    R::write_heading(&mut text)?;
+    write_rows(&mut text, rows)?;
+    Ok(text.into_bytes())
+}
+
+// Appends a line for each row.
+fn write_rows<R: Line>(text: &mut String, rows: &[R]) -> Result<(), AllocError>
+    ensures { OnOk result
+        (string_bytes text.new ≡ string_bytes text.old ++ rows_text R.fields rows.now) }
+{
+    for row in rows {
+        row.write(text)?;
+    }
+    Ok(())
 }
 
 // A row, printed as the fields of its record, joined by commas.

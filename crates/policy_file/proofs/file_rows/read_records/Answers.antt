@@ -2,21 +2,19 @@ use Rattle.std.proofs.Common.{◌≡◌, ◌∙◌, ap, sym, subst, ◌+◌, ◌
 use Rattle.std.specs.List.{All}
 use Rattle.std.proofs.lemmas.List.Elements.{All-push}
 use Rattle.csv.specs.Records.{fields_of}
-use Rattle.policy_rules.specs.Read.{HasSmallPort}
-use Rattle.policy_rules.specs.declared.policy.Row.{Row}
-use Rattle.policy_file.specs.Reading.{State, row_read}
+use Rattle.policy_file.specs.Reading.{State}
 use Rattle.policy_file.proofs.Rows.{ended, next_of, refused_row, state_push, too_many}
-use Rattle.policy_file.proofs.read.read_rows.Goals as goal
+use Rattle.policy_file.proofs.file_rows.read_records.Goals as goal
 
 pub returns-then-not-branch-clause-read : goal.returns-then-not-branch-clause-read
-returns-then-not-branch-clause-read c =
+returns-then-not-branch-clause-read g c =
     let known = c.loop-records.invariant in
-    ended c.args.records.now c.loop-records.rows.items (fields_of c.read_next.new.fields)
+    ended g.R.FileRow.format c.args.records.now c.loop-records.rows.items (fields_of c.read_next.new.fields)
     c.read_next.new.self c.loop-records.records c.in_ok-read_next.field-0 known.stated known.few
     known.within c.if-not-branch.true known.left c.in_ok-read_next.ensures.takes
 
 pub returns-in-Err-clause-read : goal.returns-in-Err-clause-read
-returns-in-Err-clause-read c =
+returns-in-Err-clause-read g c =
     let known = c.loop-records.invariant in
     let n = length c.loop-records.rows.items in
     let fields = fields_of c.read_next.new.fields in
@@ -30,14 +28,15 @@ returns-in-Err-clause-read c =
       within = known.within;
       ends = (
         next.within,
-        refused_row c.args.records.now n fields c.read_next.new.self
+        refused_row g.R.FileRow.format c.args.records.now n fields c.read_next.new.self
             c.in-Err.refusal next room (sym c.in-Err.ensures.row),
       );
     }
 
 pub loop-records-preserved : goal.loop-records-preserved
-loop-records-preserved c =
+loop-records-preserved g c =
     let known = c.loop-records.invariant in
+    let format = g.R.FileRow.format in
     let records = c.args.records.now in
     let rows = c.loop-records.rows.items in
     let row = c.in-Ok.row in
@@ -49,31 +48,31 @@ loop-records-preserved c =
     let items : c.push.new.self.items ≡ rows ++ row ∷ [] = c.in_ok-push-in-Ok.ensures.items in
     let len : length c.push.new.self.items ≡ length rows + 1 =
     omega (arith, ap length items, length-append rows (row ∷ [])) in
-    let is : row_read fields ≡ Ok row = sym c.in-Ok.ensures.row in
-    let pushed : State (take (length rows + 1) records) (rows ++ row ∷ []) =
-    subst (λ xs. State xs (rows ++ row ∷ [])) (sym next.more)
-    (state_push (take (length rows) records) rows fields row known.stated is) in
-    let stated : State (take (length rows + 1) records) c.push.new.self.items =
-    subst (State (take (length rows + 1) records)) (sym items) pushed in
+    let is : g.R.FileRow.format.read fields ≡ Ok row = sym c.in-Ok.ensures.row in
+    let pushed : State format (take (length rows + 1) records) (rows ++ row ∷ []) =
+    subst (λ xs. State format xs (rows ++ row ∷ [])) (sym next.more)
+    (state_push format (take (length rows) records) rows fields row known.stated is) in
+    let stated : State format (take (length rows + 1) records) c.push.new.self.items =
+    subst (State format (take (length rows + 1) records)) (sym items) pushed in
     record {
-      stated = subst (λ k. State (take k records) c.push.new.self.items) (sym len) stated;
+      stated = subst (λ k. State format (take k records) c.push.new.self.items) (sym len) stated;
       left = sym next.rest ∙ ap (λ k. drop k records) (sym len);
       within = omega (arith, len, next.within);
       few = omega (arith, len, room);
-      small_ports = subst (All (λ (row : Row). HasSmallPort row.action)) (sym items)
-          (All-push (λ (row : Row). HasSmallPort row.action) rows row known.small_ports
+      small_ports = subst (All g.R.FileRow.has_small_port) (sym items)
+          (All-push g.R.FileRow.has_small_port rows row known.small_ports
           c.in-Ok.ensures.small_port);
     }
 
 pub returns-then-not-branch-2-clause-read : goal.returns-then-not-branch-2-clause-read
-returns-then-not-branch-2-clause-read c =
+returns-then-not-branch-2-clause-read g c =
     let known = c.loop-records.invariant in
-    ended c.args.records.now c.loop-records.rows.items (fields_of c.read_next-2.new.fields)
+    ended g.R.FileRow.format c.args.records.now c.loop-records.rows.items (fields_of c.read_next-2.new.fields)
     c.read_next-2.new.self c.loop-records.records c.in_ok-read_next-2.field-0 known.stated
     known.few known.within c.if-not-branch-2.true known.left c.in_ok-read_next-2.ensures.takes
 
 pub returns-clause-read : goal.returns-clause-read
-returns-clause-read c =
+returns-clause-read g c =
     let known = c.loop-records.invariant in
     let n = length c.loop-records.rows.items in
     let full : n ≡ 2000 = omega arith in
@@ -84,5 +83,5 @@ returns-clause-read c =
       stated = known.stated;
       few = known.few;
       within = known.within;
-      ends = (next.within, too_many c.args.records.now n full);
+      ends = (next.within, too_many g.R.FileRow.format c.args.records.now n full);
     }

@@ -1,0 +1,39 @@
+-- The fields of an edit, one by one.
+use Rattle.std.proofs.Common.{ℕ, ◌≡◌, ◌≢◌, ◌&&◌, cond, bytes_eq, codes, Ok, Err, List, [], ◌∷◌, length, drop, refl, arith}
+use Rattle.csv.specs.Records.{field_at}
+use Rattle.csv_records.specs.Texts.{field_or_empty, is_heading}
+use Rattle.five_tuple.specs.Texts.{number_up_to}
+use Rattle.policy_rules.specs.declared.amendment.Edit.TheVariants.{Remove, Add}
+use Rattle.policy_file.specs.Changes.{change_heading, edit_read, on_ok, removal_read}
+use Rattle.policy_file.specs.Reading.{policy_heading, row_read, with_field}
+use Rattle.policy_file.specs.declared.error.PolicyRefusal.TheVariants as why
+
+pub is_heading-change : (fields : List (List ℕ)) → is_heading change_heading fields
+    ≡ (bytes_eq (field_or_empty fields 0) (codes "op") && is_heading policy_heading (drop 1 fields))
+unfolding field_at
+is_heading-change [] = refl
+is_heading-change (op ∷ fields) = refl
+
+pub edit_read-by : (fields : List (List ℕ)) → edit_read fields
+    ≡ cond (bytes_eq (field_or_empty fields 0) (codes "remove")) (removal_read (drop 1 fields))
+    (cond (bytes_eq (field_or_empty fields 0) (codes "add")) (on_ok Add (row_read (drop 1 fields)))
+    (Err why.Op))
+unfolding field_at
+edit_read-by [] = refl
+edit_read-by (op ∷ fields) = refl
+
+pub removal_read-two : (fields : List (List ℕ)) → length fields ≡ 2
+    → removal_read (drop 1 fields) ≡ with_field (number_up_to 4294967295 (field_or_empty fields 1))
+    why.Priority (λ priority. Ok (Remove priority))
+unfolding field_at
+removal_read-two (op ∷ priority ∷ []) two = refl
+removal_read-two _ two = absurd (omega arith)
+
+pub removal_read-other : (fields : List (List ℕ)) → length fields ≢ 2
+    → removal_read (drop 1 fields) ≡ Err why.Width
+removal_read-other [] other = refl
+removal_read-other (op ∷ []) other = refl
+removal_read-other (op ∷ priority ∷ []) other = absurd (other refl)
+removal_read-other (op ∷ priority ∷ next ∷ fields) other = refl
+
+pub ruleset edits = (is_heading-change, edit_read-by, removal_read-two, removal_read-other)

@@ -1,0 +1,8 @@
+use Rattle.std.proofs.Common.{◌≡◌, ◌++◌, take}
+use Rattle.std.specs.String.{string_bytes}
+use Rattle.policy_file.specs.Printing.{rows_text}
+use Rattle.policy_file.proofs.write.write_rows.Given as goal
+
+abbrev pub invariant-loop-row : goal.invariant-loop-row
+invariant-loop-row g l = string_bytes l.text
+    ≡ string_bytes l.fn.text ++ rows_text g.R.Line.fields (take l.row-index l.rows)

@@ -1,0 +1,58 @@
+-- The change of a policy that a text states, as CSV records, and what a policy file states: a policy
+-- or a change of one.
+use Rattle.std.specs.Prelude.{ℕ, Bool, false, if◌then◌else◌, Result, Ok, Err, List, [], ◌∷◌, codes, bytes_eq}
+use Rattle.std.specs.Result.{result_map_both}
+use Rattle.csv_records.specs.Texts.{is_heading, records_of}
+use Rattle.five_tuple.specs.Texts.{number_up_to}
+use Rattle.policy_rules.specs.Edits.{repeats}
+use Rattle.policy_rules.specs.declared.amendment.Edit.{Edit}
+use Rattle.policy_rules.specs.declared.amendment.Edit.TheVariants.{Remove, Add}
+use Rattle.policy_rules.specs.declared.file.PolicyFile.{PolicyFile}
+use Rattle.policy_rules.specs.declared.file.PolicyFile.TheVariants.{Whole, Change}
+use Rattle.base.specs.declared.row.InRow.{InRow}
+use Rattle.policy_file.specs.Reading.{RowFormat, policy_heading, policy_of, row_read, rows_in, with_field}
+use Rattle.policy_file.specs.declared.error.PolicyRefusal.{PolicyRefusal}
+use Rattle.policy_file.specs.declared.error.PolicyRefusal.TheVariants as why
+
+-- what is made of a value, or the same refusal
+abbrev pub on_ok : {X Y R : Type 0} → (X → Y) → Result X R → Result Y R
+on_ok make read = result_map_both make (λ refusal. refusal) read
+
+abbrev pub change_heading : List (List ℕ)
+change_heading = codes "op" ∷ policy_heading
+
+-- the edit that removes the row of the one priority that the fields have
+abbrev pub removal_read : List (List ℕ) → Result Edit PolicyRefusal
+removal_read (priority ∷ []) =
+    with_field (number_up_to 4294967295 priority) why.Priority (λ priority. Ok (Remove priority))
+removal_read _ = Err why.Width
+
+-- the edit that the fields state, or the first refusal among them
+abbrev pub edit_read : List (List ℕ) → Result Edit PolicyRefusal
+edit_read [] = Err why.Op
+edit_read (op ∷ fields) =
+    if bytes_eq op (codes "remove") then removal_read fields
+    else if bytes_eq op (codes "add") then on_ok Add (row_read fields)
+    else Err why.Op
+
+-- no two edits of a change do the same to the row of one priority
+abbrev pub change_rows : RowFormat Edit
+change_rows = record { heading = change_heading; read = edit_read; repeats = repeats }
+
+-- the change that a text states
+unfoldable pub change_of : List ℕ → Result (List Edit) (InRow PolicyRefusal)
+change_of bytes = rows_in change_rows bytes
+
+-- the first record is a change's heading
+abbrev pub has_change_heading : List (List (List ℕ)) → Bool
+has_change_heading [] = false
+has_change_heading (first ∷ records) = is_heading change_heading first
+
+-- the text is that of a change, by its heading
+unfoldable pub is_change_text : List ℕ → Bool
+is_change_text bytes = has_change_heading (records_of bytes)
+
+-- what a text states: a change, by its heading, or else a policy
+unfoldable pub policy_file_of : List ℕ → Result PolicyFile (InRow PolicyRefusal)
+policy_file_of bytes =
+    if is_change_text bytes then on_ok Change (change_of bytes) else on_ok Whole (policy_of bytes)

@@ -1,0 +1,58 @@
+ghost use Rattle.std.specs.Prelude.{◌≡◌, drop, IfOk};
+ghost use Rattle.csv.specs.Records.{fields_of};
+ghost use Rattle.csv_records.specs.Texts.{is_heading};
+ghost use Rattle.policy_rules.specs.Exports.{AddsOnly, HasSmallPort};
+ghost use Rattle.policy_file.specs.Changes.{change_heading, edit_read, removal_read};
+
+use crate::error::PolicyRefusal;
+use crate::row::{is_heading, read_priority, read_row};
+use csv_records::{ByteRecord, field, has_text};
+use policy_rules::Edit;
+
+// The name of the first field of an edit, and its keywords.
+pub const OP: &str = "op";
+
+pub const REMOVE: &str = "remove";
+
+pub const ADD: &str = "add";
+
+/// Whether the record is the heading of a change.
+#[tactic(auto, using(crate::proofs::Edits::edits))]
+pub fn is_change_heading(fields: &ByteRecord) -> bool
+    ensures { result ≡ is_heading change_heading (fields_of fields.now) }
+{
+    has_text(fields, 0, OP) && is_heading(fields, 1)
+}
+
+/// The edit that the record states: behind `remove` the priority of a row, and behind `add` the
+/// fields of one.
+///
+/// # Errors
+/// `Op` where the first field is another one, `Width` where another number of fields stands behind
+/// it; else the first field that is none of its kind.
+#[tactic(auto, using(crate::proofs::Edits::edits))]
+pub fn read_edit(fields: &ByteRecord) -> Result<Edit, PolicyRefusal>
+    ensures edit { result ≡ edit_read (fields_of fields.now) }
+    ensures small_port { IfOk result (AddsOnly (λ row. HasSmallPort row.action)) }
+{
+    if has_text(fields, 0, REMOVE) {
+        return read_removal(fields);
+    }
+    if has_text(fields, 0, ADD) {
+        return Ok(Edit::Add(read_row(fields, 1)?));
+    }
+    Err(PolicyRefusal::Op)
+}
+
+// The edit that removes the row of the priority that the second field, the last one, has.
+#[tactic(auto, using(crate::proofs::Edits::edits))]
+fn read_removal(fields: &ByteRecord) -> Result<Edit, PolicyRefusal>
+    ensures edit { result ≡ removal_read (drop 1 (fields_of fields.now)) }
+    ensures small_port { IfOk result (AddsOnly (λ row. HasSmallPort row.action)) }
+{
+    if fields.len() != 2 {
+        return Err(PolicyRefusal::Width);
+    }
+    let priority = read_priority(field(fields, 1)).ok_or(PolicyRefusal::Priority)?;
+    Ok(Edit::Remove(priority))
+}

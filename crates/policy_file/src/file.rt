@@ -1,0 +1,88 @@
+ghost use Rattle.std.specs.Prelude.{◌≡◌, ◌≤◌, Ok, IfOk, IfErr, All, length};
+ghost use Rattle.policy_rules.specs.Exports.{AddsOnly, GivesOnly, HasSmallPort, IsAmendment, IsPolicyFile, file_length};
+ghost use Rattle.policy_file.specs.Changes.{change_of, is_change_text, policy_file_of};
+ghost use Rattle.base.specs.Refusals.{IsRefusal};
+
+use crate::edit::is_change_heading;
+use crate::error::{PolicyError, PolicyRefusal};
+use crate::file_rows::{Reading, read_rows};
+use crate::read::read_policy;
+use base::{Failure, InRow};
+use csv_records::{ByteRecord, Records};
+use policy_rules::{Amendment, PolicyFile};
+use std::alloc::{AllocError, Global};
+
+/// Whether the text is that of a change, by its heading.
+///
+/// # Errors
+/// Want of memory alone.
+#[tactic(auto, unfolding(crate::specs::Changes::is_change_text))]
+pub fn is_change(alloc: Global, bytes: &[u8]) -> Result<bool, AllocError>
+    ensures { IfOk result (λ is. is ≡ is_change_text bytes.now) }
+{
+    let mut records = Records::new(alloc, bytes);
+    let mut fields = ByteRecord::new(alloc);
+    if !records.read_next(&mut fields)? {
+        return Ok(false);
+    }
+    Ok(is_change_heading(&fields))
+}
+
+/// The change that the text states.
+///
+/// The text's records are read as those of a policy are: the heading
+/// `op,priority,src,dst,sport,dport,proto,action`, and then one for each of at most 2,000 edits,
+/// `remove` with the priority of a row, or `add` with the seven fields of one.
+///
+/// # Errors
+/// The first refusal in the text, or want of memory. The rows are checked in order: first what a
+/// row does, then its width, then its fields from left to right, and last whether an earlier row
+/// does the same to its priority.
+#[tactic(auto, unfolding(crate::specs::Changes::change_of))]
+pub fn read_change(alloc: Global, bytes: &[u8]) -> Result<Amendment, PolicyError>
+    ensures change { IfOk result (λ change. change_of bytes.now ≡ Ok change) }
+    ensures sound { IfOk result IsAmendment }
+    ensures few { IfOk result (λ change. length change ≤ 2000) }
+    ensures small_ports { IfOk result (All (AddsOnly (λ row. HasSmallPort row.action))) }
+    ensures refused { IfErr result (IsRefusal (change_of bytes.now)) }
+{
+    let Reading { rows, refusal } = read_rows(alloc, bytes)?;
+    let number = rows.len() as u32;
+    let change = match Amendment::of_edits(alloc, rows) {
+        Ok(change) => change,
+        Err(Failure::Refused(repeated)) => {
+            return Err(PolicyError::Refused(InRow {
+                refusal: PolicyRefusal::SamePriority,
+                row: repeated.edit,
+            }));
+        }
+        Err(Failure::NoMemory) => return Err(Failure::NoMemory),
+    };
+    match refusal {
+        None => Ok(change),
+        Some(refusal) => Err(PolicyError::Refused(InRow {
+            refusal,
+            row: number + 1,
+        })),
+    }
+}
+
+/// What the text states: a change, where its first record is the heading of one, or else a policy.
+///
+/// # Errors
+/// Those of `read_change` or of `read_policy`: `Heading` exactly where the first record is absent
+/// or neither of the two headings.
+#[tactic(auto, unfolding(crate::specs::Changes::policy_file_of))]
+pub fn read_file(alloc: Global, bytes: &[u8]) -> Result<PolicyFile, PolicyError>
+    ensures file { IfOk result (λ file. policy_file_of bytes.now ≡ Ok file) }
+    ensures sound { IfOk result IsPolicyFile }
+    ensures few { IfOk result (λ file. file_length file ≤ 2000) }
+    ensures small_ports { IfOk result (GivesOnly (λ row. HasSmallPort row.action)) }
+    ensures refused { IfErr result (IsRefusal (policy_file_of bytes.now)) }
+{
+    let is_change = is_change(alloc, bytes)?;
+    if is_change {
+        return Ok(PolicyFile::Change(read_change(alloc, bytes)?));
+    }
+    Ok(PolicyFile::Whole(read_policy(alloc, bytes)?))
+}
