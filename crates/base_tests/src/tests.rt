@@ -1,4 +1,6 @@
+mod amendments;
 mod boards;
+mod changes;
 mod differing_words;
 mod finders;
 mod headers;
