@@ -1,6 +1,6 @@
 -- Policies that are read one after another.
 use Rattle.std.specs.Borrow.{Bor}
-use Rattle.std.specs.Prelude.{IfErr, IsErrAnd}
+use Rattle.std.specs.Prelude.{IsErrAnd}
 use Rattle.std.proofs.lemmas.List.{get_or-map, length-map}
 use Rattle.std.proofs.Common.{ℕ, ◌≡◌, ◌+◌, ◌<◌, ◌≤◌, Bool, true, false, Option, Some, None, Result, Ok, Err, List, [], ◌∷◌, ◌++◌, length, drop, get_or, drop-cons, add-one, refl, ap, sym, subst, ◌∙◌, append_assoc, append-nil, length-append, arith}
 use Rattle.std.specs.Option.{ForSome}
@@ -8,7 +8,8 @@ use Rattle.policy_rules.specs.declared.policy.Row.{Row}
 use Rattle.shelf.specs.Shelf.{Files, IsAfterReads, ShelfState}
 use Rattle.difane_cli.proofs.ShelfReads.{reads_then}
 use Rattle.command_line.specs.Named.{names_seen}
-use Rattle.difane_cli.specs.Inputs.{Stops, and_then, policy_reads, read_policies, read_policy, up_to_refusal}
+use Rattle.difane_cli.specs.Inputs.{and_then, policy_reads, read_policies, read_policy, up_to_refusal}
+use Rattle.difane_cli.specs.Ending.{Accounts, EndsRead, status_of}
 use Rattle.difane_cli.specs.declared.status.Refusal.{Refusal}
 use Rattle.difane_cli.specs.declared.status.Stop.{Stop}
 use Rattle.difane_cli.specs.declared.status.Stop.TheVariants as stop
@@ -95,22 +96,31 @@ one_read ports names left name policies rows old middle now so_far read then =
 
 -- ---- where the reading ends
 
--- the next one stops it
-pub stops_at : (ports : ℕ) (names left : List (List ℕ)) (name : List ℕ)
-    (policies : List (List Row)) (old middle : ShelfState) (given : Stop)
-    → HasRead ports names (name ∷ left) policies old middle
-    → ForSome middle.files (λ files. Stops (read_policy ports files name) given)
-    → ForSome old.files (λ files. Stops (read_policies ports files names) given)
-stops_at ports names left name policies old middle (stop.Refused refusal) so_far stops =
-    λ files is. so_far.value files is ∙ rw (stops files (so_far.after.same_files ∙ is)) refl
-stops_at ports names left name policies old middle stop.ReadFault so_far stops = λ files is. tt
-stops_at ports names left name policies old middle stop.NoMemory so_far stops = λ files is. tt
+-- what the next one is refused for, all are
+refuses : (read : Result (List Row) Refusal) (policies : List (List Row))
+    (next : List Row → Result (List (List Row)) Refusal) (given : Stop)
+    → Accounts read (status_of given)
+    → Accounts (and_more policies (and_then read next)) (status_of given)
+refuses read policies next (stop.Refused refusal) is = rw is refl
+refuses read policies next stop.ReadFault is = tt
+refuses read policies next stop.NoMemory is = tt
 
--- a stop that is handed on stays the same
-pub handed_on : {T E : Type 0} (result : Result T E) (error : E) (Says : E → Type 0)
-    → IsErrAnd result (λ e. e ≡ error) → Says error → IfErr result Says
-handed_on (Ok value) error Says same says = tt
-handed_on (Err e) error Says same says = subst Says (sym same) says
+-- the next one stops it, and its stop is handed on
+pub stops_at : {V : Type 0} (ports : ℕ) (names left : List (List ℕ)) (name : List ℕ)
+    (policies : List (List Row)) (seen : V → List (List Row)) (old middle now : ShelfState)
+    (given : Stop) (result : Result V Stop) → IsErrAnd result (λ stop. stop ≡ given)
+    → HasRead ports names (name ∷ left) policies old middle
+    → EndsRead middle.files (λ files. read_policy ports files name) (λ (rows : List Row). rows)
+    middle now (Err given)
+    → EndsRead old.files (λ files. read_policies ports files names) seen old now result
+stops_at ports names left name policies seen old middle now given (Ok value) same so_far ends =
+    absurd same
+stops_at ports names left name policies seen old middle now given (Err stop) same so_far ends = rw same (
+  λ files is. subst (λ (read : Result (List (List Row)) Refusal). Accounts read (status_of given))
+      (sym (so_far.value files is))
+      (refuses _ policies _ given (ends.0 files (so_far.after.same_files ∙ is))),
+  λ needs. omega (arith, so_far.after.faults, ends.1 (rw so_far.after.same_files needs)),
+)
 
 -- one is read at least
 some_read : (ports : ℕ) (known : Option Files) (name : List ℕ) (left : List (List ℕ))

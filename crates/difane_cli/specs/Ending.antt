@@ -1,9 +1,11 @@
 -- Which status a command ends with, and what brings one about.
-use Rattle.std.specs.Prelude.{⊤, ℕ, ◌≡◌, ◌≢◌, ◌≤◌, ◌⊎◌, Option, Some, None, Result, Ok, Err}
-use Rattle.shelf.specs.Shelf.{Files}
+use Rattle.std.specs.Prelude.{⊤, ℕ, ◌≡◌, ◌≢◌, ◌≤◌, ◌⊎◌, Option, Some, None, Result, Ok, Err, IsOk}
+use Rattle.std.specs.Option.{ForSome}
+use Rattle.shelf.specs.Shelf.{Files, ShelfState}
 use Rattle.shelf.specs.Sink.{Rose, SinkState}
 use Rattle.shelf.specs.declared.output.SinkError.{SinkError}
 use Rattle.difane_cli.specs.Codes.{missing_file, too_long}
+use Rattle.difane_cli.specs.declared.status.Refusal.{Refusal}
 use Rattle.difane_cli.specs.declared.status.Status.{Status}
 use Rattle.difane_cli.specs.declared.status.Stop.{Stop}
 use Rattle.shelf.specs.declared.output.SinkError.TheVariants as sink
@@ -55,3 +57,38 @@ abbrev pub NeedsReadFault : Option Files → Status → Type 0
 NeedsReadFault files status.ReadFault = ⊤
 NeedsReadFault None (status.Input file code row) = (code ≡ missing_file) ⊎ (code ≡ too_long)
 NeedsReadFault _ _ = ⊥
+
+-- what a status says of what was to be read: a refusal is the one that stands there, and work was
+-- done only on what is accepted
+abbrev pub Accounts : {X : Type 0} → Result X Refusal → Status → Type 0
+Accounts read (status.Input file code row) =
+    read ≡ Err (record { file = file; code = code; row = row })
+Accounts read status.Usage = ⊥
+Accounts read status.Ok = IsOk read
+Accounts read status.WriteFault = IsOk read
+Accounts read (status.Full row) = IsOk read
+Accounts read _ = ⊤
+
+-- how a reading ends, where this is known of what there is to read: with the value that stands
+-- there, as `seen` shows it; or with a stop that what stands there accounts for, and a fault of the
+-- shelf where only that gives it
+abbrev pub EndsRead : {K X V : Type 0} → (known : Option K) → (read : K → Result X Refusal)
+    → (seen : V → X) → (old new : ShelfState) → Result V Stop → Type 0
+EndsRead known read seen old new (Ok value) =
+    ForSome known (λ given. read given ≡ Ok (seen value))
+EndsRead known read seen old new (Err stop) =
+    ForSome known (λ given. Accounts (read given) (status_of stop))
+    × (NeedsReadFault old.files (status_of stop) → Rose old.faults new.faults)
+
+-- ---- checks of what was read
+
+-- this refusal, or want of memory
+abbrev pub RefusesInput : Refusal → Stop → Type 0
+RefusesInput given (stop.Refused refusal) = refusal ≡ given
+RefusesInput given stop.NoMemory = ⊤
+RefusesInput given stop.ReadFault = ⊥
+
+-- a stop at a check of what was read: this accounts for it, and no fault gives it
+abbrev pub StopsCheck : {X : Type 0} → Result X Refusal → Stop → Type 0
+StopsCheck read stop =
+    Accounts read (status_of stop) × (NeedsReadFault None (status_of stop) → ⊥)

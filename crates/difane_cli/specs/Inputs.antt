@@ -1,6 +1,6 @@
 -- The task of a command: what its files are read to, or its load case, or the first refusal in the
 -- order of work.
-use Rattle.std.specs.Prelude.{⊤, ℕ, ◌≡◌, ◌+◌, ◌<◌, Bool, true, false, nat_le, if◌then◌else◌, Option, Some, None, option_map, Result, Ok, Err, is_ok, List, [], ◌∷◌, length, map, slice_index_or, codes, IsOk}
+use Rattle.std.specs.Prelude.{⊤, ℕ, ◌+◌, Bool, true, false, nat_le, if◌then◌else◌, Option, Some, None, option_map, Result, Ok, Err, is_ok, List, [], ◌∷◌, length, map, slice_index_or, codes}
 use Rattle.std.specs.Option.{option_map_or}
 use Rattle.schedule.specs.Case.{LoadCase, load_case}
 use Rattle.net_file.specs.Net.{solo_net}
@@ -27,11 +27,7 @@ use Rattle.command_line.specs.Commands as asked
 use Rattle.difane_cli.specs.Codes.{missing_file, most_bytes, no_port, no_such_switch, too_long}
 use Rattle.difane_cli.specs.declared.report.Report.TheVariants as report
 use Rattle.difane_cli.specs.declared.status.Refusal.{Refusal}
-use Rattle.difane_cli.specs.declared.status.Stop.{Stop}
-use Rattle.difane_cli.specs.declared.status.Status.{Status}
 use Rattle.difane_cli.specs.Tasks.{Inputs, Printing, Task, Play, Print}
-use Rattle.difane_cli.specs.declared.status.Stop.TheVariants as stop
-use Rattle.difane_cli.specs.declared.status.Status.TheVariants as status
 
 -- what goes on from a value that was read; a refusal ends the reading
 abbrev pub and_then : {X Y : Type 0} → Result X Refusal → (X → Result Y Refusal) → Result Y Refusal
@@ -239,39 +235,3 @@ most_reads (Some files) (Some (asked.Replay args)) =
 most_reads (Some files) (Some (asked.Print args)) =
     net_reads args.net + (if is_ok (net_asked files args) then 1 else 0)
 most_reads (Some files) (Some (asked.Load n)) = 0
-
--- what a stop says of what was to be read: a refusal is the one that stands there
-abbrev pub Stops : {X : Type 0} → Result X Refusal → Stop → Type 0
-Stops read (stop.Refused refusal) = read ≡ Err refusal
-Stops read _ = ⊤
-
--- this refusal, or want of memory
-abbrev pub RefusesInput : Refusal → Stop → Type 0
-RefusesInput given (stop.Refused refusal) = refusal ≡ given
-RefusesInput given stop.NoMemory = ⊤
-RefusesInput given stop.ReadFault = ⊥
-
--- a stop at the content of a file: its refusal, by a code that an absent file or one too long
--- doesn't have
-abbrev pub StopsContent : {X : Type 0} → Result X Refusal → Stop → Type 0
-StopsContent read (stop.Refused refusal) =
-    (read ≡ Err refusal) × (missing_file < refusal.code) × (refusal.code < too_long)
-StopsContent read stop.NoMemory = ⊤
-StopsContent read stop.ReadFault = ⊥
-
--- a stop at the switch: its refusal, by a code that no file has
-abbrev pub StopsSwitch : {X : Type 0} → Result X Refusal → Stop → Type 0
-StopsSwitch read (stop.Refused refusal) = (read ≡ Err refusal) × (too_long < refusal.code)
-StopsSwitch read stop.NoMemory = ⊤
-StopsSwitch read stop.ReadFault = ⊥
-
--- what a status says of the known task: a refusal is the one that stands there, and work was done
--- only on an accepted one
-abbrev pub Accounts : Result Task Refusal → Status → Type 0
-Accounts read (status.Input file code row) =
-    read ≡ Err (record { file = file; code = code; row = row })
-Accounts read status.Usage = ⊥
-Accounts read status.Ok = IsOk read
-Accounts read status.WriteFault = IsOk read
-Accounts read (status.Full row) = IsOk read
-Accounts read _ = ⊤

@@ -1,13 +1,11 @@
 //! The files of a command, read and checked one after another.
 ghost use Rattle.std.specs.Prelude.{◌≡◌, All, IsTrue, IfOk, IfErr, Ok, Some, length};
-ghost use Rattle.std.specs.Option.{ForSome};
 ghost use Rattle.net_file.specs.Net.{IsNet};
 ghost use Rattle.policy_file.specs.Ports.{names_port_of};
 ghost use Rattle.policy_rules.specs.Policy.{IsPolicy};
 ghost use Rattle.schedule.specs.Reading.{AreSoundEvents};
-ghost use Rattle.shelf.specs.Sink.{Rose};
 ghost use Rattle.shelf.specs.Shelf.{IsAfterReads};
-ghost use Rattle.difane_cli.specs.Exports.{AreReadyToPlay, IsReplayOf, NeedsReadFault, RefusesInput, Stops, StopsContent, content_of, inputs_of, inputs_stated, most_reads, policy_reads, read_policies, read_policy, read_schedule, schedule_in, status_of};
+ghost use Rattle.difane_cli.specs.Exports.{AreReadyToPlay, EndsRead, IsReplayOf, RefusesInput, StopsCheck, content_of, inputs_of, inputs_stated, most_reads, policy_reads, read_policies, read_policy, read_schedule, schedule_in};
 ghost use Rattle.command_line.specs.Named.{HasPolicies, names_seen, replay_named};
 ghost use Rattle.command_line.specs.Commands.{Replay};
 
@@ -45,12 +43,8 @@ pub fn refused(alloc: Global, name: &str, code: u32, row: u32) -> Stop
 
 /// The content of the file of this name.
 pub fn read_bytes<F: Shelf>(alloc: Global, shelf: &mut F, name: &str) -> Result<Vec<u8>, Stop>
-    ensures value { IfOk result (λ bytes. ForSome (F.state shelf.old).files (λ files.
-        content_of files name.now ≡ Ok bytes.items)) }
-    ensures stopped { IfErr result (λ stop. ForSome (F.state shelf.old).files (λ files.
-        Stops (content_of files name.now) stop)) }
-    ensures faults { IfErr result (λ stop. NeedsReadFault (F.state shelf.old).files (status_of stop)
-        → Rose (F.state shelf.old).faults (F.state shelf.new).faults) }
+    ensures read { EndsRead (F.state shelf.old).files (λ files. content_of files name.now)
+        (λ bytes. bytes.items) (F.state shelf.old) (F.state shelf.new) result }
     ensures shelf { IsAfterReads 1 (F.state shelf.old) (F.state shelf.new) }
 {
     match shelf.read(name, MAX_BYTES) {
@@ -74,7 +68,7 @@ fn check_schedule(
     ensures value { IfOk result (λ events.
         schedule_in net.now policies name.now bytes.now ≡ Ok events.items) }
     ensures stopped { IfErr result
-        (StopsContent (schedule_in net.now policies name.now bytes.now)) }
+        (StopsCheck (schedule_in net.now policies name.now bytes.now)) }
     ensures sound { IfOk result (λ events. AreSoundEvents net.now policies events.items) }
 {
     match schedule::read_schedule(alloc, bytes, net, policies) {
@@ -93,12 +87,9 @@ fn read_schedule<F: Shelf>(
     policies: u32,
 ) -> Result<Vec<Event>, Stop>
     requires { IsNet net.now }
-    ensures value { IfOk result (λ events. ForSome (F.state shelf.old).files (λ files.
-        read_schedule net.now policies files name.now ≡ Ok events.items)) }
-    ensures stopped { IfErr result (λ stop. ForSome (F.state shelf.old).files (λ files.
-        Stops (read_schedule net.now policies files name.now) stop)) }
-    ensures faults { IfErr result (λ stop. NeedsReadFault (F.state shelf.old).files (status_of stop)
-        → Rose (F.state shelf.old).faults (F.state shelf.new).faults) }
+    ensures read { EndsRead (F.state shelf.old).files
+        (λ files. read_schedule net.now policies files name.now) (λ events. events.items)
+        (F.state shelf.old) (F.state shelf.new) result }
     ensures shelf { IsAfterReads 1 (F.state shelf.old) (F.state shelf.new) }
     ensures sound { IfOk result (λ events. AreSoundEvents net.now policies events.items) }
 {
@@ -113,12 +104,8 @@ pub fn read_policy<F: Shelf>(
     name: &str,
     ports: u64,
 ) -> Result<Policy, Stop>
-    ensures value { IfOk result (λ policy. ForSome (F.state shelf.old).files (λ files.
-        read_policy ports files name.now ≡ Ok policy)) }
-    ensures stopped { IfErr result (λ stop. ForSome (F.state shelf.old).files (λ files.
-        Stops (read_policy ports files name.now) stop)) }
-    ensures faults { IfErr result (λ stop. NeedsReadFault (F.state shelf.old).files (status_of stop)
-        → Rose (F.state shelf.old).faults (F.state shelf.new).faults) }
+    ensures read { EndsRead (F.state shelf.old).files (λ files. read_policy ports files name.now)
+        (λ policy. policy) (F.state shelf.old) (F.state shelf.new) result }
     ensures shelf { IsAfterReads 1 (F.state shelf.old) (F.state shelf.new) }
     ensures own_ports { IfOk result (All (λ row. IsTrue (names_port_of ports row.action))) }
     ensures sound { IfOk result IsPolicy }
@@ -134,12 +121,9 @@ fn read_policies<F: Shelf>(
     names: &[&str],
     ports: u64,
 ) -> Result<Vec<Policy>, Stop>
-    ensures value { IfOk result (λ policies. ForSome (F.state shelf.old).files (λ files.
-        read_policies ports files (names_seen names.now) ≡ Ok policies.items)) }
-    ensures stopped { IfErr result (λ stop. ForSome (F.state shelf.old).files (λ files.
-        Stops (read_policies ports files (names_seen names.now)) stop)) }
-    ensures faults { IfErr result (λ stop. NeedsReadFault (F.state shelf.old).files (status_of stop)
-        → Rose (F.state shelf.old).faults (F.state shelf.new).faults) }
+    ensures read { EndsRead (F.state shelf.old).files
+        (λ files. read_policies ports files (names_seen names.now)) (λ policies. policies.items)
+        (F.state shelf.old) (F.state shelf.new) result }
     ensures shelf { IsAfterReads
         (policy_reads ports (F.state shelf.old).files (names_seen names.now))
         (F.state shelf.old) (F.state shelf.new) }
@@ -174,12 +158,9 @@ pub fn read_inputs<F: Shelf>(
     args: &ReplayArgs<'_>,
 ) -> Result<PlayInputs, Stop>
     requires { HasPolicies args.now }
-    ensures value { IfOk result (λ inputs. ForSome (F.state shelf.old).files (λ files.
-        inputs_of files (replay_named args.now) ≡ Ok (inputs_stated inputs))) }
-    ensures stopped { IfErr result (λ stop. ForSome (F.state shelf.old).files (λ files.
-        Stops (inputs_of files (replay_named args.now)) stop)) }
-    ensures faults { IfErr result (λ stop. NeedsReadFault (F.state shelf.old).files (status_of stop)
-        → Rose (F.state shelf.old).faults (F.state shelf.new).faults) }
+    ensures read { EndsRead (F.state shelf.old).files
+        (λ files. inputs_of files (replay_named args.now)) inputs_stated
+        (F.state shelf.old) (F.state shelf.new) result }
     ensures shelf { IsAfterReads
         (most_reads (F.state shelf.old).files (Some (Replay (replay_named args.now))))
         (F.state shelf.old) (F.state shelf.new) }

@@ -1,6 +1,6 @@
 //! Load cases as a command takes them.
 ghost use Rattle.std.specs.Prelude.{◌≡◌, ◌≤◌, IfOk, IfErr, Ok};
-ghost use Rattle.difane_cli.specs.Exports.{AreReadyToPlay, StopsContent, case_inputs, inputs_stated, load_inputs};
+ghost use Rattle.difane_cli.specs.Exports.{AreReadyToPlay, StopsCheck, case_inputs, inputs_stated, load_inputs};
 ghost use Rattle.schedule.specs.Case.{load_case};
 
 use crate::inputs::PlayInputs;
@@ -18,7 +18,7 @@ const LOAD_NAME: &str = "load";
 pub fn draw_inputs(alloc: Global, n: u32) -> Result<PlayInputs, Stop>
     requires { (1 ≤ n) × (n ≤ 1000) }
     ensures value { IfOk result (λ inputs. load_inputs n ≡ Ok (inputs_stated inputs)) }
-    ensures stopped { IfErr result (StopsContent (load_inputs n)) }
+    ensures stopped { IfErr result (StopsCheck (load_inputs n)) }
     ensures ready { IfOk result AreReadyToPlay }
     ensures drawn { IfOk result (λ inputs. inputs_stated inputs ≡ case_inputs (load_case n)) }
 {

@@ -1,11 +1,9 @@
 //! Networks as a command takes them: of a file or of one switch, and the switches on them.
 ghost use Rattle.std.specs.Prelude.{◌≡◌, IfOk, IfErr, Ok};
-ghost use Rattle.std.specs.Option.{ForSome};
 ghost use Rattle.net_file.specs.Net.{IsNet};
-ghost use Rattle.shelf.specs.Sink.{Rose};
 ghost use Rattle.shelf.specs.Shelf.{IsAfterReads};
 ghost use Rattle.command_line.specs.Named.{net_named};
-ghost use Rattle.difane_cli.specs.Exports.{IsNetOf, IsSwitchOf, NeedsReadFault, Stops, StopsContent, StopsSwitch, net_reads, net_stated, read_net, status_of, switch_on};
+ghost use Rattle.difane_cli.specs.Exports.{EndsRead, IsNetOf, IsSwitchOf, StopsCheck, net_reads, net_stated, read_net, switch_on};
 
 use crate::inputs::{read_bytes, refused};
 use crate::policies::NO_SWITCH;
@@ -17,7 +15,7 @@ use std::alloc::Global;
 /// The network that the bytes of this file state.
 fn check_net(alloc: Global, name: &str, bytes: &[u8]) -> Result<Net, Stop>
     ensures value { IfOk result (λ net. net_stated name.now bytes.now ≡ Ok net) }
-    ensures stopped { IfErr result (StopsContent (net_stated name.now bytes.now)) }
+    ensures stopped { IfErr result (StopsCheck (net_stated name.now bytes.now)) }
     ensures sound { IfOk result IsNet }
 {
     match read_net(alloc, bytes) {
@@ -41,12 +39,8 @@ fn one_switch(alloc: Global) -> Result<Net, Stop>
 
 /// The network of the file, or that of one switch where none is named.
 pub fn take_network<F: Shelf>(alloc: Global, shelf: &mut F, name: Option<&str>) -> Result<Net, Stop>
-    ensures value { IfOk result (λ net. ForSome (F.state shelf.old).files (λ files.
-        read_net files (net_named name.entry) ≡ Ok net)) }
-    ensures stopped { IfErr result (λ stop. ForSome (F.state shelf.old).files (λ files.
-        Stops (read_net files (net_named name.entry)) stop)) }
-    ensures faults { IfErr result (λ stop. NeedsReadFault (F.state shelf.old).files (status_of stop)
-        → Rose (F.state shelf.old).faults (F.state shelf.new).faults) }
+    ensures read { EndsRead (F.state shelf.old).files (λ files. read_net files (net_named name.entry))
+        (λ net. net) (F.state shelf.old) (F.state shelf.new) result }
     ensures shelf { IsAfterReads (net_reads (net_named name.entry))
         (F.state shelf.old) (F.state shelf.new) }
     ensures sound { IfOk result IsNet }
@@ -65,7 +59,7 @@ pub fn take_network<F: Shelf>(alloc: Global, shelf: &mut F, name: Option<&str>) 
 pub fn find_switch(alloc: Global, net: &Net, name: Option<&str>) -> Result<Option<u32>, Stop>
     requires { IsNet net.now }
     ensures value { IfOk result (λ switch. switch_on net.now (net_named name.entry) ≡ Ok switch) }
-    ensures stopped { IfErr result (StopsSwitch (switch_on net.now (net_named name.entry))) }
+    ensures stopped { IfErr result (StopsCheck (switch_on net.now (net_named name.entry))) }
     ensures named { IfOk result (IsSwitchOf (net_named name.entry) net.now) }
 {
     let Some(name) = name else {

@@ -5,7 +5,8 @@ ghost use Rattle.policy_file.specs.Ports.{names_port_of};
 ghost use Rattle.policy_rules.specs.Policy.{IsPolicy};
 ghost use Rattle.policy_rules.specs.declared.policy.Row.{Row};
 ghost use Rattle.controller.specs.Plan.{RefusesPlan};
-ghost use Rattle.difane_cli.specs.Inputs.{StopsContent, first_plan, plan_on, policy_stated, read_from};
+ghost use Rattle.difane_cli.specs.Ending.{StopsCheck};
+ghost use Rattle.difane_cli.specs.Inputs.{first_plan, plan_on, policy_stated, read_from};
 ghost use Rattle.net_file.specs.Exports.{IsNet, port_mask};
 ghost use Rattle.net_file.specs.declared.net.Net.{Net};
 ghost use Rattle.partition.specs.Plan.{plan_of};
@@ -33,7 +34,7 @@ pub const NO_SWITCH: u32 = 21;
 fn state_policy(alloc: Global, name: &str, bytes: &[u8]) -> Result<Policy, Stop>
     ensures value { IfOk result (λ policy. policy_of bytes.now ≡ Ok policy) }
     ensures stopped { IfErr result
-        (StopsContent (read_from policy_code name.now (policy_of bytes.now))) }
+        (StopsCheck (read_from policy_code name.now (policy_of bytes.now))) }
     ensures sound { IfOk result IsPolicy }
 {
     match read_policy(alloc, bytes) {
@@ -46,7 +47,7 @@ fn state_policy(alloc: Global, name: &str, bytes: &[u8]) -> Result<Policy, Stop>
 /// The policy that the bytes of this file state, which names only ports of the mask.
 pub fn check_policy(alloc: Global, name: &str, bytes: &[u8], ports: u64) -> Result<Policy, Stop>
     ensures value { IfOk result (λ policy. policy_stated ports name.now bytes.now ≡ Ok policy) }
-    ensures stopped { IfErr result (StopsContent (policy_stated ports name.now bytes.now)) }
+    ensures stopped { IfErr result (StopsCheck (policy_stated ports name.now bytes.now)) }
     ensures own_ports { IfOk result (All (λ row. IsTrue (names_port_of ports row.action))) }
     ensures sound { IfOk result IsPolicy }
 {
@@ -60,7 +61,7 @@ pub fn check_policy(alloc: Global, name: &str, bytes: &[u8], ports: u64) -> Resu
 /// The stop at a policy of this file that has no plan.
 fn no_plan(alloc: Global, name: &str, error: PlanError) -> Stop
     ensures { (rows : List Row) (net : Net) → RefusesPlan rows net error
-        → StopsContent (plan_on name.now net rows) result }
+        → StopsCheck (plan_on name.now net rows) result }
 {
     match error {
         PlanError::TooManyWords { .. } => refused(alloc, name, TOO_MANY_WORDS, 0),
@@ -89,7 +90,7 @@ pub fn begin_world(
     ensures begun { IfOk result (IsBegun (setting_of net.now policies.items)) }
     ensures sound { IfOk result (λ world. IsSetting (setting_at world)) }
     ensures stopped { IfErr result
-        (StopsContent (first_plan (names_seen names.now) net.now policies.items)) }
+        (StopsCheck (first_plan (names_seen names.now) net.now policies.items)) }
 {
     port_laws();
     match World::begin(alloc, net, policies) {
@@ -107,7 +108,7 @@ pub fn plan_policy(alloc: Global, name: &str, policy: &Policy, net: &Net) -> Res
     ensures value { IfOk result (λ plan. plan_on name.now net.now policy.now ≡ Ok plan.hosted) }
     ensures planned { IfOk result (λ plan. plan_of policy.now net.now ≡ Ok plan.hosted) }
     ensures policy { IfOk result (λ plan. plan.policy ≡ policy.now) }
-    ensures stopped { IfErr result (StopsContent (plan_on name.now net.now policy.now)) }
+    ensures stopped { IfErr result (StopsCheck (plan_on name.now net.now policy.now)) }
 {
     match compile(alloc, policy, net) {
         Ok(plan) => Ok(plan),

@@ -1,10 +1,10 @@
 //! The plan of a policy, or the tables of a switch: its files, and the writing of its text.
-ghost use Rattle.std.specs.Prelude.{◌≡◌, ◌≢◌, ◌≤◌, [], Ok, Option, None, Some, IfOk, IfErr, IsErrOf, IsTrue, ◌⊎◌};
+ghost use Rattle.std.specs.Prelude.{◌≡◌, ◌≢◌, ◌≤◌, [], Ok, Option, None, Some, IfOk, IsErrOf, IsTrue, ◌⊎◌};
 ghost use Rattle.std.specs.Option.{ForSome};
 ghost use Rattle.net_file.specs.Net.{IsNet};
 ghost use Rattle.shelf.specs.Sink.{Rose};
 ghost use Rattle.shelf.specs.Shelf.{Files, IsAfterReads};
-ghost use Rattle.difane_cli.specs.Exports.{IsPrintingOf, NeedsReadFault, Print, PrintOutcome, Stops, known_task, most_reads, printing_of, printing_stated, printing_text, status_after, status_of};
+ghost use Rattle.difane_cli.specs.Exports.{EndsRead, IsPrintingOf, Print, PrintOutcome, known_task, most_reads, printing_of, printing_stated, printing_text, status_after};
 ghost use Rattle.command_line.specs.Named.{print_named};
 ghost use Rattle.command_line.specs.Commands as grammar;
 ghost use Rattle.command_line.specs.Commands.{PrintCommand};
@@ -35,12 +35,9 @@ pub fn read_printing<F: Shelf>(
     shelf: &mut F,
     args: &PrintArgs<'_>,
 ) -> Result<PrintInputs, Stop>
-    ensures value { IfOk result (λ inputs. ForSome (F.state shelf.old).files (λ files.
-        printing_of files (print_named args.now) ≡ Ok (printing_stated inputs))) }
-    ensures stopped { IfErr result (λ stop. ForSome (F.state shelf.old).files (λ files.
-        Stops (printing_of files (print_named args.now)) stop)) }
-    ensures faults { IfErr result (λ stop. NeedsReadFault (F.state shelf.old).files (status_of stop)
-        → Rose (F.state shelf.old).faults (F.state shelf.new).faults) }
+    ensures read { EndsRead (F.state shelf.old).files
+        (λ files. printing_of files (print_named args.now)) printing_stated
+        (F.state shelf.old) (F.state shelf.new) result }
     ensures shelf { IsAfterReads
         (most_reads (F.state shelf.old).files (Some (grammar.Print (print_named args.now))))
         (F.state shelf.old) (F.state shelf.new) }

@@ -1,9 +1,8 @@
 //! What a command is to do, once its files are read, and the doing of it.
-ghost use Rattle.std.specs.Prelude.{◌≡◌, Ok, Option, Some, IfOk, IfErr, Result, [], map};
+ghost use Rattle.std.specs.Prelude.{◌≡◌, Ok, Option, Some, IfOk, Result, [], map};
 ghost use Rattle.std.specs.Option.{ForSome};
-ghost use Rattle.shelf.specs.Sink.{Rose};
 ghost use Rattle.shelf.specs.Shelf.{Files, IsAfterReads};
-ghost use Rattle.difane_cli.specs.Exports.{Accounts, EndsWork, IsReadyTask, IsTaskOf, NeedsReadFault, Outcome, PlaysNothing, RanOut, Task as Stated, known_task, most_reads, status_of, task_stated};
+ghost use Rattle.difane_cli.specs.Exports.{Accounts, EndsRead, EndsWork, IsReadyTask, IsTaskOf, Outcome, PlaysNothing, RanOut, Task as Stated, known_task, most_reads, task_stated};
 ghost use Rattle.difane_cli.specs.declared.status.Refusal.{Refusal};
 ghost use Rattle.command_line.specs.Named.{NamesPolicies, command_named};
 ghost use Rattle.command_line.specs.Commands as grammar;
@@ -35,14 +34,9 @@ pub fn read_task<F: Shelf>(
     command: &Command<'_>,
 ) -> Result<Task, Stop>
     requires { NamesPolicies command.now }
-    ensures value { IfOk result (λ task. ForSome
-        (known_task (F.state shelf.old).files (Some (command_named command.now)))
-        (λ read. read ≡ Ok (task_stated task))) }
-    ensures accounts { IfErr result (λ stop. ForSome
-        (known_task (F.state shelf.old).files (Some (command_named command.now)))
-        (λ read. Accounts read (status_of stop))) }
-    ensures faults { IfErr result (λ stop. NeedsReadFault (F.state shelf.old).files (status_of stop)
-        → Rose (F.state shelf.old).faults (F.state shelf.new).faults) }
+    ensures read { EndsRead
+        (known_task (F.state shelf.old).files (Some (command_named command.now))) (λ read. read)
+        task_stated (F.state shelf.old) (F.state shelf.new) result }
     ensures shelf { IsAfterReads
         (most_reads (F.state shelf.old).files (Some (command_named command.now)))
         (F.state shelf.old) (F.state shelf.new) }

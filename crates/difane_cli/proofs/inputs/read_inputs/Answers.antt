@@ -20,7 +20,7 @@ as_many names owned same = ap length same ∙ sym (length-map owned (λ name. na
 pub returns-in_err-events-clause-shelf : goal.returns-in_err-events-clause-shelf
 returns-in_err-events-clause-shelf g c =
     let args = replay_named c.args.args.now in
-    let one = schedule_read _ args c.in_ok-net.net c.in_ok-net.ensures.value in
+    let one = schedule_read _ args c.in_ok-net.net c.in_ok-net.ensures.read in
     reads_then (net_reads args.net) 1 _ _ (g.F.Shelf.state c.take_network.new.shelf) _ one
     c.in_ok-net.ensures.shelf c.in_err-events.ensures.shelf
 
@@ -28,7 +28,7 @@ pub returns-in_err-policies-clause-shelf : goal.returns-in_err-policies-clause-s
 returns-in_err-policies-clause-shelf g c =
     all_reads (replay_named c.args.args.now) c.in_ok-net.net c.in_ok-events.events.items _ _ _ _ _ _
     (as_many _ _ c.deref-names.ensures.value) c.port_mask.ensures
-    c.in_ok-net.ensures.value c.in_ok-events.ensures.value c.in_ok-net.ensures.shelf
+    c.in_ok-net.ensures.read c.in_ok-events.ensures.read c.in_ok-net.ensures.shelf
     c.in_ok-events.ensures.shelf (rw c.deref-names.ensures.value at c.in_err-policies.ensures.shelf)
 
 -- the network, the schedule and the policies are all that is read
@@ -39,7 +39,7 @@ policies_read : (g : Over) (c : In_ok-policies g)
 policies_read g c =
     all_reads (replay_named c.args.args.now) c.in_ok-net.net c.in_ok-events.events.items _ _ _ _ _ _
     (as_many _ _ c.deref-names.ensures.value) c.port_mask.ensures
-    c.in_ok-net.ensures.value c.in_ok-events.ensures.value c.in_ok-net.ensures.shelf
+    c.in_ok-net.ensures.read c.in_ok-events.ensures.read c.in_ok-net.ensures.shelf
     c.in_ok-events.ensures.shelf (rw c.deref-names.ensures.value at c.in_ok-policies.ensures.shelf)
 
 pub returns-in_err-world-clause-shelf : goal.returns-in_err-world-clause-shelf
@@ -49,15 +49,15 @@ returns-in_err-world-clause-shelf g c =
 pub returns-clause-shelf : goal.returns-clause-shelf
 returns-clause-shelf g c = policies_read g (goal.at.returns-clause-shelf g c).In_ok-policies
 
-pub returns-clause-value : goal.returns-clause-value
-returns-clause-value g c =
+pub returns-clause-read : goal.returns-clause-read
+returns-clause-read g c =
     let net_files = c.in_ok-net.ensures.shelf.same_files in
     inputs_are _ _ _ (replay_named c.args.args.now) c.in_ok-net.net c.in_ok-policies.policies.items
     c.in_ok-events.events.items (setting_at c.in_ok-world.world) _ _ net_files
     (c.in_ok-events.ensures.shelf.same_files ∙ net_files)
     (as_many _ _ c.deref-names.ensures.value) c.port_mask.ensures
-    c.in_ok-net.ensures.value c.in_ok-events.ensures.value
-    (rw c.deref-names.ensures.value at c.in_ok-policies.ensures.value)
+    c.in_ok-net.ensures.read c.in_ok-events.ensures.read
+    (rw c.deref-names.ensures.value at c.in_ok-policies.ensures.read)
     (rw c.deref-names.ensures.value at c.in_ok-world.ensures.planned) c.in_ok-world.ensures.begun.own
 
 pub returns-clause-ready : goal.returns-clause-ready

@@ -1,31 +1,32 @@
-use Rattle.std.specs.Prelude.{IsTrue}
-use Rattle.std.proofs.Common.{ℕ, ◌≡◌, ◌+◌, Ok, All, List, [], ◌∷◌, ◌++◌, ap, arith, drop, length, length-append, subst, sym}
+use Rattle.std.specs.Prelude.{IsTrue, Vec}
+use Rattle.std.specs.Global.{Global}
+use Rattle.std.proofs.Common.{ℕ, ◌≡◌, ◌+◌, Ok, Err, All, List, [], ◌∷◌, ◌++◌, ap, arith, drop, length, length-append, subst, sym}
 use Rattle.std.proofs.lemmas.List.Elements.{All-push}
 use Rattle.policy_file.specs.Ports.{names_port_of}
 use Rattle.policy_rules.specs.Policy.{IsPolicy}
 use Rattle.policy_rules.specs.declared.policy.Row.{Row}
 use Rattle.std.specs.Option.{ForSome}
 use Rattle.command_line.specs.Named.{names_seen}
-use Rattle.difane_cli.specs.Inputs.{Stops, read_policies, read_policy}
-use Rattle.difane_cli.proofs.PolicyReads.{HasRead, at_next, handed_on, name_there, one_read, reads_at, stops_at}
+use Rattle.difane_cli.specs.Ending.{EndsRead}
+use Rattle.difane_cli.specs.Inputs.{read_policy}
+use Rattle.difane_cli.proofs.PolicyReads.{HasRead, at_next, name_there, one_read, reads_at, stops_at}
 use Rattle.difane_cli.proofs.inputs.read_policies.Goals as goal
 
-pub returns-in_err-policy-clause-stopped : goal.returns-in_err-policy-clause-stopped
-returns-in_err-policy-clause-stopped g c =
+pub returns-in_err-policy-clause-read : goal.returns-in_err-policy-clause-read
+returns-in_err-policy-clause-read g c =
     let names = c.args.names.now in
+    let old = g.F.Shelf.state c.args.shelf.now in
+    let middle = g.F.Shelf.state c.loop-name.shelf in
+    let now = g.F.Shelf.state c.read_policy.new.shelf in
+    let stop = c.in_err-policy.field-0.0 in
     let so_far = at_next c.args.ports names c.loop-name.name-index _ _ _ c.loop-name.invariant.read
     c.loop-name-test.true in
-    let stop = c.in_err-policy.field-0.0 in
-    let known = (g.F.Shelf.state c.loop-name.shelf).files in
-    handed_on c.from_residual.result stop
-    (λ stop. ForSome (g.F.Shelf.state c.args.shelf.now).files
-    (λ files. Stops (read_policies c.args.ports files (names_seen names)) stop))
-    c.from_residual.ensures.1
-    (stops_at _ _ _ _ _ _ _ stop so_far
-    (subst (λ (name : List ℕ). ForSome known
-    (λ files. Stops (read_policy c.args.ports files name) stop))
+    stops_at _ _ _ _ _ (λ (policies : Vec (List Row) Global). policies.items) old middle now stop
+    c.from_residual.result c.from_residual.ensures.1 so_far
+    (subst (λ (name : List ℕ). EndsRead middle.files (λ files. read_policy c.args.ports files name)
+    (λ (rows : List Row). rows) middle now (Err stop))
     (name_there names c.loop-name.name-index _ c.loop-name-test.true)
-    c.in_err-policy.ensures.stopped))
+    c.in_err-policy.ensures.read)
 
 pub returns-in_err-policy-clause-shelf : goal.returns-in_err-policy-clause-shelf
 returns-in_err-policy-clause-shelf g c =
@@ -55,7 +56,7 @@ loop-name-preserved g c =
           (subst (λ (name : List ℕ). ForSome known
           (λ files. read_policy c.args.ports files name ≡ Ok rows))
           (name_there names c.loop-name.name-index _ c.loop-name-test.true)
-          c.in_ok-policy.ensures.value) c.in_ok-policy.ensures.shelf);
+          c.in_ok-policy.ensures.read) c.in_ok-policy.ensures.shelf);
       many = omega (
         arith,
         ap length pushed,

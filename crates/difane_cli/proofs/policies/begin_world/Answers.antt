@@ -1,7 +1,8 @@
 use Rattle.std.proofs.Common.{ℕ, ◌<◌, List, [], arith, get_or, length, subst, sym}
 use Rattle.std.proofs.lemmas.List.{get_or-map}
 use Rattle.command_line.specs.Named.{names_seen}
-use Rattle.difane_cli.specs.Inputs.{StopsContent, plan_on}
+use Rattle.difane_cli.specs.Ending.{StopsCheck}
+use Rattle.difane_cli.specs.Inputs.{plan_on}
 use Rattle.difane_cli.proofs.Begun.{has_plan, planned_by, sound_by_tie}
 use Rattle.difane_cli.proofs.policies.begin_world.Goals as goal
 
@@ -24,6 +25,6 @@ returns-in-Err-clause-stopped c =
     let net = c.args.net.now in
     let rows = get_or c.args.policies.items 0 [] in
     let some : 0 < length names = omega (arith, c.requires.some, c.requires.named) in
-    subst (λ (name : List ℕ). StopsContent (plan_on name net rows) c.no_plan.result)
+    subst (λ (name : List ℕ). StopsCheck (plan_on name net rows) c.no_plan.result)
     (sym (get_or-map (λ n. n.now) names 0 _ [] some))
     (c.no_plan.ensures rows net c.in-Err.ensures.refused)

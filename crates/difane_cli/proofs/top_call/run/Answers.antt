@@ -64,7 +64,7 @@ returns-clause-outcome g c =
     c.deref.ensures.value)
     c.end-in-Ok.ensures.status c.end-in-Ok.ensures.journal c.end-in-Ok.ensures.meters
     (c.work-ended.ensures.outcome asked files c.in-Ok.ensures.asked
-    c.in-Ok.ensures.value)
+    c.in-Ok.ensures.read)
 
 pub returns-clause-no_memory : goal.returns-clause-no_memory
 returns-clause-no_memory g c = λ is.
