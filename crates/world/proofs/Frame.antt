@@ -17,7 +17,7 @@ use Rattle.refinement.specs.Refinement.{RefineJournal, Control}
 use Rattle.world_log.specs.Writing.{IsPart}
 use Rattle.world.specs.declared.parts.Parts.{Parts}
 use Rattle.refinement.proofs.OneItem.{grown}
-use Rattle.world_log.proofs.Writing.{both_ok, grown_more, part_none, step_part, step_written, on_err}
+use Rattle.world_log.proofs.Writing.{both_ok, grown_more, none_ok, part_none, step_part, step_written, on_err}
 
 -- nothing was done to the files and the ports
 pub net_stays : {old new : Parts} → new.files ≡ old.files → new.ports ≡ old.ports
@@ -86,10 +86,6 @@ none_in n = omega arith
 -- a call that succeeded didn't fail
 pub not_err : {T E : Type 0} (x : T) (e : E) → Ok x ≡ Err e → ⊥
 not_err x e is = absurd cc
-
-pub none_ok : {T E : Type 0} (P : Type 0) (r : Result T E) → IsErr r → OnOk r P
-none_ok P (Ok x) failed = absurd cc
-none_ok P (Err e) failed = tt
 
 piece_split : (setting : Setting) (before : List Item) (row : ℕ) (step : Step)
     → piece setting before row step

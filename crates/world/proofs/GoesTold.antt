@@ -17,8 +17,8 @@ use Rattle.world_log.specs.Sending.{act_items, act_posts}
 use Rattle.world_log.specs.Writing.{IsPart}
 use Rattle.world_log.specs.declared.log.Log.{Log}
 use Rattle.world.specs.declared.parts.Parts.{Parts}
-use Rattle.world.proofs.Frame.{goes, none_ok}
-use Rattle.world_log.proofs.Writing.{both_ok, step_part, step_written, on_err}
+use Rattle.world.proofs.Frame.{goes}
+use Rattle.world_log.proofs.Writing.{both_ok, none_ok, step_part, step_written, on_err}
 
 -- the journal behind the first item, what is written then, under which number the messages are,
 -- and what they post behind these posts

@@ -1,6 +1,6 @@
 -- One call behind another on a log.
 use Rattle.std.proofs.Common.{ℕ, ◌≡◌, ◌∙◌, List, [], ◌∷◌, ◌++◌, Option, append-nil, subst, sym}
-use Rattle.std.specs.Prelude.{IsErr, OnErr, OnOk, Result, Ok, Err}
+use Rattle.std.specs.Prelude.{IsErr, OnErr, OnOk, Result}
 use Rattle.std.proofs.lemmas.Result.{on_err_weaker, on_ok_weaker}
 use Rattle.journal.specs.declared.item.Item.{Item}
 use Rattle.message_bag.specs.Posts.{Post}
@@ -8,11 +8,7 @@ use Rattle.travelling.specs.Travelling.{WithOne}
 use Rattle.travelling.specs.declared.travelling.Flight.{Flight}
 use Rattle.world_log.specs.Writing.{IsPart, LogAfter}
 use Rattle.world_log.specs.declared.log.Log.{Log}
-use Rattle.world_log.proofs.Writing.{both_written, on_err, part_none, part_of_rest}
-
-none_ok : {T E : Type 0} (P : Type 0) (r : Result T E) → IsErr r → OnOk r P
-none_ok P (Ok x) failed = absurd cc
-none_ok P (Err e) failed = tt
+use Rattle.world_log.proofs.Writing.{both_written, none_ok, on_err, part_none, part_of_rest}
 
 -- memory ran out where a part was written
 pub log_failed : {T E : Type 0} (r : Result T E) (items : List Item) (posts : List Post)

@@ -1,10 +1,15 @@
 -- What a step writes behind its row, and parts of it.
 use Rattle.std.proofs.Common.{◌≡◌, List, [], ◌∷◌, ◌++◌, refl, ap, sym, ◌∙◌, append-nil, append_assoc, subst}
-use Rattle.std.specs.Prelude.{OnErr, OnOk, Result, Ok, Err}
+use Rattle.std.specs.Prelude.{IsErr, OnErr, OnOk, Result, Ok, Err}
 use Rattle.std.proofs.lemmas.Result.{on_ok_weaker}
 pub use Rattle.wire.proofs.Holding.{on_err}
 use Rattle.journal.specs.declared.item.Item.{Item}
 use Rattle.world_log.specs.Writing.{IsPart}
+
+-- a call that failed owes nothing of what holds where it succeeds
+pub none_ok : {T E : Type 0} (P : Type 0) (r : Result T E) → IsErr r → OnOk r P
+none_ok P (Ok x) failed = absurd cc
+none_ok P (Err e) failed = tt
 
 -- nothing was written
 pub part_none : (old items new : List Item) → new ≡ old → IsPart old items new
