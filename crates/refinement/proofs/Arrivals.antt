@@ -36,8 +36,7 @@ use Rattle.packet_laws.proofs.Ends.{last_here, one_target}
 use Rattle.packet_laws.proofs.Lookups.{current_planned}
 use Rattle.packet_laws.proofs.Plans.{Finds, IsPlanned, in_plan}
 use Rattle.world_log.specs.Writing.{arrived_items, arrived_flight}
-use Rattle.travelling.specs.Travelling.{Standing}
-use Rattle.travelling.specs.declared.travelling.Flight.{Flight}
+use Rattle.travelling.specs.Travelling.{Flight, Standing}
 use Rattle.refinement.proofs.Deciding.{header_is}
 use Rattle.refinement.proofs.Goings.{AreOfFacts, IsComing, answer_goes, looked_goes, ruled_goes}
 use Rattle.refinement.proofs.Known.{Known}

@@ -14,8 +14,7 @@ use Rattle.refinement.proofs.Known.{Known, reached_known}
 use Rattle.refinement.proofs.OnWay.{IsStanding, standing_by}
 use Rattle.refinement.proofs.Seeing.{Sees}
 use Rattle.refinement.proofs.FactsAlong.{flight_now}
-use Rattle.travelling.specs.Travelling.{Flights, flight}
-use Rattle.travelling.specs.declared.travelling.Flight.{Flight}
+use Rattle.travelling.specs.Travelling.{Flight, Flights, flight}
 use Rattle.refinement.specs.Refinement.{RefineJournal, Control}
 use Rattle.refinement.proofs.Switches.{switch_is}
 

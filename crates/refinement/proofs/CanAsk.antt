@@ -19,7 +19,7 @@ use Rattle.update_machine.specs.Setting.{Setting}
 use Rattle.update_machine.specs.Versions.{plan_at}
 use Rattle.control_laws.specs.Authorities.{EndsAt}
 use Rattle.packet_laws.specs.Facts.{what_is_known}
-use Rattle.travelling.specs.declared.travelling.Flight.{Flight}
+use Rattle.travelling.specs.Travelling.{Flight}
 use Rattle.refinement.proofs.Arrivals.{IsAtEnd}
 use Rattle.refinement.proofs.Known.{Known}
 use Rattle.refinement.proofs.Moving.{Hops, arrives_at_end}

@@ -20,9 +20,8 @@ use Rattle.update_machine.specs.Setting.{Setting}
 use Rattle.update_machine.specs.Ways.{targets_of}
 use Rattle.packet_laws.specs.OnWay.{IsUnknown}
 use Rattle.packet_laws.specs.Facts.{what_is_known}
-use Rattle.travelling.specs.declared.travelling.Flight.{Flight}
 use Rattle.world_log.specs.Writing.{answer_items, entered_items, entered_flight}
-use Rattle.travelling.specs.Travelling.{Standing}
+use Rattle.travelling.specs.Travelling.{Flight, Standing}
 use Rattle.refinement.specs.Flights.{flight_in}
 use Rattle.refinement.proofs.Goings.{GoesIn, entered_goes}
 use Rattle.refinement.proofs.Known.{Known, flight_stays}

@@ -13,7 +13,7 @@ use Rattle.update_machine.proofs.CallerLemmas.{policies_keep}
 use Rattle.packet_laws.specs.Facts.{PacketFacts, is_of_packet, facts_after, what_is_known}
 use Rattle.packet_laws.proofs.PacketFacts.{facts_grow}
 use Rattle.refinement.specs.Flights.{flight_in, flight_of}
-use Rattle.travelling.specs.declared.travelling.Flight.{Flight}
+use Rattle.travelling.specs.Travelling.{Flight}
 
 -- the facts of a packet behind these items
 abbrev pub facts_along : ℕ → List Item → List Item → PacketFacts → PacketFacts

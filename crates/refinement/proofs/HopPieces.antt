@@ -29,9 +29,8 @@ use Rattle.update_machine.specs.Ways.{targets_of}
 use Rattle.packet_laws.specs.Facts.{PacketFacts, what_is_known}
 use Rattle.packet_laws.proofs.PacketFacts.{facts_grow}
 use Rattle.world_log.specs.Packets.{arrival_items, ended_items, ended_switch, hop_written, hop_flight, hopped_flight, turned_items}
-use Rattle.travelling.specs.Travelling.{standing_at}
+use Rattle.travelling.specs.Travelling.{Flight, standing_at}
 use Rattle.world_log.proofs.Hopping.{hopped_same}
-use Rattle.travelling.specs.declared.travelling.Flight.{Flight}
 use Rattle.refinement.specs.Flights.{flight_in}
 use Rattle.refinement.proofs.CanAsk.{CanAsk}
 use Rattle.refinement.proofs.Known.{Known, flight_stays}

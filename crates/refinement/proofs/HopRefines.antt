@@ -19,8 +19,7 @@ use Rattle.update_machine.specs.Travels.{is_at, travels}
 use Rattle.world_log.specs.Packets.{ended_switch, hop_written, hop_posts, hop_flight, hopped_switch}
 use Rattle.refinement.specs.Refinement.{RefineJournal, Control}
 use Rattle.refinement.specs.Flights.{flight_in}
-use Rattle.travelling.specs.Travelling.{Flights, WithOne, flight}
-use Rattle.travelling.specs.declared.travelling.Flight.{Flight}
+use Rattle.travelling.specs.Travelling.{Flight, Flights, WithOne, flight}
 use Rattle.refinement.proofs.CanAsk.{CanAsk}
 use Rattle.refinement.proofs.HopPieces.{hop_called, hop_later, hop_others, hop_own, hop_packets, hop_piece, left_piece}
 use Rattle.refinement.proofs.Asking.{known_of}

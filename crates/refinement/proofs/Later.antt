@@ -32,9 +32,8 @@ use Rattle.update_machine.specs.Moves.{takes_route}
 use Rattle.update_machine.specs.Packets.{is_packet}
 use Rattle.refinement.specs.Calls.{AreInStep, IsInStep}
 use Rattle.world_log.specs.Packets.{arrival_items, arrival_posts, ended_items, ended_posts, hop_written, hop_posts, hopped_flight, turned_items}
-use Rattle.travelling.specs.Travelling.{standing_at, Standing}
+use Rattle.travelling.specs.Travelling.{Flight, standing_at, Standing}
 use Rattle.world_log.specs.Writing.{answer_items, answer_posts, arrived_items, arrived_posts, cache_message, decided_items, end_item, entered_items, entered_posts, messages_in}
-use Rattle.travelling.specs.declared.travelling.Flight.{Flight}
 use Rattle.refinement.proofs.Posting.{SendFrom, posts_in}
 
 -- they bring no packet in

@@ -48,9 +48,8 @@ use Rattle.packet_laws.proofs.Here.{found_in, next_in}
 use Rattle.packet_laws.proofs.KeptFacts.{Knows}
 use Rattle.packet_laws.proofs.Routes.{IsWay, route_way}
 use Rattle.world_log.specs.Packets.{arrival, arrival_items, ended_items, ended_flight, hop_written, hop_flight, turned_items}
-use Rattle.travelling.specs.Travelling.{standing_at, Standing}
+use Rattle.travelling.specs.Travelling.{Flight, standing_at, Standing}
 use Rattle.world_log.specs.Writing.{arrived_items}
-use Rattle.travelling.specs.declared.travelling.Flight.{Flight}
 use Rattle.refinement.proofs.Arrivals.{IsAtEnd, arrival_goes, arrive_comes, arrive_law, at_end_on, end_of_route, ours_of}
 use Rattle.refinement.proofs.Goings.{AreOfFacts}
 use Rattle.refinement.proofs.Known.{before_of}

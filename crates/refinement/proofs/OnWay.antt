@@ -14,7 +14,7 @@ use Rattle.packet_laws.specs.OnWay.{IsOnLeg, IsOnWay}
 use Rattle.packet_laws.specs.Facts.{PacketFacts, what_is_known}
 use Rattle.packet_laws.specs.Rest.{IsServed}
 use Rattle.packet_laws.proofs.Here.{some_same}
-use Rattle.travelling.specs.declared.travelling.Flight.{Flight}
+use Rattle.travelling.specs.Travelling.{Flight}
 use Rattle.refinement.proofs.Known.{Known, Travels, travels_known}
 use Rattle.refinement.proofs.FactsAlong.{Targets, flight_by}
 

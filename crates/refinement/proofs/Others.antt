@@ -19,8 +19,7 @@ use Rattle.update_machine.specs.Messages.{sent_from}
 use Rattle.update_machine.specs.Moves.{takes_route}
 use Rattle.packet_laws.specs.Facts.{PacketFacts, is_of_packet, facts_after}
 use Rattle.world_log.specs.Writing.{answer_items, arrived_items, cache_message, end_item, entered_items, messages_in}
-use Rattle.travelling.specs.Travelling.{Standing}
-use Rattle.travelling.specs.declared.travelling.Flight.{Flight}
+use Rattle.travelling.specs.Travelling.{Flight, Standing}
 use Rattle.refinement.proofs.FactsAlong.{facts_along}
 
 -- none of the items names the packet

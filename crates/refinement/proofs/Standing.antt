@@ -14,8 +14,7 @@ use Rattle.packet_laws.specs.Facts.{what_is_known}
 use Rattle.packet_laws.proofs.Rests.{numbered, ways_of_all}
 use Rattle.refinement.specs.Refinement.{RefineJournal, Control}
 use Rattle.refinement.specs.Flights.{flight_in, flight_of}
-use Rattle.travelling.specs.Travelling.{Flights, numbers_at, stands_at, flight}
-use Rattle.travelling.specs.declared.travelling.Flight.{Flight}
+use Rattle.travelling.specs.Travelling.{Flight, Flights, numbers_at, stands_at, flight}
 use Rattle.travelling.proofs.Numbers.{beyond, none_between}
 use Rattle.refinement.proofs.Known.{Known, reached_known}
 use Rattle.refinement.proofs.OnWay.{IsStanding, got}

@@ -3,7 +3,7 @@ use Rattle.std.specs.Prelude.{ℕ, if◌then◌else◌, Option, Some, None, opti
 use Rattle.policy_rules.specs.declared.packet.Leg.{Leg}
 use Rattle.policy_rules.specs.declared.packet.Leg.TheVariants.{Exit}
 use Rattle.journal.specs.declared.item.Item.{Item}
-use Rattle.travelling.specs.declared.travelling.Flight.{Flight}
+use Rattle.travelling.specs.Travelling.{Flight}
 use Rattle.tunnel.specs.Tunnel.{TunnelValue}
 use Rattle.update_machine.specs.Moves.{header_at}
 use Rattle.update_machine.specs.Packets.{decision_of}

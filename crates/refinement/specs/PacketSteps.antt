@@ -16,7 +16,7 @@ use Rattle.switch_core.specs.State.{serves}
 use Rattle.switch_core.specs.declared.answers.Entered.{Entered}
 use Rattle.switch_core.specs.declared.answers.HopEnd.TheVariants as hop
 use Rattle.refinement.specs.SwitchOf.{switch_of}
-use Rattle.travelling.specs.declared.travelling.Flight.{Flight}
+use Rattle.travelling.specs.Travelling.{Flight}
 use Rattle.tunnel.specs.Moves.{here}
 use Rattle.update_machine.specs.Answers.{IsReached}
 use Rattle.update_machine.specs.Concerns.{NoneConcern, concerns_messages}

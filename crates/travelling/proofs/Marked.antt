@@ -13,8 +13,7 @@ use Rattle.base.specs.Masks.{has}
 use Rattle.base.specs.ComputedMasks.{least_in}
 use Rattle.base.proofs.CallerLemmas.{has-zero, has_above, has_least, least_below, has-xor_other}
 use Rattle.travelling.specs.SwitchIndex.{flipped_if, has_marks, is_marked}
-use Rattle.travelling.specs.Travelling.{AreMarked, Flights, stands_at, flight}
-use Rattle.travelling.specs.declared.travelling.Flight.{Flight}
+use Rattle.travelling.specs.Travelling.{Flight, AreMarked, Flights, stands_at, flight}
 
 -- ---- empty masks
 

@@ -9,7 +9,13 @@ use Rattle.tunnel.specs.Tunnel.{TunnelValue}
 use Rattle.travelling.specs.SwitchIndex.{is_marked}
 use Rattle.travelling.specs.declared.stored_flight.StoredFlight.TheInside.{Inside}
 use Rattle.travelling.specs.declared.standing.Standing as standing
-use Rattle.travelling.specs.declared.travelling.Flight.{Flight}
+
+-- a packet on its way: its tunnel, and the version and the rule of its decision, 0 and None before
+-- it
+pub record Flight : Type 0 where
+  pub tunnel : TunnelValue
+  pub version : ℕ
+  pub rule : Option ℕ
 
 -- of the packet of each number what is known of it, if it travels
 abbrev pub Flights : Type 0

@@ -23,5 +23,5 @@ mod travelling;
 pub use journal::SharedRoute;
 pub use standing::Standing;
 pub use stored_flight::StoredFlight;
-pub use travelling::{Flight, Travelling};
+pub use travelling::Travelling;
 pub use tunnel::Tunnel;

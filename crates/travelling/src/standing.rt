@@ -1,12 +1,12 @@
 ghost use Rattle.std.specs.Prelude.{◌≡◌, IfOk, unwrap_or};
 ghost use Rattle.std.specs.Option.{option_copied};
 ghost use Rattle.failover.specs.Links.{no_links};
-ghost use Rattle.travelling.specs.Travelling.{standing_at, standing_kept};
+ghost use Rattle.travelling.specs.Travelling.{standing_at, standing_kept, travels_by};
 
-use crate::travelling::Flight;
 use five_tuple::Header;
 use journal::{DownSet, SharedLinks};
 use std::alloc::{AllocError, Global};
+use tunnel::Tunnel;
 
 /// A packet at a switch: as it comes in, or at the end of its route.
 #[derive(Drop)]
@@ -25,24 +25,32 @@ pub struct Standing {
 }
 
 impl Standing {
-    /// The packet in flight at a switch, with a copy of its links.
+    /// The packet of this tunnel at a switch, with a copy of its links, and with the version and
+    /// the rule of its decision.
     ///
     /// # Errors
     /// Want of memory alone.
-    pub fn of(alloc: Global, flight: &Flight, switch: u32) -> Result<Standing, AllocError>
-        ensures at { IfOk result (λ at. standing_kept at ≡ standing_at switch flight.now) }
-        ensures version { IfOk result (λ at. at.version ≡ flight.now.version) }
-        ensures rule { IfOk result (λ at. at.rule ≡ flight.now.rule) }
+    pub fn of(
+        alloc: Global,
+        tunnel: &Tunnel,
+        version: u32,
+        rule: Option<u32>,
+        switch: u32,
+    ) -> Result<Standing, AllocError>
+        ensures at { IfOk result (λ at. standing_kept at
+            ≡ standing_at switch (travels_by tunnel.now version rule)) }
+        ensures version { IfOk result (λ at. at.version ≡ version) }
+        ensures rule { IfOk result (λ at. at.rule ≡ rule) }
     {
-        let down = SharedLinks::new(alloc, flight.tunnel.down)?;
+        let down = SharedLinks::new(alloc, tunnel.down)?;
         Ok(Standing {
-            packet: flight.tunnel.packet,
-            header: flight.tunnel.header,
-            ingress: flight.tunnel.ingress,
+            packet: tunnel.packet,
+            header: tunnel.header,
+            ingress: tunnel.ingress,
             switch,
             down: Some(down),
-            version: flight.version,
-            rule: flight.rule,
+            version,
+            rule,
         })
     }
 

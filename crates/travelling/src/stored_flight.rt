@@ -3,7 +3,6 @@ ghost use Rattle.tunnel.specs.Moves.{here};
 ghost use Rattle.travelling.specs.Travelling.{HasPlace, begun_at, placed_at, standing_at, standing_kept, travels_by};
 
 use crate::standing::Standing;
-use crate::travelling::Flight;
 use five_tuple::Header;
 use journal::{DownSet, SharedLinks, SharedRoute};
 use policy_rules::{Leg, Targets};
@@ -32,8 +31,7 @@ const _: () = prove!(size_of::<Option<StoredFlight>>() <= 128);
 
 impl Model for StoredFlight {
     ghost use Rattle.tunnel.specs.Tunnel.{IsOnRoute};
-    ghost use Rattle.travelling.specs.Travelling.{flight_kept};
-    ghost use Rattle.travelling.specs.declared.travelling.Flight.{Flight};
+    ghost use Rattle.travelling.specs.Travelling.{Flight, flight_kept};
 
     ghost Value = { Flight };
 
@@ -130,27 +128,37 @@ impl StoredFlight {
         self.leg
     }
 
-    /// The packet in flight, with a copy of its route. It takes no memory.
-    pub fn flight(&self) -> Flight
-        ensures { result ≡ self.now }
+    /// The version of its decision; 0 before it.
+    pub fn version(&self) -> u32
+        ensures { result ≡ self.now.version }
+    {
+        self.version
+    }
+
+    /// The rule of its decision: a row's priority, or `None` for the default and before it.
+    pub fn rule(&self) -> Option<u32>
+        ensures { result ≡ self.now.rule }
+    {
+        self.rule
+    }
+
+    /// Its tunnel, with a copy of its route. It takes no memory.
+    pub fn tunnel(&self) -> Tunnel
+        ensures { result ≡ self.now.tunnel }
     {
         let down = match &self.down {
             None => DownSet::empty(),
             Some(links) => *links.get(),
         };
-        Flight {
-            tunnel: Tunnel {
-                packet: self.packet,
-                header: self.header,
-                ingress: self.ingress,
-                leg: self.leg,
-                targets: self.targets,
-                route: *self.route.get(),
-                place: self.place,
-                down,
-            },
-            version: self.version,
-            rule: self.rule,
+        Tunnel {
+            packet: self.packet,
+            header: self.header,
+            ingress: self.ingress,
+            leg: self.leg,
+            targets: self.targets,
+            route: *self.route.get(),
+            place: self.place,
+            down,
         }
     }
 

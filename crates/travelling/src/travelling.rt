@@ -15,17 +15,6 @@ use crate::stored_flight::StoredFlight;
 use crate::switch_index::SwitchIndex;
 use std::alloc::{AllocError, Global};
 use std::marker::Model;
-use tunnel::Tunnel;
-
-/// A packet on its way.
-#[derive(Clone, Copy, Debug)]
-pub struct Flight {
-    pub tunnel: Tunnel,
-    /// The version of its decision; 0 before it.
-    pub version: u32,
-    /// The rule of its decision: a row's priority, or `None` for the default and before it.
-    pub rule: Option<u32>,
-}
 
 /// The packets on their way. Contracts see what is known of the packet of each number, if it
 /// travels.
@@ -73,16 +62,6 @@ impl Travelling {
     {
         match self.slots.get(packet as usize) {
             Some(Some(kept)) => Some(kept),
-            _ => None,
-        }
-    }
-
-    /// What is known of the packet, if it travels. It takes no memory.
-    pub fn get(&self, packet: u32) -> Option<Flight>
-        ensures { result ≡ flight self.now packet }
-    {
-        match self.slots.get(packet as usize) {
-            Some(Some(kept)) => Some(kept.flight()),
             _ => None,
         }
     }

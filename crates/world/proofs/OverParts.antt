@@ -12,10 +12,9 @@ use Rattle.update_machine.specs.Pieces.{piece}
 use Rattle.world_log.specs.Packets.{coming_in, entry, hop_written, hop_posts, hop_flight, hopped_switch}
 use Rattle.world.specs.Parts.{IsReadyForStep, control_in, setting_in}
 use Rattle.refinement.specs.Refinement.{RefineJournal}
-use Rattle.travelling.specs.Travelling.{Flights, WithOne, flight}
+use Rattle.travelling.specs.Travelling.{Flight, Flights, WithOne, flight}
 use Rattle.world_log.specs.Writing.{entered_items, entered_posts, entered_flight}
 use Rattle.world.specs.declared.parts.Parts.{Parts}
-use Rattle.travelling.specs.declared.travelling.Flight.{Flight}
 use Rattle.refinement.proofs.Asking.{can_ask, within_here}
 use Rattle.refinement.proofs.CanAsk.{CanAsk}
 use Rattle.refinement.proofs.HopRefines.{hop_piece_of, hop_refines}

@@ -31,5 +31,4 @@ mod world;
 pub use controller::PlanError;
 pub use error::Full;
 pub use files::{Compiled, Files};
-pub use travelling::Flight;
 pub use world::World;

@@ -4,8 +4,7 @@ use Rattle.std.specs.Prelude.{IsErr, OnErr, OnOk, Result}
 use Rattle.std.proofs.lemmas.Result.{on_err_weaker, on_ok_weaker}
 use Rattle.journal.specs.declared.item.Item.{Item}
 use Rattle.message_bag.specs.Posts.{Post}
-use Rattle.travelling.specs.Travelling.{WithOne}
-use Rattle.travelling.specs.declared.travelling.Flight.{Flight}
+use Rattle.travelling.specs.Travelling.{Flight, WithOne}
 use Rattle.world_log.specs.Writing.{IsPart, LogAfter}
 use Rattle.world_log.specs.declared.log.Log.{Log}
 use Rattle.world_log.proofs.Writing.{both_written, none_ok, on_err, part_none, part_of_rest}

@@ -15,8 +15,7 @@ use Rattle.switch_core.specs.declared.answers.HopEnd.{HopEnd}
 use Rattle.switch_core.specs.declared.answers.HopEnd.TheVariants as hop
 use Rattle.tunnel.specs.Moves.{advanced_tunnel, next}
 use Rattle.tunnel.specs.Tunnel.{TunnelValue}
-use Rattle.travelling.specs.Travelling.{Standing, placed_at, standing_at}
-use Rattle.travelling.specs.declared.travelling.Flight.{Flight}
+use Rattle.travelling.specs.Travelling.{Flight, Standing, placed_at, standing_at}
 use Rattle.world_log.specs.Packets.{arrival, arrival_items, arrival_posts, ended_items, ended_posts, ended_switch, ended_flight, hop_posts, hop_flight, hop_written, hopped_switch, turned_items}
 use Rattle.world_log.specs.Writing.{IsPart, LogAfter, arrived_items, arrived_posts, arrived_flight, packet_standing}
 use Rattle.world_log.specs.declared.log.Log.{Log}

@@ -14,9 +14,8 @@ use Rattle.switch_core.specs.declared.answers.Entered.{Entered}
 use Rattle.switch_core.specs.declared.answers.HopEnd.{HopEnd}
 use Rattle.switch_core.specs.declared.answers.HopEnd.TheVariants as hop
 use Rattle.tunnel.specs.Moves.{next}
-use Rattle.travelling.specs.Travelling.{Standing, standing_at}
+use Rattle.travelling.specs.Travelling.{Flight, Standing, standing_at}
 use Rattle.world_log.specs.Writing.{arrived_items, arrived_posts, arrived_flight}
-use Rattle.travelling.specs.declared.travelling.Flight.{Flight}
 
 -- a packet that comes in at a switch
 abbrev pub coming_in : ℕ → Header → ℕ → Standing

@@ -25,8 +25,7 @@ use Rattle.switch_core.specs.declared.packet.Packet.{Packet}
 use Rattle.tunnel.specs.Tunnel.{TunnelValue}
 use Rattle.update_machine.specs.Messages.{sent_from}
 use Rattle.update_machine.specs.Moves.{takes_route}
-use Rattle.travelling.specs.Travelling.{Standing, WithOne}
-use Rattle.travelling.specs.declared.travelling.Flight.{Flight}
+use Rattle.travelling.specs.Travelling.{Flight, Standing, WithOne}
 use Rattle.world_log.specs.declared.log.Log.{Log}
 
 -- the items begin with what was written behind the old journal

@@ -2,8 +2,7 @@ ghost use Rattle.std.specs.Prelude.{◌≡◌, ◌+◌, ◌-◌, ◌^◌, ◌<�
 ghost use Rattle.message_bag.specs.Posts.{new_post};
 ghost use Rattle.switch_core.specs.Exports.{CanLookUp, IsAtAuthority, answer_of, arrived_on, cached_by, call_counted, hop_answer, link_found_down, next_of, serves, site_of};
 ghost use Rattle.switch_core.specs.declared.answers.HopEnd.TheVariants.{Arrive};
-ghost use Rattle.travelling.specs.Travelling.{standing_kept, flight};
-ghost use Rattle.travelling.specs.declared.travelling.Flight.{Flight as TravellerValue};
+ghost use Rattle.travelling.specs.Travelling.{Flight, flight, standing_kept, travels_by};
 ghost use Rattle.journal.specs.declared.item.Item.TheVariants.{Rerouted};
 ghost use Rattle.tunnel.specs.Moves.{next};
 ghost use Rattle.update_machine.specs.Exports.{sent_from};
@@ -17,7 +16,8 @@ use policy_rules::{Action, Cause, Leg, Targets};
 use std::alloc::{AllocError, Global};
 use switch_core::{Decision, HopEnd, Received, Site, Switch, Verdict};
 use ternary::Word;
-use travelling::{Flight, Standing, StoredFlight};
+use travelling::{Standing, StoredFlight};
+use tunnel::Tunnel;
 
 impl Log {
     /// A packet comes in at the switch, which is asked what becomes of it there.
@@ -93,20 +93,20 @@ impl Log {
             (λ t. t.tunnel.packet ≡ packet) }
         requires serving { IsTrue (serves switch.old) }
         requires stamped { CanLookUp switch.old }
-        requires authority { (t : TravellerValue) → flight self.old.travelling packet ≡ Some t
+        requires authority { (t : Flight) → flight self.old.travelling packet ≡ Some t
             → (hop_answer switch.old site.near t.tunnel).end ≡ Arrive
             → IsAtAuthority switch.old t.tunnel.header t.tunnel.leg }
-        requires ingress { (t : TravellerValue) → flight self.old.travelling packet ≡ Some t
+        requires ingress { (t : Flight) → flight self.old.travelling packet ≡ Some t
             → t.tunnel.ingress < 64 }
         requires few { length self.old.bag < 2 ^ 32 - 1 }
-        ensures log { (t : TravellerValue) → flight self.old.travelling packet ≡ Some t
+        ensures log { (t : Flight) → flight self.old.travelling packet ≡ Some t
             → LogAfter result
             (hop_written (length self.old.bag + 1) switch.old site.entry.near
             site.entry.ports.now t)
             (hop_posts switch.old site.entry.near site.entry.ports.now t) packet
             (hop_flight switch.old site.entry.near site.entry.ports.now t)
             self.old self.new }
-        ensures counted { (t : TravellerValue) → flight self.old.travelling packet ≡ Some t
+        ensures counted { (t : Flight) → flight self.old.travelling packet ≡ Some t
             → OnOk result (switch.new ≡ hopped_switch switch.old site.entry.near t) }
     {
         let kept = self.travelling.look(packet).unwrap();
@@ -139,28 +139,30 @@ impl Log {
             (λ t. t.tunnel.packet ≡ packet) }
         requires serving { IsTrue (serves switch.old) }
         requires stamped { CanLookUp switch.old }
-        requires authority { (t : TravellerValue) → flight self.old.travelling packet ≡ Some t
+        requires authority { (t : Flight) → flight self.old.travelling packet ≡ Some t
             → (hop_answer switch.old site.near t.tunnel).end ≡ Arrive
             → IsAtAuthority switch.old t.tunnel.header t.tunnel.leg }
-        requires ingress { (t : TravellerValue) → flight self.old.travelling packet ≡ Some t
+        requires ingress { (t : Flight) → flight self.old.travelling packet ≡ Some t
             → t.tunnel.ingress < 64 }
         requires blocked { IsSomeAnd (flight self.old.travelling packet)
             (λ t. IsSome (link_found_down site.near (next t.tunnel))) }
         requires few { length self.old.bag < 2 ^ 32 - 1 }
-        ensures log { (t : TravellerValue) → flight self.old.travelling packet ≡ Some t
+        ensures log { (t : Flight) → flight self.old.travelling packet ≡ Some t
             → LogAfter result
             (hop_written (length self.old.bag + 1) switch.old site.entry.near
             site.entry.ports.now t)
             (hop_posts switch.old site.entry.near site.entry.ports.now t) packet
             (hop_flight switch.old site.entry.near site.entry.ports.now t)
             self.old self.new }
-        ensures counted { (t : TravellerValue) → flight self.old.travelling packet ≡ Some t
+        ensures counted { (t : Flight) → flight self.old.travelling packet ≡ Some t
             → OnOk result (switch.new ≡ hopped_switch switch.old site.entry.near t) }
     {
         let kept = self.travelling.look(packet).unwrap();
+        let version = kept.version();
+        let rule = kept.rule();
         let leg = kept.leg();
-        let mut flight = kept.flight();
-        let hop = switch.hop(&mut flight.tunnel, site.near);
+        let mut tunnel = kept.tunnel();
+        let hop = switch.hop(&mut tunnel, site.near);
         let here = switch.number();
         let other = hop.found.unwrap();
         self.journal.push(Item::FoundDown {
@@ -170,11 +172,11 @@ impl Log {
         })?;
         match hop.end {
             HopEnd::Stuck(cause) => {
-                let at = Standing::of(alloc, &flight, here)?;
+                let at = Standing::of(alloc, &tunnel, version, rule, here)?;
                 self.stuck(alloc, at, cause, leg)
             }
             HopEnd::Move(next) => {
-                let kept = self.reroute(alloc, &flight)?;
+                let kept = self.reroute(alloc, &tunnel, version, rule)?;
                 self.travelling.put(packet, kept)?;
                 self.journal.push(Item::Hopped {
                     packet,
@@ -182,7 +184,7 @@ impl Log {
                 })
             }
             HopEnd::Arrive => {
-                let kept = self.reroute(alloc, &flight)?;
+                let kept = self.reroute(alloc, &tunnel, version, rule)?;
                 let at = kept.standing(here)?;
                 self.arrive(alloc, at, leg, switch, site)
             }
@@ -190,18 +192,23 @@ impl Log {
     }
 
     // The packet takes another route on its leg, which the item and what is kept of it share.
-    fn reroute(&mut self, alloc: Global, flight: &Flight) -> Result<StoredFlight, AllocError>
-        ensures kept { IfOk result (λ kept. kept ≡ flight.now) }
+    fn reroute(
+        &mut self,
+        alloc: Global,
+        tunnel: &Tunnel,
+        version: u32,
+        rule: Option<u32>,
+    ) -> Result<StoredFlight, AllocError>
+        ensures kept { IfOk result (λ kept. kept ≡ travels_by tunnel.now version rule) }
         ensures written { OnOk result (self.new.journal ≡ self.old.journal
-            ++ Rerouted flight.now.tunnel.packet flight.now.tunnel.route ∷ []) }
+            ++ Rerouted tunnel.now.packet tunnel.now.route ∷ []) }
         ensures unwritten { OnErr result (self.new.journal ≡ self.old.journal) }
         ensures unsent { self.new.bag ≡ self.old.bag }
         ensures travelling { self.new.travelling ≡ self.old.travelling }
     {
-        let tunnel = &flight.tunnel;
         let packet = tunnel.packet;
         let route = SharedRoute::new(alloc, tunnel.route)?;
-        let kept = StoredFlight::new(alloc, tunnel, flight.version, flight.rule, route.clone()?)?;
+        let kept = StoredFlight::new(alloc, tunnel, version, rule, route.clone()?)?;
         self.journal.push(Item::Rerouted { packet, route })?;
         Ok(kept)
     }

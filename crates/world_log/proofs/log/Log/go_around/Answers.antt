@@ -12,8 +12,7 @@ use Rattle.switch_core.specs.Moving.{hop_answer}
 use Rattle.switch_core.specs.State.{SwitchValue, call_counted}
 use Rattle.switch_core.specs.declared.answers.HopEnd.{HopEnd}
 use Rattle.switch_core.specs.declared.answers.HopEnd.TheVariants as hop
-use Rattle.travelling.specs.Travelling.{Standing, WithOne, standing_at, standing_kept, flight}
-use Rattle.travelling.specs.declared.travelling.Flight.{Flight}
+use Rattle.travelling.specs.Travelling.{Flight, Standing, WithOne, standing_at, standing_kept, flight}
 use Rattle.tunnel.specs.Tunnel.{TunnelValue}
 use Rattle.world_log.specs.Packets.{hop_posts, hop_flight, hop_written}
 use Rattle.world_log.specs.Writing.{LogAfter, arrived_items, arrived_posts, arrived_flight, packet_standing}
@@ -25,13 +24,25 @@ use Rattle.world_log.proofs.Writing.{both_written}
 use Rattle.world_log.proofs.log.Log.go_around.Goals as goal
 use Rattle.world_log.proofs.log.Log.go_around.Goals.{After-unwrap-other}
 
-its : (c : After-unwrap-other) → ◌≡◌ {A = Option Flight} (Some c.flight-flight.result)
+-- the packet in flight
+abbrev its_flight : After-unwrap-other → Flight
+its_flight c = record {
+  tunnel = c.tunnel-tunnel.result;
+  version = c.version-version.result;
+  rule = c.rule-rule.result;
+}
+
+its : (c : After-unwrap-other) → ◌≡◌ {A = Option Flight} (Some (its_flight c))
     (flight c.args.self.now.travelling c.args.packet)
-its c = ap Some c.flight-flight.ensures
+its c =
+    let kept = c.unwrap-kept.result.now in
+    ap (λ u. Some (record (its_flight c) { tunnel = u })) c.tunnel-tunnel.ensures
+    ∙ ap (λ n. Some (record kept { version = n; rule = c.rule-rule.result })) c.version-version.ensures
+    ∙ ap (λ r. Some (record kept { rule = r })) c.rule-rule.ensures
     ∙ sym (ap option_copied c.unwrap-kept.ensures) ∙ c.look.ensures
 
 met : (c : After-unwrap-other) (end : HopEnd) → c.hop-hop.result.end ≡ end
-    → IsMet c.args.switch.now c.args.site.near c.flight-flight.result c.args.packet
+    → IsMet c.args.switch.now c.args.site.near (its_flight c) c.args.packet
     c.number-here.result c.unwrap-other.result end c.hop-hop.new.t
 met c end is = record {
   same = subst (λ o. IsSomeAnd o (λ (t : Flight). t.tunnel.packet ≡ c.args.packet))
@@ -43,17 +54,17 @@ met c end is = record {
 }
 
 -- it is the same packet behind the switch's move
-same : (c : After-unwrap-other) → SamePacket c.flight-flight.result.tunnel
-    (hop_answer c.args.switch.now c.args.site.near c.flight-flight.result.tunnel).tunnel
-same c = hopped_same c.args.switch.now c.args.site.near c.flight-flight.result.tunnel
+same : (c : After-unwrap-other) → SamePacket (its_flight c).tunnel
+    (hop_answer c.args.switch.now c.args.site.near (its_flight c).tunnel).tunnel
+same c = hopped_same c.args.switch.now c.args.site.near (its_flight c).tunnel
 
 packet_is : (c : After-unwrap-other) → c.hop-hop.new.t.packet ≡ c.args.packet
 packet_is c = ap (λ (u : TunnelValue). u.packet) c.hop-hop.ensures.tunnel ∙ (same c).packet
     ∙ (met c c.hop-hop.result.end refl).same
 
-leg_was : (c : After-unwrap-other) → c.leg-leg.result ≡ c.flight-flight.result.tunnel.leg
+leg_was : (c : After-unwrap-other) → c.leg-leg.result ≡ (its_flight c).tunnel.leg
 leg_was c = c.leg-leg.ensures
-    ∙ ap (λ (t : Flight). t.tunnel.leg) (sym c.flight-flight.ensures)
+    ∙ ap (λ (u : TunnelValue). u.leg) (sym c.tunnel-tunnel.ensures)
 
 leg_is : (c : After-unwrap-other) → c.leg-leg.result ≡ c.hop-hop.new.t.leg
 leg_is c = leg_was c
@@ -76,7 +87,7 @@ rerouted c old begun new first grown =
 pub returns-in_ok-at-in-Stuck-clause-log : goal.returns-in_ok-at-in-Stuck-clause-log
 returns-in_ok-at-in-Stuck-clause-log c =
     let before = (goal.at.returns-in_ok-at-in-Stuck-clause-log c).After-unwrap-other in
-    let t = c.flight-flight.result in
+    let t = its_flight before in
     let s = c.args.switch.now in
     let near = c.args.site.near in
     let ports = c.args.site.ports.now in
@@ -105,7 +116,7 @@ returns-in_ok-at-in-Stuck-clause-log c =
 pub returns-in_err-put-in-Move-clause-log : goal.returns-in_err-put-in-Move-clause-log
 returns-in_err-put-in-Move-clause-log c =
     let before = (goal.at.returns-in_err-put-in-Move-clause-log c).After-unwrap-other in
-    let t = c.flight-flight.result in
+    let t = its_flight before in
     let s = c.args.switch.now in
     let near = c.args.site.near in
     let ports = c.args.site.ports.now in
@@ -130,7 +141,7 @@ returns-in_err-put-in-Move-clause-log c =
 pub returns-in_ok-put-in-Move-clause-log : goal.returns-in_ok-put-in-Move-clause-log
 returns-in_ok-put-in-Move-clause-log c =
     let before = (goal.at.returns-in_ok-put-in-Move-clause-log c).After-unwrap-other in
-    let t = c.flight-flight.result in
+    let t = its_flight before in
     let s = c.args.switch.now in
     let near = c.args.site.near in
     let ports = c.args.site.ports.now in
@@ -164,7 +175,7 @@ returns-in_ok-put-in-Move-clause-log c =
 pub returns-in_err-at-in-Arrive-clause-log : goal.returns-in_err-at-in-Arrive-clause-log
 returns-in_err-at-in-Arrive-clause-log c =
     let before = (goal.at.returns-in_err-at-in-Arrive-clause-log c).After-unwrap-other in
-    let t = c.flight-flight.result in
+    let t = its_flight before in
     let s = c.args.switch.now in
     let near = c.args.site.near in
     let ports = c.args.site.ports.now in
@@ -184,7 +195,7 @@ returns-in_err-at-in-Arrive-clause-log c =
 pub arrive-requires-clause-authority : goal.arrive-requires-clause-authority
 arrive-requires-clause-authority c =
     let before = (goal.at.arrive-requires-clause-authority c).After-unwrap-other in
-    let t = c.flight-flight.result in
+    let t = its_flight before in
     let s = c.args.switch.now in
     let header : c.in_ok-at-in-Arrive.at.header ≡ t.tunnel.header =
     ap (λ (a : Standing). a.header) c.in_ok-at-in-Arrive.ensures.at
@@ -200,17 +211,17 @@ arrive-requires-clause-authority c =
 pub arrive-requires-clause-ingress : goal.arrive-requires-clause-ingress
 arrive-requires-clause-ingress c =
     let before = (goal.at.arrive-requires-clause-ingress c).After-unwrap-other in
-    let ingress : c.in_ok-at-in-Arrive.at.ingress ≡ c.flight-flight.result.tunnel.ingress =
+    let ingress : c.in_ok-at-in-Arrive.at.ingress ≡ (its_flight before).tunnel.ingress =
     ap (λ (a : Standing). a.ingress) c.in_ok-at-in-Arrive.ensures.at
     ∙ ap (λ (k : Flight). k.tunnel.ingress) c.in_ok-kept-in-Arrive.ensures.kept
     ∙ ap (λ (u : TunnelValue). u.ingress) c.hop-hop.ensures.tunnel ∙ (same before).ingress in
     subst (λ i. i < 64) (sym ingress)
-    (c.requires.ingress c.flight-flight.result (sym (its before)))
+    (c.requires.ingress (its_flight before) (sym (its before)))
 
 pub returns-in_ok-at-in-Arrive-clause-log : goal.returns-in_ok-at-in-Arrive-clause-log
 returns-in_ok-at-in-Arrive-clause-log c =
     let before = (goal.at.returns-in_ok-at-in-Arrive-clause-log c).After-unwrap-other in
-    let t = c.flight-flight.result in
+    let t = its_flight before in
     let s = c.args.switch.now in
     let near = c.args.site.near in
     let ports = c.args.site.ports.now in

@@ -8,8 +8,7 @@ use Rattle.switch_core.specs.Ends.{around}
 use Rattle.switch_core.specs.Moving.{Moved, hop_answer, is_free}
 use Rattle.switch_core.specs.State.{SwitchValue, call_counted}
 use Rattle.switch_core.specs.declared.answers.HopEnd.TheVariants.{Arrive}
-use Rattle.travelling.specs.Travelling.{Standing, standing_at, standing_kept, flight}
-use Rattle.travelling.specs.declared.travelling.Flight.{Flight}
+use Rattle.travelling.specs.Travelling.{Flight, Standing, standing_at, standing_kept, flight}
 use Rattle.tunnel.specs.Moves.{next}
 use Rattle.world_log.specs.Packets.{hop_posts, hop_flight, hop_written, hopped_switch}
 use Rattle.world_log.specs.Writing.{LogAfter, arrived_items, arrived_posts, arrived_flight, packet_standing}
