@@ -35,7 +35,7 @@ impl Parts {
         let code = match self.controller.submit(alloc, plan) {
             Ok(sends) => {
                 self.log.journal.push(Item::Submitted { file, version })?;
-                return self.log.note_acts(alloc, sends.items());
+                return self.log.note_acts(alloc, sends.into_items());
             }
             Err(Failure::Refused(SubmitError::TooManyLive)) => TOO_MANY_LIVE,
             Err(Failure::Refused(SubmitError::TooManyVersions)) => TOO_MANY_VERSIONS,
@@ -58,7 +58,7 @@ impl Parts {
         }
         let sends = self.controller.over(alloc, switch)?;
         self.log.journal.push(Item::OverNow { switch })?;
-        self.log.note_acts(alloc, sends.items())
+        self.log.note_acts(alloc, sends.into_items())
     }
 
     /// A switch that is up tells the controller its boot again, and its neighbours all adverts that
@@ -74,11 +74,10 @@ impl Parts {
         let here = switch as usize;
         let count = self.switches.len() as u32;
         let near = self.near[here];
-        let told = adverts_again(alloc, &self.switches[here], switch, count, near)?;
+        let messages = adverts_again(alloc, &self.switches[here], switch, count, near)?;
         let sends = self.controller.resend(alloc, switch)?;
-        let messages = told.as_slice();
-        let acts = sends.items();
-        if are_none(messages, acts) {
+        let acts = sends.into_items();
+        if are_none(messages.as_slice(), acts.as_slice()) {
             return self.log.journal.push(Item::Nothing);
         }
         self.log.send_and_note(alloc, messages, acts)

@@ -46,7 +46,7 @@ impl Parts {
         let near = self.near[switch as usize];
         let heard = self.switches[switch as usize].hear(alloc, number, &message.body, near)?;
         match heard.opened {
-            None => self.log.send_all(alloc, heard.replies.items()),
+            None => self.log.send_all(alloc, heard.replies.into_items()),
             Some(version) => {
                 self.log.journal.push(Item::Opened { switch, version })?;
                 self.change_links(alloc)
@@ -84,7 +84,7 @@ impl Parts {
         let now = usable(&self.links, &self.switches);
         let messages = relink(alloc, &mut self.switches, &self.near, &now)?;
         self.near = now;
-        self.log.send_all(alloc, &messages)
+        self.log.send_all(alloc, messages)
     }
 }
 
@@ -111,5 +111,5 @@ fn deliver_to_controller(
     ensures travelling { log.new.travelling ≡ log.old.travelling }
 {
     let sends = controller.hear(alloc, body)?;
-    log.note_acts(alloc, sends.items())
+    log.note_acts(alloc, sends.into_items())
 }

@@ -1,7 +1,7 @@
 -- What messages and acts write, one part after another.
-use Rattle.std.proofs.Common.{ℕ, ◌≡◌, ◌+◌, ◌<◌, ◌≤◌, List, [], ◌∷◌, ◌++◌, refl, ap, sym, ◌∙◌, length, length-append, length-take-le, append-nil, append_assoc, drop, get_or, map, subst, take, take-append-drop, arith}
+use Rattle.std.proofs.Common.{ℕ, ◌≡◌, ◌+◌, ◌<◌, ◌≤◌, List, [], ◌∷◌, ◌++◌, refl, ap, sym, ◌∙◌, length, length-append, append-nil, append_assoc, get_or, map, subst, arith}
 use Rattle.std.specs.Prelude.{All}
-use Rattle.std.proofs.lemmas.List.{get_or-append-add, get_or-map, get_or_append_left, length-map, map-append, take_more}
+use Rattle.std.proofs.lemmas.List.{get_or-append-add, get_or-map, get_or_append_left, length-map, map-append}
 use Rattle.message_bag.specs.Posts.{Post, new_post}
 use Rattle.controller.specs.declared.sends.Act.{Act}
 use Rattle.controller.specs.declared.sends.Act.TheVariants as act
@@ -72,10 +72,41 @@ posts_one (act.Post message) = refl
 
 -- ---- loops
 
--- what holds of all holds of the one at a place
-pub spelled_at : {A : Type 0} (P : A → Type 0) (xs : List A) (k : ℕ) (one : A) → k < length xs
-    → one ≡ get_or xs k one → All P xs → P one
-spelled_at P xs k one within is all = subst P (sym is) (all k one within)
+-- the first items came, and the others are to come, so many
+pub record HaveCome {A : Type 0} (all first rest : List A) (left : ℕ) : Type 0 where
+  pub parts : first ++ rest ≡ all
+  pub many : length first + left ≡ length all
+
+pub come_next : {A : Type 0} (all first rest later : List A) (one : A) (left : ℕ)
+    → HaveCome all first rest left → rest ≡ one ∷ later → first ++ one ∷ later ≡ all
+come_next all first rest later one left come next =
+    ap (λ xs. first ++ xs) (sym next) ∙ come.parts
+
+pub come_more : {A : Type 0} (all first rest later : List A) (one : A) (left after : ℕ)
+    → HaveCome all first rest left → (rest ≡ one ∷ later) × (after + 1 ≡ left)
+    → HaveCome all (first ++ one ∷ []) later after
+come_more all first rest later one left after come step = record {
+  parts = append_assoc first (one ∷ []) later
+      ∙ come_next all first rest later one left come step.0;
+  many = omega (arith, length-append first (one ∷ []), come.many, step.1);
+}
+
+-- once none is left
+pub come_all : {A : Type 0} (all first rest : List A) (left : ℕ) → HaveCome all first rest left
+    → left ≡ 0 → first ≡ all
+come_all all first [] left come none = sym (append-nil first) ∙ come.parts
+come_all all first (one ∷ rest) left come none =
+    absurd (omega (arith, come.many, none, ap length come.parts, length-append first (one ∷ rest)))
+
+-- what holds of all holds of the next one
+pub holds_next : {A : Type 0} (P : A → Type 0) (all first later : List A) (one : A)
+    → first ++ one ∷ later ≡ all → All P all → P one
+holds_next P all first later one parts holds =
+    subst P
+    (ap (λ xs. get_or xs (length first + 0) one) (sym parts)
+    ∙ get_or-append-add first (one ∷ later) 0 one)
+    (holds (length first + 0) one
+    (omega (arith, ap length parts, length-append first (one ∷ later))))
 
 -- the first messages are posted, behind this journal and these posts
 pub record AreSent (journal : List Item) (bag : List Post) (messages : List Message)
@@ -83,63 +114,56 @@ pub record AreSent (journal : List Item) (bag : List Post) (messages : List Mess
   pub written : now ≡ journal ++ sent_from (length bag + 1) messages
   pub posted : posts ≡ bag ++ map new_post messages
 
-pub sent_more : (journal now after : List Item) (bag posts later : List Post)
-    (messages : List Message) (k : ℕ) (one : Message) → k < length messages
-    → one ≡ get_or messages k one → AreSent journal bag (take k messages) now posts
-    → after ≡ now ++ item.Sent (length posts + 1) one ∷ [] → later ≡ posts ++ new_post one ∷ []
-    → AreSent journal bag (take (k + 1) messages) after later
-sent_more journal now after bag posts later messages k one within is so sent post =
-    let first : List Message = take k messages in
-    let next : take (k + 1) messages ≡ first ++ one ∷ [] =
-    take_more messages k one within ∙ ap (λ x. first ++ x ∷ []) (sym is) in
-    let number : length posts + 1 ≡ length bag + 1 + length first =
-    omega (
-      arith,
-      ap length so.posted,
-      length-append bag (map new_post first),
-      length-map first new_post,
-    ) in record {
-      written = both_written journal now after (sent_from (length bag + 1) first)
-          (item.Sent (length posts + 1) one ∷ []) so.written sent
-          ∙ ap (λ items. journal ++ (sent_from (length bag + 1) first ++ items))
-          (sym (sent_one (length posts + 1) one) ∙ ap (λ n. sent_from n (one ∷ [])) number)
-          ∙ ap (λ items. journal ++ items) (sym (sent_append (length bag + 1) first (one ∷ [])))
-          ∙ ap (λ these. journal ++ sent_from (length bag + 1) these) (sym next);
-      posted = both_written bag posts later (map new_post first) (new_post one ∷ []) so.posted post
-          ∙ ap (λ more. bag ++ more) (sym (map-append new_post first (one ∷ [])))
-          ∙ ap (λ these. bag ++ map new_post these) (sym next);
-    }
-
-pub sent_part : (journal now : List Item) (bag posts : List Post) (messages : List Message)
-    (k : ℕ) → AreSent journal bag (take k messages) now posts
-    → IsPart journal (sent_from (length bag + 1) messages) now
-sent_part journal now bag posts messages k so = record {
-  written = sent_from (length bag + 1) (take k messages);
-  rest = sent_from (length bag + 1 + length (take k messages)) (drop k messages);
-  split = ap (sent_from (length bag + 1)) (sym (take-append-drop k messages))
-      ∙ sent_append (length bag + 1) (take k messages) (drop k messages);
-  grown = so.written;
-}
-
-pub sent_few : (journal now : List Item) (bag posts : List Post) (messages : List Message)
-    (k : ℕ) → AreSent journal bag (take k messages) now posts → k < length messages
-    → length posts < length bag + length messages
-sent_few journal now bag posts messages k so within = omega (
-  arith,
-  ap length so.posted,
-  length-append bag (map new_post (take k messages)),
-  length-map (take k messages) new_post,
-  length-take-le k messages (omega (arith, within)),
-  within,
-)
-
-pub sent_begun : (journal : List Item) (bag : List Post) (messages : List Message)
-    → AreSent journal bag (take 0 messages) journal bag
-sent_begun journal bag messages = record {
+pub sent_begun : (journal : List Item) (bag : List Post) → AreSent journal bag [] journal bag
+sent_begun journal bag = record {
   written = sym (append-nil journal) ∙ ap (λ items. journal ++ items)
       (sym (sent_none (length bag + 1)));
   posted = sym (append-nil bag);
 }
+
+module _ (journal now : List Item) (bag posts : List Post) (first : List Message)
+    (so : AreSent journal bag first now posts) where
+  pub sent_more : (after : List Item) (later : List Post) (one : Message)
+      → after ≡ now ++ item.Sent (length posts + 1) one ∷ []
+      → later ≡ posts ++ new_post one ∷ [] → AreSent journal bag (first ++ one ∷ []) after later
+  sent_more after later one sent post =
+      let number : length posts + 1 ≡ length bag + 1 + length first =
+      omega (
+        arith,
+        ap length so.posted,
+        length-append bag (map new_post first),
+        length-map first new_post,
+      ) in record {
+        written = both_written journal now after (sent_from (length bag + 1) first)
+            (item.Sent (length posts + 1) one ∷ []) so.written sent
+            ∙ ap (λ items. journal ++ (sent_from (length bag + 1) first ++ items))
+            (sym (sent_one (length posts + 1) one) ∙ ap (λ n. sent_from n (one ∷ [])) number)
+            ∙ ap (λ items. journal ++ items)
+            (sym (sent_append (length bag + 1) first (one ∷ [])));
+        posted = both_written bag posts later (map new_post first) (new_post one ∷ []) so.posted
+            post
+            ∙ ap (λ more. bag ++ more) (sym (map-append new_post first (one ∷ [])));
+      }
+
+  pub sent_part : (rest messages : List Message) → first ++ rest ≡ messages
+      → IsPart journal (sent_from (length bag + 1) messages) now
+  sent_part rest messages all = record {
+    written = sent_from (length bag + 1) first;
+    rest = sent_from (length bag + 1 + length first) rest;
+    split = ap (sent_from (length bag + 1)) (sym all) ∙ sent_append (length bag + 1) first rest;
+    grown = so.written;
+  }
+
+  pub sent_few : (rest messages : List Message) (one : Message) → first ++ one ∷ rest ≡ messages
+      → length posts < length bag + length messages
+  sent_few rest messages one all = omega (
+    arith,
+    ap length so.posted,
+    length-append bag (map new_post first),
+    length-map first new_post,
+    ap length all,
+    length-append first (one ∷ rest),
+  )
 
 -- the first acts are done
 pub record AreDone (journal : List Item) (bag : List Post) (acts : List Act)
@@ -147,71 +171,55 @@ pub record AreDone (journal : List Item) (bag : List Post) (acts : List Act)
   pub written : now ≡ journal ++ act_items (length bag + 1) acts
   pub posted : posts ≡ bag ++ act_posts acts
 
-pub done_more : (journal now after : List Item) (bag posts later : List Post)
-    (acts : List Act) (k : ℕ) (one : Act) → k < length acts
-    → one ≡ get_or acts k one → AreDone journal bag (take k acts) now posts
-    → after ≡ now ++ act_item (length posts + 1) one ∷ [] → later ≡ posts ++ act_post one
-    → AreDone journal bag (take (k + 1) acts) after later
-done_more journal now after bag posts later acts k one within is so done post =
-    let first : List Act = take k acts in
-    let next : take (k + 1) acts ≡ first ++ one ∷ [] =
-    take_more acts k one within ∙ ap (λ x. first ++ x ∷ []) (sym is) in
-    let number : length posts + 1 ≡ length bag + 1 + length (act_posts first) =
-    omega (arith, ap length so.posted, length-append bag (act_posts first)) in record {
-      written = both_written journal now after (act_items (length bag + 1) first)
-          (act_item (length posts + 1) one ∷ []) so.written done
-          ∙ ap (λ items. journal ++ (act_items (length bag + 1) first ++ items))
-          (sym (acts_one (length posts + 1) one) ∙ ap (λ n. act_items n (one ∷ [])) number)
-          ∙ ap (λ items. journal ++ items) (sym (acts_append (length bag + 1) first (one ∷ [])))
-          ∙ ap (λ these. journal ++ act_items (length bag + 1) these) (sym next);
-      posted = both_written bag posts later (act_posts first) (act_post one) so.posted post
-          ∙ ap (λ more. bag ++ (act_posts first ++ more)) (sym (posts_one one))
-          ∙ ap (λ more. bag ++ more) (sym (posts_append first (one ∷ [])))
-          ∙ ap (λ these. bag ++ act_posts these) (sym next);
-    }
-
-pub done_part : (journal now : List Item) (bag posts : List Post) (acts : List Act) (k : ℕ)
-    → AreDone journal bag (take k acts) now posts
-    → IsPart journal (act_items (length bag + 1) acts) now
-done_part journal now bag posts acts k so = record {
-  written = act_items (length bag + 1) (take k acts);
-  rest = act_items (length bag + 1 + length (act_posts (take k acts))) (drop k acts);
-  split = ap (act_items (length bag + 1)) (sym (take-append-drop k acts))
-      ∙ acts_append (length bag + 1) (take k acts) (drop k acts);
-  grown = so.written;
-}
-
-pub done_few : (journal now : List Item) (bag posts : List Post) (acts : List Act) (k : ℕ)
-    (one : Act) → AreDone journal bag (take k acts) now posts → k < length acts
-    → one ≡ get_or acts k one
-    → length posts + length (act_post one) ≤ length bag + length (act_posts acts)
-done_few journal now bag posts acts k one so within is =
-    let first : List Act = take k acts in
-    let next : take (k + 1) acts ≡ first ++ one ∷ [] =
-    take_more acts k one within ∙ ap (λ x. first ++ x ∷ []) (sym is) in
-    let all : act_posts acts ≡ act_posts (take (k + 1) acts) ++ act_posts (drop (k + 1) acts) =
-    ap act_posts (sym (take-append-drop (k + 1) acts))
-    ∙ posts_append (take (k + 1) acts) (drop (k + 1) acts) in
-    let those : act_posts (take (k + 1) acts) ≡ act_posts first ++ act_post one =
-    ap act_posts next ∙ posts_append first (one ∷ [])
-    ∙ ap (λ more. act_posts first ++ more) (posts_one one) in
-    omega (
-      arith,
-      ap length so.posted,
-      length-append bag (act_posts first),
-      ap length all,
-      length-append (act_posts (take (k + 1) acts)) (act_posts (drop (k + 1) acts)),
-      ap length those,
-      length-append (act_posts first) (act_post one),
-    )
-
-pub done_begun : (journal : List Item) (bag : List Post) (acts : List Act)
-    → AreDone journal bag (take 0 acts) journal bag
+pub done_begun : (journal : List Item) (bag : List Post) → AreDone journal bag [] journal bag
 unfolding act_items act_posts
-done_begun journal bag acts = record {
+done_begun journal bag = record {
   written = sym (append-nil journal);
   posted = sym (append-nil bag);
 }
+
+module _ (journal now : List Item) (bag posts : List Post) (first : List Act)
+    (so : AreDone journal bag first now posts) where
+  pub done_more : (after : List Item) (later : List Post) (one : Act)
+      → after ≡ now ++ act_item (length posts + 1) one ∷ [] → later ≡ posts ++ act_post one
+      → AreDone journal bag (first ++ one ∷ []) after later
+  done_more after later one done post =
+      let number : length posts + 1 ≡ length bag + 1 + length (act_posts first) =
+      omega (arith, ap length so.posted, length-append bag (act_posts first)) in record {
+        written = both_written journal now after (act_items (length bag + 1) first)
+            (act_item (length posts + 1) one ∷ []) so.written done
+            ∙ ap (λ items. journal ++ (act_items (length bag + 1) first ++ items))
+            (sym (acts_one (length posts + 1) one) ∙ ap (λ n. act_items n (one ∷ [])) number)
+            ∙ ap (λ items. journal ++ items)
+            (sym (acts_append (length bag + 1) first (one ∷ [])));
+        posted = both_written bag posts later (act_posts first) (act_post one) so.posted post
+            ∙ ap (λ more. bag ++ (act_posts first ++ more)) (sym (posts_one one))
+            ∙ ap (λ more. bag ++ more) (sym (posts_append first (one ∷ [])));
+      }
+
+  pub done_part : (rest acts : List Act) → first ++ rest ≡ acts
+      → IsPart journal (act_items (length bag + 1) acts) now
+  done_part rest acts all = record {
+    written = act_items (length bag + 1) first;
+    rest = act_items (length bag + 1 + length (act_posts first)) rest;
+    split = ap (act_items (length bag + 1)) (sym all) ∙ acts_append (length bag + 1) first rest;
+    grown = so.written;
+  }
+
+  pub done_few : (rest acts : List Act) (one : Act) → first ++ one ∷ rest ≡ acts
+      → length posts + length (act_post one) ≤ length bag + length (act_posts acts)
+  unfolding act_posts
+  done_few rest acts one all =
+      let those : act_posts acts ≡ act_posts first ++ (act_post one ++ act_posts rest) =
+      ap act_posts (sym all) ∙ posts_append first (one ∷ rest) in
+      omega (
+        arith,
+        ap length so.posted,
+        length-append bag (act_posts first),
+        ap length those,
+        length-append (act_posts first) (act_post one ++ act_posts rest),
+        length-append (act_post one) (act_posts rest),
+      )
 
 -- ---- messages, and then acts
 

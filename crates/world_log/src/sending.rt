@@ -16,18 +16,18 @@ impl Log {
     ///
     /// # Errors
     /// Want of memory alone; a part of the items is written then.
-    pub fn send_all(&mut self, alloc: Global, messages: &[Message]) -> Result<(), AllocError>
-        requires { MaySend self.old.bag messages.now }
+    pub fn send_all(&mut self, alloc: Global, messages: Vec<Message>) -> Result<(), AllocError>
+        requires { MaySend self.old.bag messages.items }
         ensures written { OnOk result (self.new.journal
-            ≡ self.old.journal ++ sent_from (length self.old.bag + 1) messages.now) }
+            ≡ self.old.journal ++ sent_from (length self.old.bag + 1) messages.items) }
         ensures posted { OnOk result (self.new.bag
-            ≡ self.old.bag ++ map new_post messages.now) }
+            ≡ self.old.bag ++ map new_post messages.items) }
         ensures part { OnErr result (IsPart self.old.journal
-            (sent_from (length self.old.bag + 1) messages.now) self.new.journal) }
+            (sent_from (length self.old.bag + 1) messages.items) self.new.journal) }
         ensures travelling { self.new.travelling ≡ self.old.travelling }
     {
         for message in messages {
-            self.send(alloc, message.clone()?)?;
+            self.send(alloc, message)?;
         }
         Ok(())
     }
@@ -36,13 +36,13 @@ impl Log {
     ///
     /// # Errors
     /// Want of memory alone; a part of the items is written then.
-    pub fn note_acts(&mut self, alloc: Global, acts: &[Act]) -> Result<(), AllocError>
-        requires { MayNote self.old.bag acts.now }
+    pub fn note_acts(&mut self, alloc: Global, acts: Vec<Act>) -> Result<(), AllocError>
+        requires { MayNote self.old.bag acts.items }
         ensures written { OnOk result (self.new.journal
-            ≡ self.old.journal ++ act_items (length self.old.bag + 1) acts.now) }
-        ensures posted { OnOk result (self.new.bag ≡ self.old.bag ++ act_posts acts.now) }
+            ≡ self.old.journal ++ act_items (length self.old.bag + 1) acts.items) }
+        ensures posted { OnOk result (self.new.bag ≡ self.old.bag ++ act_posts acts.items) }
         ensures part { OnErr result (IsPart self.old.journal
-            (act_items (length self.old.bag + 1) acts.now) self.new.journal) }
+            (act_items (length self.old.bag + 1) acts.items) self.new.journal) }
         ensures travelling { self.new.travelling ≡ self.old.travelling }
     {
         for act in acts {
@@ -58,16 +58,16 @@ impl Log {
     pub fn send_and_note(
         &mut self,
         alloc: Global,
-        messages: &[Message],
-        acts: &[Act],
+        messages: Vec<Message>,
+        acts: Vec<Act>,
     ) -> Result<(), AllocError>
-        requires { MayNote self.old.bag (map Post messages.now ++ acts.now) }
+        requires { MayNote self.old.bag (map Post messages.items ++ acts.items) }
         ensures written { OnOk result (self.new.journal ≡ self.old.journal
-            ++ act_items (length self.old.bag + 1) (map Post messages.now ++ acts.now)) }
+            ++ act_items (length self.old.bag + 1) (map Post messages.items ++ acts.items)) }
         ensures posted { OnOk result (self.new.bag
-            ≡ self.old.bag ++ act_posts (map Post messages.now ++ acts.now)) }
+            ≡ self.old.bag ++ act_posts (map Post messages.items ++ acts.items)) }
         ensures part { OnErr result (IsPart self.old.journal (act_items (length self.old.bag + 1)
-            (map Post messages.now ++ acts.now)) self.new.journal) }
+            (map Post messages.items ++ acts.items)) self.new.journal) }
         ensures travelling { self.new.travelling ≡ self.old.travelling }
     {
         self.send_all(alloc, messages)?;
@@ -75,19 +75,19 @@ impl Log {
     }
 
     // One mark rises, or one message is sent.
-    fn note_act(&mut self, alloc: Global, act: &Act) -> Result<(), AllocError>
-        requires few { length self.old.bag + length (act_post act.now) < 2 ^ 32 }
-        requires spelled { IsSpelled act.now }
+    fn note_act(&mut self, alloc: Global, act: Act) -> Result<(), AllocError>
+        requires few { length self.old.bag + length (act_post act) < 2 ^ 32 }
+        requires spelled { IsSpelled act }
         ensures written { OnOk result (self.new.journal
-            ≡ self.old.journal ++ act_item (length self.old.bag + 1) act.now ∷ []) }
-        ensures posted { OnOk result (self.new.bag ≡ self.old.bag ++ act_post act.now) }
+            ≡ self.old.journal ++ act_item (length self.old.bag + 1) act ∷ []) }
+        ensures posted { OnOk result (self.new.bag ≡ self.old.bag ++ act_post act) }
         ensures unwritten { OnErr result (self.new.journal ≡ self.old.journal) }
         ensures travelling { self.new.travelling ≡ self.old.travelling }
     {
         match act {
-            Act::Current(version) => self.journal.push(Item::Current { version: *version }),
-            Act::Retired(version) => self.journal.push(Item::Retired { version: *version }),
-            Act::Post(message) => self.send(alloc, message.clone()?),
+            Act::Current(version) => self.journal.push(Item::Current { version }),
+            Act::Retired(version) => self.journal.push(Item::Retired { version }),
+            Act::Post(message) => self.send(alloc, message),
         }
     }
 }

@@ -43,7 +43,7 @@ pub note_acts-requires : goal.note_acts-requires
 note_acts-requires c =
     let self = c.args.self.now in
     let ready = c.requires.begins.ready in
-    subst (MayNote self.log.bag) (sym (c.items.ensures ∙ c.in_ok-sends.ensures.sends))
+    subst (MayNote self.log.bag) (sym (c.into_items.ensures ∙ c.in_ok-sends.ensures.sends))
     (gone_may _ _ _ _ _ _ c.requires.row c.args.switch c.index.result.now
     ready.refines ready.may c.index.ensures c.over.new.self
     (sym c.is_up.ensures ∙ c.if-is_up.false) c.over.ensures.after ready.room)
@@ -57,12 +57,12 @@ returns c = λ before row begins.
     settling_acts (at_switch s after_over c.args.self.now.controller.marks) new.marks in
     let down = sym c.is_up.ensures ∙ c.if-is_up.false in
     let its = c.note_acts.ensures in
-    goes_acting (item.OverNow s) acts c.items.result.now c.push-2.new.self begins
+    goes_acting (item.OverNow s) acts c.into_items.result.items c.push-2.new.self begins
     (net_stays refl refl) (none_in _)
     (gone_piece _ _ _ _ _ _ row s c.index.result.now ready.refines ready.may c.index.ensures new
     down
     c.over.ensures.after)
-    c.in_ok-push.ensures.pushed (c.items.ensures ∙ c.in_ok-sends.ensures.sends) its.travelling
+    c.in_ok-push.ensures.pushed (c.into_items.ensures ∙ c.in_ok-sends.ensures.sends) its.travelling
     its.written its.posted its.part
     (gone_refines _ _ _ _ _ _ row s c.index.result.now ready.refines ready.may c.index.ensures new
     down

@@ -137,7 +137,7 @@ send_all-requires c =
     let ready = c.requires.begins.ready in
     let there = found_there _ _ _ _ c.in-Some.is c.in_ok-get.ensures.message in
     let within = hears (goal.at.send_all-requires c).In-Switch in
-    subst (MaySend c.deliver.new.self) (sym (c.items.ensures ∙ c.in_ok-heard.ensures.replies))
+    subst (MaySend c.deliver.new.self) (sym (c.into_items.ensures ∙ c.in_ok-heard.ensures.replies))
     (subst (λ bag. MaySend bag (replies c.index_mut.result.now
     (get_or self.near c.in-Switch.switch 0) c.in-Some.message.body)) (sym c.deliver.ensures)
     (shut_may _ _ _ _ _ _ c.requires.row c.args.number c.in-Switch.switch
@@ -162,7 +162,8 @@ returns-in-None-opened c = λ before row begins.
     let usable = usable_here _ _ _ _ _ _ s ready.refines within.1 in
     let shut = sym c.in_ok-heard.ensures.opened ∙ c.in-None-opened.is in
     let messages : List Message = replies own near message.body in
-    let are : c.items.result.now ≡ messages = c.items.ensures ∙ c.in_ok-heard.ensures.replies in
+    let are : c.into_items.result.items ≡ messages =
+    c.into_items.ensures ∙ c.in_ok-heard.ensures.replies in
     goes_told (item.Delivered n)
     (λ k. sent_from k messages) c.push-2.new.self (length c.deliver.new.self)
     (with_delivered self.log.bag n) (map new_post messages) begins (net_stays refl refl) (record {
@@ -183,7 +184,7 @@ returns-in-None-opened c = λ before row begins.
       posted = subst (λ all. OnOk c.send_all.result
           (c.send_all.new.self.bag ≡ with_delivered self.log.bag n ++ map new_post all)) are
           (subst (λ bag. OnOk c.send_all.result
-          (c.send_all.new.self.bag ≡ bag ++ map new_post c.items.result.now)) c.deliver.ensures
+          (c.send_all.new.self.bag ≡ bag ++ map new_post c.into_items.result.items)) c.deliver.ensures
           c.send_all.ensures.posted);
       refines = on_ok_weaker c.send_all.result (λ done. shut_refines _ _ _ _ _ _ row n s
           message own c.hear.new.self near ready.refines ready.may there c.in-Switch.is within.0

@@ -1,4 +1,4 @@
-use Rattle.std.proofs.Common.{◌≡◌, ◌+◌, ◌++◌, ◌∷◌, ◌==◌, false, true, List, get_or, length, map, refl, sym, subst, ◌∙◌, arith}
+use Rattle.std.proofs.Common.{◌≡◌, ◌+◌, ◌++◌, ◌∷◌, ◌==◌, Bool, false, true, List, ap, get_or, length, map, refl, sym, subst, ◌∙◌, arith}
 use Rattle.std.proofs.lemmas.Result.{on_ok_weaker}
 use Rattle.controller.specs.Sends.{resend_acts}
 use Rattle.controller.specs.declared.sends.Act.{Act}
@@ -35,8 +35,8 @@ pub resend-requires : goal.resend-requires
 resend-requires c =
     known_in c.args.switch c.requires c.requires.begins.ready.may
 
-pub returns-in_err-told : goal.returns-in_err-told
-returns-in_err-told c = λ before row begins.
+pub returns-in_err-messages : goal.returns-in_err-messages
+returns-in_err-messages c = λ before row begins.
     nothing_goes begins (net_stays refl refl) c.from_residual.ensures.0 refl
 
 pub returns-in_err-sends : goal.returns-in_err-sends
@@ -45,16 +45,28 @@ returns-in_err-sends c = λ before row begins.
 
 -- what the switch and the controller have to say, as acts
 said : (c : After-are_none)
-    → map Post c.as_slice-messages.result.now ++ c.items-acts.result.now
+    → map Post c.in_ok-messages.messages.items ++ c.into_items-acts.result.items
     ≡ map Post (adverts_again c.args.switch (length c.args.self.now.switches.items)
     (get_or c.args.self.now.near c.args.switch 0) c.index.result.now)
     ++ resend_acts c.args.self.now.controller c.args.switch
 said c =
     let self = c.args.self.now in
     acts_same self.controller c.args.switch c.len-count.result (length self.switches.items)
-    (get_or self.near c.args.switch 0) _ c.index.result.now c.as_slice-messages.result.now
-    c.items-acts.result.now (c.as_slice-messages.ensures.value ∙ c.in_ok-told.ensures) (omega arith)
-    refl (c.items-acts.ensures ∙ c.in_ok-sends.ensures)
+    (get_or self.near c.args.switch 0) _ c.index.result.now c.in_ok-messages.messages.items
+    c.into_items-acts.result.items c.in_ok-messages.ensures (omega arith) refl
+    (c.into_items-acts.ensures ∙ c.in_ok-sends.ensures)
+
+-- and whether there is nothing of it
+none_said : (c : After-are_none) (b : Bool) → c.are_none.result ≡ b
+    → (length (map Post (adverts_again c.args.switch (length c.args.self.now.switches.items)
+    (get_or c.args.self.now.near c.args.switch 0) c.index.result.now)
+    ++ resend_acts c.args.self.now.controller c.args.switch) == 0) ≡ b
+none_said c b is =
+    sym (ap (λ (acts : List Act). length acts == 0)
+    (ap (λ messages. map Post messages ++ c.as_slice-2.result.now) c.as_slice.ensures.value
+    ∙ ap (λ acts. map Post c.in_ok-messages.messages.items ++ acts) c.as_slice-2.ensures.value
+    ∙ said c))
+    ∙ sym c.are_none.ensures ∙ is
 
 -- ---- nothing is sent
 
@@ -62,11 +74,10 @@ pub returns-then-are_none : goal.returns-then-are_none
 returns-then-are_none c = λ before row begins.
     let self = c.args.self.now in
     let s = c.args.switch in
-    let are = said (goal.at.returns-then-are_none c).After-are_none in
+    let none = none_said (goal.at.returns-then-are_none c).After-are_none in
     goes_nothing begins refl
     (silent _ _ _ _ _ _ row s c.index.result.now begins.ready.refines begins.ready.may
-    c.index.ensures (subst (λ (acts : List Act). (length acts == 0) ≡ true) are
-    (sym c.are_none.ensures ∙ c.if-are_none.true)))
+    c.index.ensures (none true c.if-are_none.true))
     c.push.ensures.pushed c.push.ensures.unchanged
 
 -- ---- what the switch and the controller have to say is sent
@@ -80,26 +91,23 @@ send_and_note-requires c =
     let self = c.args.self.now in
     let ready = c.requires.begins.ready in
     let own = c.index.result.now in
-    let are = said (goal.at.send_and_note-requires c).After-are_none in
-    subst (MayNote self.log.bag) (sym are)
+    let before = (goal.at.send_and_note-requires c).After-are_none in
+    subst (MayNote self.log.bag) (sym (said before))
     (again_may _ _ _ _ _ _ c.requires.row c.args.switch own ready.refines ready.may
-    c.index.ensures
-    (subst (λ (acts : List Act). (length acts == 0) ≡ false) are
-    (sym c.are_none.ensures ∙ c.if-are_none.false)) ready.room)
+    c.index.ensures (none_said before false c.if-are_none.false) ready.room)
 
 pub returns : goal.returns
 returns c = λ before row begins.
     let self = c.args.self.now in
     let s = c.args.switch in
     let ready = begins.ready in
-    let are = said (goal.at.returns c).After-are_none in
-    let some = subst (λ (acts : List Act). (length acts == 0) ≡ false) are
-    (sym c.are_none.ensures ∙ c.if-are_none.false) in
+    let sent = (goal.at.returns c).After-are_none in
+    let some = none_said sent false c.if-are_none.false in
     let acts : List Act = map Post (adverts_again s (length self.switches.items)
     (get_or self.near s 0) c.index.result.now) ++ resend_acts self.controller s in
     let r = c.send_and_note.result in
     let noted = as_noted r self.log.journal (length self.log.bag) self.log.bag
-    c.send_and_note.new.self _ acts are c.send_and_note.ensures.written
+    c.send_and_note.new.self _ acts (said sent) c.send_and_note.ensures.written
     c.send_and_note.ensures.posted c.send_and_note.ensures.part in
     goes_quiet begins (net_stays refl refl)
     (act_items (length self.log.bag + 1) acts) (plane_stays refl refl refl)

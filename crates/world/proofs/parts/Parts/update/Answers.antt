@@ -89,7 +89,7 @@ note_acts-requires c =
     let file = c.args.file in
     let ready = c.requires.begins.ready in
     let of_next = planned (goal.at.note_acts-requires c).In-Planned c.requires.before in
-    subst (MayNote self.log.bag) (sym (c.items.ensures ∙ c.in-Ok.ensures.sends))
+    subst (MayNote self.log.bag) (sym (c.into_items.ensures ∙ c.in-Ok.ensures.sends))
     (submitted_may _ _ _ _ _ _ c.requires.row file ready.refines
     ready.may c.in-Planned.plan c.submit.new.self of_next
     (λ e. not_err _ _ (c.in-Ok.ensures.live.1 e))
@@ -113,14 +113,14 @@ returns-in-Ok c = λ before row begins.
     let acts : List Act = submit_acts self.controller.marks c.in-Planned.plan new.marks in
     let one = item.Submitted file (self.controller.marks.count + 1) in
     let its = c.note_acts.ensures in
-    goes_acting one acts c.items.result.now c.push-in-Ok.new.self begins
+    goes_acting one acts c.into_items.result.items c.push-in-Ok.new.self begins
     (net_stays c.in_ok-code.ensures.same refl) (none_in _)
     (submitted_piece _ _ _ _ _ _ row file ready.refines ready.may c.in-Planned.plan new of_next live
     versions c.in-Ok.ensures.after)
     (subst (λ v. c.push-in-Ok.new.self ≡ self.log.journal ++ item.Submitted file (v + 1) ∷ [])
     (c.count-version.ensures.count ∙ ap (λ marks. marks.count) c.marks.ensures)
     c.in_ok-push-in-Ok.ensures.pushed)
-    (c.items.ensures ∙ c.in-Ok.ensures.sends) its.travelling its.written its.posted its.part
+    (c.into_items.ensures ∙ c.in-Ok.ensures.sends) its.travelling its.written its.posted its.part
     (submitted_refines _ _ _ _ _ _ row file ready.refines ready.may c.in-Planned.plan new of_next
     live
     versions c.in-Ok.ensures.after)

@@ -13,17 +13,17 @@ use Rattle.world_log.proofs.log.Log.send_and_note.Goals as goal
 
 -- the messages are done as acts
 sent : (c : goal.After-note_acts) → AreDone c.args.self.now.journal c.args.self.now.bag
-    (map Post c.args.messages.now) c.send_all.new.self.journal c.send_all.new.self.bag
-sent c = sent_done c.args.self.now.journal _ c.args.self.now.bag _ c.args.messages.now
+    (map Post c.args.messages.items) c.send_all.new.self.journal c.send_all.new.self.bag
+sent c = sent_done c.args.self.now.journal _ c.args.self.now.bag _ c.args.messages.items
     c.in_ok-send_all.ensures.written c.in_ok-send_all.ensures.posted
 
 -- and so are the acts behind them
 done : (c : goal.After-note_acts) → OnOk c.note_acts.result (AreDone c.args.self.now.journal
-    c.args.self.now.bag (map Post c.args.messages.now ++ c.args.acts.now)
+    c.args.self.now.bag (map Post c.args.messages.items ++ c.args.acts.items)
     c.note_acts.new.self.journal c.note_acts.new.self.bag)
 done c = both_ok c.note_acts.result
-    (done_both c.args.self.now.journal _ c.args.self.now.bag _ (map Post c.args.messages.now)
-    c.args.acts.now (sent c) _ _)
+    (done_both c.args.self.now.journal _ c.args.self.now.bag _ (map Post c.args.messages.items)
+    c.args.acts.items (sent c) _ _)
     c.note_acts.ensures.written c.note_acts.ensures.posted
 
 -- what both post
@@ -37,15 +37,15 @@ counted messages acts =
 
 pub send_all-requires : goal.send_all-requires
 send_all-requires c =
-    let messages = c.args.messages.now in
+    let messages = c.args.messages.items in
     record {
-      few = omega (arith, c.requires.few, counted messages c.args.acts.now);
-      spelled = messages_spelled messages c.args.acts.now c.requires.spelled;
+      few = omega (arith, c.requires.few, counted messages c.args.acts.items);
+      spelled = messages_spelled messages c.args.acts.items c.requires.spelled;
     }
 
 pub note_acts-requires : goal.note_acts-requires
 note_acts-requires c =
-    let messages = c.args.messages.now in
+    let messages = c.args.messages.items in
     record {
       few = omega (
         arith,
@@ -53,17 +53,17 @@ note_acts-requires c =
         ap length c.in_ok-send_all.ensures.posted,
         length-append c.args.self.now.bag (map new_post messages),
         length-map messages new_post,
-        counted messages c.args.acts.now,
+        counted messages c.args.acts.items,
       );
-      spelled = later_spelled (map Post messages) c.args.acts.now c.requires.spelled;
+      spelled = later_spelled (map Post messages) c.args.acts.items c.requires.spelled;
     }
 
 pub returns-in_err-send_all-clause-part : goal.returns-in_err-send_all-clause-part
 returns-in_err-send_all-clause-part c =
     let self = c.args.self.now in
-    let messages = c.args.messages.now in
+    let messages = c.args.messages.items in
     on_err c.from_residual.result (first_part self.journal c.send_all.new.self.journal (length self.bag + 1)
-    (map Post messages) c.args.acts.now
+    (map Post messages) c.args.acts.items
     (subst (λ items. IsPart self.journal items c.send_all.new.self.journal)
     (sym (sent_as_acts (length self.bag + 1) messages)) c.in_err-send_all.ensures.part))
 
@@ -76,5 +76,5 @@ returns-clause-posted c = on_ok_weaker c.note_acts.result (λ acts. acts.posted)
 pub returns-clause-part : goal.returns-clause-part
 returns-clause-part c =
     on_err_weaker c.note_acts.result (later_part c.args.self.now.journal _ c.args.self.now.bag _
-    (map Post c.args.messages.now) c.args.acts.now
+    (map Post c.args.messages.items) c.args.acts.items
     (sent c) _) c.note_acts.ensures.part
