@@ -1,0 +1,4 @@
+mod Readings
+mod Lines
+mod Verdicts
+mod Moves

@@ -1,0 +1,167 @@
+-- Readings of lines: those of some lines and of more, and that there is only one.
+use Rattle.std.proofs.Common.{◌≡◌, ℕ, ◌-◌, ◌==◌, Bool, true, false, cond, Option, Some, None, List, [], ◌∷◌, ◌++◌, ◌∙◌, refl, sym, ap, subst, arith}
+use Rattle.std.specs.List.{All, slice_get}
+use Rattle.std.proofs.lemmas.List.Elements.{All-cons, All-head, All-nil, All-push}
+use Rattle.std.proofs.lemmas.Option.{slice_get_within, get_or_from_slice_get}
+use Rattle.five_tuple.specs.declared.header.Header.{Header}
+use Rattle.policy_rules.specs.Policy.{IsPolicy}
+use Rattle.policy_rules.specs.declared.policy.Hit.{Hit}
+use Rattle.policy_rules.specs.declared.policy.Row.{Row}
+use Rattle.policy_rules.proofs.CallerLemmas.{first_match-only}
+use Rattle.update_machine.specs.Machine.{End, Machine, Packet, Decides, Ends, Enters, Retires, Submits, with_packet}
+use Rattle.trace_audit.specs.Reading.{Follows, Line, Whole, Open, ReadsLine, Reads, State, first_state, made_by, newest_policy}
+use Rattle.trace_audit.specs.Told.{Told}
+use Rattle.trace_audit.specs.Told as told
+
+-- ---- some lines and more
+
+pub reads_join : (files : List (List Row)) (old middle new : State) (lines more : List Line)
+    → Reads files old lines middle → Reads files middle more new
+    → Reads files old (lines ++ more) new
+reads_join files old middle new [] more r s = subst (λ state. Reads files state more new) r s
+reads_join files old middle new (line ∷ lines) more r s =
+    (r.0, r.1, reads_join files r.0 middle new lines more r.2 s)
+
+pub reads_split : (files : List (List Row)) (old new : State) (lines more : List Line)
+    → Reads files old (lines ++ more) new
+    → (middle : State) × Reads files old lines middle × Reads files middle more new
+reads_split files old new [] more r = (old, refl, r)
+reads_split files old new (line ∷ lines) more r =
+    let w = reads_split files r.0 new lines more r.2 in (w.0, (r.0, r.1, w.1), w.2)
+
+-- ---- policies
+
+policy_in : (policies : List (List Row)) (place : ℕ) (rows : List Row) → All IsPolicy policies
+    → slice_get policies place ≡ Some rows → IsPolicy rows
+policy_in policies place rows sound e =
+    subst IsPolicy (get_or_from_slice_get policies place rows rows e)
+    (sound place rows (slice_get_within policies place rows e))
+
+made_there : {A : Type 0} (b : Bool) (x : Option A) (v : A) → cond b None x ≡ Some v → x ≡ Some v
+made_there true x v e = absurd cc
+made_there false x v e = e
+
+made_in : (files : List (List Row)) (file : ℕ) (newest : Option (List Row)) (rows : List Row)
+    → All IsPolicy files → made_by files file newest ≡ Some rows → IsPolicy rows
+made_in files file newest rows sound e = policy_in files (file - 1) rows sound
+    (made_there (file == 0) (slice_get files (file - 1)) rows e)
+
+abbrev pub ArePolicies : State → Type 0
+ArePolicies state = All IsPolicy state.machine.policies
+
+policies_stay : (old new : State) → new.machine.policies ≡ old.machine.policies → ArePolicies old
+    → ArePolicies new
+policies_stay old new e sound = subst (All IsPolicy) (sym e) sound
+
+follows_sound : (files : List (List Row)) (old : State) (t : Told) (new : State)
+    → All IsPolicy files → ArePolicies old → Follows files old t new → ArePolicies new
+follows_sound files old (told.Row header) new own sound f =
+    policies_stay old new (ap (λ s. s.machine.policies) f) sound
+follows_sound files old (told.Entered packet) new own sound f =
+    policies_stay old new (ap (λ m. m.policies) f.2.after) sound
+follows_sound files old (told.Submitted file version) new own sound f =
+    subst (All IsPolicy) (sym (ap (λ m. m.policies) f.0.after))
+    (All-push IsPolicy old.machine.policies f.0.policy sound (made_in files file (newest_policy old.machine) f.0.policy own f.0.there))
+follows_sound files old (told.Retired version) new own sound f =
+    policies_stay old new (ap (λ m. m.policies) f.0.after) sound
+follows_sound files old (told.Decided packet version rule action) new own sound f =
+    policies_stay old new (ap (λ m. m.policies) f.2.after) sound
+follows_sound files old (told.Ended packet end) new own sound f =
+    policies_stay old new (ap (λ m. m.policies) f.0.after) sound
+follows_sound files old told.Nothing new own sound f =
+    policies_stay old new (ap (λ s. s.machine.policies) f) sound
+
+-- ---- only one
+
+some_same : {A : Type 0} (a b : A) (o : Option A) → o ≡ Some a → o ≡ Some b → a ≡ b
+some_same a b o p q = cc
+
+state_same : (a b : State) → a.machine ≡ b.machine → a.pending ≡ b.pending → a ≡ b
+state_same a b m p =
+    ap (λ (x : Machine). record { machine = x; pending = a.pending }) m
+    ∙ ap (λ (x : Option Header). record { machine = b.machine; pending = x }) p
+
+entered : Machine → ℕ → Header → Machine
+entered old number header = with_packet old number
+    (record { header = header; entry_mark = old.mark; decision = None; end = None })
+
+enters_one : (old : Machine) (number : ℕ) (h k : Header) (a b : Machine) → h ≡ k
+    → Enters old number h a → Enters old number k b → a ≡ b
+enters_one old number h k a b e r s = r.after
+    ∙ ap (λ (x : Header). with_packet old number
+    (record { header = x; entry_mark = old.mark; decision = None; end = None })) e
+    ∙ sym s.after
+
+submits_one : (old : Machine) (version : ℕ) (named : Option (List Row)) (a b : Machine)
+    → Submits old version named a → Submits old version named b → a ≡ b
+submits_one old version named a b r s = r.after
+    ∙ ap (λ (x : List Row). record old { policies = old.policies ++ x ∷ [] })
+    (some_same r.policy s.policy named r.there s.there)
+    ∙ sym s.after
+
+decides_one : (old : Machine) (number version : ℕ) (g h : Hit) (a b : Machine)
+    → All IsPolicy old.policies → Decides old number version g a → Decides old number version h b
+    → a ≡ b
+decides_one old number version g h a b sound r s =
+    let packets : r.packet ≡ s.packet = some_same r.packet s.packet _ r.entered s.entered in
+    let policies : r.policy ≡ s.policy = some_same r.policy s.policy _ r.submitted s.submitted in
+    let one = first_match-only r.policy r.packet.header g
+    (policy_in old.policies (version - 1) r.policy sound r.submitted).distinct r.first_match in
+    let other = first_match-only s.policy s.packet.header h
+    (policy_in old.policies (version - 1) s.policy sound s.submitted).distinct s.first_match in
+    let hits : g ≡ h = cc in
+    r.after
+    ∙ ap (λ (x : Packet). with_packet old number (record x { decision = Some g })) packets
+    ∙ ap (λ (x : Hit). with_packet old number (record s.packet { decision = Some x })) hits
+    ∙ sym s.after
+
+ends_one : (old : Machine) (number : ℕ) (end : End) (a b : Machine)
+    → Ends old number end a → Ends old number end b → a ≡ b
+ends_one old number end a b r s = r.after
+    ∙ ap (λ (x : Packet). with_packet old number (record x { end = Some end }))
+    (some_same r.packet s.packet _ r.entered s.entered)
+    ∙ sym s.after
+
+follows_one : (files : List (List Row)) (old : State) (t : Told) (a b : State) → ArePolicies old
+    → Follows files old t a → Follows files old t b → a ≡ b
+follows_one files old (told.Row header) a b sound r s = r ∙ sym s
+follows_one files old (told.Entered packet) a b sound r s =
+    state_same a b
+    (enters_one old.machine packet r.0 s.0 a.machine b.machine (some_same r.0 s.0 _ r.1 s.1) r.2 s.2)
+    (r.3 ∙ sym s.3)
+follows_one files old (told.Submitted file version) a b sound r s =
+    state_same a b (submits_one old.machine version _ a.machine b.machine r.0 s.0) (r.2 ∙ sym s.2)
+follows_one files old (told.Retired version) a b sound r s =
+    state_same a b (r.0.after ∙ sym s.0.after) (r.1 ∙ sym s.1)
+follows_one files old (told.Decided packet version rule action) a b sound r s =
+    state_same a b
+    (decides_one old.machine packet version r.0 s.0 a.machine b.machine sound r.2 s.2)
+    (r.3 ∙ sym s.3)
+follows_one files old (told.Ended packet end) a b sound r s =
+    state_same a b (ends_one old.machine packet end a.machine b.machine r.0 s.0) (r.1 ∙ sym s.1)
+follows_one files old told.Nothing a b sound r s = r ∙ sym s
+
+pub line_one : (files : List (List Row)) (old : State) (line : Line) (a b : State) → ArePolicies old
+    → ReadsLine files old line a → ReadsLine files old line b → a ≡ b
+line_one files old (Whole text) a b sound r s =
+    follows_one files old r.0 a b sound r.2
+    (subst (λ t. Follows files old t b) (some_same s.0 r.0 _ s.1 r.1) s.2)
+line_one files old (Open text) a b sound r s = absurd r
+
+line_sound : (files : List (List Row)) (old : State) (line : Line) (new : State)
+    → All IsPolicy files → ArePolicies old → ReadsLine files old line new → ArePolicies new
+line_sound files old (Whole text) new own sound r = follows_sound files old r.0 new own sound r.2
+line_sound files old (Open text) new own sound r = absurd r
+
+pub first_sound : (files : List (List Row)) → All IsPolicy files → ArePolicies (first_state files)
+first_sound [] own = All-nil IsPolicy
+first_sound (rows ∷ files) own =
+    All-cons IsPolicy rows [] (All-head IsPolicy rows files own) (All-nil IsPolicy)
+
+pub reads_one : (files : List (List Row)) (old : State) (lines : List Line) (a b : State)
+    → All IsPolicy files → ArePolicies old → Reads files old lines a → Reads files old lines b
+    → a ≡ b
+reads_one files old [] a b own sound r s = r ∙ sym s
+reads_one files old (line ∷ lines) a b own sound r s =
+    reads_one files r.0 lines a b own (line_sound files old line r.0 own sound r.1) r.2
+    (subst (λ m. Reads files m lines b) (line_one files old line s.0 r.0 sound s.1 r.1) s.2)

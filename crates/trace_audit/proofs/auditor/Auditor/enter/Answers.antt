@@ -1,0 +1,20 @@
+use Rattle.std.proofs.Common.{◌≡◌, ℕ, Option, Some, None, List, refl, sym, ap, ◌∙◌, rules, arith}
+use Rattle.update_machine.specs.Machine.{Packet}
+use Rattle.trace_audit.specs.Seen.{end_seen, packet_seen, packets_seen}
+use Rattle.trace_audit.proofs.Moves.{none_seen}
+use Rattle.trace_audit.proofs.auditor.Auditor.enter.Goals as goal
+
+pub returns : goal.returns
+returns c = λ files. (
+  c.in-Some.header,
+  c.in-Some.is,
+  record {
+    unknown = none_seen packet_seen c.get.result _ c.get.ensures (search rules);
+    after = ap (λ (packets : ℕ → Option Packet). record {
+      policies = c.args.self.now.policies.items;
+      mark = c.args.self.now.mark;
+      packets = packets;
+    }) c.in_ok-put.ensures;
+  },
+  refl,
+)

@@ -1,0 +1,4 @@
+pub mod Told
+pub mod Reading
+pub mod Verdicts
+pub mod Seen

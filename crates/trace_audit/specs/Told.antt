@@ -1,0 +1,165 @@
+-- First tier. What a line of a printed trace tells, by its first words. A line is cut at each single
+-- blank, so that two blanks make an empty word. A number is decimal, without sign or leading zero.
+use Rattle.std.specs.Prelude.{ℕ, ◌&&◌, ◌||◌, nat_le, if◌then◌else◌, Bool, true, false, Option, Some, None, option_map, List, [], ◌∷◌, take, drop, codes, bytes_eq}
+use Rattle.std.specs.List.{list_any}
+use Rattle.std.specs.Option.{option_map_or}
+use Rattle.std.specs.Borrow.{Bor}
+use Rattle.five_tuple.specs.HeaderNumbers.{header_of}
+use Rattle.five_tuple.specs.Texts.{number_up_to, packet_fields_of, parts_round}
+use Rattle.five_tuple.specs.declared.header.Header.{Header}
+use Rattle.net_file.specs.Net.{is_name}
+use Rattle.steps.specs.Limits.{max_events}
+use Rattle.steps.specs.Steps.{max_number}
+use Rattle.update_machine.specs.Machine.{End, Dropped, LeftBy, Lost, Stuck}
+
+pub data Told : Type 0 where
+  -- a row of a schedule, with its header where it is a packet's
+  Row : (header : Option Header) → Told
+  -- a move of the abstract machine; of a decision the texts of its rule and its action
+  Entered : (packet : ℕ) → Told
+  Submitted : (file version : ℕ) → Told
+  Retired : (version : ℕ) → Told
+  Decided : (packet version : ℕ) (rule action : List ℕ) → Told
+  Ended : (packet : ℕ) (end : End) → Told
+  -- what the machine doesn't know
+  Nothing : Told
+
+-- ---- words
+
+abbrev pub words_of : List ℕ → List (List ℕ)
+words_of line = parts_round 32 line
+
+-- those of the text that is left, if one is left
+abbrev pub words_left : Option (Bor (List ℕ)) → List (List ℕ)
+words_left None = []
+words_left (Some text) = words_of text.now
+
+-- of a packet, a file or a version
+abbrev pub number_of_word : List ℕ → Option ℕ
+number_of_word word = number_up_to max_number word
+
+-- `v` and the number of a version
+abbrev pub version_of_word : List ℕ → Option ℕ
+version_of_word word =
+    if bytes_eq (take 1 word) (codes "v") then number_of_word (drop 1 word) else None
+
+-- the number of a row, cut at the colon behind it
+abbrev pub is_row_number : List (List ℕ) → Bool
+is_row_number (number ∷ [] ∷ []) = option_map_or (nat_le 1) (number_up_to max_events number) false
+is_row_number _ = false
+
+abbrev pub pair_told : (ℕ → ℕ → Told) → Option ℕ → Option ℕ → Option Told
+pair_told told (Some one) (Some two) = Some (told one two)
+pair_told told _ _ = None
+
+-- ---- rows
+
+-- `row R: packet S SRC DST SPORT DPORT PROTO`, behind the kind
+abbrev pub packet_row_told : List ℕ → List (List ℕ) → Option Told
+packet_row_told row (switch ∷ src ∷ dst ∷ sport ∷ dport ∷ proto ∷ []) =
+    if is_row_number (parts_round 58 row) && is_name switch
+    then option_map (λ fields. Row (Some (header_of fields)))
+    (packet_fields_of src dst sport dport proto) else None
+packet_row_told row _ = None
+
+-- any other row may be of any form
+abbrev pub row_told : List (List ℕ) → Option Told
+row_told (row ∷ kind ∷ fields) =
+    if bytes_eq kind (codes "packet") then packet_row_told row fields else Some (Row None)
+row_told (row ∷ []) = Some (Row None)
+row_told [] = None
+
+-- ---- moves, by the words behind the first one
+
+-- `entered I S`
+abbrev pub entered_told : List (List ℕ) → Option Told
+entered_told (packet ∷ switch ∷ []) =
+    if is_name switch then option_map Entered (number_of_word packet) else None
+entered_told _ = None
+
+-- `submitted file F version V`
+abbrev pub submitted_told : List (List ℕ) → Option Told
+submitted_told (first ∷ file ∷ second ∷ version ∷ []) =
+    if bytes_eq first (codes "file") && bytes_eq second (codes "version")
+    then pair_told Submitted (number_of_word file) (number_of_word version) else None
+submitted_told _ = None
+
+-- `retired V`
+abbrev pub retired_told : List (List ℕ) → Option Told
+retired_told (version ∷ []) = option_map Retired (number_of_word version)
+retired_told _ = None
+
+-- `decided I vV rule RULE ACTION cache ` or with ` authority `, and any bytes
+abbrev pub decided_told : List (List ℕ) → Option Told
+decided_told (packet ∷ version ∷ word ∷ rule ∷ action ∷ how ∷ more ∷ others) =
+    if bytes_eq word (codes "rule") && (bytes_eq how (codes "cache") || bytes_eq how (codes "authority"))
+    then pair_told (λ i v. Decided i v rule action) (number_of_word packet) (version_of_word version)
+    else None
+decided_told _ = None
+
+-- `dropped I`, `lost I`
+abbrev pub ended_told : End → List (List ℕ) → Option Told
+ended_told end (packet ∷ []) = option_map (λ i. Ended i end) (number_of_word packet)
+ended_told end _ = None
+
+-- `out I port P`
+abbrev pub left_told : List (List ℕ) → Option Told
+left_told (packet ∷ word ∷ port ∷ []) =
+    if bytes_eq word (codes "port")
+    then pair_told (λ i p. Ended i (LeftBy p)) (number_of_word packet) (number_up_to 4294967295 port)
+    else None
+left_told _ = None
+
+-- `stuck I ` and any bytes
+abbrev pub stuck_told : List (List ℕ) → Option Told
+stuck_told (packet ∷ more ∷ others) = option_map (λ i. Ended i Stuck) (number_of_word packet)
+stuck_told _ = None
+
+-- ---- lines
+
+-- a blank and any bytes
+abbrev pub any_told : List (List ℕ) → Option Told
+any_told (more ∷ others) = Some Nothing
+any_told [] = None
+
+-- the word alone
+abbrev pub alone_told : List (List ℕ) → Option Told
+alone_told [] = Some Nothing
+alone_told _ = None
+
+-- words of items that are no moves
+abbrev pub silent_words : List (List ℕ)
+silent_words = codes "closed" ∷ codes "tunnelled" ∷ codes "exit" ∷ codes "hopped" ∷ codes "found"
+    ∷ codes "rerouted" ∷ codes "sent" ∷ codes "delivered" ∷ codes "forgotten" ∷ codes "expired"
+    ∷ codes "refused" ∷ codes "current" ∷ codes "booted" ∷ codes "opened" ∷ codes "down"
+    ∷ codes "over" ∷ codes "link" ∷ []
+
+-- an item, by its word and the words behind it
+unfoldable pub item_told : List ℕ → List (List ℕ) → Option Told
+item_told word args =
+    if bytes_eq word (codes "entered") then entered_told args else
+    if bytes_eq word (codes "submitted") then submitted_told args else
+    if bytes_eq word (codes "retired") then retired_told args else
+    if bytes_eq word (codes "decided") then decided_told args else
+    if bytes_eq word (codes "dropped") then ended_told Dropped args else
+    if bytes_eq word (codes "out") then left_told args else
+    if bytes_eq word (codes "lost") then ended_told Lost args else
+    if bytes_eq word (codes "stuck") then stuck_told args else
+    if bytes_eq word (codes "nothing") then alone_told args else
+    if list_any (bytes_eq word) silent_words then any_told args else None
+
+-- behind a first empty word: an item stands behind two blanks
+abbrev pub indented_told : List (List ℕ) → Option Told
+indented_told (second ∷ word ∷ args) = if bytes_eq second [] then item_told word args else None
+indented_told _ = None
+
+abbrev pub told_by : List (List ℕ) → Option Told
+told_by (first ∷ args) =
+    if bytes_eq first (codes "row") then row_told args else
+    if bytes_eq first (codes "meter") || bytes_eq first (codes "quiet") then any_told args else
+    if bytes_eq first [] then indented_told args else None
+told_by [] = None
+
+-- what a line tells; none where it is bad whatever stands before it
+unfoldable pub told_of : List ℕ → Option Told
+told_of line = told_by (words_of line)

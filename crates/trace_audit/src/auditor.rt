@@ -1,0 +1,222 @@
+ghost use Rattle.std.specs.Prelude.{◌≡◌, ◌↔◌, IfOk, IsTrue, List, option_copied};
+ghost use Rattle.policy_rules.specs.Policy.{IsFirstMatch};
+ghost use Rattle.policy_rules.specs.declared.policy.Hit.{Hit};
+ghost use Rattle.policy_rules.specs.declared.policy.Row.{Row};
+ghost use Rattle.update_machine.specs.Machine.{MayEnd};
+ghost use Rattle.trace_audit.specs.Reading.{first_state, made_by};
+ghost use Rattle.trace_audit.specs.Seen.{IsTaken, end_seen, packet_seen, state_seen, told_seen};
+ghost use Rattle.trace_audit.specs.Told as told;
+
+use crate::packets::{Packet, Packets};
+use crate::printed::is_printed;
+use crate::told::{End, Told};
+use policy_rules::{Action, Header, Hit, Policy, policy_laws};
+use std::alloc::{AllocError, Global};
+
+/// At most so many versions are submitted.
+const MAX_VERSIONS: u32 = 64;
+
+/// What a reader of a trace knows behind the lines that it read: the policies of the versions, the
+/// mark, the packets, and the header of a packet's row that waits for its entry.
+#[derive(Drop)]
+pub(crate) struct Auditor {
+    policies: Vec<Policy>,
+    mark: u32,
+    packets: Packets,
+    pending: Option<Header>,
+}
+
+/// The policy that a file makes of the newest one, if it makes one.
+fn policy_by(
+    alloc: Global,
+    files: &[Policy],
+    file: u32,
+    newest: Option<&Policy>,
+) -> Result<Option<Policy>, AllocError>
+    ensures { IfOk result (λ made. made ≡ made_by files.now file (option_copied newest.entry)) }
+{
+    if file == 0 {
+        return Ok(None);
+    }
+    match files.get(file as usize - 1) {
+        Some(policy) => Ok(Some(policy.clone()?)),
+        None => Ok(None),
+    }
+}
+
+// The first match of a header: there is only one.
+fn first_match(policy: &Policy, header: &Header) -> Hit
+    ensures is { IsFirstMatch policy.now header.now result }
+    ensures only { (hit : Hit) → IsFirstMatch policy.now header.now hit → hit ≡ result }
+{
+    policy_laws();
+    let _rows = policy.rows();
+    policy.scan(header)
+}
+
+impl Auditor {
+    /// What is known before the first line.
+    ///
+    /// # Errors
+    /// Want of memory alone.
+    pub fn new(alloc: Global, files: &[Policy]) -> Result<Auditor, AllocError>
+        ensures { IfOk result (λ auditor. state_seen auditor ≡ first_state files.now) }
+    {
+        let mut policies = Vec::new(alloc);
+        if let Some(policy) = policy_by(alloc, files, 1, None)? {
+            policies.push(policy)?;
+        }
+        Ok(Auditor {
+            policies,
+            mark: 0,
+            packets: Packets::new(alloc),
+            pending: None,
+        })
+    }
+
+    fn enter(&mut self, number: u32) -> Result<bool, AllocError>
+        ensures { (files : List (List Row)) → IfOk result
+            (IsTaken files (state_seen self.old) (told.Entered number) (state_seen self.new)) }
+    {
+        let Some(header) = self.pending else {
+            return Ok(false);
+        };
+        if self.packets.get(number).is_some() {
+            return Ok(false);
+        }
+        self.packets.put(
+            number,
+            Packet {
+                header,
+                entry_mark: self.mark,
+                decision: None,
+                end: None,
+            },
+        )?;
+        self.pending = None;
+        Ok(true)
+    }
+
+    fn submit(
+        &mut self,
+        alloc: Global,
+        files: &[Policy],
+        file: u32,
+        version: u32,
+    ) -> Result<bool, AllocError>
+        ensures { IfOk result (IsTaken files.now (state_seen self.old) (told.Submitted file version) (state_seen self.new)) }
+    {
+        if version > MAX_VERSIONS || version as usize != self.policies.len() + 1 {
+            return Ok(false);
+        }
+        match policy_by(alloc, files, file, self.policies.last())? {
+            None => Ok(false),
+            Some(policy) => {
+                self.policies.push(policy)?;
+                Ok(true)
+            }
+        }
+    }
+
+    fn retire(&mut self, version: u32) -> bool
+        ensures { (files : List (List Row)) →
+            IsTaken files (state_seen self.old) (told.Retired version) (state_seen self.new) result }
+    {
+        if version <= self.mark || version as usize >= self.policies.len() {
+            return false;
+        }
+        self.mark = version;
+        true
+    }
+
+    fn decide(
+        &mut self,
+        number: u32,
+        version: u32,
+        rule: &[u8],
+        action: &[u8],
+    ) -> Result<bool, AllocError>
+        ensures { (files : List (List Row)) → IfOk result
+            (IsTaken files (state_seen self.old) (told.Decided number version rule.now action.now) (state_seen self.new)) }
+    {
+        let Some(packet) = self.packets.get(number) else {
+            return Ok(false);
+        };
+        if packet.decision.is_some() || packet.end.is_some() || version <= packet.entry_mark {
+            return Ok(false);
+        }
+        let Some(policy) = self.policies.get(version as usize - 1) else {
+            return Ok(false);
+        };
+        let hit = first_match(policy, &packet.header);
+        if !is_printed(rule, action, hit) {
+            return Ok(false);
+        }
+        self.packets.put(
+            number,
+            Packet {
+                decision: Some(hit),
+                ..packet
+            },
+        )?;
+        Ok(true)
+    }
+
+    fn end(&mut self, number: u32, end: End) -> Result<bool, AllocError>
+        ensures { (files : List (List Row)) → IfOk result
+            (IsTaken files (state_seen self.old) (told.Ended number (end_seen end)) (state_seen self.new)) }
+    {
+        let Some(packet) = self.packets.get(number) else {
+            return Ok(false);
+        };
+        if packet.end.is_some() || !may_end(&packet, end) {
+            return Ok(false);
+        }
+        self.packets.put(
+            number,
+            Packet {
+                end: Some(end),
+                ..packet
+            },
+        )?;
+        Ok(true)
+    }
+
+    /// Takes what a line tells, and says whether that may be.
+    ///
+    /// # Errors
+    /// Want of memory alone.
+    pub fn take(&mut self, alloc: Global, files: &[Policy], told: &Told) -> Result<bool, AllocError>
+        ensures { IfOk result (IsTaken files.now (state_seen self.old) (told_seen told.now) (state_seen self.new)) }
+    {
+        match *told {
+            Told::Row(header) => {
+                self.pending = header;
+                Ok(true)
+            }
+            Told::Entered(packet) => self.enter(packet),
+            Told::Submitted { file, version } => self.submit(alloc, files, file, version),
+            Told::Retired(version) => Ok(self.retire(version)),
+            Told::Decided {
+                packet,
+                version,
+                rule,
+                action,
+            } => self.decide(packet, version, rule, action),
+            Told::Ended { packet, end } => self.end(packet, end),
+            Told::Nothing => Ok(true),
+        }
+    }
+}
+
+// Whether the packet may end so.
+fn may_end(packet: &Packet, end: End) -> bool
+    ensures { IsTrue result ↔ MayEnd (packet_seen packet.now) (end_seen end) }
+{
+    let action = packet.decision.map(|hit| hit.action);
+    match end {
+        End::Dropped => action == Some(Action::Drop),
+        End::LeftBy(port) => action == Some(Action::Out(port)),
+        End::Lost | End::Stuck => true,
+    }
+}

@@ -1,0 +1,22 @@
+//! A checker of printed traces: whether the text of a journal is one that the abstract machine
+//! allows.
+//!
+//! `audit` reads a trace line by line. What a line tells is a table over its first words
+//! (`specs/Told.antt`); a line is good where the machine may take the move that it tells
+//! (`specs/Reading.antt`). `audit` promises to answer Yes exactly where every line is good, and
+//! else names the first one that isn't.
+//!
+//! ```text
+//! let verdict = audit(alloc, b"row 1: packet a 10.0.0.1 10.0.0.2 1 2 tcp\n  closed 1 a\n", &files)?;
+//! // Verdict::Yes: nothing is said of a packet that no switch took
+//! ```
+#![tactic(auto)]
+
+mod auditor;
+mod packets;
+mod printed;
+mod told;
+mod trace;
+mod words;
+
+pub use trace::{Verdict, audit};

@@ -1,0 +1,86 @@
+ghost use Rattle.std.specs.Prelude.{◌≡◌, ◌↔◌, All, IfOk};
+ghost use Rattle.policy_rules.specs.Policy.{IsPolicy};
+ghost use Rattle.trace_audit.specs.Reading.{AreGood, Whole, lines_of};
+ghost use Rattle.trace_audit.specs.Seen.{IsRead, state_seen};
+ghost use Rattle.trace_audit.specs.Verdicts.{IsVerdict};
+ghost use Rattle.trace_audit.specs.declared.trace.Verdict.TheVariants.{Yes};
+
+use crate::auditor::Auditor;
+use crate::told::read_line;
+use crate::words::cut;
+use policy_rules::Policy;
+use std::alloc::{AllocError, Global};
+
+/// What is said of a trace.
+#[derive(Clone, Copy, Debug, PartialEq, Eq)]
+pub enum Verdict {
+    /// Every line is good.
+    Yes,
+    /// The line of this number, from 1, is the first bad one. A number above 4,294,967,295 is
+    /// answered as that.
+    No { line: u32 },
+}
+
+/// Whether the trace is the printed run of an abstract machine that has the policies of these files,
+/// and begins with the first one: each line that tells a move tells one that the machine may take
+/// then, and no line is of another form than those of a journal.
+///
+/// # Errors
+/// Want of memory alone.
+#[tactic(auto, using(crate::proofs::Verdicts::verdict_exact))]
+pub fn audit(alloc: Global, trace: &[u8], files: &[Policy]) -> Result<Verdict, AllocError>
+    ensures verdict { IfOk result (IsVerdict files.now (lines_of trace.now)) }
+    ensures exactly { IfOk result
+        (λ verdict. (verdict ≡ Yes) ↔ AreGood files.now (lines_of trace.now)) }
+{
+    files_are_sound(files);
+    let verdict = read_lines(alloc, trace, files)?;
+    Ok(verdict)
+}
+
+// Each file's rows are a policy, which is known where they are read.
+fn files_are_sound(files: &[Policy])
+    ensures { All IsPolicy files.now }
+{
+    for policy in files {
+        let _rows = policy.rows();
+    }
+}
+
+// Reads the lines up to the first bad one.
+fn read_lines(alloc: Global, trace: &[u8], files: &[Policy]) -> Result<Verdict, AllocError>
+    requires { All IsPolicy files.now }
+    ensures { IfOk result (IsVerdict files.now (lines_of trace.now)) }
+{
+    let mut auditor = Auditor::new(alloc, files)?;
+    let mut rest = trace;
+    let mut line: u32 = 0;
+    while !rest.is_empty() {
+        line = line.saturating_add(1);
+        let Some((text, next)) = cut(rest, b'\n') else {
+            return Ok(Verdict::No { line });
+        };
+        if !take_line(&mut auditor, alloc, files, text)? {
+            return Ok(Verdict::No { line });
+        }
+        rest = next;
+    }
+    Ok(Verdict::Yes)
+}
+
+// Reads a line, and says whether it is good.
+#[tactic(auto, using(crate::proofs::Lines::line_read, crate::proofs::Lines::line_unread))]
+fn take_line(
+    auditor: &mut Auditor,
+    alloc: Global,
+    files: &[Policy],
+    line: &[u8],
+) -> Result<bool, AllocError>
+    ensures { IfOk result
+        (IsRead files.now (state_seen auditor.old) (Whole line.now) (state_seen auditor.new)) }
+{
+    match read_line(line) {
+        Some(told) => auditor.take(alloc, files, &told),
+        None => Ok(false),
+    }
+}
