@@ -1,10 +1,10 @@
 -- Lines of a trace: taken off one at a time, and read as they tell.
-use Rattle.std.proofs.Common.{◌≡◌, ℕ, ◌+◌, ◌<◌, ◌==◌, Bool, true, false, IfOk, Option, Some, None, option_map, Result, Ok, Err, List, [], ◌∷◌, length, refl, sym, ap, subst, cond, ◌∙◌, arith}
-use Rattle.std.specs.List.{slice_split, onto_first}
+use Rattle.std.proofs.Common.{◌≡◌, ℕ, ◌<◌, ◌==◌, Bool, true, false, IfOk, Some, None, Result, Ok, Err, List, [], ◌∷◌, length, refl, ap, subst, cond, ◌∙◌, arith}
+use Rattle.std.specs.List.{onto_first}
 use Rattle.std.proofs.lemmas.List.Splits.{length-slice_split}
 use Rattle.five_tuple.specs.Texts.{parts_round}
 use Rattle.policy_rules.specs.declared.policy.Row.{Row}
-use Rattle.trace_audit.specs.Reading.{Follows, Line, Whole, Open, ReadsLine, State, lines_of, lines_of_parts, open_line}
+use Rattle.trace_audit.specs.Reading.{Follows, Whole, Open, State, lines_of, lines_of_parts, open_line}
 use Rattle.trace_audit.specs.Seen.{IsRead, IsTaken}
 use Rattle.trace_audit.specs.Told.{Told, is_row_number, told_of}
 

@@ -1,5 +1,5 @@
 -- Moves of the machine that a line may tell, and such that it may not.
-use Rattle.std.proofs.Common.{◌≡◌, ℕ, Option, Some, None, option_map, Bool, true, false, is_some, List, length, ltb, get_or, slice_get, refl, sym, ap, subst, ◌∙◌}
+use Rattle.std.proofs.Common.{◌≡◌, ℕ, Option, Some, None, option_map, true, false, is_some, List, length, ltb, get_or, slice_get, refl, sym, subst}
 use Rattle.std.proofs.lemmas.Bool.{ltb-true}
 use Rattle.std.proofs.lemmas.Option.{slice_get_read}
 use Rattle.policy_rules.specs.Policy.{IsFirstMatch}

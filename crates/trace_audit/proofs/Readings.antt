@@ -1,5 +1,5 @@
 -- Readings of lines: those of some lines and of more, and that there is only one.
-use Rattle.std.proofs.Common.{◌≡◌, ℕ, ◌-◌, ◌==◌, Bool, true, false, cond, Option, Some, None, List, [], ◌∷◌, ◌++◌, ◌∙◌, refl, sym, ap, subst, arith}
+use Rattle.std.proofs.Common.{◌≡◌, ℕ, ◌-◌, ◌==◌, Bool, true, false, cond, Option, Some, None, List, [], ◌∷◌, ◌++◌, ◌∙◌, refl, sym, ap, subst}
 use Rattle.std.specs.List.{All, slice_get}
 use Rattle.std.proofs.lemmas.List.Elements.{All-cons, All-head, All-nil, All-push}
 use Rattle.std.proofs.lemmas.Option.{slice_get_within, get_or_from_slice_get}
@@ -8,7 +8,7 @@ use Rattle.policy_rules.specs.Policy.{IsPolicy}
 use Rattle.policy_rules.specs.declared.policy.Hit.{Hit}
 use Rattle.policy_rules.specs.declared.policy.Row.{Row}
 use Rattle.policy_rules.proofs.CallerLemmas.{first_match-only}
-use Rattle.update_machine.specs.Machine.{End, Machine, Packet, Decides, Ends, Enters, Retires, Submits, with_packet}
+use Rattle.update_machine.specs.Machine.{End, Machine, Packet, Decides, Ends, Enters, Submits, with_packet}
 use Rattle.trace_audit.specs.Reading.{Follows, Line, Whole, Open, ReadsLine, Reads, State, first_state, made_by, newest_policy}
 use Rattle.trace_audit.specs.Told.{Told}
 use Rattle.trace_audit.specs.Told as told

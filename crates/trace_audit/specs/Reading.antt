@@ -1,4 +1,4 @@
--- First tier. How a trace is read: each line may be a move of the abstract machine, and is good where
+-- How a trace is read: each line may be a move of the abstract machine, and is good where
 -- the machine may take that move.
 use Rattle.std.specs.Prelude.{ℕ, ◌≡◌, ◌-◌, ◌≤◌, ◌==◌, if◌then◌else◌, Option, Some, None, option_to_list, List, [], ◌∷◌, length, slice_get}
 use Rattle.five_tuple.specs.Texts.{parts_round}

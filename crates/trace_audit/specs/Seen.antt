@@ -1,5 +1,5 @@
 -- How the code's values are seen, and what its parts say of them.
-use Rattle.std.specs.Prelude.{ℕ, ◌≡◌, ◌==◌, if◌then◌else◌, Bool, MatchBool, Option, Some, None, option_map, List}
+use Rattle.std.specs.Prelude.{ℕ, ◌==◌, if◌then◌else◌, Bool, MatchBool, Option, Some, option_map, List}
 use Rattle.std.specs.Prelude.{nat_eq}
 use Rattle.std.specs.HashMap.{get}
 use Rattle.policy_rules.specs.declared.policy.Row.{Row}

@@ -1,6 +1,6 @@
--- First tier. What a line of a printed trace tells, by its first words. A line is cut at each single
+-- What a line of a printed trace tells, by its first words. A line is cut at each single
 -- blank, so that two blanks make an empty word. A number is decimal, without sign or leading zero.
-use Rattle.std.specs.Prelude.{ℕ, ◌&&◌, ◌||◌, nat_le, if◌then◌else◌, Bool, true, false, Option, Some, None, option_map, List, [], ◌∷◌, take, drop, codes, bytes_eq}
+use Rattle.std.specs.Prelude.{ℕ, ◌&&◌, ◌||◌, nat_le, if◌then◌else◌, Bool, false, Option, Some, None, option_map, List, [], ◌∷◌, take, drop, codes, bytes_eq}
 use Rattle.std.specs.List.{list_any}
 use Rattle.std.specs.Option.{option_map_or}
 use Rattle.std.specs.Borrow.{Bor}

@@ -1,5 +1,5 @@
--- First tier. What is said of a trace as a whole.
-use Rattle.std.specs.Prelude.{ℕ, ◌≡◌, ◌-◌, ◌≤◌, ◌↔◌, min, List, length, take}
+-- What is said of a trace as a whole.
+use Rattle.std.specs.Prelude.{ℕ, ◌≡◌, ◌-◌, ◌≤◌, min, List, length, take}
 use Rattle.policy_rules.specs.declared.policy.Row.{Row}
 use Rattle.trace_audit.specs.Reading.{AreGood, Line}
 use Rattle.trace_audit.specs.declared.trace.Verdict.{Verdict}

@@ -1,7 +1,6 @@
-use Rattle.std.proofs.Common.{◌≡◌, ℕ, Option, Some, None, List, refl, sym, ap, ◌∙◌, rules, arith}
+use Rattle.std.proofs.Common.{ℕ, Option, refl, sym, ap, rules, arith}
 use Rattle.update_machine.specs.Machine.{Packet}
-use Rattle.trace_audit.specs.Seen.{end_seen, packet_seen, packets_seen}
-use Rattle.trace_audit.specs.Reading.{IsPrinted}
+use Rattle.trace_audit.specs.Seen.{packet_seen}
 use Rattle.trace_audit.proofs.Moves.{not_decided, policy_there}
 use Rattle.trace_audit.proofs.auditor.Auditor.decide.Goals as goal
 

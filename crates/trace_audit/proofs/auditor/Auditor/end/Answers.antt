@@ -1,6 +1,6 @@
-use Rattle.std.proofs.Common.{◌≡◌, ℕ, Option, Some, None, List, refl, sym, ap, ◌∙◌, rules, arith}
+use Rattle.std.proofs.Common.{ℕ, Option, refl, sym, ap, rules}
 use Rattle.update_machine.specs.Machine.{Packet}
-use Rattle.trace_audit.specs.Seen.{end_seen, packet_seen, packets_seen}
+use Rattle.trace_audit.specs.Seen.{packet_seen}
 use Rattle.trace_audit.proofs.auditor.Auditor.end.Goals as goal
 
 pub returns : goal.returns
