@@ -19,7 +19,7 @@ impl<T> Model for Items<T> {
 
 impl<T: Drop> Items<T> {
     /// The list of no items; it takes no memory yet.
-    pub fn empty(alloc: Global) -> Self
+    pub fn new(alloc: Global) -> Self
         ensures { result ≡ [] }
     {
         Items {
@@ -28,7 +28,7 @@ impl<T: Drop> Items<T> {
     }
 
     /// The list of these items.
-    pub fn new(items: Vec<T>) -> Self
+    pub fn from_items(items: Vec<T>) -> Self
         ensures { result ≡ items.items }
     {
         Items { items }

@@ -1,10 +1,10 @@
-use std::fmt::Debug;
+use std::fmt::Display;
 use thiserror::Error;
 
 /// What a text is refused for, and in which row.
 #[derive(Clone, Copy, Debug, PartialEq, Eq, Error)]
-#[error("row {row}: {refusal:?}")]
-#[error_bound(R: Debug)]
+#[error("row {row}: {refusal}")]
+#[error_bound(R: Display)]
 pub struct InRow<R> {
     /// What it is refused for.
     pub refusal: R,

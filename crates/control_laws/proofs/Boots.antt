@@ -9,9 +9,9 @@ use Rattle.ctrl_msg.specs.Bodies.{body_boot}
 use Rattle.ctrl_msg.specs.declared.message.Body.{Body}
 use Rattle.ctrl_msg.specs.declared.message.Body.TheVariants.{Install, OpenAt, Stamp, Collect, CacheRule, Advertise, Hello, Installed, Stamped}
 use Rattle.ctrl_msg.specs.declared.message.Message.{Message}
-use Rattle.ctrl_msg.specs.declared.message.Receiver.{Receiver}
+use Rattle.ctrl_msg.specs.declared.message.Place.{Place}
 use Rattle.ctrl_msg.specs.Kinds.{to_controller}
-use Rattle.ctrl_msg.specs.declared.message.Receiver.TheVariants as receiver
+use Rattle.ctrl_msg.specs.declared.message.Place.TheVariants as receiver
 use Rattle.journal.specs.declared.item.Item.{Item}
 use Rattle.journal.specs.declared.item.Item.TheVariants as item
 use Rattle.update_machine.specs.Boots.{boot_of}
@@ -71,7 +71,7 @@ boot_rises setting before item s cause = rw (boot_more before item s) (omega ari
 
 -- ---- what items keep
 
-past_on : (setting : Setting) (before : List Item) (item : Item) (to : Receiver) (body : Body)
+past_on : (setting : Setting) (before : List Item) (item : Item) (to : Place) (body : Body)
     → HasItemCause setting before item → HasPastBoot before to body
     → HasPastBoot (before ++ item ∷ []) to body
 past_on setting before item (receiver.Switch s) body cause past =
@@ -81,7 +81,7 @@ past_on setting before item receiver.Controller body cause past =
     IfSome_then (speaker body) past
     (λ of below. omega (arith, below, boot_rises setting before item of.0 cause))
 
-sent_past : (setting : Setting) (before : List Item) (to : Receiver) (body : Body)
+sent_past : (setting : Setting) (before : List Item) (to : Place) (body : Body)
     → IsRightMessage setting before to body → HasPastBoot before to body
 sent_past setting before (receiver.Switch s) (Install boot tables) right =
     let known = right.to.known in omega arith
@@ -118,7 +118,7 @@ by_number before (item.Sent number sent) n message is = by_test (number == n) re
 by_number before next n message is = inr (rw (message_more before next n) at is)
 
 -- what is said of the one, and of those that were sent before, is said of each
-pub new_or_old : (cause : List Item → Item → Type 0) (Says : Receiver → Body → Type 0)
+pub new_or_old : (cause : List Item → Item → Type 0) (Says : Place → Body → Type 0)
     (before : List Item) (next : Item) → cause before next
     → ((n : ℕ) (message : Message) → cause before (item.Sent n message)
     → Says message.to message.body)

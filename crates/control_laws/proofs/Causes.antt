@@ -6,8 +6,8 @@ use Rattle.std.proofs.lemmas.Bool.Decides.{nat_tests}
 use Rattle.ctrl_msg.specs.declared.message.Body.{Body}
 use Rattle.ctrl_msg.specs.declared.message.Body.TheVariants.{Install, OpenAt, Stamp, Collect, CacheRule, Advertise, Hello, Installed, Stamped}
 use Rattle.ctrl_msg.specs.declared.message.Message.{Message}
-use Rattle.ctrl_msg.specs.declared.message.Receiver.{Receiver}
-use Rattle.ctrl_msg.specs.declared.message.Receiver.TheVariants as receiver
+use Rattle.ctrl_msg.specs.declared.message.Place.{Place}
+use Rattle.ctrl_msg.specs.declared.message.Place.TheVariants as receiver
 use Rattle.switch_table.specs.declared.tables.Tables.{Tables}
 use Rattle.journal.specs.declared.item.Item.{Item}
 use Rattle.journal.specs.declared.item.Item.TheVariants as item
@@ -51,7 +51,7 @@ IsKnownSwitch setting before s =
     (s < length setting.net.switches) ⊎ (1 < known_boot before s)
 
 -- what the controller says to switches, what these say of themselves, and adverts
-abbrev pub SaysOwn : Setting → List Item → Receiver → Body → Type 0
+abbrev pub SaysOwn : Setting → List Item → Place → Body → Type 0
 SaysOwn setting before (receiver.Switch s) (Install boot tables) = IsKnownSwitch setting before s
 SaysOwn setting before (receiver.Switch s) (OpenAt boot version) = IsKnownSwitch setting before s
 SaysOwn setting before (receiver.Switch s) (Stamp boot version) = IsKnownSwitch setting before s
@@ -71,7 +71,7 @@ pub record AnswersTables (before : List Item) (s boot version : ℕ) : Type 0 wh
   pub own : tables.version ≡ version
   pub answers : AnswersTo before s (Install boot tables)
 
-abbrev pub SaysThere : Setting → List Item → Receiver → Body → Type 0
+abbrev pub SaysThere : Setting → List Item → Place → Body → Type 0
 SaysThere setting before (receiver.Switch s) (CacheRule version word rule action) =
     IsTrue (is_version before version) × IsIngress before s
 SaysThere setting before receiver.Controller (Installed s boot version) =
@@ -118,7 +118,7 @@ known_sent setting before n s message known = elim known [
   | inr heard ↦ inr (omega (arith, heard, known_more before (item.Sent n message) s))
 ]
 
-own_sent : (setting : Setting) (before : List Item) (n : ℕ) (message : Message) (to : Receiver)
+own_sent : (setting : Setting) (before : List Item) (n : ℕ) (message : Message) (to : Place)
     (body : Body) → SaysOwn setting before to body
     → SaysOwn setting (before ++ item.Sent n message ∷ []) to body
 own_sent setting before n message (receiver.Switch s) (Install boot tables) own =
@@ -133,7 +133,7 @@ own_sent setting before n message (receiver.Switch s) (Advertise advert) own = o
 own_sent setting before n message receiver.Controller (Hello s boot) own = own
 own_sent setting before n message to body own = absurd own
 
-own_names : (setting : Setting) (before : List Item) (to : Receiver) (body : Body)
+own_names : (setting : Setting) (before : List Item) (to : Place) (body : Body)
     → SaysOwn setting before to body → SaysThere setting before to body
 own_names setting before (receiver.Switch s) (CacheRule version word rule action) own = absurd own
 own_names setting before receiver.Controller (Installed s boot version) own = absurd own
@@ -260,7 +260,7 @@ confirm_name setting s journal = grind (arith, settling_name)
 
 -- ---- what is sent again
 
-advert_own : (setting : Setting) (before : List Item) (to : Receiver) (body : Body)
+advert_own : (setting : Setting) (before : List Item) (to : Place) (body : Body)
     → IsAdvertTo setting to body → SaysOwn setting before to body
 advert_own setting before (receiver.Switch s) (Advertise advert) is = is
 advert_own setting before to body is = absurd is

@@ -12,8 +12,8 @@ use Rattle.std.proofs.lemmas.List.Sums.{fold-append}
 use Rattle.ctrl_msg.specs.declared.message.Body.{Body}
 use Rattle.ctrl_msg.specs.declared.message.Body.TheVariants.{Advertise}
 use Rattle.ctrl_msg.specs.declared.message.Message.{Message}
-use Rattle.ctrl_msg.specs.declared.message.Receiver.{Receiver}
-use Rattle.ctrl_msg.specs.declared.message.Receiver.TheVariants as receiver
+use Rattle.ctrl_msg.specs.declared.message.Place.{Place}
+use Rattle.ctrl_msg.specs.declared.message.Place.TheVariants as receiver
 use Rattle.failover.specs.Adverts.{after_hearing, after_hearing_all, first_advert, first_adverts, held_advert, is_newer, is_news, no_adverts}
 use Rattle.failover.specs.Links.{neighbours_named}
 use Rattle.failover.specs.declared.advert.Advert.{Advert}
@@ -318,7 +318,7 @@ same_on setting one before (item.Delivered number) small cause kept s apart up =
         (claim_of setting before s one)
     same = kept.same s apart was
 
-    by_receiver : (to : Receiver) (body : Body)
+    by_receiver : (to : Place) (body : Body)
         → AreSame (held_by setting s one (is_in_first_boot before s)
         (option_map_or (λ heard_body. heard before s ++ heard_body ∷ [])
         (if is_to_switch s to && is_up before s && is_for_boot (boot_of before s) body
@@ -410,7 +410,7 @@ newer_links net one (Some old) (Some new) olds news =
     by_test true = news
     by_test false = olds
 
-claimed_links : (net : Net) (s one : ℕ) (to : Receiver) (body : Body)
+claimed_links : (net : Net) (s one : ℕ) (to : Place) (body : Body)
     → IfAdvert (NamesLinks net) body → ClaimsLinks net one (claim_by s one to body)
 unfolding has
 claimed_links net s one (receiver.Switch t) (Advertise advert) such =

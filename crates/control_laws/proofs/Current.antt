@@ -7,9 +7,9 @@ use Rattle.std.proofs.lemmas.Bool.Decides.{nat_tests}
 use Rattle.ctrl_msg.specs.declared.message.Body.{Body}
 use Rattle.ctrl_msg.specs.declared.message.Body.TheVariants.{OpenAt, Stamp, Stamped}
 use Rattle.ctrl_msg.specs.declared.message.Message.{Message}
-use Rattle.ctrl_msg.specs.declared.message.Receiver.{Receiver}
+use Rattle.ctrl_msg.specs.declared.message.Place.{Place}
 use Rattle.ctrl_msg.specs.Kinds.{to_controller}
-use Rattle.ctrl_msg.specs.declared.message.Receiver.TheVariants as receiver
+use Rattle.ctrl_msg.specs.declared.message.Place.TheVariants as receiver
 use Rattle.journal.specs.declared.item.Item.{Item}
 use Rattle.journal.specs.declared.item.Item.TheVariants as item
 use Rattle.update_machine.specs.Boots.{body_to_switch}
@@ -32,7 +32,7 @@ use Rattle.control_laws.proofs.Switches.{stamp_less}
 use Rattle.control_laws.proofs.Told.{each_if, each_weaker, tells, told_by, told_by_more, told_sent}
 
 -- a message that lets a switch stamp, or says that it does, is of a version that is current or was
-abbrev pub IsOfCurrent : List Item → Receiver → Body → Type 0
+abbrev pub IsOfCurrent : List Item → Place → Body → Type 0
 IsOfCurrent journal (receiver.Switch s) (OpenAt boot version) = version ≤ current_mark journal
 IsOfCurrent journal (receiver.Switch s) (Stamp boot version) = version ≤ current_mark journal
 IsOfCurrent journal receiver.Controller (Stamped s boot version) = version ≤ current_mark journal
@@ -91,7 +91,7 @@ opened_on setting before next s boot version cause are opened =
 
 -- ---- messages
 
-sent_current : (setting : Setting) (before : List Item) (to : Receiver) (body : Body)
+sent_current : (setting : Setting) (before : List Item) (to : Place) (body : Body)
     → StampsAreCurrent before → IsRightMessage setting before to body
     → IsOfCurrent before to body
 sent_current setting before (receiver.Switch s) (OpenAt boot version) are right =
@@ -103,7 +103,7 @@ sent_current setting before receiver.Controller (Stamped s boot version) are rig
     omega (arith, right.stamps, are.stamps s)
 sent_current setting before receiver.Controller _ are right = tt
 
-current_on : (setting : Setting) (before : List Item) (next : Item) (to : Receiver) (body : Body)
+current_on : (setting : Setting) (before : List Item) (next : Item) (to : Place) (body : Body)
     → HasItemCause setting before next → IsOfCurrent before to body
     → IsOfCurrent (before ++ next ∷ []) to body
 current_on setting before next (receiver.Switch s) (OpenAt boot version) cause is =

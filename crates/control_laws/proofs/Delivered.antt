@@ -5,9 +5,9 @@ use Rattle.std.proofs.lemmas.Bool.{eq-eqb}
 use Rattle.ctrl_msg.specs.declared.message.Body.{Body}
 use Rattle.ctrl_msg.specs.declared.message.Body.TheVariants.{Hello}
 use Rattle.ctrl_msg.specs.declared.message.Message.{Message}
-use Rattle.ctrl_msg.specs.declared.message.Receiver.{Receiver}
+use Rattle.ctrl_msg.specs.declared.message.Place.{Place}
 use Rattle.ctrl_msg.specs.Kinds.{to_controller}
-use Rattle.ctrl_msg.specs.declared.message.Receiver.TheVariants as receiver
+use Rattle.ctrl_msg.specs.declared.message.Place.TheVariants as receiver
 use Rattle.journal.specs.declared.item.Item.{Item}
 use Rattle.journal.specs.declared.item.Item.TheVariants as item
 use Rattle.steps.specs.declared.step.Step.{Step}
@@ -41,7 +41,7 @@ delivery_has Have setting before number now none at_controller at_switch =
     by_said s None e = none
     by_said s (Some body) e = at_switch s body e
 
-    by_receiver : (to : Receiver) (body : Body)
+    by_receiver : (to : Place) (body : Body)
         → message_of before number ≡ Some (record { to = to; body = body })
         → Have (received_items setting before number (record { to = to; body = body }) now)
     by_receiver receiver.Controller body e = at_controller body e

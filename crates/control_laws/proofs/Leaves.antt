@@ -5,8 +5,8 @@ use Rattle.std.specs.Option.{option_or}
 use Rattle.std.proofs.lemmas.Bool.{eqb-true}
 use Rattle.ctrl_msg.specs.declared.message.Body.{Body}
 use Rattle.ctrl_msg.specs.declared.message.Body.TheVariants.{OpenAt}
-use Rattle.ctrl_msg.specs.declared.message.Receiver.{Receiver}
-use Rattle.ctrl_msg.specs.declared.message.Receiver.TheVariants as receiver
+use Rattle.ctrl_msg.specs.declared.message.Place.{Place}
+use Rattle.ctrl_msg.specs.declared.message.Place.TheVariants as receiver
 use Rattle.journal.specs.declared.item.Item.{Item}
 use Rattle.journal.specs.declared.item.Item.TheVariants as item
 use Rattle.update_machine.specs.Causes.{HaveCauses}
@@ -20,7 +20,7 @@ use Rattle.control_laws.proofs.Grown.{count_more, current_more, known_more, open
 use Rattle.control_laws.proofs.Sends.{acked_same}
 
 -- a message that opens no switch that wasn't opened in its known boot
-abbrev pub OpensNone : List Item → Receiver → Body → Type 0
+abbrev pub OpensNone : List Item → Place → Body → Type 0
 OpensNone before (receiver.Switch s) (OpenAt boot version) = IsTrue (is_some (opened_at before s))
 OpensNone before receiver.Controller (OpenAt boot version) = ⊥
 OpensNone before to body = ⊤
@@ -96,7 +96,7 @@ reopening_keeps before n s boot version opened =
 
 -- ---- any items
 
-sent_keeps : (before : List Item) (n : ℕ) (to : Receiver) (body : Body)
+sent_keeps : (before : List Item) (n : ℕ) (to : Place) (body : Body)
     → OpensNone before to body → ControllerKeeps before
     (before ++ item.Sent n (record { to = to; body = body }) ∷ [])
 sent_keeps before n (receiver.Switch s) (OpenAt boot version) none =

@@ -3,8 +3,8 @@ use Rattle.std.proofs.Common.{ℕ, ◌≡◌, List, [], ◌∷◌, ◌++◌, ap,
 use Rattle.std.specs.Prelude.{is_some, unwrap_or}
 use Rattle.ctrl_msg.specs.declared.message.Body.{Body}
 use Rattle.ctrl_msg.specs.declared.message.Body.TheVariants.{OpenAt, Stamp}
-use Rattle.ctrl_msg.specs.declared.message.Receiver.{Receiver}
-use Rattle.ctrl_msg.specs.declared.message.Receiver.TheVariants as receiver
+use Rattle.ctrl_msg.specs.declared.message.Place.{Place}
+use Rattle.ctrl_msg.specs.declared.message.Place.TheVariants as receiver
 use Rattle.journal.specs.declared.item.Item.{Item}
 use Rattle.journal.specs.declared.item.Item.TheVariants as item
 use Rattle.update_machine.specs.Causes.{HaveCauses}
@@ -119,7 +119,7 @@ stamp_let setting before s boot version are right =
       current = omega arith;
     }
 
-message_let : (setting : Setting) (before : List Item) (to : Receiver) (body : Body)
+message_let : (setting : Setting) (before : List Item) (to : Place) (body : Body)
     → AreMarked setting before → IsRightMessage setting before to body
     → LetsStamp setting before to body
 message_let setting before (receiver.Switch s) (OpenAt boot version) are right =

@@ -9,8 +9,8 @@ use Rattle.ctrl_msg.specs.Kinds.{body_version, to_controller}
 use Rattle.ctrl_msg.specs.declared.message.Body.{Body}
 use Rattle.ctrl_msg.specs.declared.message.Body.TheVariants.{Install, OpenAt, Stamp, Collect, CacheRule, Advertise, Hello, Installed, Stamped}
 use Rattle.ctrl_msg.specs.declared.message.Message.{Message}
-use Rattle.ctrl_msg.specs.declared.message.Receiver.{Receiver}
-use Rattle.ctrl_msg.specs.declared.message.Receiver.TheVariants as receiver
+use Rattle.ctrl_msg.specs.declared.message.Place.{Place}
+use Rattle.ctrl_msg.specs.declared.message.Place.TheVariants as receiver
 use Rattle.net_file.specs.Net.{IsNet}
 use Rattle.journal.specs.declared.item.Item.{Item}
 use Rattle.journal.specs.declared.item.Item.TheVariants as item
@@ -86,7 +86,7 @@ ingress_there setting before s some are is =
     by_ingress None e own = omega (arith, some, own)
     by_ingress (Some t) e own = omega (arith, are.ingress is.packet t e, own)
 
-addressed : (setting : Setting) (before : List Item) (to : Receiver) (body : Body)
+addressed : (setting : Setting) (before : List Item) (to : Place) (body : Body)
     → 1 ≤ length setting.net.switches → AreNamed setting before
     → SaysThere setting before to body → IsAddressed setting to body
 addressed setting before (receiver.Switch s) (Install boot tables) some are says =
@@ -118,7 +118,7 @@ opening_above setting before s boot version are right = elim right.opens [
       are.opened s (known_boot before s) version (sym (opened_is before s) ∙ same)
 ]
 
-version_there : (setting : Setting) (before : List Item) (to : Receiver) (body : Body)
+version_there : (setting : Setting) (before : List Item) (to : Place) (body : Body)
     → AreNamed setting before → IsRightMessage setting before to body
     → SaysThere setting before to body → IfSome (body_version body) (IsThere before)
 version_there setting before (receiver.Switch s) (Install boot tables) are right says =

@@ -5,8 +5,8 @@ use Rattle.std.specs.List.{AllByRecursion}
 use Rattle.ctrl_msg.specs.declared.message.Body.{Body}
 use Rattle.ctrl_msg.specs.declared.message.Body.TheVariants.{Install, OpenAt, Stamp, Advertise}
 use Rattle.ctrl_msg.specs.declared.message.Message.{Message}
-use Rattle.ctrl_msg.specs.declared.message.Receiver.{Receiver}
-use Rattle.ctrl_msg.specs.declared.message.Receiver.TheVariants as receiver
+use Rattle.ctrl_msg.specs.declared.message.Place.{Place}
+use Rattle.ctrl_msg.specs.declared.message.Place.TheVariants as receiver
 use Rattle.failover.specs.declared.advert.Advert.{Advert}
 use Rattle.journal.specs.declared.item.Item.{Item}
 use Rattle.journal.specs.declared.item.Item.TheVariants as item
@@ -74,7 +74,7 @@ passed_leave setting journal s advert =
 abbrev pub ReopensAlone : List Item → Message → Type 0
 ReopensAlone journal message = OpensNone journal message.to message.body
 
-opens_none_sent : (before : List Item) (n : ℕ) (message : Message) (to : Receiver) (body : Body)
+opens_none_sent : (before : List Item) (n : ℕ) (message : Message) (to : Place) (body : Body)
     → OpensNone before to body → OpensNone (before ++ item.Sent n message ∷ []) to body
 opens_none_sent before n message (receiver.Switch s) (OpenAt boot version) none =
     still_opened before (item.Sent n message) s (known_more before (item.Sent n message) s) none

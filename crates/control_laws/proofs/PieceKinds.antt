@@ -6,8 +6,8 @@ use Rattle.std.specs.Bool.{beq}
 use Rattle.ctrl_msg.specs.declared.message.Body.{Body}
 use Rattle.ctrl_msg.specs.declared.message.Body.TheVariants.{Install, OpenAt, Stamp, Advertise}
 use Rattle.ctrl_msg.specs.declared.message.Message.{Message}
-use Rattle.ctrl_msg.specs.declared.message.Receiver.{Receiver}
-use Rattle.ctrl_msg.specs.declared.message.Receiver.TheVariants as receiver
+use Rattle.ctrl_msg.specs.declared.message.Place.{Place}
+use Rattle.ctrl_msg.specs.declared.message.Place.TheVariants as receiver
 use Rattle.net_file.specs.Net.{IsNet}
 use Rattle.journal.specs.declared.item.Item.{Item}
 use Rattle.journal.specs.declared.item.Item.TheVariants as item
@@ -270,7 +270,7 @@ received_kind setting before row number step message = by_receiver message.to
     by_said s None = nothing_caused setting before row number step
     by_said s (Some body) = switch_kind setting before row number step s body
 
-    by_receiver : (to : Receiver)
+    by_receiver : (to : Place)
         → PieceKind setting before (item.Row row step ∷ item.Delivered number ∷ elim to [
           | receiver.Controller ↦ controller_items setting before message.body now
           | receiver.Switch s ↦ elim (body_to_switch before s number) [

@@ -7,8 +7,8 @@ pub use Rattle.policy_rules.proofs.CallerLemmas.{each_weaker}
 use Rattle.ctrl_msg.specs.declared.message.Body.{Body}
 use Rattle.ctrl_msg.specs.declared.message.Body.TheVariants.{Install, OpenAt, Stamp, Collect, CacheRule, Advertise, Hello, Installed, Stamped}
 use Rattle.ctrl_msg.specs.declared.message.Message.{Message}
-use Rattle.ctrl_msg.specs.declared.message.Receiver.{Receiver}
-use Rattle.ctrl_msg.specs.declared.message.Receiver.TheVariants as receiver
+use Rattle.ctrl_msg.specs.declared.message.Place.{Place}
+use Rattle.ctrl_msg.specs.declared.message.Place.TheVariants as receiver
 use Rattle.switch_table.specs.Tables.{tables_of}
 use Rattle.journal.specs.declared.item.Item.{Item}
 use Rattle.journal.specs.declared.item.Item.TheVariants as item
@@ -259,7 +259,7 @@ to_sent setting before s n message _ new right = absurd right
 abbrev pub IsRight : Setting → List Item → Message → Type 0
 IsRight setting before message = IsRightMessage setting before message.to message.body
 
-right_sent : (setting : Setting) (before : List Item) (n : ℕ) (message : Message) (to : Receiver)
+right_sent : (setting : Setting) (before : List Item) (n : ℕ) (message : Message) (to : Place)
     (body : Body) → IsRight setting before message → IsRightMessage setting before to body
     → IsRightMessage setting (before ++ item.Sent n message ∷ []) to body
 right_sent setting before n message (receiver.Switch s) body new right =

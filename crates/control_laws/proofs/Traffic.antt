@@ -6,8 +6,8 @@ use Rattle.std.specs.List.{AllByRecursion, flat_map}
 use Rattle.ctrl_msg.specs.declared.message.Body.{Body}
 use Rattle.ctrl_msg.specs.declared.message.Body.TheVariants.{CacheRule, Advertise}
 use Rattle.ctrl_msg.specs.declared.message.Message.{Message}
-use Rattle.ctrl_msg.specs.declared.message.Receiver.{Receiver}
-use Rattle.ctrl_msg.specs.declared.message.Receiver.TheVariants as receiver
+use Rattle.ctrl_msg.specs.declared.message.Place.{Place}
+use Rattle.ctrl_msg.specs.declared.message.Place.TheVariants as receiver
 use Rattle.base.specs.Masks.{has}
 use Rattle.failover.specs.declared.advert.Advert.{Advert}
 use Rattle.policy_rules.specs.declared.packet.Leg.{Leg}
@@ -51,17 +51,17 @@ pub record IsIngress (before : List Item) (s : ℕ) : Type 0 where
   pub ingress : s ≡ unwrap_or (ingress_of before packet) 0
 
 -- a cache rule of a version that is there goes to an ingress
-abbrev pub IsRuleTo : List Item → Receiver → Body → Type 0
+abbrev pub IsRuleTo : List Item → Place → Body → Type 0
 IsRuleTo before (receiver.Switch s) (CacheRule version word rule action) =
     IsTrue (is_version before version) × IsIngress before s
 IsRuleTo before to body = ⊥
 
 -- what such rules have
-pub rule_cases : (before : List Item) (P : Receiver → Body → Type 0)
+pub rule_cases : (before : List Item) (P : Place → Body → Type 0)
     → ((s version : ℕ) (word : _) (rule : Option ℕ) (action : Action)
     → IsTrue (is_version before version) → IsIngress before s
     → P (receiver.Switch s) (CacheRule version word rule action))
-    → (to : Receiver) (body : Body) → IsRuleTo before to body → P to body
+    → (to : Place) (body : Body) → IsRuleTo before to body → P to body
 rule_cases before P rules (receiver.Switch s) (CacheRule version word rule action) is =
     rules s version word rule action is.0 is.1
 rule_cases before P rules to body is = absurd is
@@ -95,7 +95,7 @@ abbrev pub Work : Setting → List Item → List Item → Type 0
 Work setting journal items = HaveCauses (IsWork setting) journal items
 
 -- a message of a switch to another one: such a rule, or an advert to a switch of the network
-abbrev pub IsBetween : Setting → List Item → Receiver → Body → Type 0
+abbrev pub IsBetween : Setting → List Item → Place → Body → Type 0
 IsBetween setting before (receiver.Switch s) (Advertise advert) =
     s < length setting.net.switches
 IsBetween setting before to body = IsRuleTo before to body
@@ -110,13 +110,13 @@ abbrev pub Traffic : Setting → List Item → List Item → Type 0
 Traffic setting journal items = HaveCauses (IsTraffic setting) journal items
 
 -- what rules have and adverts
-pub between_cases : (setting : Setting) (before : List Item) (P : Receiver → Body → Type 0)
+pub between_cases : (setting : Setting) (before : List Item) (P : Place → Body → Type 0)
     → ((s version : ℕ) (word : _) (rule : Option ℕ) (action : Action)
     → IsTrue (is_version before version) → IsIngress before s
     → P (receiver.Switch s) (CacheRule version word rule action))
     → ((s : ℕ) (advert : Advert) → s < length setting.net.switches
     → P (receiver.Switch s) (Advertise advert))
-    → (to : Receiver) (body : Body) → IsBetween setting before to body → P to body
+    → (to : Place) (body : Body) → IsBetween setting before to body → P to body
 between_cases setting before P rules adverts (receiver.Switch s) (Advertise advert) is =
     adverts s advert is
 between_cases setting before P rules adverts to body is = rule_cases before P rules to body is
@@ -365,14 +365,14 @@ expire_work setting s at journal = grind arith
 -- ---- adverts
 
 -- an advert to a switch of the network
-abbrev pub IsAdvertTo : Setting → Receiver → Body → Type 0
+abbrev pub IsAdvertTo : Setting → Place → Body → Type 0
 IsAdvertTo setting (receiver.Switch s) (Advertise advert) = s < length setting.net.switches
 IsAdvertTo setting to body = ⊥
 
 abbrev pub IsAdvert : Setting → Message → Type 0
 IsAdvert setting message = IsAdvertTo setting message.to message.body
 
-advert_between : (setting : Setting) (before : List Item) (to : Receiver) (body : Body)
+advert_between : (setting : Setting) (before : List Item) (to : Place) (body : Body)
     → IsAdvertTo setting to body → IsBetween setting before to body
 advert_between setting before (receiver.Switch s) (Advertise advert) is = is
 advert_between setting before to body is = absurd is

@@ -3,8 +3,8 @@
 use Rattle.std.specs.Prelude.{⊤, ℕ, ◌≡◌, ◌<◌, ◌≤◌, List, length, IsTrue}
 use Rattle.ctrl_msg.specs.declared.message.Body.{Body}
 use Rattle.ctrl_msg.specs.declared.message.Body.TheVariants.{OpenAt, Stamp}
-use Rattle.ctrl_msg.specs.declared.message.Receiver.{Receiver}
-use Rattle.ctrl_msg.specs.declared.message.Receiver.TheVariants as receiver
+use Rattle.ctrl_msg.specs.declared.message.Place.{Place}
+use Rattle.ctrl_msg.specs.declared.message.Place.TheVariants as receiver
 use Rattle.journal.specs.declared.item.Item.{Item}
 use Rattle.journal.specs.declared.item.Item.TheVariants as item
 use Rattle.update_machine.specs.Links.{serves}
@@ -19,7 +19,7 @@ pub record IsLetStamp (setting : Setting) (before : List Item) (s boot version :
   pub acked : s < length setting.net.switches → IsTrue (has_acked before s version)
   pub current : version ≤ current_mark before
 
-abbrev pub LetsStamp : Setting → List Item → Receiver → Body → Type 0
+abbrev pub LetsStamp : Setting → List Item → Place → Body → Type 0
 LetsStamp setting before (receiver.Switch s) (OpenAt boot version) =
     IsLetStamp setting before s boot version
 LetsStamp setting before (receiver.Switch s) (Stamp boot version) =

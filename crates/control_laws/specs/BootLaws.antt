@@ -5,8 +5,8 @@ use Rattle.ctrl_msg.specs.Bodies.{body_boot}
 use Rattle.ctrl_msg.specs.declared.message.Body.{Body}
 use Rattle.ctrl_msg.specs.declared.message.Body.TheVariants.{OpenAt}
 use Rattle.ctrl_msg.specs.declared.message.Message.{Message}
-use Rattle.ctrl_msg.specs.declared.message.Receiver.{Receiver}
-use Rattle.ctrl_msg.specs.declared.message.Receiver.TheVariants as receiver
+use Rattle.ctrl_msg.specs.declared.message.Place.{Place}
+use Rattle.ctrl_msg.specs.declared.message.Place.TheVariants as receiver
 use Rattle.journal.specs.declared.item.Item.{Item}
 use Rattle.update_machine.specs.Boots.{boot_of, is_up}
 use Rattle.update_machine.specs.Marks.{is_member, is_over, known_boot}
@@ -16,7 +16,7 @@ use Rattle.update_machine.specs.Links.{serves, message_of}
 
 -- a message to a switch carries no boot above the one that is known of it, and one of a switch none
 -- above its own
-abbrev pub HasPastBoot : List Item → Receiver → Body → Type 0
+abbrev pub HasPastBoot : List Item → Place → Body → Type 0
 HasPastBoot journal (receiver.Switch s) body =
     IfSome (body_boot body) (λ boot. boot ≤ known_boot journal s)
 HasPastBoot journal receiver.Controller body =

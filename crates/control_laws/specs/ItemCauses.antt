@@ -7,8 +7,8 @@ use Rattle.std.specs.Prelude.{⊤, ℕ, ◌≡◌, ◌≢◌, ◌+◌, ◌-◌, 
 use Rattle.std.specs.List.{list_any}
 use Rattle.ctrl_msg.specs.declared.message.Body.{Body}
 use Rattle.ctrl_msg.specs.declared.message.Body.TheVariants.{Install, OpenAt, Stamp, Collect, CacheRule, Advertise, Hello, Installed, Stamped}
-use Rattle.ctrl_msg.specs.declared.message.Receiver.{Receiver}
-use Rattle.ctrl_msg.specs.declared.message.Receiver.TheVariants as receiver
+use Rattle.ctrl_msg.specs.declared.message.Place.{Place}
+use Rattle.ctrl_msg.specs.declared.message.Place.TheVariants as receiver
 use Rattle.switch_table.specs.declared.tables.Tables.{Tables}
 use Rattle.journal.specs.declared.item.Item.{Item}
 use Rattle.journal.specs.declared.item.Item.TheVariants as item
@@ -92,7 +92,7 @@ IsRightFrom before (Installed s boot version) = IsRightInstalled before s boot v
 IsRightFrom before (Stamped s boot version) = IsRightStamped before s boot version
 IsRightFrom before _ = ⊥
 
-abbrev pub IsRightMessage : Setting → List Item → Receiver → Body → Type 0
+abbrev pub IsRightMessage : Setting → List Item → Place → Body → Type 0
 IsRightMessage setting before (receiver.Switch s) body = IsRightTo setting before s body
 IsRightMessage setting before receiver.Controller body = IsRightFrom before body
 

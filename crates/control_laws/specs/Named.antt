@@ -3,8 +3,8 @@ use Rattle.std.specs.Prelude.{ℕ, ◌≡◌, ◌≤◌, Option, Some, None, Lis
 use Rattle.ctrl_msg.specs.Kinds.{body_version, to_controller}
 use Rattle.ctrl_msg.specs.declared.message.Body.{Body}
 use Rattle.ctrl_msg.specs.declared.message.Message.{Message}
-use Rattle.ctrl_msg.specs.declared.message.Receiver.{Receiver}
-use Rattle.ctrl_msg.specs.declared.message.Receiver.TheVariants as receiver
+use Rattle.ctrl_msg.specs.declared.message.Place.{Place}
+use Rattle.ctrl_msg.specs.declared.message.Place.TheVariants as receiver
 use Rattle.journal.specs.declared.item.Item.{Item}
 use Rattle.steps.specs.Steps.{HasSwitch}
 use Rattle.update_machine.specs.Boots.{heard}
@@ -21,7 +21,7 @@ IsOfSwitch setting None = ⊥
 IsOfSwitch setting (Some of) = HasSwitch setting.net of.0
 
 -- what is told to a switch is to one of the network, and what the controller is told is of one
-abbrev pub IsAddressed : Setting → Receiver → Body → Type 0
+abbrev pub IsAddressed : Setting → Place → Body → Type 0
 IsAddressed setting (receiver.Switch s) body =
     HasSwitch setting.net s × (speaker body ≡ None)
 IsAddressed setting receiver.Controller body = IsOfSwitch setting (speaker body)

@@ -6,7 +6,7 @@ use Rattle.std.specs.List.{range_with_len}
 use Rattle.std.specs.Option.{option_map_or}
 use Rattle.ctrl_msg.specs.declared.message.Body.{Body}
 use Rattle.ctrl_msg.specs.declared.message.Body.TheVariants.{Install, OpenAt, Stamp, Collect, Hello, Installed, Stamped}
-use Rattle.ctrl_msg.specs.declared.message.Receiver.TheVariants.{Switch}
+use Rattle.ctrl_msg.specs.declared.message.Place.TheVariants.{Switch}
 use Rattle.switch_table.specs.Tables.{tables_of}
 use Rattle.version_update.specs.Marks.{MarksValue, record_of, at_switch, with_version}
 use Rattle.version_update.specs.Record.{is_member, is_over, has_acked, takes_hello, hello_recorded, after_installed, after_stamped, opens_at}

@@ -186,7 +186,7 @@ impl Controller {
         match self.marks.phase(s) {
             Phase::Joining => self.resend_to_joining(alloc, s),
             Phase::Member => self.resend_to_member(alloc, s),
-            Phase::Over => Ok(Sends::new(Vec::new(alloc))),
+            Phase::Over => Ok(Sends::from_items(Vec::new(alloc))),
         }
     }
 
@@ -197,7 +197,7 @@ impl Controller {
         let mut acts = Vec::new(alloc);
         let current = self.marks.current();
         install_missing(&mut acts, alloc, &self.marks, &self.versions, s, current)?;
-        Ok(Sends::new(acts))
+        Ok(Sends::from_items(acts))
     }
 
     fn resend_to_member(&self, alloc: Global, s: u32) -> Result<Sends, AllocError>
@@ -213,7 +213,7 @@ impl Controller {
         install_missing(&mut acts, alloc, &self.marks, &self.versions, s, next)?;
         stamp_again(&mut acts, &self.marks, s)?;
         collect_again(&mut acts, &self.marks, s)?;
-        Ok(Sends::new(acts))
+        Ok(Sends::from_items(acts))
     }
 
     // One more version, which the marks don't refuse.
@@ -233,7 +233,7 @@ impl Controller {
         self.versions.push(version)?;
         let settled = add_version(&mut self.marks);
         settle(&mut acts, &mut self.versions, &self.marks, &settled)?;
-        Ok(Sends::new(acts))
+        Ok(Sends::from_items(acts))
     }
 
     // A body that isn't for the controller causes nothing: settled marks stay as they are.
@@ -245,7 +245,7 @@ impl Controller {
     {
         let _ = &self.marks;
         settling_laws();
-        Sends::new(Vec::new(alloc))
+        Sends::from_items(Vec::new(alloc))
     }
 
     fn hello(&mut self, alloc: Global, s: u32, boot: u32) -> Result<Sends, AllocError>
@@ -337,7 +337,7 @@ fn hello_sends(
     if settled.taken {
         install_all(&mut acts, alloc, versions, s, boot)?;
     }
-    Ok(Sends::new(acts))
+    Ok(Sends::from_items(acts))
 }
 
 // All versions to one switch.

@@ -8,7 +8,7 @@ use crate::plan_error::PlanError;
 use cut_tree::build;
 use net_file::Net;
 use partition::{list, plan_laws};
-use placement::choose_targets;
+use placement::place;
 use policy_rules::{Partition, Policy, to_rules};
 use std::alloc::{AllocError, Global};
 
@@ -31,7 +31,7 @@ pub fn compile(alloc: Global, policy: &Policy, net: &Net) -> Result<Plan, PlanEr
     let parts = list(alloc, &tree)?;
     let sizes = sizes_of(alloc, &parts)?;
     let rooms = rooms_of(alloc, net)?;
-    let targets = choose_targets(alloc, &sizes, &rooms, net.backups)?;
+    let targets = place(alloc, &sizes, &rooms, net.backups)?;
     let policy = policy.clone()?;
     let plan = Plan::new(alloc, policy, &parts, &targets)?;
     Ok(plan)

@@ -2,7 +2,7 @@ ghost use Rattle.std.specs.Prelude.{◌≡◌};
 ghost use Rattle.controller.specs.Sends.{post_act};
 
 use base::Items;
-use ctrl_msg::{Body, Message, Receiver};
+use ctrl_msg::{Body, Message, Place};
 
 /// What a controller does at a call.
 #[derive(Debug, Drop)]
@@ -20,7 +20,7 @@ impl Act {
         ensures { result ≡ post_act s body }
     {
         Act::Post(Message {
-            to: Receiver::Switch(s),
+            to: Place::Switch(s),
             body,
         })
     }

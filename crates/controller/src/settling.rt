@@ -77,7 +77,7 @@ pub fn settled_sends(
 {
     let mut acts = Vec::new(alloc);
     settle(&mut acts, versions, marks, settled)?;
-    Ok(Sends::new(acts))
+    Ok(Sends::from_items(acts))
 }
 
 // Lets the versions before the current one go: no later call names them.

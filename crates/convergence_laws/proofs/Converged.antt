@@ -5,8 +5,8 @@ use Rattle.std.proofs.lemmas.Bool.{and_parts, cases_eq, eq-eqb, eqb-true}
 use Rattle.std.proofs.lemmas.Bool.Decides.{nat_tests}
 use Rattle.ctrl_msg.specs.declared.message.Body.{Body}
 use Rattle.ctrl_msg.specs.declared.message.Body.TheVariants.{Advertise}
-use Rattle.ctrl_msg.specs.declared.message.Receiver.{Receiver}
-use Rattle.ctrl_msg.specs.declared.message.Receiver.TheVariants as receiver
+use Rattle.ctrl_msg.specs.declared.message.Place.{Place}
+use Rattle.ctrl_msg.specs.declared.message.Place.TheVariants as receiver
 use Rattle.failover.specs.Adverts.{held_advert, is_newer}
 use Rattle.failover.specs.declared.advert.Advert.{Advert}
 use Rattle.base.specs.Masks.{has}
@@ -51,11 +51,11 @@ course_to journal s x traced is to =
     let course = (each_in (IsTraced journal) x (sendings journal) traced.each is).course in
     by_receiver x.message.to course to
   where
-    receiver_or : Receiver → ℕ
+    receiver_or : Place → ℕ
     receiver_or (receiver.Switch t) = t
     receiver_or receiver.Controller = 0
 
-    by_receiver : (of : Receiver) → Course journal of x → of ≡ receiver.Switch s
+    by_receiver : (of : Place) → Course journal of x → of ≡ receiver.Switch s
         → x.boot ≤ boot_of journal s
     by_receiver (receiver.Switch t) course same =
         let own : t ≡ s = ap receiver_or same in

@@ -8,9 +8,9 @@ use Rattle.std.proofs.lemmas.List.FromFn.{get_or-map-range_with_len}
 use Rattle.ctrl_msg.specs.declared.message.Body.{Body}
 use Rattle.ctrl_msg.specs.declared.message.Body.TheVariants.{Install, OpenAt, Stamp, Advertise}
 use Rattle.ctrl_msg.specs.declared.message.Message.{Message}
-use Rattle.ctrl_msg.specs.declared.message.Receiver.{Receiver}
+use Rattle.ctrl_msg.specs.declared.message.Place.{Place}
 use Rattle.ctrl_msg.specs.Kinds.{to_controller}
-use Rattle.ctrl_msg.specs.declared.message.Receiver.TheVariants as receiver
+use Rattle.ctrl_msg.specs.declared.message.Place.TheVariants as receiver
 use Rattle.failover.specs.Adverts.{first_advert, first_adverts, held_advert, is_news, is_newer}
 use Rattle.failover.specs.declared.advert.Advert.{Advert}
 use Rattle.failover.specs.Newest.{IsNewest}
@@ -330,7 +330,7 @@ unsent_items setting before number now none =
       | Some message ↦ received_items setting before number message now
     ]) none
 
-abbrev receiver_or : Receiver → ℕ
+abbrev receiver_or : Place → ℕ
 receiver_or (receiver.Switch s) = s
 receiver_or receiver.Controller = 0
 
@@ -374,7 +374,7 @@ deliver_spread setting before row number step net known spread =
           ap (λ (o : Option Message). option_map_or (λ m. m.body) o body) same,
         )
 
-    by_receiver : (to : Receiver) (body : Body)
+    by_receiver : (to : Place) (body : Body)
         → message_of before number ≡ Some (record { to = to; body = body })
         → Spread setting (now ++ delivery_items setting before number now)
     by_receiver receiver.Controller body e =

@@ -10,9 +10,9 @@ use Rattle.std.proofs.lemmas.Option.{IfSome_then}
 use Rattle.ctrl_msg.specs.Bodies.{body_boot}
 use Rattle.ctrl_msg.specs.declared.message.Body.{Body}
 use Rattle.ctrl_msg.specs.declared.message.Message.{Message}
-use Rattle.ctrl_msg.specs.declared.message.Receiver.{Receiver}
+use Rattle.ctrl_msg.specs.declared.message.Place.{Place}
 use Rattle.ctrl_msg.specs.Kinds.{to_controller}
-use Rattle.ctrl_msg.specs.declared.message.Receiver.TheVariants as receiver
+use Rattle.ctrl_msg.specs.declared.message.Place.TheVariants as receiver
 use Rattle.journal.specs.declared.item.Item.{Item}
 use Rattle.journal.specs.declared.item.Item.TheVariants as item
 use Rattle.update_machine.specs.Boots.{boot_of, heard, is_for_boot, is_up, body_to_switch}
@@ -152,7 +152,7 @@ pub record SwitchCourse (journal : List Item) (s : ℕ) (x : Sending) : Type 0 w
       → IsTrue (is_for_boot x.boot x.message.body) → IsTrue (was_delivered journal x.number)
       → IsIn x.message.body (heard journal s)
 
-abbrev pub Course : List Item → Receiver → Sending → Type 0
+abbrev pub Course : List Item → Place → Sending → Type 0
 Course journal (receiver.Switch s) x = SwitchCourse journal s x
 Course journal receiver.Controller x =
     IsTrue (was_delivered journal x.number) → IsIn x.message.body (controller_heard journal)
@@ -322,7 +322,7 @@ told_on before (item.Delivered number) x sent course delivered =
 told_on before next x sent course delivered =
     rw (told_more before next) (course (rw (delivered_more before next x.number) at delivered))
 
-course_on : (setting : Setting) (before : List Item) (next : Item) (to : Receiver) (x : Sending)
+course_on : (setting : Setting) (before : List Item) (next : Item) (to : Place) (x : Sending)
     → HasItemCause setting before next
     → message_of before x.number ≡ Some (record { to = to; body = x.message.body })
     → Course before to x → Course (before ++ next ∷ []) to x
@@ -342,7 +342,7 @@ traced_on setting before next x cause traced = record {
 
 -- ---- a new message
 
-new_course : (before : List Item) (number : ℕ) (to : Receiver) (body : Body)
+new_course : (before : List Item) (number : ℕ) (to : Place) (body : Body)
     → IsKnown (before ++ item.Sent number (record { to = to; body = body }) ∷ [])
     → IsFalse (was_delivered before number)
     → Course (before ++ item.Sent number (record { to = to; body = body }) ∷ []) to

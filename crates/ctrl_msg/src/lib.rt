@@ -8,5 +8,5 @@
 mod message;
 mod shared;
 
-pub use message::{Body, Message, Receiver};
+pub use message::{Body, Message, Place};
 pub use shared::SharedTables;

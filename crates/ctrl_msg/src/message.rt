@@ -10,7 +10,7 @@ use ternary::Word;
 
 /// Whom a message is for.
 #[derive(Clone, Copy, Debug, PartialEq, Eq)]
-pub enum Receiver {
+pub enum Place {
     /// The switch of this number.
     Switch(u32),
     Controller,
@@ -73,7 +73,7 @@ pub enum Body {
 /// A message on its way.
 #[derive(Debug, Drop)]
 pub struct Message {
-    pub to: Receiver,
+    pub to: Place,
     pub body: Body,
 }
 

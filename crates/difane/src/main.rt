@@ -48,9 +48,9 @@ fn main(rt: HostRuntime) -> ExitCode {
         Err(error) => {
             let status = match error.kind() {
                 ErrorKind::OutOfMemory => Status::NoMemory,
-                _ => Status::Usage,
+                _ => Status::Words,
             };
-            if let Status::Usage = status {
+            if let Status::Words = status {
                 write_status(&status, &mut errs);
             }
             ExitCode::from(status.number())

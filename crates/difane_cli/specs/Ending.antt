@@ -44,7 +44,7 @@ pub record EndsWork (ended : Status) (before now : SinkState) : Type 0 where
 
 abbrev pub status_number : Status → ℕ
 status_number status.Ok = 0
-status_number status.Usage = 2
+status_number status.Words = 2
 status_number (status.Input file code row) = 3
 status_number status.ReadFault = 4
 status_number status.WriteFault = 5
@@ -63,7 +63,7 @@ NeedsReadFault _ _ = ⊥
 abbrev pub Accounts : {X : Type 0} → Result X Refusal → Status → Type 0
 Accounts read (status.Input file code row) =
     read ≡ Err (record { file = file; code = code; row = row })
-Accounts read status.Usage = ⊥
+Accounts read status.Words = ⊥
 Accounts read status.Ok = IsOk read
 Accounts read status.WriteFault = IsOk read
 Accounts read (status.Full row) = IsOk read

@@ -61,7 +61,7 @@ full_line row = concat (codes "difane: full row " ∷ decimal row ∷ codes "\n"
 -- the line of a status, with its line feed; a command that did its work says nothing
 abbrev pub status_line : Status → List ℕ
 status_line status.Ok = []
-status_line status.Usage = codes "difane: words\n"
+status_line status.Words = codes "difane: words\n"
 status_line (status.Input file code row) = input_line file code row
 status_line status.ReadFault = codes "difane: read fault\n"
 status_line status.WriteFault = codes "difane: write fault\n"

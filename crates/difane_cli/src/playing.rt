@@ -62,7 +62,7 @@ pub fn play<M: Meter, K: Sink>(
     let Ok(played) = replay::play(alloc, world, &events, meters, net.port_mask()) else {
         return Ended {
             status: Status::NoMemory,
-            journal: Journal::empty(alloc),
+            journal: Journal::new(alloc),
             meters: Vec::new(alloc),
         };
     };

@@ -78,8 +78,8 @@ impl<T: Drop> From<AllocFailed<T>> for Stop {
 pub enum Status {
     /// It did its work.
     Ok,
-    /// The arguments are off the grammar.
-    Usage,
+    /// The words of the command line are off the grammar.
+    Words,
     /// This file is refused, by this code in this row; 0 stands for the file as a whole.
     Input { file: FileName, code: u32, row: u32 },
     /// A file could not be read.
@@ -139,7 +139,7 @@ impl Status {
     {
         match self {
             Status::Ok => 0,
-            Status::Usage => 2,
+            Status::Words => 2,
             Status::Input { .. } => 3,
             Status::ReadFault => 4,
             Status::WriteFault => 5,
@@ -168,7 +168,7 @@ fn write_line<E: Sink>(status: &Status, errs: &mut E) -> Result<(), SinkError>
 {
     match status {
         Status::Ok => write_whole(errs, b""),
-        Status::Usage => write_whole(errs, b"difane: words\n"),
+        Status::Words => write_whole(errs, b"difane: words\n"),
         Status::Input { file, code, row } => write_input_line(file, *code, *row, errs),
         Status::ReadFault => write_whole(errs, b"difane: read fault\n"),
         Status::WriteFault => write_whole(errs, b"difane: write fault\n"),

@@ -83,7 +83,7 @@ pub fn work<M: Meter, K: Sink>(alloc: Global, task: Task, meters: Vec<M>, out: &
         Task::Play(inputs) => play(alloc, inputs, meters, out),
         Task::Print(inputs) => Ended {
             status: Status::after(print(alloc, &inputs, out), None),
-            journal: Journal::empty(alloc),
+            journal: Journal::new(alloc),
             meters,
         },
     }

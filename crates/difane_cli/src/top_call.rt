@@ -23,14 +23,14 @@ use std::alloc::{AllocError, Global};
 /// tables that it gives to the switch, each on the network of `--net NET` or on one switch.
 /// `load N` plays the load case of N, and writes the eleven counts of its journal.
 ///
-/// A status other than `Ok` writes its line to `errs`. The arguments are those of the command line
-/// without the program's name. The first refusal in the order of work ends the call: the arguments,
-/// the network and the switch on it, the schedule, the policies in the order of the arguments, the
-/// plan of the first policy, the play, the writing; each file is read and checked before the next
-/// one is read. A load case reads none.
+/// A status other than `Ok` writes its line to `errs`. The words are the arguments of the command
+/// line, without the program's name. The first refusal in the order of work ends the call: the
+/// words, the network and the switch on it, the schedule, the policies in the order of the words,
+/// the plan of the first policy, the play, the writing; each file is read and checked before the
+/// next one is read. A load case reads none.
 pub fn run<F: Shelf, K: Sink, E: Sink>(
     alloc: Global,
-    args: &Vec<String>,
+    words: &Vec<String>,
     shelf: &mut F,
     out: &mut K,
     errs: &mut E,
@@ -39,19 +39,20 @@ pub fn run<F: Shelf, K: Sink, E: Sink>(
     // By its status: what was played, that it is what the known files state, that the journal
     // answers it and is a run of the abstract machine whose ends and items have their causes, which
     // meters stayed, and what the output gained.
-    ensures outcome { Outcome (command_of (argument_texts args.now)) (F.state shelf.old).files
+    ensures outcome { Outcome (command_of (argument_texts words.now)) (F.state shelf.old).files
         K.takes_memory result.status result.journal
         (map ⟦<Box<dyn Meter> as Meter>⟧.seen meters.items)
         (map ⟦<Box<dyn Meter> as Meter>⟧.seen result.meters.items)
         (K.state out.old) (K.state out.new) }
 
     // A command that plays nothing gives the meters back as it took them.
-    ensures meters { PlaysNothing (command_of (argument_texts args.now)) → result.meters ≡ meters }
+    ensures meters { PlaysNothing (command_of (argument_texts words.now)) → result.meters ≡ meters }
 
     // Each status has its cause.
-    ensures usage { (result.status ≡ status.Usage) ↔ (command_of (argument_texts args.now) ≡ None) }
+    ensures words { (result.status ≡ status.Words)
+        ↔ (command_of (argument_texts words.now) ≡ None) }
     ensures accounts { ForSome
-        (known_task (F.state shelf.old).files (command_of (argument_texts args.now)))
+        (known_task (F.state shelf.old).files (command_of (argument_texts words.now)))
         (λ read. Accounts read result.status) }
     ensures read_fault { NeedsReadFault (F.state shelf.old).files result.status
         → Rose (F.state shelf.old).faults (F.state shelf.new).faults }
@@ -65,13 +66,13 @@ pub fn run<F: Shelf, K: Sink, E: Sink>(
     // Where memory runs out nothing was written, unless the output's own writes take memory. And
     // nothing was played, unless more than the lines of the play is asked for.
     ensures no_memory { result.status ≡ status.NoMemory
-        → RanOut (command_of (argument_texts args.now)) K.takes_memory result.journal
+        → RanOut (command_of (argument_texts words.now)) K.takes_memory result.journal
         (K.state out.old) (K.state out.new) }
 
     // Where the inputs are accepted and nothing fails, the work is done, to its end or as far as
     // there was room, or memory ran out.
     ensures complete { IsAccepted
-        (known_task (F.state shelf.old).files (command_of (argument_texts args.now)))
+        (known_task (F.state shelf.old).files (command_of (argument_texts words.now)))
         → Rose (F.state shelf.old).faults (F.state shelf.new).faults
         ⊎ Rose (K.state out.old).faults (K.state out.new).faults
         ⊎ (result.status ≡ status.Ok) ⊎ ((row : ℕ) × (result.status ≡ status.Full row))
@@ -85,17 +86,17 @@ pub fn run<F: Shelf, K: Sink, E: Sink>(
 
     // Files are read in order, none behind the first that is refused, and stay as they are.
     ensures shelf { IsAfterReads
-        (most_reads (F.state shelf.old).files (command_of (argument_texts args.now)))
+        (most_reads (F.state shelf.old).files (command_of (argument_texts words.now)))
         (F.state shelf.old) (F.state shelf.new) }
     ensures faults { (K.state out.old).faults ≤ (K.state out.new).faults }
 {
-    match read_command(alloc, args) {
-        Err(AllocError) => end(Status::NoMemory, Journal::empty(alloc), meters, errs),
-        Ok(None) => end(Status::Usage, Journal::empty(alloc), meters, errs),
+    match read_command(alloc, words) {
+        Err(AllocError) => end(Status::NoMemory, Journal::new(alloc), meters, errs),
+        Ok(None) => end(Status::Words, Journal::new(alloc), meters, errs),
         Ok(Some(command)) => match read_task(alloc, shelf, &command) {
             Err(stop) => {
                 let meters = unplayed(alloc, &command, meters);
-                end(Status::from(stop), Journal::empty(alloc), meters, errs)
+                end(Status::from(stop), Journal::new(alloc), meters, errs)
             }
             Ok(task) => {
                 let ended = work(alloc, task, meters, out);

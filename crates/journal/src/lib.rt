@@ -7,7 +7,7 @@
 mod item;
 mod shared;
 
-pub use ctrl_msg::{Body, Message, Receiver, SharedTables};
+pub use ctrl_msg::{Body, Message, Place, SharedTables};
 pub use failover::{Advert, DownSet, Route};
 pub use five_tuple::Header;
 pub use item::{Item, Journal};

@@ -8,8 +8,8 @@ use Rattle.std.proofs.lemmas.List.{get_or_append_left, get_or_push}
 use Rattle.ctrl_msg.specs.declared.message.Body.{Body}
 use Rattle.ctrl_msg.specs.declared.message.Body.TheVariants.{Install, OpenAt, Stamp, Collect, Advertise, Hello, Installed, Stamped}
 use Rattle.ctrl_msg.specs.declared.message.Message.{Message}
-use Rattle.ctrl_msg.specs.declared.message.Receiver.{Receiver}
-use Rattle.ctrl_msg.specs.declared.message.Receiver.TheVariants as receiver
+use Rattle.ctrl_msg.specs.declared.message.Place.{Place}
+use Rattle.ctrl_msg.specs.declared.message.Place.TheVariants as receiver
 use Rattle.journal.specs.declared.item.Item.{Item}
 use Rattle.journal.specs.declared.item.Item.TheVariants as item
 use Rattle.control_laws.proofs.Sends.{each_append, each_kept}
@@ -43,7 +43,7 @@ says_party later earlier says =
     let parts = and_parts _ _ says in
     by_receiver later.to earlier.to parts.0 later.body earlier.body parts.1
   where
-    by_receiver : (to from : Receiver) → is_same_receiver to from ≡ true → (later earlier : Body)
+    by_receiver : (to from : Place) → is_same_receiver to from ≡ true → (later earlier : Body)
         → replaces_body later earlier ≡ true
         → switch_of_message (record { to = to; body = later })
         ≡ switch_of_message (record { to = from; body = earlier })
@@ -90,7 +90,7 @@ matters_of status boot message matter = by_receiver message.to message.body matt
     by_speaker body (Some (t, own)) e matter =
         (and_parts _ _ (and_parts _ _ (and_parts _ _ matter).0).1).0
 
-    by_receiver : (to : Receiver) (body : Body)
+    by_receiver : (to : Place) (body : Body)
         → matters_to status boot (record { to = to; body = body }) ≡ true
         → is_named status.switch (switch_of_message (record { to = to; body = body })) ≡ true
     by_receiver (receiver.Switch s) body matter =

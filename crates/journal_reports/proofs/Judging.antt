@@ -9,8 +9,8 @@ use Rattle.std.proofs.lemmas.List.Sums.{AllPass-from_list_all, list_all-from_All
 use Rattle.ctrl_msg.specs.declared.message.Body.{Body}
 use Rattle.ctrl_msg.specs.declared.message.Body.TheVariants.{Install, CacheRule, Installed}
 use Rattle.ctrl_msg.specs.declared.message.Message.{Message}
-use Rattle.ctrl_msg.specs.declared.message.Receiver.{Receiver}
-use Rattle.ctrl_msg.specs.declared.message.Receiver.TheVariants as receiver
+use Rattle.ctrl_msg.specs.declared.message.Place.{Place}
+use Rattle.ctrl_msg.specs.declared.message.Place.TheVariants as receiver
 use Rattle.switch_table.specs.declared.tables.Tables.{Tables}
 use Rattle.journal.specs.declared.item.Item.{Item}
 use Rattle.control_laws.specs.Named.{IsAddressed, IsOfSwitch}
@@ -138,7 +138,7 @@ concerned setting journal x addressed matter =
     by_speaker body number boot (Some (s, own)) e of matter =
         (s, of, concerns_of journal number boot s own body e matter)
 
-    by_receiver : (to : Receiver) (body : Body) (number boot : ℕ)
+    by_receiver : (to : Place) (body : Body) (number boot : ℕ)
         → IsAddressed setting to body
         → IsTrue (matters journal
         (record { number = number; message = record { to = to; body = body }; boot = boot }))
@@ -177,7 +177,7 @@ matters_so journal s x matter = by_receiver x.message.to x.message.body x.number
         eq-eqb (boot_of journal t) own (ap (boot_of journal) who ∙ sym own_boot) in
         rw (e, here, its, old, fresh.1) refl
 
-    by_receiver : (to : Receiver) (body : Body) (number boot : ℕ)
+    by_receiver : (to : Place) (body : Body) (number boot : ℕ)
         → matters_to (status_in journal s) boot (record { to = to; body = body }) ≡ true
         → IsTrue (matters journal
         (record { number = number; message = record { to = to; body = body }; boot = boot }))
@@ -229,7 +229,7 @@ says_so setting journal later earlier tables addressed is was says =
 
     agree : (boot of : ℕ) (one other : Tables) → later.message.to ≡ earlier.message.to
         → later.message.body ≡ Install boot one → earlier.message.body ≡ Install of other
-        → one.version ≡ other.version → (to : Receiver) → later.message.to ≡ to
+        → one.version ≡ other.version → (to : Place) → later.message.to ≡ to
         → IsAddressed setting to later.message.body → one ≡ other
     agree boot of one other same mine its versions (receiver.Switch s) to there =
         tables s boot of one other (sent later s (Install boot one) is to mine)
@@ -396,7 +396,7 @@ no_cache_rule : (status : SwitchStatus) (x : Sending) → Matters status x
     → IsFalse (is_cache_rule x.message.body)
 no_cache_rule status x matter = by_body x.message.to x.message.body x.boot matter
   where
-    by_body : (to : Receiver) (body : Body) (boot : ℕ)
+    by_body : (to : Place) (body : Body) (boot : ℕ)
         → matters_to status boot (record { to = to; body = body }) ≡ true
         → IsFalse (is_cache_rule body)
     by_body (receiver.Switch s) (CacheRule version word rule action) boot matter =

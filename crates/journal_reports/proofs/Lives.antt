@@ -4,8 +4,8 @@ use Rattle.std.proofs.lemmas.Bool.{and_right, eqb-true}
 use Rattle.std.proofs.lemmas.List.{take_more}
 use Rattle.ctrl_msg.specs.declared.message.Body.{Body}
 use Rattle.ctrl_msg.specs.declared.message.Message.{Message}
-use Rattle.ctrl_msg.specs.declared.message.Receiver.{Receiver}
-use Rattle.ctrl_msg.specs.declared.message.Receiver.TheVariants as receiver
+use Rattle.ctrl_msg.specs.declared.message.Place.{Place}
+use Rattle.ctrl_msg.specs.declared.message.Place.TheVariants as receiver
 use Rattle.journal.specs.declared.item.Item.{Item}
 use Rattle.journal.specs.declared.item.Item.TheVariants as item
 use Rattle.update_machine.specs.Boots.{boot_of, is_up}
@@ -43,7 +43,7 @@ same_boot : (status : SwitchStatus) (before : List Item) (message : Message)
     ≡ matters_to status (boot_of before status.switch) message
 same_boot status before message = by_receiver message.to message.body
   where
-    by_receiver : (to : Receiver) (body : Body)
+    by_receiver : (to : Place) (body : Body)
         → matters_to status (boot_at before to) (record { to = to; body = body })
         ≡ matters_to status (boot_of before status.switch) (record { to = to; body = body })
     by_receiver receiver.Controller body = refl

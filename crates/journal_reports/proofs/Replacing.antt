@@ -7,8 +7,8 @@ use Rattle.control_laws.proofs.Facts.{own}
 use Rattle.ctrl_msg.specs.declared.message.Body.{Body}
 use Rattle.ctrl_msg.specs.declared.message.Body.TheVariants.{Install, OpenAt, Stamp, Collect, CacheRule, Advertise, Hello, Installed, Stamped}
 use Rattle.ctrl_msg.specs.declared.message.Message.{Message}
-use Rattle.ctrl_msg.specs.declared.message.Receiver.{Receiver}
-use Rattle.ctrl_msg.specs.declared.message.Receiver.TheVariants as receiver
+use Rattle.ctrl_msg.specs.declared.message.Place.{Place}
+use Rattle.ctrl_msg.specs.declared.message.Place.TheVariants as receiver
 use Rattle.failover.specs.Adverts.{is_newer}
 use Rattle.failover.specs.declared.advert.Advert.{Advert}
 use Rattle.failover.proofs.Newest.{newer_through}
@@ -86,7 +86,7 @@ body_through (Stamped s boot version) (Stamped t of other) (Stamped r own third)
     grind (arith, nat_tests)
 body_through one two three first second = absurd cc
 
-receiver_through : (one two three : Receiver) → is_same_receiver one two ≡ true
+receiver_through : (one two three : Place) → is_same_receiver one two ≡ true
     → is_same_receiver two three ≡ true → is_same_receiver one three ≡ true
 receiver_through (receiver.Switch s) (receiver.Switch t) (receiver.Switch r) first second =
     grind (arith, nat_tests)
@@ -131,7 +131,7 @@ body_means (Installed s boot version) (Installed t of other) agree says = grind 
 body_means (Stamped s boot version) (Stamped t of other) agree says = grind (arith, nat_tests)
 body_means later earlier agree says = absurd cc
 
-pub receiver_means : (later earlier : Receiver) → is_same_receiver later earlier ≡ true
+pub receiver_means : (later earlier : Place) → is_same_receiver later earlier ≡ true
     → later ≡ earlier
 receiver_means (receiver.Switch s) (receiver.Switch t) same = ap receiver.Switch (eqb-true s t same)
 receiver_means receiver.Controller receiver.Controller same = refl
@@ -183,7 +183,7 @@ later_says (Advertise one) (Advertise other) later =
     rw later (or_right (is_same one other) true refl)
 later_says later earlier is = absurd cc
 
-receiver_itself : (to : Receiver) → is_same_receiver to to ≡ true
+receiver_itself : (to : Place) → is_same_receiver to to ≡ true
 receiver_itself (receiver.Switch s) = own s
 receiver_itself receiver.Controller = refl
 

@@ -6,8 +6,8 @@ use Rattle.std.specs.Option.{option_map_or}
 use Rattle.ctrl_msg.specs.declared.message.Body.{Body}
 use Rattle.ctrl_msg.specs.declared.message.Body.TheVariants.{Install, OpenAt, Stamp, Collect, Advertise, Hello, Installed, Stamped}
 use Rattle.ctrl_msg.specs.declared.message.Message.{Message}
-use Rattle.ctrl_msg.specs.declared.message.Receiver.{Receiver}
-use Rattle.ctrl_msg.specs.declared.message.Receiver.TheVariants as receiver
+use Rattle.ctrl_msg.specs.declared.message.Place.{Place}
+use Rattle.ctrl_msg.specs.declared.message.Place.TheVariants as receiver
 use Rattle.failover.specs.Adverts.{is_newer}
 use Rattle.failover.specs.declared.advert.Advert.{Advert}
 use Rattle.journal.specs.declared.item.Item.{Item}
@@ -100,7 +100,7 @@ replaces_body (Stamped s boot version) (Stamped t of earlier) =
     s == t && boot == of && nat_le earlier version
 replaces_body _ _ = false
 
-abbrev pub is_same_receiver : Receiver → Receiver → Bool
+abbrev pub is_same_receiver : Place → Place → Bool
 is_same_receiver (receiver.Switch s) (receiver.Switch t) = s == t
 is_same_receiver receiver.Controller receiver.Controller = true
 is_same_receiver _ _ = false

@@ -8,7 +8,7 @@ ghost use Rattle.journal_reports.specs.declared.pending.Pending.{Pending};
 use crate::bucket::{Bucket, are_empty, empty_buckets};
 use crate::status::{SwitchStatus, status_items};
 use crate::waiting;
-use journal::{Body, Item, Message, Receiver};
+use journal::{Body, Item, Message, Place};
 use std::alloc::{AllocError, Global};
 
 /// A switch at the end of a journal, its boot behind the items that were read, and the messages to
@@ -115,8 +115,8 @@ fn party(message: &Message) -> Option<u32>
     ensures { result ≡ switch_of_message message.now }
 {
     match message.to {
-        Receiver::Switch(to) => Some(to),
-        Receiver::Controller => speaks(&message.body),
+        Place::Switch(to) => Some(to),
+        Place::Controller => speaks(&message.body),
     }
 }
 

@@ -9,7 +9,7 @@ ghost use Rattle.journal_reports.specs.Buckets.{AreBuckets};
 use crate::bucket::{Bucket, bucket_of};
 use crate::deliveries::is_marked;
 use crate::status::SwitchStatus;
-use journal::{Body, Item, Message, Receiver, SharedMessage};
+use journal::{Body, Item, Message, Place, SharedMessage};
 use std::alloc::AllocError;
 
 /// What one more item makes of the messages of a switch that wait, and of its boot. A message waits
@@ -113,10 +113,10 @@ fn matters(message: &Message, status: &SwitchStatus, boot: u32) -> bool
         return false;
     }
     match message.to {
-        Receiver::Switch(to) => {
+        Place::Switch(to) => {
             to == status.switch && boot == status.boot && is_for(&message.body, status.boot)
         }
-        Receiver::Controller => is_sent_in_boot(&message.body, status),
+        Place::Controller => is_sent_in_boot(&message.body, status),
     }
 }
 

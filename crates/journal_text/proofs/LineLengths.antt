@@ -5,8 +5,8 @@ use Rattle.std.specs.List.{range_with_len}
 use Rattle.std.proofs.lemmas.List.Sums.{count_by-le-length, length-filter}
 use Rattle.ctrl_msg.specs.declared.message.Body.{Body}
 use Rattle.ctrl_msg.specs.declared.message.Body.TheVariants.{Install, OpenAt, Stamp, Collect, CacheRule, Advertise, Hello, Installed, Stamped}
-use Rattle.ctrl_msg.specs.declared.message.Receiver.{Receiver}
-use Rattle.ctrl_msg.specs.declared.message.Receiver.TheVariants as receiver
+use Rattle.ctrl_msg.specs.declared.message.Place.{Place}
+use Rattle.ctrl_msg.specs.declared.message.Place.TheVariants as receiver
 use Rattle.base.specs.Masks.{has, switches}
 use Rattle.failover.specs.declared.advert.Advert.{Advert}
 use Rattle.net_file.specs.Laws.{NameLaws}
@@ -113,7 +113,7 @@ module _ (laws : NameLaws) (net : Net) (sound : IsNet net) where
   step_within (Resend switch) is =
       widened (named_within (all_of (codes "resend")) switch) 300 (omega arith)
 
-  receiver_within : (to : Receiver) → IsWithin 16 (receiver_text net to)
+  receiver_within : (to : Place) → IsWithin 16 (receiver_text net to)
   receiver_within (receiver.Switch s) = name_within laws net sound s
   receiver_within receiver.Controller = widened (all_of (codes "controller")) 16 (omega arith)
 

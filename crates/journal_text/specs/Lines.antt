@@ -3,8 +3,8 @@ use Rattle.std.specs.Prelude.{ℕ, ◌==◌, Bool, true, false, min, max, if◌t
 use Rattle.std.specs.List.{flat_map}
 use Rattle.ctrl_msg.specs.declared.message.Body.{Body}
 use Rattle.ctrl_msg.specs.declared.message.Body.TheVariants.{Install, OpenAt, Stamp, Collect, CacheRule, Advertise, Hello, Installed, Stamped}
-use Rattle.ctrl_msg.specs.declared.message.Receiver.{Receiver}
-use Rattle.ctrl_msg.specs.declared.message.Receiver.TheVariants as receiver
+use Rattle.ctrl_msg.specs.declared.message.Place.{Place}
+use Rattle.ctrl_msg.specs.declared.message.Place.TheVariants as receiver
 use Rattle.base.specs.Masks.{has, switches}
 use Rattle.failover.specs.declared.advert.Advert.{Advert}
 use Rattle.five_tuple.specs.Printing.{fields_text}
@@ -70,7 +70,7 @@ step_text net (Resend switch) = with_name net (codes "resend") switch
 
 -- ---- messages
 
-abbrev pub receiver_text : Net → Receiver → List ℕ
+abbrev pub receiver_text : Net → Place → List ℕ
 receiver_text net (receiver.Switch s) = name_of net s
 receiver_text net receiver.Controller = codes "controller"
 

@@ -7,7 +7,7 @@ ghost use Rattle.lines.specs.Pushes.{line_with};
 
 use crate::names::push_mask;
 use crate::rows::{push_named_number, push_numbered};
-use ctrl_msg::{Body, Receiver};
+use ctrl_msg::{Body, Place};
 use failover::Advert;
 use lines::{Line, push_action, push_name, push_rule, push_word};
 use net_file::Net;
@@ -15,12 +15,12 @@ use policy_rules::Action;
 use ternary::Word;
 
 /// Adds the receiver of a message.
-pub(crate) fn push_receiver(line: &mut Line, net: &Net, to: Receiver)
+pub(crate) fn push_receiver(line: &mut Line, net: &Net, to: Place)
     ensures { line.new ≡ line_with line.old (receiver_text net.now to) }
 {
     match to {
-        Receiver::Switch(s) => push_name(line, net, s),
-        Receiver::Controller => line.push("controller"),
+        Place::Switch(s) => push_name(line, net, s),
+        Place::Controller => line.push("controller"),
     }
 }
 

@@ -4,8 +4,8 @@ use Rattle.std.specs.Int.{div_ceil}
 use Rattle.std.proofs.lemmas.Grind.{div_ceil_times}
 use Rattle.std.proofs.lemmas.List.{drop_at, length-append, take_at}
 use Rattle.std.proofs.lemmas.Bool.{and_parts}
-use Rattle.ctrl_msg.specs.declared.message.Receiver.{Receiver}
-use Rattle.ctrl_msg.specs.declared.message.Receiver.TheVariants.{Switch, Controller}
+use Rattle.ctrl_msg.specs.declared.message.Place.{Place}
+use Rattle.ctrl_msg.specs.declared.message.Place.TheVariants.{Switch, Controller}
 use Rattle.ctrl_msg.specs.declared.message.Body.TheVariants.{Install}
 use Rattle.switch_table.specs.declared.tables.Tables.{Tables}
 use Rattle.wire.specs.Fields.{n1, n4, partition, region, tables}
@@ -18,14 +18,14 @@ use Rattle.message_bag.specs.Installing.{frame_count, install_frames, table_fram
 use Rattle.message_bag.proofs.Lengths.{length_kind, length_receiver}
 use Rattle.message_bag.proofs.Sized.{length_from}
 
-spelled : (to : Receiver) (boot : ℕ) (t : Tables)
+spelled : (to : Place) (boot : ℕ) (t : Tables)
     → message.spell (record { to = to; body = Install boot t }) ≡ spelled_front to boot ++ tables.spell t
 unfolding message body install_form message_front
 spelled to boot t =
     sym (append_assoc (receiver.spell to) (n1.spell 1 ++ n4.spell boot) (tables.spell t)
     ∙ ap (λ u. receiver.spell to ++ u) (append_assoc (n1.spell 1) (n4.spell boot) (tables.spell t)))
 
-length_front : (to : Receiver) (boot : ℕ) → length (spelled_front to boot) ≡ 6
+length_front : (to : Place) (boot : ℕ) → length (spelled_front to boot) ≡ 6
 unfolding message_front
 length_front to boot =
     omega (
@@ -44,7 +44,7 @@ cut_behind head rest len =
     let left : length (head ++ rest) - 6 ≡ length rest = omega (arith, length-append head rest) in
     rw (left, take_at head rest 6 len, drop_at head rest 6 len) refl
 
-pub installed : (to : Receiver) (boot : ℕ) (t : Tables)
+pub installed : (to : Place) (boot : ℕ) (t : Tables)
     → frames (record { to = to; body = Install boot t }) ≡ install_frames to boot t
 installed to boot t =
     ap frames_of (ap (chunks_behind_head 6) (spelled to boot t)
@@ -54,7 +54,7 @@ installed to boot t =
 
 -- ---- which installations have a spelling
 
-pub fits_parts : (to : Receiver) (boot : ℕ) (t : Tables) → message.fits (record { to = to; body = Install boot t }) ≡ true
+pub fits_parts : (to : Place) (boot : ℕ) (t : Tables) → message.fits (record { to = to; body = Install boot t }) ≡ true
     → (message_front.fits (to, (1, boot)) ≡ true) × (tables.fits t ≡ true)
     × (suits_receiver to (Install boot t) ≡ true)
 unfolding message body install_form message_front n1
@@ -65,7 +65,7 @@ fits_parts to boot t fits =
     let fields = and_parts (n4.fits boot) (tables.fits t) parts.1 in
     (rw (parts.0, fields.0) refl, fields.1, all.1)
 
-pub fits_whole : (to : Receiver) (boot : ℕ) (t : Tables) → message_front.fits (to, (1, boot)) ≡ true
+pub fits_whole : (to : Place) (boot : ℕ) (t : Tables) → message_front.fits (to, (1, boot)) ≡ true
     → tables.fits t ≡ true
     → suits_receiver to (Install boot t) ≡ true
     → message.fits (record { to = to; body = Install boot t }) ≡ true
@@ -75,7 +75,7 @@ fits_whole to boot t head rest is =
     rw (parts.0, parts.1, rest, is) refl
 
 -- it doesn't matter of which boot and which tables
-pub suits_any : (to : Receiver) (i j : ℕ) (t u : Tables) → suits_receiver to (Install i t)
+pub suits_any : (to : Place) (i j : ℕ) (t u : Tables) → suits_receiver to (Install i t)
     ≡ suits_receiver to (Install j u)
 suits_any (Switch s) i j t u = refl
 suits_any Controller i j t u = refl

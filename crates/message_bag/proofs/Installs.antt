@@ -6,7 +6,7 @@ use Rattle.std.proofs.lemmas.Option.{same_Some}
 use Rattle.ctrl_msg.specs.declared.message.Body.{Body}
 use Rattle.ctrl_msg.specs.declared.message.Body.TheVariants.{Install, OpenAt, Stamp, Collect, CacheRule, Advertise, Hello, Installed, Stamped}
 use Rattle.ctrl_msg.specs.declared.message.Message.{Message}
-use Rattle.ctrl_msg.specs.declared.message.Receiver.{Receiver}
+use Rattle.ctrl_msg.specs.declared.message.Place.{Place}
 use Rattle.switch_table.specs.declared.tables.Tables.{Tables}
 use Rattle.wire.specs.Fields.{n4, tables}
 use Rattle.wire.specs.Frames.{AreFrames, chunks_behind_head, frame, frames, frames_of, frames_of_version, head_len, chunk_of}
@@ -167,7 +167,7 @@ first_put_ok (Err e) t fs own before with_header after chunk carry at put more =
 
 -- what the first frame says
 pub record IsInstalled (first : List ℕ) (t : Tables) : Type 0 where
-  pub to : Receiver
+  pub to : Place
   pub boot : ℕ
   pub fits : message_front.fits (to, (1, boot)) ≡ true
   pub suits_it : suits_receiver to (Install boot t) ≡ true
@@ -180,7 +180,7 @@ lone m first t alone are =
 parts_of : (x y : List ℕ) (xs ys : List (List ℕ)) → x ∷ xs ≡ y ∷ ys → (x ≡ y) × (xs ≡ ys)
 parts_of x y xs ys e = (cc, cc)
 
-of_install : (to : Receiver) (boot : ℕ) (u : Tables) (first : List ℕ) (t : Tables)
+of_install : (to : Place) (boot : ℕ) (u : Tables) (first : List ℕ) (t : Tables)
     → message.fits (record { to = to; body = Install boot u }) ≡ true
     → first ∷ table_frames t ≡ frames (record { to = to; body = Install boot u }) → IsInstalled first t
 of_install to boot u first t fits are =
@@ -197,7 +197,7 @@ of_install to boot u first t fits are =
       first_is = parts.0 ∙ ap (λ n. frame 0 n (spelled_front to boot)) same;
     }
 
-of_body : (to : Receiver) (b : Body) (first : List ℕ) (t : Tables) → message.fits (record { to = to; body = b }) ≡ true
+of_body : (to : Place) (b : Body) (first : List ℕ) (t : Tables) → message.fits (record { to = to; body = b }) ≡ true
     → first ∷ table_frames t ≡ frames (record { to = to; body = b }) → IsInstalled first t
 of_body to (Install boot u) first t fits are = of_install to boot u first t fits are
 of_body to (OpenAt i j) first t fits are = absurd (lone (record { to = to; body = OpenAt i j }) first t refl are)
@@ -214,7 +214,7 @@ is_installed first t of = of_body of.0.to of.0.body first t of.1.fits of.2
 
 pub has_front : (first bytes : List ℕ) (t : Tables) → AreOfMessage (first ∷ table_frames t) → bytes
     ≡ chunk_of first
-    → (to : Receiver) × (boot : ℕ) × IsFront to boot bytes
+    → (to : Place) × (boot : ℕ) × IsFront to boot bytes
 has_front first bytes t of is =
     let i = is_installed first t of in (
       i.to,
@@ -226,7 +226,7 @@ has_front first bytes t of is =
       },
     )
 
-pub again_installed : (first bytes : List ℕ) (t : Tables) (to : Receiver) (boot : ℕ) → AreOfMessage (first ∷ table_frames t)
+pub again_installed : (first bytes : List ℕ) (t : Tables) (to : Place) (boot : ℕ) → AreOfMessage (first ∷ table_frames t)
     → tables.fits t ≡ true → bytes ≡ chunk_of first → IsFront to boot bytes
     → AreFrames (record { to = to; body = Install boot t }) (first ∷ table_frames t)
 again_installed first bytes t to boot of fits is front_is =
@@ -240,7 +240,7 @@ again_installed first bytes t to boot of fits is front_is =
       fits = fits_whole i.to i.boot t i.fits fits i.suits_it;
       frames_are = ap (λ f. f ∷ table_frames t) i.first_is ∙ sym (installed i.to i.boot t);
     } in
-    subst (λ (p : Receiver × ℕ). AreFrames (record { to = p.0; body = Install p.1 t }) (first ∷ table_frames t))
+    subst (λ (p : Place × ℕ). AreFrames (record { to = p.0; body = Install p.1 t }) (first ∷ table_frames t))
     (one_front bytes i.to to i.boot boot its front_is) whole
 
 pub long_installed : (first : List ℕ) (t : Tables) → AreOfMessage (first ∷ table_frames t) → 8 ≤ length first

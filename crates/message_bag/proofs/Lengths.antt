@@ -1,8 +1,8 @@
 -- How long spellings are: those of all messages but installations are short.
 use Rattle.std.proofs.Common.{◌≡◌, ℕ, ◌+◌, ◌<◌, ◌≤◌, ◌^◌, Bool, true, false, ◌++◌, length, Option, Some, None, refl, arith}
 use Rattle.std.proofs.lemmas.List.{length-append}
-use Rattle.ctrl_msg.specs.declared.message.Receiver.{Receiver}
-use Rattle.ctrl_msg.specs.declared.message.Receiver.TheVariants.{Switch, Controller}
+use Rattle.ctrl_msg.specs.declared.message.Place.{Place}
+use Rattle.ctrl_msg.specs.declared.message.Place.TheVariants.{Switch, Controller}
 use Rattle.ctrl_msg.specs.declared.message.Body.{Body}
 use Rattle.ctrl_msg.specs.declared.message.Body.TheVariants.{Install, OpenAt, Stamp, Collect, CacheRule, Advertise, Hello, Installed, Stamped}
 use Rattle.ctrl_msg.specs.declared.message.Message.{Message}
@@ -16,7 +16,7 @@ use Rattle.wire.specs.Fields.{n1, n4, n8, n16, switch, word, rule_name, action, 
 use Rattle.wire.proofs.Framing.{length_n4}
 use Rattle.wire.specs.Messages.{receiver, install_form, boot_and_version, cache_rule_form, advert, hello, acknowledgement, kind_number, spelled_fields, body, message}
 
-pub length_receiver : (to : Receiver) → length (receiver.spell to) ≡ 1
+pub length_receiver : (to : Place) → length (receiver.spell to) ≡ 1
 unfolding receiver switch n1 spelled_number
 length_receiver (Switch s) = refl
 length_receiver Controller = refl

@@ -5,7 +5,7 @@ use Rattle.std.proofs.Math.Seq.{drop-append-add, take-append-add}
 use Rattle.std.proofs.lemmas.Grind.{div_ceil_times}
 use Rattle.std.proofs.lemmas.List.{drop_at, length-append, take_at}
 use Rattle.std.proofs.lemmas.Bool.{and_parts}
-use Rattle.ctrl_msg.specs.declared.message.Receiver.{Receiver}
+use Rattle.ctrl_msg.specs.declared.message.Place.{Place}
 use Rattle.ctrl_msg.specs.declared.message.Body.TheVariants.{Install}
 use Rattle.switch_table.specs.declared.tables.Tables.{Tables}
 use Rattle.wire.specs.Fields.{n4, partition, region, tables}
@@ -102,7 +102,7 @@ behind version first t =
     ∙ ap (λ n. first ∷ frame 1 n (n4.spell version ++ rest) ∷ frames_from 2 n (others (rows t))) (sym (same_count version t))
     ∙ ap (λ fs. first ∷ fs) (sym (frames_are (record t { version = version })))
 
-pub of_another_version : (to : Receiver) (boot version : ℕ) (t : Tables)
+pub of_another_version : (to : Place) (boot version : ℕ) (t : Tables)
     → frames (record { to = to; body = Install boot (record t { version = version }) })
     ≡ frames_of_version version (frames (record { to = to; body = Install boot t }))
 of_another_version to boot version t =

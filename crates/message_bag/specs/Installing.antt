@@ -2,7 +2,7 @@
 -- tables alone.
 use Rattle.std.specs.Prelude.{◌≡◌, ℕ, ◌+◌, true, List, ◌∷◌, length, drop}
 use Rattle.std.specs.Int.{div_ceil}
-use Rattle.ctrl_msg.specs.declared.message.Receiver.{Receiver}
+use Rattle.ctrl_msg.specs.declared.message.Place.{Place}
 use Rattle.switch_table.specs.declared.tables.Tables.{Tables}
 use Rattle.wire.specs.Fields as form
 use Rattle.wire.specs.Frames.{frame, frames_from, most_of_chunk, equal_chunks}
@@ -22,7 +22,7 @@ frame_count t = length (table_chunks t) + 1
 abbrev pub table_frames : Tables → List (List ℕ)
 table_frames t = frames_from 1 (frame_count t) (table_chunks t)
 
-abbrev pub install_frames : Receiver → ℕ → Tables → List (List ℕ)
+abbrev pub install_frames : Place → ℕ → Tables → List (List ℕ)
 install_frames to boot t = frame 0 (frame_count t) (spelled_front to boot) ∷ table_frames t
 
 -- behind the first one these frames say the tables

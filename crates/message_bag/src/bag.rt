@@ -1,32 +1,36 @@
-ghost use Rattle.std.specs.Prelude.{◌≡◌, ◌<◌, ◌+◌, ◌-◌, ◌^◌, [], ◌∷◌, ◌++◌, length, is_some, IsTrue, IfOk, IfSome, OnOk, OnErr};
-ghost use Rattle.message_bag.specs.Posts.{IsMessageOf, is_post_deliverable, next_waiting_post, new_post, with_delivered, with_forgotten};
-ghost use Rattle.message_bag.specs.Feeding.{HasShortSpelling};
+ghost use Rattle.std.specs.Prelude.{◌≡◌, ◌<◌, ◌+◌, ◌-◌, ◌^◌, ◌++◌, ◌∷◌, ◌↔◌, ◌⊎◌, [], None, Some, true, length, IfOk, IfSome, IsNone, OnErr, OnOk};
+ghost use Rattle.ctrl_msg.specs.declared.message.Body.TheVariants.{Install};
+ghost use Rattle.wire.specs.Frames.{frames};
+ghost use Rattle.wire.specs.Messages.{HasSpelling, message as form};
+ghost use Rattle.message_bag.specs.KeptFrames.{IsPosted, tables_version};
 
-use crate::deliveries::Deliveries;
-use crate::frame_bag::FrameBag;
-use ctrl_msg::Message;
+use crate::firsts::Firsts;
+use crate::reading::{message_of_frame, tables_of};
+use crate::tables::{TableFrames, spell};
+use ctrl_msg::{Message, SharedTables};
 use std::alloc::{AllocError, Global};
 use std::marker::Model;
+use wire::append;
 
-/// The messages that were posted, numbered from 1 in their order: at most 2^32 - 1. Contracts see
-/// the list of their frames, each message with whether it was delivered and whether it is
-/// forgotten.
+/// The messages that were posted, numbered from 1 in their order. Contracts see the list of their
+/// frames.
 #[derive(Drop)]
 pub struct Bag {
-    frames: FrameBag,
-    deliveries: Deliveries,
+    firsts: Firsts,
+    tables: Vec<TableFrames>,
+    // The first frame of the message that is posted now.
+    scratch: Vec<u8>,
 }
 
 impl Model for Bag {
-    ghost use Rattle.std.specs.Prelude.{◌≡◌, List, length};
-    ghost use Rattle.std.specs.List.{zip};
-    ghost use Rattle.message_bag.specs.Posts.{Post};
+    ghost use Rattle.std.specs.Prelude.{List, ℕ, All, map};
+    ghost use Rattle.message_bag.specs.KeptFrames.{AreKeptFrames, frames_in};
 
-    ghost Value = { List Post };
+    ghost Value = { List (List (List ℕ)) };
 
-    ghost view = { λ b. zip b.frames b.deliveries };
+    ghost view = { λ b. map (frames_in b.tables.items) b.firsts };
 
-    ghost invariant = { λ b. length b.frames ≡ length b.deliveries };
+    ghost invariant = { λ b. All (AreKeptFrames b.tables.items) b.firsts };
 }
 
 impl Bag {
@@ -35,9 +39,17 @@ impl Bag {
         ensures { result ≡ [] }
     {
         Bag {
-            frames: FrameBag::new(alloc),
-            deliveries: Deliveries::new(alloc),
+            firsts: Firsts::new(alloc),
+            tables: Vec::new(alloc),
+            scratch: Vec::new(alloc),
         }
+    }
+
+    /// How many messages were posted.
+    pub fn len(&self) -> usize
+        ensures { result ≡ length self.now }
+    {
+        self.firsts.len()
     }
 
     /// Posts a message, and answers its number: one more than there were messages.
@@ -45,76 +57,83 @@ impl Bag {
     /// # Errors
     /// Want of memory alone; nothing changes then.
     pub fn post(&mut self, alloc: Global, message: &Message) -> Result<u32, AllocError>
-        requires spelling { HasShortSpelling message.now }
+        requires spelling { HasSpelling message.now }
+        requires short { length (form.spell message.now) < 2 ^ 40 }
         requires few { length self.old < 2 ^ 32 - 1 }
+        ensures fits { OnOk result (form.fits message.now ≡ true) }
         ensures number { IfOk result (λ number. number ≡ length self.old + 1) }
-        ensures posted { OnOk result (self.new ≡ self.old ++ new_post message.now ∷ []) }
+        ensures posted { OnOk result (self.new ≡ self.old ++ frames message.now ∷ []) }
         ensures unchanged { OnErr result (self.new ≡ self.old) }
     {
-        self.deliveries.add()?;
-        match self.frames.post(alloc, message) {
-            Ok(number) => Ok(number),
-            Err(error) => {
-                self.deliveries.take_back();
-                Err(error)
-            }
+        match tables_of(&message.body) {
+            None => self.post_alone(message)?,
+            Some((boot, tables)) => self.post_tables(alloc, message, boot, tables)?,
         }
+        Ok(self.len() as u32)
     }
 
-    /// How many messages were posted.
-    pub fn sent(&self) -> u32
-        ensures { result ≡ length self.now }
+    // Posts a message of one frame.
+    fn post_alone(&mut self, message: &Message) -> Result<(), AllocError>
+        requires spelling { HasSpelling message.now }
+        requires short { length (form.spell message.now) < 2 ^ 40 }
+        requires message_of_frame { tables_version message.now.body ≡ None }
+        ensures fits { OnOk result (form.fits message.now ≡ true) }
+        ensures posted { OnOk result (self.new ≡ self.old ++ frames message.now ∷ []) }
+        ensures unchanged { OnErr result (self.new ≡ self.old) }
     {
-        self.deliveries.count()
+        self.scratch.clear();
+        self.scratch.extend_from_slice(&[0, 0, 0, 0, 0, 0, 0, 1])?;
+        append(&mut self.scratch, message)?;
+        self.firsts.push(&self.scratch, None)
+    }
+
+    // Posts an installation of these tables.
+    fn post_tables(
+        &mut self,
+        alloc: Global,
+        message: &Message,
+        boot: u32,
+        tables: &SharedTables,
+    ) -> Result<(), AllocError>
+        requires spelling { HasSpelling message.now }
+        requires short { length (form.spell message.now) < 2 ^ 40 }
+        requires carries { message.now.body ≡ Install boot tables.now }
+        ensures fits { OnOk result (form.fits message.now ≡ true) }
+        ensures posted { OnOk result (self.new ≡ self.old ++ frames message.now ∷ []) }
+        ensures unchanged { OnErr result (self.new ≡ self.old) }
+    {
+        let number = spell(
+            &mut self.tables,
+            &mut self.scratch,
+            alloc,
+            message,
+            boot,
+            tables,
+        )?;
+        self.firsts.push(&self.scratch, Some(number))
     }
 
     /// The message of this number, out of its frames; `None` exactly where none of this number was
-    /// posted, or it is forgotten.
+    /// posted.
     ///
     /// # Errors
     /// Want of memory alone.
-    pub fn get(&self, alloc: Global, number: u32) -> Result<Option<Message>, AllocError>
-        ensures found { IfOk result (λ answer. is_some answer ≡ is_post_deliverable self.now number) }
-        ensures message { IfOk result (λ answer. IfSome answer (IsMessageOf self.now number)) }
+    pub fn take(&self, alloc: Global, number: u32) -> Result<Option<Message>, AllocError>
+        ensures none { IfOk result (λ answer.
+            IsNone answer ↔ ((number ≡ 0) ⊎ (length self.now < number))) }
+        ensures message { IfOk result (λ answer.
+            IfSome answer (λ message. IsPosted self.now number message)) }
     {
-        if self.may_be_delivered(number) {
-            self.frames.take(alloc, number)
-        } else {
-            Ok(None)
+        if number == 0 {
+            return Ok(None);
         }
-    }
-
-    /// Whether a message of this number was posted and isn't forgotten.
-    #[tactic(auto, using(crate::proofs::Zipped::deliverable_same))]
-    pub fn may_be_delivered(&self, number: u32) -> bool
-        ensures { result ≡ is_post_deliverable self.now number }
-    {
-        self.deliveries.may_be_delivered(number)
-    }
-
-    /// The message of this number was delivered, perhaps once more.
-    #[tactic(auto, using(crate::proofs::Zipped::deliverable_same))]
-    pub fn deliver(&mut self, number: u32)
-        requires { IsTrue (is_post_deliverable self.old number) }
-        ensures { self.new ≡ with_delivered self.old number }
-    {
-        self.deliveries.deliver(number);
-    }
-
-    /// The message of this number is never delivered again.
-    #[tactic(auto, using(crate::proofs::Zipped::deliverable_same))]
-    pub fn forget(&mut self, number: u32)
-        requires { IsTrue (is_post_deliverable self.old number) }
-        ensures { self.new ≡ with_forgotten self.old number }
-    {
-        self.deliveries.forget(number);
-    }
-
-    /// The least number at or above `from` of a message that was never delivered and isn't
-    /// forgotten; `None` exactly where there is none.
-    pub fn next_waiting(&self, from: u32) -> Option<u32>
-        ensures { result ≡ next_waiting_post self.now from }
-    {
-        self.deliveries.next_waiting(from)
+        match self.firsts.get(number as usize - 1) {
+            None => Ok(None),
+            Some((frame, None)) => Ok(Some(message_of_frame(alloc, frame)?)),
+            Some((frame, Some(kept))) => {
+                let message = self.tables[kept].message(alloc, frame)?;
+                Ok(Some(message))
+            }
+        }
     }
 }

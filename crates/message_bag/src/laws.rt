@@ -2,7 +2,7 @@
 ghost use Rattle.std.specs.Prelude.{◌≡◌, ◌∷◌, ◌↔◌, List, ℕ};
 ghost use Rattle.ctrl_msg.specs.declared.message.Body.TheVariants.{Install};
 ghost use Rattle.ctrl_msg.specs.declared.message.Message.{Message};
-ghost use Rattle.ctrl_msg.specs.declared.message.Receiver.{Receiver};
+ghost use Rattle.ctrl_msg.specs.declared.message.Place.{Place};
 ghost use Rattle.switch_table.specs.declared.tables.Tables.{Tables};
 ghost use Rattle.wire.specs.Assembly.{AreAllHeld, IsRefusedFrame};
 ghost use Rattle.wire.specs.Frames.{AreFrames, count_in_frame, frames, frames_of_version};
@@ -35,7 +35,7 @@ pub fn frames_are_of_one_message()
 /// same whatever switch it is for, and in whatever boot. The first one says how many there are, the
 /// switch and the boot.
 pub fn frames_behind_the_first_carry_the_tables()
-    ensures { (to : Receiver) (boot : ℕ) (tables : Tables)
+    ensures { (to : Place) (boot : ℕ) (tables : Tables)
         → frames (record { to = to; body = Install boot tables })
         ≡ install_frames to boot tables }
 {}
@@ -43,7 +43,7 @@ pub fn frames_behind_the_first_carry_the_tables()
 /// An installation of the same tables under another version has the same frames, but for the four
 /// bytes of the version where the second one begins.
 pub fn frames_of_another_version()
-    ensures { (to : Receiver) (boot version : ℕ) (tables : Tables)
+    ensures { (to : Place) (boot version : ℕ) (tables : Tables)
         → frames (record { to = to; body = Install boot (record tables { version = version }) })
         ≡ frames_of_version version (frames (record { to = to; body = Install boot tables })) }
 {}

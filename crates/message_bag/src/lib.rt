@@ -1,12 +1,12 @@
 //! The messages that were sent in a network and may still be delivered, as the bytes that travel.
 //!
-//! A `Bag` has the frames of each message that was posted, under its number from 1. Until it is
+//! A `PostBag` has the frames of each message that was posted, under its number from 1. Until it is
 //! forgotten it may be delivered, in any order and more than once, as by a network that loses,
 //! doubles and reorders what it carries: then the message comes out of its frames again. What
 //! became of each is kept apart from the frames. `post` and `get` alone take memory; want of it
 //! changes nothing.
 //!
-//! A `FrameBag` keeps of each message its frames alone. All first frames lie one after the other in
+//! A `Bag` keeps of each message its frames alone. All first frames lie one after the other in
 //! one vector, so that a message of a few bytes takes a few bytes. The other frames, of tables, are
 //! shared by all installations of the same tables, in whatever boot and to whatever switch. Tables
 //! that differ in their versions alone share all but the frame that begins with the version, where
@@ -17,7 +17,7 @@
 //! The laws say what an assembler makes of frames that come in any order and any number of times.
 //!
 //! ```text
-//! let mut bag = Bag::new(alloc);
+//! let mut bag = PostBag::new(alloc);
 //! let number = bag.post(alloc, &message)?;
 //! while let Some(number) = bag.next_waiting(1) {
 //!     bag.deliver(number);
@@ -28,16 +28,16 @@
 mod bag;
 mod deliveries;
 mod firsts;
-mod frame_bag;
 mod laws;
+mod post_bag;
 mod reading;
 mod same;
 mod tables;
 
 pub use bag::Bag;
 pub use deliveries::{Deliveries, Status};
-pub use frame_bag::FrameBag;
 pub use laws::{
     frames_are_of_one_message, frames_behind_the_first_carry_the_tables, frames_come_in_any_order,
     frames_of_another_version,
 };
+pub use post_bag::PostBag;

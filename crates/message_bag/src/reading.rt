@@ -1,7 +1,7 @@
 //! Messages that are made of their frames again.
 ghost use Rattle.std.specs.Prelude.{◌≡◌, ◌∷◌, ◌↔◌, ℕ, [], true, None, drop, IfOk, IfSome, IsNone, IsSome, OnOk};
 ghost use Rattle.ctrl_msg.specs.declared.message.Body.TheVariants.{Install};
-ghost use Rattle.ctrl_msg.specs.declared.message.Receiver.{Receiver};
+ghost use Rattle.ctrl_msg.specs.declared.message.Place.{Place};
 ghost use Rattle.message_bag.specs.Installing.{table_frames};
 ghost use Rattle.wire.specs.Assembly.{AreAllHeld, IsRefusedFrame, with_frame};
 ghost use Rattle.wire.specs.Fields as fields;
@@ -9,7 +9,7 @@ ghost use Rattle.wire.specs.Frames.{AreFrames, count_in_frame};
 ghost use Rattle.wire.specs.Messages.{IsFront};
 ghost use Rattle.message_bag.specs.KeptFrames.{AreOfInstall, AreOfMessage, CarryTables, tables_version};
 
-use ctrl_msg::{Body, Message, Receiver, SharedTables};
+use ctrl_msg::{Body, Message, Place, SharedTables};
 use std::alloc::{AllocError, Global};
 use wire::{Assembler, Frames, HEADER_LEN, WireError, decode, decode_front};
 
@@ -96,8 +96,8 @@ pub fn tables_in(alloc: Global, frames: &Frames) -> Result<SharedTables, AllocEr
 }
 
 // The receiver and the boot of an installation.
-fn front_of(alloc: Global, front: &[u8]) -> Result<(Receiver, u32), AllocError>
-    requires { (to : Receiver) × (boot : ℕ) × IsFront to boot front.now }
+fn front_of(alloc: Global, front: &[u8]) -> Result<(Place, u32), AllocError>
+    requires { (to : Place) × (boot : ℕ) × IsFront to boot front.now }
     ensures { IfOk result (λ read. IsFront read.0 read.1 front.now) }
 {
     match decode_front(alloc, front) {

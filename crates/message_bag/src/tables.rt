@@ -3,12 +3,12 @@ ghost use Rattle.std.specs.Prelude.{◌≡◌, ◌<◌, ◌^◌, ◌++◌, ◌�
 ghost use Rattle.ctrl_msg.specs.declared.message.Body.TheVariants.{Install};
 ghost use Rattle.switch_table.specs.declared.tables.Tables.{Tables};
 ghost use Rattle.wire.specs.Frames.{AreFrames, frame, frames};
-ghost use Rattle.wire.specs.Messages.{HasSpelling, IsReceiver, message_front, message as form, spelled_front};
+ghost use Rattle.wire.specs.Messages.{HasSpelling, IsPlace, message_front, message as form, spelled_front};
 ghost use Rattle.message_bag.specs.KeptFrames.{AreOfMessage, IsGrown, IsInstallOf, CarryRows, CarryTables, frames_in};
 
 use crate::reading::{shared, tables_in};
 use crate::same::{are_same_tables, have_same_rows};
-use ctrl_msg::{Message, Receiver, SharedTables};
+use ctrl_msg::{Message, Place, SharedTables};
 use std::alloc::{AllocError, Global};
 use std::marker::Model;
 use switch_table::{PartRow, Tables};
@@ -74,8 +74,8 @@ impl TableFrames {
 
     // Writes at the end the first frame of an installation of these tables: only the receiver and
     // the boot are its own.
-    fn put_first(&self, out: &mut Vec<u8>, to: Receiver, boot: u32) -> Result<(), AllocError>
-        requires { IsReceiver to }
+    fn put_first(&self, out: &mut Vec<u8>, to: Place, boot: u32) -> Result<(), AllocError>
+        requires { IsPlace to }
         ensures fits { OnOk result (message_front.fits (to, (1, boot)) ≡ true) }
         ensures put { OnOk result (out.new.items
             ≡ out.old.items ++ frame 0 (length self.now) (spelled_front to boot)) }
@@ -185,11 +185,11 @@ fn put_first_of(
     kept: &[TableFrames],
     number: usize,
     out: &mut Vec<u8>,
-    to: Receiver,
+    to: Place,
     boot: u32,
 ) -> Result<(), AllocError>
     requires there { number < length kept.now }
-    requires switch { IsReceiver to }
+    requires switch { IsPlace to }
     ensures fits { OnOk result (message_front.fits (to, (1, boot)) ≡ true) }
     ensures put { OnOk result (out.new.items
         ≡ out.old.items ++ frame 0 (length (get_or kept.now number [])) (spelled_front to boot)) }

@@ -157,8 +157,8 @@ pub fn solo(alloc: Global) -> Result<Net, AllocError>
         room: 8192,
     })?;
     Ok(Net {
-        switches: Switches::new(rows),
-        links: Links::empty(alloc),
+        switches: Switches::from_items(rows),
+        links: Links::new(alloc),
         leaf_rules: 8192,
         backups: 0,
         cache: 256,

@@ -23,8 +23,8 @@ fn read_table(alloc: Global, table: &Table) -> Result<Net, NetError>
     let switches = read_switches(alloc, switch_array(table)?)?;
     let links = read_links(alloc, &switches, link_array(table)?)?;
     Ok(Net {
-        switches: Switches::new(switches),
-        links: Links::new(links),
+        switches: Switches::from_items(switches),
+        links: Links::from_items(links),
         leaf_rules,
         backups,
         cache,

@@ -1,7 +1,7 @@
 //! Placement of partitions on authority switches: each goes to the switches of least load that have
 //! room for it.
 //!
-//! `choose_targets` promises the defined placement, by a relation on loads that knows no order of
+//! `place` promises the defined placement, by a relation on loads that knows no order of
 //! work, and refuses exactly at the first partition that finds too few switches. `placement_laws`
 //! says that there is one such placement at most, and that the function which definitions of plans
 //! use gives it.
@@ -37,7 +37,7 @@ pub struct NoRoom {
 /// # Errors
 /// `NoRoom` with the first partition, by falling size and then by number, that finds fewer switches
 /// than it needs.
-pub fn choose_targets(
+pub fn place(
     alloc: Global,
     sizes: &[u32],
     rooms: &[u32],
@@ -158,8 +158,8 @@ fn numbers_below(alloc: Global, count: u32) -> Result<Vec<u32>, AllocError>
 }
 
 // The number at this place, or 0 past the end.
-fn number_at(numbers: &[u32], place: u32) -> u32
-    ensures { result ≡ slice_index numbers.now place }
+fn number_at(numbers: &[u32], index: u32) -> u32
+    ensures { result ≡ slice_index numbers.now index }
 {
-    numbers.get(place as usize).copied().unwrap_or(0)
+    numbers.get(index as usize).copied().unwrap_or(0)
 }

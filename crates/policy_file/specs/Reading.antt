@@ -13,7 +13,7 @@ use Rattle.policy_file.specs.declared.error.PolicyRefusal.TheVariants as why
 
 -- the numbers by which refusals are known outside
 abbrev pub policy_code : PolicyRefusal → ℕ
-policy_code why.Heading = 1
+policy_code why.Header = 1
 policy_code why.Width = 2
 policy_code why.Priority = 3
 policy_code why.Src = 4
@@ -110,7 +110,7 @@ rows_of format records =
     option_map_or Err (first_refusal format records) (Ok (rows_stated format records))
 
 abbrev pub no_heading : {X : Type 0} → Result (List X) (InRow PolicyRefusal)
-no_heading = Err (record { refusal = why.Heading; row = 0 })
+no_heading = Err (record { refusal = why.Header; row = 0 })
 
 -- the rows under the heading
 abbrev pub rows_under_heading : {X : Type 0} → RowFormat X → List (List (List ℕ))

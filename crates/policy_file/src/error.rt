@@ -9,7 +9,7 @@ use thiserror::Error;
 pub enum PolicyRefusal {
     /// There is no first record, or it is not the heading.
     #[error("the heading is missing or another one")]
-    Heading = 1,
+    Header = 1,
     /// The row of a policy has other than seven fields. That of a change has as many behind `add`,
     /// and one behind `remove`.
     #[error("the row has another number of fields")]

@@ -83,7 +83,7 @@ pub fn read_rows<R: FileRow>(alloc: Global, bytes: &[u8]) -> Result<Reading<R>, 
     let mut records = Records::new(alloc, bytes);
     let mut fields = ByteRecord::new(alloc);
     if !records.read_next(&mut fields)? || !R::is_heading(&fields) {
-        let refusal = PolicyRefusal::Heading;
+        let refusal = PolicyRefusal::Header;
         return Err(PolicyError::Refused(InRow { refusal, row: 0 }));
     }
     Ok(read_records(alloc, &mut records, &mut fields)?)

@@ -2,7 +2,7 @@
 use Rattle.std.proofs.Common.{ℕ, ◌≡◌, ◌<◌, Some, List, ap, ◌∙◌, get_or, length, arith}
 use Rattle.message_bag.specs.Posts.{IsMessageOf}
 use Rattle.ctrl_msg.specs.declared.message.Message.{Message}
-use Rattle.ctrl_msg.specs.declared.message.Receiver.TheVariants as receiver
+use Rattle.ctrl_msg.specs.declared.message.Place.TheVariants as receiver
 use Rattle.journal.specs.declared.item.Item.{Item}
 use Rattle.control_laws.specs.Sends.{StepsSendFew}
 use Rattle.control_laws.proofs.Fitting.{versions_few}

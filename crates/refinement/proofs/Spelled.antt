@@ -2,8 +2,8 @@
 use Rattle.std.proofs.Common.{◌≡◌, ℕ, ◌<◌, ◌^◌, Some, List, length, refl, sym, subst, arith}
 use Rattle.ctrl_msg.specs.declared.message.Body.{Body}
 use Rattle.ctrl_msg.specs.declared.message.Body.TheVariants.{Install, OpenAt, Stamp, Collect, CacheRule, Advertise, Hello, Installed, Stamped}
-use Rattle.ctrl_msg.specs.declared.message.Receiver.{Receiver}
-use Rattle.ctrl_msg.specs.declared.message.Receiver.TheVariants as receiver
+use Rattle.ctrl_msg.specs.declared.message.Place.{Place}
+use Rattle.ctrl_msg.specs.declared.message.Place.TheVariants as receiver
 use Rattle.switch_table.specs.declared.tables.Tables.{Tables}
 use Rattle.wire.specs.Fields.{n4, tables}
 use Rattle.wire.specs.Messages.{AreShort, install_form, message}
@@ -31,7 +31,7 @@ use Rattle.refinement.specs.Spelled.{AreSpelled}
 use Rattle.refinement.proofs.Lengths.{AreSmall, tables_len}
 use Rattle.refinement.proofs.Planned.{short, small}
 
-tables_short : (to : Receiver) (boot : ℕ) (t : Tables) → AreSmall t
+tables_short : (to : Place) (boot : ℕ) (t : Tables) → AreSmall t
     → length (message.spell (record { to = to; body = Install boot t })) < 2 ^ 40
 unfolding install_form
 tables_short to boot t are =
@@ -75,7 +75,7 @@ module _ (setting : Setting) (journal : List Item) (is : IsSetting setting)
   below : (s : ℕ) → s < length setting.net.switches → s < 64
   below s there = omega (arith, there, is.net.few_switches)
 
-  spelled : (n : ℕ) (to : Receiver) (body : Body)
+  spelled : (n : ℕ) (to : Place) (body : Body)
       → message_of journal n ≡ Some (record { to = to; body = body }) → IsAddressed setting to body
       → HasShortSpelling (record { to = to; body = body })
   spelled n (receiver.Switch s) (Install boot t) sent named =

@@ -6,7 +6,7 @@ ghost use Rattle.refinement.specs.Linking.{adverts_again, adverts_all_near};
 
 use crate::usable_links::send_all_held;
 use base::has;
-use ctrl_msg::{Body, Message, Receiver};
+use ctrl_msg::{Body, Message, Place};
 use std::alloc::{AllocError, Global};
 use switch_core::Switch;
 
@@ -59,7 +59,7 @@ pub fn hello(switch: u32, boot: u32) -> Message
     ensures { result ≡ to_controller (Hello switch boot) }
 {
     Message {
-        to: Receiver::Controller,
+        to: Place::Controller,
         body: Body::Hello { switch, boot },
     }
 }

@@ -7,7 +7,7 @@ ghost use Rattle.update_machine.specs.Deliveries.{advert_to};
 ghost use Rattle.refinement.specs.Linking.{AreRelinked, all_adverts_sent, near_all, near_where, relinked_as, serves_at, adverts_on_change, advert_if_held, adverts_near, adverts_over};
 
 use base::{has, only_if};
-use ctrl_msg::{Body, Message, Receiver};
+use ctrl_msg::{Body, Message, Place};
 use failover::Advert;
 use std::alloc::{AllocError, Global};
 use switch_core::Switch;
@@ -172,7 +172,7 @@ fn advert_to(switch: u32, advert: &Advert) -> Message
     ensures { result ≡ advert_to switch advert.now }
 {
     Message {
-        to: Receiver::Switch(switch),
+        to: Place::Switch(switch),
         body: Body::Advertise { advert: *advert },
     }
 }

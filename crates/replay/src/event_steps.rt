@@ -7,12 +7,11 @@ ghost use Rattle.replay.specs.Playing.{BeginsEvent, Happens, StopsWithin, brough
 ghost use Rattle.world.specs.State.{setting_at};
 
 use crate::noting::note_left;
-use base::Failure;
 use meters::{Board, Meter};
 use packet_laws::{deliveries_rise, drains_end};
 use std::alloc::Global;
 use steps::{Event, Step};
-use world::{Full, World};
+use world::{StepError, World};
 
 /// Takes all steps of an event of this row: the one that it names; for a drain a hop of the least
 /// packet that travels, until none travels; for a flush a delivery of the least message that waits,
@@ -29,7 +28,7 @@ pub fn take_steps<M: Meter>(
     board: &mut Board<M>,
     row: u32,
     event: &Event,
-) -> Result<(), Failure<Full>>
+) -> Result<(), StepError>
     requires able { world.old.is_spent ≡ false }
     requires few { world.old.packets ≤ max_events }
     requires may { IsEvent world.old.net (length world.old.policies) event.now }

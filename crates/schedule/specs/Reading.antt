@@ -40,7 +40,7 @@ events_of net files records =
     (Ok (events_in net files records))
 
 abbrev pub no_schedule_heading : Result (List Event) (InRow ScheduleRefusal)
-no_schedule_heading = Err (record { refusal = why.Heading; row = 0 })
+no_schedule_heading = Err (record { refusal = why.Header; row = 0 })
 
 -- the events under the heading
 abbrev pub events_under_heading : Net → ℕ → List (List (List ℕ))

@@ -5,7 +5,7 @@ use Rattle.schedule.specs.declared.error.ScheduleRefusal.TheVariants as why
 
 -- the numbers by which refusals are known outside
 abbrev pub schedule_code : ScheduleRefusal → ℕ
-schedule_code why.Heading = 1
+schedule_code why.Header = 1
 schedule_code why.Width = 2
 schedule_code why.Kind = 3
 schedule_code why.Switch = 4

@@ -26,7 +26,7 @@ fn ring(alloc: Global) -> Result<Net, AllocError>
         rows.push(switch(alloc, i)?)?;
     }
     Ok(Net {
-        switches: Switches::new(rows),
+        switches: Switches::from_items(rows),
         links: links(alloc)?,
         leaf_rules: 32,
         backups: 1,
@@ -64,5 +64,5 @@ fn links(alloc: Global) -> Result<Links, AllocError>
         LinkRow { one: 2, two: 6 },
     ];
     let rows = Vec::from_slice(alloc, rows.as_slice())?;
-    Ok(Links::new(rows))
+    Ok(Links::from_items(rows))
 }

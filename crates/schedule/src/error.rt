@@ -9,7 +9,7 @@ use thiserror::Error;
 pub enum ScheduleRefusal {
     /// There is no first record, or it is not the heading.
     #[error("the heading is missing or another one")]
-    Heading = 1,
+    Header = 1,
     /// The row has another number of fields than its kind.
     #[error("the row has not as many fields as its kind")]
     Width = 2,

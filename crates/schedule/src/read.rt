@@ -41,7 +41,7 @@ pub fn read_schedule(
     let mut records = Records::new(alloc, bytes);
     let mut fields = ByteRecord::new(alloc);
     if !records.read_next(&mut fields)? || !is_heading(&fields) {
-        let refusal = ScheduleRefusal::Heading;
+        let refusal = ScheduleRefusal::Header;
         return Err(ScheduleError::Refused(InRow { refusal, row: 0 }));
     }
     let mut events = Vec::new(alloc);

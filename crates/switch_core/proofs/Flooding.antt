@@ -12,7 +12,7 @@ use Rattle.base.specs.ComputedMasks.{least_in}
 use Rattle.base.proofs.CallerLemmas.{has-zero, least_below}
 use Rattle.ctrl_msg.specs.declared.message.Body.{Body}
 use Rattle.ctrl_msg.specs.declared.message.Message.{Message}
-use Rattle.ctrl_msg.specs.declared.message.Receiver.TheVariants.{Switch}
+use Rattle.ctrl_msg.specs.declared.message.Place.TheVariants.{Switch}
 use Rattle.switch_core.specs.Hearing.{flood}
 
 abbrev for_switch : Body → ℕ → Message

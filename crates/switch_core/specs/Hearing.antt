@@ -14,7 +14,7 @@ use Rattle.ctrl_msg.specs.Bodies.{body_boot}
 use Rattle.ctrl_msg.specs.declared.message.Body.{Body}
 use Rattle.ctrl_msg.specs.declared.message.Body.TheVariants.{Install, OpenAt, Stamp, Collect, CacheRule, Advertise, Installed, Stamped}
 use Rattle.ctrl_msg.specs.declared.message.Message.{Message}
-use Rattle.ctrl_msg.specs.declared.message.Receiver.TheVariants.{Switch}
+use Rattle.ctrl_msg.specs.declared.message.Place.TheVariants.{Switch}
 use Rattle.ctrl_msg.specs.Kinds.{is_for_controller, to_controller}
 use Rattle.switch_core.specs.State.{SwitchValue, holds_version}
 

@@ -8,7 +8,7 @@ use crate::answers::{Heard, Replies};
 use crate::kept::KeptTables;
 use crate::switch::Switch;
 use base::has;
-use ctrl_msg::{Body, Message, Receiver, SharedTables};
+use ctrl_msg::{Body, Message, Place, SharedTables};
 use failover::Advert;
 use std::alloc::{AllocError, Global};
 use switch_table::CacheEntry;
@@ -37,7 +37,7 @@ impl Switch {
     {
         if !self.obeys(body) {
             return Ok(Heard {
-                replies: Replies::empty(alloc),
+                replies: Replies::new(alloc),
                 opened: None,
             });
         }
@@ -101,7 +101,7 @@ impl Switch {
                 }),
             ),
             Body::Advertise { advert } if self.is_news(advert) => flood(alloc, near, advert),
-            _ => Ok(Replies::empty(alloc)),
+            _ => Ok(Replies::new(alloc)),
         }
     }
 
@@ -196,7 +196,7 @@ fn to_controller(body: Body) -> Message
     ensures { result ≡ to_controller body }
 {
     Message {
-        to: Receiver::Controller,
+        to: Place::Controller,
         body,
     }
 }
@@ -205,7 +205,7 @@ fn to_controller(body: Body) -> Message
 fn one_reply(alloc: Global, message: Message) -> Result<Replies, AllocError>
     ensures { IfOk result (λ replies. replies ≡ message ∷ []) }
 {
-    let mut replies = Replies::empty(alloc);
+    let mut replies = Replies::new(alloc);
     replies.push(message)?;
     Ok(replies)
 }
@@ -219,10 +219,10 @@ fn flood(alloc: Global, near: u64, advert: &Advert) -> Result<Replies, AllocErro
     for other in near.trailing_zeros()..64 - near.leading_zeros() {
         if has(near, other) {
             messages.push(Message {
-                to: Receiver::Switch(other),
+                to: Place::Switch(other),
                 body: Body::Advertise { advert: *advert },
             })?;
         }
     }
-    Ok(Replies::new(messages))
+    Ok(Replies::from_items(messages))
 }

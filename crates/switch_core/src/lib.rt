@@ -34,6 +34,7 @@ pub use answers::{Answer, Arrived, Decision, Entered, Heard, Hop, HopEnd, Next, 
 pub use laws::{
     arrive_laws, decision_laws, enter_laws, exit_laws, hop_laws, lookup_laws, switch_laws,
 };
+pub use policy_rules::{Cause, How};
 pub use site::Site;
 pub use switch::Switch;
 pub use verdicts::{Received, Verdict};

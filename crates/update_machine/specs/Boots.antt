@@ -5,12 +5,12 @@ use Rattle.std.specs.Prelude.{ℕ, Bool, true, false, ◌&&◌, ◌==◌, if◌t
 use Rattle.std.specs.Option.{option_map_or}
 use Rattle.ctrl_msg.specs.Bodies.{body_boot}
 use Rattle.ctrl_msg.specs.declared.message.Body.{Body}
-use Rattle.ctrl_msg.specs.declared.message.Receiver.{Receiver}
+use Rattle.ctrl_msg.specs.declared.message.Place.{Place}
 use Rattle.journal.specs.declared.item.Item.{Item}
 use Rattle.journal.specs.declared.item.Item.TheVariants as item
 use Rattle.update_machine.specs.Folds.{folded_value, last_given}
 use Rattle.update_machine.specs.Links.{message_of}
-use Rattle.ctrl_msg.specs.declared.message.Receiver.TheVariants as receiver
+use Rattle.ctrl_msg.specs.declared.message.Place.TheVariants as receiver
 
 -- ---- boots
 
@@ -37,7 +37,7 @@ is_in_first_boot journal s = is_up journal s && boot_of journal s == 1
 
 -- ---- what a switch hears
 
-abbrev pub is_to_switch : ℕ → Receiver → Bool
+abbrev pub is_to_switch : ℕ → Place → Bool
 is_to_switch s (receiver.Switch switch) = switch == s
 is_to_switch s receiver.Controller = false
 

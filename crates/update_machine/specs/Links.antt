@@ -9,8 +9,8 @@ use Rattle.std.specs.Option.{option_map_or}
 use Rattle.ctrl_msg.specs.declared.message.Body.{Body}
 use Rattle.ctrl_msg.specs.declared.message.Body.TheVariants.{Advertise}
 use Rattle.ctrl_msg.specs.declared.message.Message.{Message}
-use Rattle.ctrl_msg.specs.declared.message.Receiver.{Receiver}
-use Rattle.ctrl_msg.specs.declared.message.Receiver.TheVariants as receiver
+use Rattle.ctrl_msg.specs.declared.message.Place.{Place}
+use Rattle.ctrl_msg.specs.declared.message.Place.TheVariants as receiver
 use Rattle.net_file.specs.Joins.{are_linked, joins}
 use Rattle.net_file.specs.declared.net.LinkRow.{LinkRow}
 use Rattle.journal.specs.declared.item.Item.{Item}
@@ -66,7 +66,7 @@ pub record Claim : Type 0 where
   pub links : ℕ → Bool
 
 -- what a message claims to switch s of switch one
-abbrev pub claim_by : ℕ → ℕ → Receiver → Body → Option Claim
+abbrev pub claim_by : ℕ → ℕ → Place → Body → Option Claim
 claim_by s one (receiver.Switch switch) (Advertise advert) =
     if switch == s && advert.origin == one then Some (record {
       boot = advert.boot;

@@ -3,8 +3,8 @@
 use Rattle.std.specs.Prelude.{ℕ, ◌+◌, Bool, true, false, not, ◌&&◌, ◌==◌, nat_lt, Option, is_some, List, [], ◌∷◌, find}
 use Rattle.std.specs.List.{range_with_len}
 use Rattle.ctrl_msg.specs.declared.message.Message.{Message}
-use Rattle.ctrl_msg.specs.declared.message.Receiver.{Receiver}
-use Rattle.ctrl_msg.specs.declared.message.Receiver.TheVariants as receiver
+use Rattle.ctrl_msg.specs.declared.message.Place.{Place}
+use Rattle.ctrl_msg.specs.declared.message.Place.TheVariants as receiver
 use Rattle.journal.specs.declared.item.Item.{Item}
 use Rattle.journal.specs.declared.item.Item.TheVariants as item
 use Rattle.update_machine.specs.Folds.{count_of}
@@ -47,7 +47,7 @@ unfoldable pub next_waiting : List Item → Option ℕ
 next_waiting journal =
     find (is_waiting journal) (range_with_len 1 (count_of is_sending journal))
 
-abbrev pub is_to_controller : Receiver → Bool
+abbrev pub is_to_controller : Place → Bool
 is_to_controller (receiver.Switch switch) = false
 is_to_controller receiver.Controller = true
 

@@ -6,7 +6,7 @@ use Rattle.std.specs.List.{list_all}
 use Rattle.cache_maker.specs.Independent.{widen}
 use Rattle.ctrl_msg.specs.declared.message.Body.TheVariants.{CacheRule}
 use Rattle.ctrl_msg.specs.declared.message.Message.{Message}
-use Rattle.ctrl_msg.specs.declared.message.Receiver.TheVariants as receiver
+use Rattle.ctrl_msg.specs.declared.message.Place.TheVariants as receiver
 use Rattle.base.specs.Masks.{has}
 use Rattle.five_tuple.specs.Header.{number_of}
 use Rattle.five_tuple.specs.declared.header.Header.{Header}

@@ -7,8 +7,8 @@ use Rattle.ctrl_msg.specs.Bodies.{body_boot}
 use Rattle.ctrl_msg.specs.declared.message.Body.{Body}
 use Rattle.ctrl_msg.specs.declared.message.Body.TheVariants.{Install, Stamp, Collect, Advertise, Hello, Installed, Stamped}
 use Rattle.ctrl_msg.specs.declared.message.Message.{Message}
-use Rattle.ctrl_msg.specs.declared.message.Receiver.{Receiver}
-use Rattle.ctrl_msg.specs.declared.message.Receiver.TheVariants as receiver
+use Rattle.ctrl_msg.specs.declared.message.Place.{Place}
+use Rattle.ctrl_msg.specs.declared.message.Place.TheVariants as receiver
 use Rattle.failover.specs.Adverts.{is_newer}
 use Rattle.journal.specs.declared.item.Item.{Item}
 use Rattle.journal.specs.declared.item.Item.TheVariants as item
@@ -27,7 +27,7 @@ pub record Sending : Type 0 where
   pub message : Message
   pub boot : ℕ
 
-abbrev pub boot_at : List Item → Receiver → ℕ
+abbrev pub boot_at : List Item → Place → ℕ
 boot_at before (receiver.Switch s) = boot_of before s
 boot_at before receiver.Controller = 0
 

@@ -14,6 +14,7 @@ mod full;
 mod laws;
 
 pub use full::FULL_AT;
+pub use journal::{Item, Journal};
 pub use laws::{
     answers_are_numbered, answers_are_one, answers_exist, journals_grow, journals_start,
     other_items_change_nothing, plays_are_one, switches_know_links, versions_keep_policies,

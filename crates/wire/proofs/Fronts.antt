@@ -4,7 +4,7 @@ use Rattle.std.specs.Prelude.{IfOk, IfErr}
 use Rattle.std.proofs.lemmas.Bool.{eqb-true}
 use Rattle.std.proofs.lemmas.List.{append-nil, nil_from_length}
 use Rattle.std.proofs.lemmas.Option.{same_Some}
-use Rattle.ctrl_msg.specs.declared.message.Receiver.{Receiver}
+use Rattle.ctrl_msg.specs.declared.message.Place.{Place}
 use Rattle.base.specs.Refusals.{IfRefused}
 use Rattle.base.specs.declared.error.Failure.{Failure}
 use Rattle.wire.specs.declared.error.Malformed.{Malformed}
@@ -20,7 +20,7 @@ and_then : {A : Type 0} (b : Bool) (o : Option A) (y : A) → cond b o None ≡ 
 and_then true o y e = (refl, e)
 and_then false o y e = absurd cc
 
-front_takes : (bytes : List ℕ) (f : Receiver × ℕ) (rest : List ℕ) → AreBytes bytes → read_front bytes ≡ Some (f, rest)
+front_takes : (bytes : List ℕ) (f : Place × ℕ) (rest : List ℕ) → AreBytes bytes → read_front bytes ≡ Some (f, rest)
     → IsFront f.0 f.1 bytes
 front_takes bytes f rest are e =
     let b = then_some (message_front.read bytes)
@@ -36,9 +36,9 @@ front_takes bytes f rest are e =
           ∙ append-nil (message_front.spell b.0.0)
           ∙ ap (λ k. message_front.spell (b.0.0.0, (k, b.0.0.1.1))) kind;
     } in
-    subst (λ (p : (Receiver × ℕ) × List ℕ). IsFront p.0.0 p.0.1 bytes) h.1 is
+    subst (λ (p : (Place × ℕ) × List ℕ). IsFront p.0.0 p.0.1 bytes) h.1 is
 
-front_again : (bytes : List ℕ) (to : Receiver) (boot : ℕ) → IsFront to boot bytes → read_front bytes ≡ Some ((to, boot), [])
+front_again : (bytes : List ℕ) (to : Place) (boot : ℕ) → IsFront to boot bytes → read_front bytes ≡ Some ((to, boot), [])
 front_again bytes to boot is =
     let read : message_front.read bytes ≡ Some ((to, (1, boot)), []) =
     ap message_front.read (is.spelled ∙ sym (append-nil (spelled_front to boot)))
@@ -46,21 +46,21 @@ front_again bytes to boot is =
     rw read refl
 
 -- no two installations have one front
-pub one_front : (bytes : List ℕ) (a b : Receiver) (i j : ℕ) → IsFront a i bytes → IsFront b j bytes → ◌≡◌ {A = Receiver × ℕ} (a, i) (b, j)
+pub one_front : (bytes : List ℕ) (a b : Place) (i j : ℕ) → IsFront a i bytes → IsFront b j bytes → ◌≡◌ {A = Place × ℕ} (a, i) (b, j)
 one_front bytes a b i j first second =
-    ap (λ (p : (Receiver × ℕ) × List ℕ). p.0)
+    ap (λ (p : (Place × ℕ) × List ℕ). p.0)
     (same_Some ((a, i), []) ((b, j), []) (sym (front_again bytes a i first) ∙ front_again bytes b j second))
 
-pub front_found : (r : Result (Receiver × ℕ) (Failure Malformed)) (bytes rest : List ℕ) → AreBytes bytes
+pub front_found : (r : Result (Place × ℕ) (Failure Malformed)) (bytes rest : List ℕ) → AreBytes bytes
     → Gives (λ f. f) (read_front bytes) r rest → IfOk r (λ f. IsFront f.0 f.1 bytes)
 front_found (Ok f) bytes rest are gives = front_takes bytes f rest are gives
 front_found (Err error) bytes rest are gives = tt
 
-pub no_front : (r : Result (Receiver × ℕ) (Failure Malformed)) (bytes rest : List ℕ) → Gives (λ f. f) (read_front bytes) r rest
-    → IfErr r (IfRefused (λ _. (to : Receiver) (boot : ℕ) → IsFront to boot bytes → ⊥))
+pub no_front : (r : Result (Place × ℕ) (Failure Malformed)) (bytes rest : List ℕ) → Gives (λ f. f) (read_front bytes) r rest
+    → IfErr r (IfRefused (λ _. (to : Place) (boot : ℕ) → IsFront to boot bytes → ⊥))
 no_front (Ok f) bytes rest gives = tt
 no_front (Err error) bytes rest gives =
     IfRefused-weaker (λ _. read_front bytes ≡ None)
-    (λ _. (to : Receiver) (boot : ℕ) → IsFront to boot bytes → ⊥)
+    (λ _. (to : Place) (boot : ℕ) → IsFront to boot bytes → ⊥)
     (λ _ none to boot is. none_is_not ((to, boot), []) (sym none ∙ front_again bytes to boot is))
     error gives

@@ -4,8 +4,8 @@ use Rattle.std.proofs.lemmas.Bool.{ltb-true, eqb-true, and_parts}
 use Rattle.std.proofs.lemmas.Bool.Decides.{nat_tests}
 use Rattle.std.proofs.lemmas.Nat.{div-add-mod'}
 use Rattle.std.proofs.lemmas.Option.{same_Some}
-use Rattle.ctrl_msg.specs.declared.message.Receiver.{Receiver}
-use Rattle.ctrl_msg.specs.declared.message.Receiver.TheVariants.{Switch, Controller}
+use Rattle.ctrl_msg.specs.declared.message.Place.{Place}
+use Rattle.ctrl_msg.specs.declared.message.Place.TheVariants.{Switch, Controller}
 use Rattle.ctrl_msg.specs.declared.message.Body.{Body}
 use Rattle.ctrl_msg.specs.declared.message.Body.TheVariants.{Install, OpenAt, Stamp, Collect, CacheRule, Advertise, Hello, Installed, Stamped}
 use Rattle.policy_rules.specs.declared.policy.Action.{Action}
@@ -100,13 +100,13 @@ chosen : {A : Type 0} (b : Bool) (x y z : A) → cond b x y ≡ z → ((b ≡ tr
 chosen true x y z e = inl (refl, e)
 chosen false x y z e = inr (refl, e)
 
-receiver_takes : (bytes : List ℕ) (to : Receiver) (rest : List ℕ) → AreBytes bytes → receiver.read bytes ≡ Some (to, rest) → Takes receiver to bytes rest
+receiver_takes : (bytes : List ℕ) (to : Place) (rest : List ℕ) → AreBytes bytes → receiver.read bytes ≡ Some (to, rest) → Takes receiver to bytes rest
 unfolding receiver switch
 receiver_takes bytes to rest are e =
     let b = then_some (n1.read bytes) (λ x. then_read (receiver_of x.0) (λ r. Some (r, x.1))) (to, rest) e in
     let t = n1_lawful.takes bytes b.0.0 b.0.1 are b.1 in
     let d = then_some (receiver_of b.0.0) (λ r. Some (r, b.0.1)) (to, rest) b.2 in
-    let P : Receiver → Type 0 = λ r. Takes receiver r bytes b.0.1 in
+    let P : Place → Type 0 = λ r. Takes receiver r bytes b.0.1 in
     let taken : Takes receiver d.0 bytes b.0.1 =
     elim (chosen (eqb b.0.0 255) _ _ _ d.1) [
       | inl h ↦ subst P (same_Some _ _ h.1) (record { fits = refl; parts = t.parts ∙ ap (λ k. n1.spell k ++ b.0.1) (eqb-true _ _ h.0); rest_are = t.rest_are })
@@ -115,9 +115,9 @@ receiver_takes bytes to rest are e =
         | inr k ↦ absurd (cc (k.1))
       ]
     ] in
-    subst (λ (p : Receiver × List ℕ). Takes receiver p.0 bytes p.1) (same_Some _ _ d.2) taken
+    subst (λ (p : Place × List ℕ). Takes receiver p.0 bytes p.1) (same_Some _ _ d.2) taken
 
-receiver_again : (to : Receiver) (rest : List ℕ) → receiver.fits to ≡ true → receiver.read (receiver.spell to ++ rest) ≡ Some (to, rest)
+receiver_again : (to : Place) (rest : List ℕ) → receiver.fits to ≡ true → receiver.read (receiver.spell to ++ rest) ≡ Some (to, rest)
 unfolding receiver switch n1
 receiver_again (Switch s) rest fits =
     let both = and_parts (n1.fits s) (ltb s 64) fits in

@@ -1,8 +1,8 @@
 -- The format of messages: the receiver, the kind, and the fields of that kind.
 use Rattle.std.specs.Prelude.{◌≡◌, ℕ, ◌^◌, ◌<◌, nat_lt, Bool, true, not, ◌==◌, if◌then◌else◌, List, ◌++◌, length, All, Option, Some, None}
 use Rattle.ctrl_msg.specs.Kinds.{is_for_controller}
-use Rattle.ctrl_msg.specs.declared.message.Receiver.{Receiver}
-use Rattle.ctrl_msg.specs.declared.message.Receiver.TheVariants.{Switch, Controller}
+use Rattle.ctrl_msg.specs.declared.message.Place.{Place}
+use Rattle.ctrl_msg.specs.declared.message.Place.TheVariants.{Switch, Controller}
 use Rattle.ctrl_msg.specs.declared.message.Body.{Body}
 use Rattle.ctrl_msg.specs.declared.message.Body.TheVariants.{Install, OpenAt, Stamp, Collect, CacheRule, Advertise, Hello, Installed, Stamped}
 use Rattle.ctrl_msg.specs.declared.message.Message.{Message}
@@ -17,19 +17,19 @@ use Rattle.wire.specs.Fields as form
 
 -- ---- the receiver: a switch, or 255 for the controller
 
-abbrev pub spelled_receiver : Receiver → List ℕ
+abbrev pub spelled_receiver : Place → List ℕ
 spelled_receiver (Switch s) = form.switch.spell s
 spelled_receiver Controller = form.n1.spell 255
 
-abbrev pub receiver_fits : Receiver → Bool
+abbrev pub receiver_fits : Place → Bool
 receiver_fits (Switch s) = form.switch.fits s
 receiver_fits Controller = true
 
-abbrev pub receiver_of : ℕ → Option Receiver
+abbrev pub receiver_of : ℕ → Option Place
 receiver_of n =
     if n == 255 then Some Controller else (if nat_lt n 64 then Some (Switch n) else None)
 
-unfoldable pub receiver : Format Receiver
+unfoldable pub receiver : Format Place
 receiver =
     record {
       spell = spelled_receiver;
@@ -128,20 +128,20 @@ body =
 -- ---- what stands before the tables in the spelling of an installation
 
 -- the receiver, the kind, and the boot
-unfoldable pub message_front : Format (Receiver × (ℕ × ℕ))
+unfoldable pub message_front : Format (Place × (ℕ × ℕ))
 message_front = receiver ⊗ form.n1 ⊗ form.n4
 
 -- of an installation for this receiver and this boot
-abbrev pub spelled_front : Receiver → ℕ → List ℕ
+abbrev pub spelled_front : Place → ℕ → List ℕ
 spelled_front to boot = message_front.spell (to, (1, boot))
 
 -- the bytes are the front of an installation for this receiver and this boot
-pub record IsFront (to : Receiver) (boot : ℕ) (bytes : List ℕ) : Type 0 where
+pub record IsFront (to : Place) (boot : ℕ) (bytes : List ℕ) : Type 0 where
   pub fits : message_front.fits (to, (1, boot)) ≡ true
   pub spelled : bytes ≡ spelled_front to boot
 
 -- what all of the bytes say, where they are a front
-abbrev pub read_front : List ℕ → Option ((Receiver × ℕ) × List ℕ)
+abbrev pub read_front : List ℕ → Option ((Place × ℕ) × List ℕ)
 read_front bytes =
     then_read (message_front.read bytes) (λ x.
     if x.0.1.0 == 1
@@ -151,7 +151,7 @@ read_front bytes =
 -- ---- messages
 
 -- a message to the controller has a body for it, and one to a switch has one for a switch
-abbrev pub suits_receiver : Receiver → Body → Bool
+abbrev pub suits_receiver : Place → Body → Bool
 suits_receiver (Switch s) body = not (is_for_controller body)
 suits_receiver Controller body = is_for_controller body
 
@@ -193,12 +193,12 @@ FieldsSuit (Installed switch boot version) = switch < 64
 FieldsSuit (Stamped switch boot version) = switch < 64
 FieldsSuit _ = Unit {0}
 
-abbrev pub IsReceiver : Receiver → Type 0
-IsReceiver (Switch s) = s < 64
-IsReceiver Controller = Unit {0}
+abbrev pub IsPlace : Place → Type 0
+IsPlace (Switch s) = s < 64
+IsPlace Controller = Unit {0}
 
 -- switches below 64, lists shorter than 2^32, and a receiver for the body
 pub record HasSpelling (m : Message) : Type 0 where
-  pub switch : IsReceiver m.to
+  pub switch : IsPlace m.to
   pub suits : suits_receiver m.to m.body ≡ true
   pub fields : FieldsSuit m.body

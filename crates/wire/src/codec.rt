@@ -3,7 +3,7 @@ ghost use Rattle.ctrl_msg.specs.declared.message.Message.{Message};
 ghost use Rattle.base.specs.Refusals.{IfRefused};
 ghost use Rattle.wire.specs.Fields as form;
 ghost use Rattle.wire.specs.Messages as kinds;
-ghost use Rattle.wire.specs.Messages.{AreShort, FieldsSuit, HasSpelling, IsSpelling, IsReceiver, cache_rule_of, kind_number, made_body, read_fields, whole_message};
+ghost use Rattle.wire.specs.Messages.{AreShort, FieldsSuit, HasSpelling, IsSpelling, IsPlace, cache_rule_of, kind_number, made_body, read_fields, whole_message};
 ghost use Rattle.wire.specs.Reading.{AppendsForm, AppendsFields, Gives, Reads};
 
 use crate::error::{Malformed, WireError};
@@ -14,31 +14,31 @@ use crate::fields::{
 use crate::parts::{put_tables, read_tables};
 use crate::reader::Reader;
 use crate::writer::{put_n1, put_n4, put_n8};
-use ctrl_msg::{Body, Message, Receiver, SharedTables};
+use ctrl_msg::{Body, Message, Place, SharedTables};
 use failover::Advert;
 use policy_rules::Hit;
 use std::alloc::{AllocError, Global};
 use ternary::Word;
 
 #[tactic(auto, unfolding(crate::specs::Messages::receiver))]
-pub(crate) fn read_receiver(reader: &mut Reader) -> Result<Receiver, WireError>
+pub(crate) fn read_receiver(reader: &mut Reader) -> Result<Place, WireError>
     ensures { Reads kinds.receiver reader.old result reader.new }
 {
     match reader.n1()? {
-        255 => Ok(Receiver::Controller),
-        switch if switch < 64 => Ok(Receiver::Switch(u32::from(switch))),
+        255 => Ok(Place::Controller),
+        switch if switch < 64 => Ok(Place::Switch(u32::from(switch))),
         _ => Err(WireError::Refused(Malformed)),
     }
 }
 
 #[tactic(auto, unfolding(crate::specs::Messages::receiver))]
-pub(crate) fn put_receiver(out: &mut Vec<u8>, to: Receiver) -> Result<(), AllocError>
-    requires { IsReceiver to }
+pub(crate) fn put_receiver(out: &mut Vec<u8>, to: Place) -> Result<(), AllocError>
+    requires { IsPlace to }
     ensures { OnOk result (AppendsForm kinds.receiver to out.old.items out.new.items) }
 {
     match to {
-        Receiver::Controller => put_n1(out, 255),
-        Receiver::Switch(switch) => put_switch(out, switch),
+        Place::Controller => put_n1(out, 255),
+        Place::Switch(switch) => put_switch(out, switch),
     }
 }
 
@@ -146,8 +146,8 @@ fn read_message(reader: &mut Reader) -> Result<Message, WireError>
     let to = read_receiver(reader)?;
     let body = read_body(reader)?;
     let for_controller = match to {
-        Receiver::Switch(_) => false,
-        Receiver::Controller => true,
+        Place::Switch(_) => false,
+        Place::Controller => true,
     };
     if for_controller == body.is_for_controller() {
         Ok(Message { to, body })

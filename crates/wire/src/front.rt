@@ -1,15 +1,15 @@
 //! What stands before the tables in the spelling of an installation.
 ghost use Rattle.std.specs.Prelude.{◌≡◌, ◌++◌, ℕ, true, IfOk, IfErr, OnOk};
-ghost use Rattle.ctrl_msg.specs.declared.message.Receiver.{Receiver};
+ghost use Rattle.ctrl_msg.specs.declared.message.Place.{Place};
 ghost use Rattle.base.specs.Refusals.{IfRefused};
-ghost use Rattle.wire.specs.Messages.{IsFront, IsReceiver, message_front, read_front, spelled_front};
+ghost use Rattle.wire.specs.Messages.{IsFront, IsPlace, message_front, read_front, spelled_front};
 ghost use Rattle.wire.specs.Reading.{Gives};
 
 use crate::codec::{put_receiver, read_receiver};
 use crate::error::{Malformed, WireError};
 use crate::reader::Reader;
 use crate::writer::{put_n1, put_n4};
-use ctrl_msg::Receiver;
+use ctrl_msg::Place;
 use std::alloc::{AllocError, Global};
 
 /// The kind of an installation.
@@ -20,8 +20,8 @@ const INSTALL: u8 = 1;
 /// # Errors
 /// Want of memory alone; a part of it may be written then.
 #[tactic(auto, unfolding(crate::specs::Messages::message_front))]
-pub fn append_front(out: &mut Vec<u8>, to: Receiver, boot: u32) -> Result<(), AllocError>
-    requires { IsReceiver to }
+pub fn append_front(out: &mut Vec<u8>, to: Place, boot: u32) -> Result<(), AllocError>
+    requires { IsPlace to }
     ensures fits { OnOk result (message_front.fits (to, (1, boot)) ≡ true) }
     ensures spelled { OnOk result (out.new.items ≡ out.old.items ++ spelled_front to boot) }
 {
@@ -31,7 +31,7 @@ pub fn append_front(out: &mut Vec<u8>, to: Receiver, boot: u32) -> Result<(), Al
 }
 
 #[tactic(auto, unfolding(crate::specs::Messages::message_front))]
-fn read(reader: &mut Reader) -> Result<(Receiver, u32), WireError>
+fn read(reader: &mut Reader) -> Result<(Place, u32), WireError>
     ensures { Gives (λ front. front) (read_front reader.old) result reader.new }
 {
     let to = read_receiver(reader)?;
@@ -49,10 +49,10 @@ fn read(reader: &mut Reader) -> Result<(Receiver, u32), WireError>
 /// # Errors
 /// `Malformed` exactly where they are the front of no installation.
 #[tactic(auto, using(crate::proofs::Fronts::front_found, crate::proofs::Fronts::no_front))]
-pub fn decode_front(alloc: Global, bytes: &[u8]) -> Result<(Receiver, u32), WireError>
+pub fn decode_front(alloc: Global, bytes: &[u8]) -> Result<(Place, u32), WireError>
     ensures found { IfOk result (λ front. IsFront front.0 front.1 bytes.now) }
     ensures malformed { IfErr result (IfRefused (λ _.
-        (to : Receiver) (boot : ℕ) → IsFront to boot bytes.now → ⊥)) }
+        (to : Place) (boot : ℕ) → IsFront to boot bytes.now → ⊥)) }
 {
     read(&mut Reader::new(alloc, bytes))
 }

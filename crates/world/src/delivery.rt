@@ -11,7 +11,7 @@ ghost use Rattle.world_log.specs.Writing.{IsPart};
 
 use crate::parts::Parts;
 use controller::Controller;
-use journal::{Body, Item, Receiver};
+use journal::{Body, Item, Place};
 use refinement::{relink, usable};
 use std::alloc::{AllocError, Global};
 use world_log::Log;
@@ -33,8 +33,8 @@ impl Parts {
         self.log.bag.deliver(number);
         self.log.journal.push(Item::Delivered { number })?;
         let switch = match message.to {
-            Receiver::Switch(switch) => switch,
-            Receiver::Controller => {
+            Place::Switch(switch) => switch,
+            Place::Controller => {
                 return deliver_to_controller(
                     alloc,
                     &mut self.log,

@@ -29,6 +29,6 @@ mod parts;
 mod world;
 
 pub use controller::PlanError;
-pub use error::Full;
+pub use error::{Full, StepError};
 pub use files::{Compiled, Files};
 pub use world::World;

@@ -12,13 +12,13 @@ ghost use Rattle.travelling.specs.Travelling.{IsNextFrom, flight};
 ghost use Rattle.world_log.specs.Writing.{IsPart};
 
 use crate::beginning::switches_of;
-use crate::error::Full;
+use crate::error::{Full, StepError};
 use crate::files::Files;
 use crate::parts::Parts;
 use base::Failure;
 use controller::{Controller, PlanError, compile};
 use journal::Journal;
-use message_bag::Bag;
+use message_bag::PostBag;
 use net_file::Net;
 use policy_rules::Policy;
 use refinement::near_masks;
@@ -81,9 +81,9 @@ impl World {
             near,
             switches,
             log: Log {
-                journal: Journal::empty(alloc),
+                journal: Journal::new(alloc),
                 travelling: Travelling::new(alloc),
-                bag: Bag::new(alloc),
+                bag: PostBag::new(alloc),
             },
             packets: 0,
             controller,
@@ -101,7 +101,7 @@ impl World {
     /// `Full` exactly where so many messages were sent that no step begins; nothing changes then.
     /// Otherwise want of memory alone: the journal has a part of the step's items then, and each
     /// further step is answered so at once, full or not, and changes nothing.
-    pub fn step(&mut self, alloc: Global, row: u32, step: &Step) -> Result<(), Failure<Full>>
+    pub fn step(&mut self, alloc: Global, row: u32, step: &Step) -> Result<(), StepError>
         requires may { HasRoom self.old.journal
             → IsStep self.old.net (length self.old.policies) step.now }
         requires few { next_packet self.old.journal ≤ 4_000_000_000 }

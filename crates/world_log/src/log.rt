@@ -9,7 +9,7 @@ ghost use Rattle.world_log.specs.Writing.{LogAfter, left_item, packet_standing, 
 
 use failover::Route;
 use journal::{Item, Journal, Leaving, Message, SharedMessage, SharedRoute};
-use message_bag::Bag;
+use message_bag::PostBag;
 use policy_rules::{Cause, Leg, Targets};
 use std::alloc::{AllocError, Global};
 use travelling::{Standing, StoredFlight, Travelling};
@@ -19,7 +19,7 @@ use travelling::{Standing, StoredFlight, Travelling};
 pub struct Log {
     pub journal: Journal,
     pub travelling: Travelling,
-    pub bag: Bag,
+    pub bag: PostBag,
 }
 
 impl Log {

@@ -11,7 +11,7 @@ ghost use Rattle.world_log.specs.Writing.{LogAfter, answer_items, answer_posts, 
 
 use crate::log::{Log, leaves};
 use five_tuple::Header;
-use journal::{Item, Message, Receiver, SharedRoute};
+use journal::{Item, Message, Place, SharedRoute};
 use policy_rules::{Action, Cause, Leg, Targets};
 use std::alloc::{AllocError, Global};
 use switch_core::{Decision, HopEnd, Received, Site, Switch, Verdict};
@@ -304,7 +304,7 @@ impl Log {
         match word {
             None => Ok(()),
             Some(word) => {
-                let to = Receiver::Switch(ingress);
+                let to = Place::Switch(ingress);
                 let body = decision.cache_rule(word);
                 self.send(alloc, Message { to, body })
             }

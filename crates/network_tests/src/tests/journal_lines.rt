@@ -5,7 +5,7 @@ ghost use Rattle.net_file.specs.Net.{IsNet};
 use failover::{Advert, Database, DownSet, Route};
 use five_tuple::{Fields, Header};
 use journal::{
-    Action, Body, Cause, How, Item, Journal, Leaving, Leg, Message, Receiver, SharedLinks,
+    Action, Body, Cause, How, Item, Journal, Leaving, Leg, Message, Place, SharedLinks,
     SharedMessage, SharedRoute,
 };
 use journal_text::text;
@@ -24,7 +24,7 @@ fn two_switches(alloc: Global) -> Result<Net, Fail>
     Ok(read_net(alloc, text.as_bytes())?)
 }
 
-fn sent(alloc: Global, number: u32, to: Receiver, body: Body) -> Result<Item, Fail> {
+fn sent(alloc: Global, number: u32, to: Place, body: Body) -> Result<Item, Fail> {
     let message = SharedMessage::new(alloc, Message { to, body })?;
     Ok(Item::Sent { number, message })
 }
@@ -115,12 +115,12 @@ fn advert(up: u64) -> Body {
 }
 
 fn push_messages(alloc: Global, journal: &mut Journal) -> Result<(), Fail> {
-    let to = Receiver::Switch(0);
+    let to = Place::Switch(0);
     push(journal, sent(alloc, 1, to, rule())?)?;
     push(journal, sent(alloc, 2, to, advert(1))?)?;
     push(journal, sent(alloc, 3, to, advert(0))?)?;
     let hello = Body::Hello { switch: 0, boot: 2 };
-    push(journal, sent(alloc, 4, Receiver::Controller, hello)?)
+    push(journal, sent(alloc, 4, Place::Controller, hello)?)
 }
 
 fn push_link(journal: &mut Journal) -> Result<(), Fail> {
@@ -183,7 +183,7 @@ row 2: linkdown a b
 #[test]
 fn a_journal_is_printed(rt: HostRuntime) -> Result<(), Fail> {
     let alloc = rt.alloc();
-    let mut journal = Journal::empty(alloc);
+    let mut journal = Journal::new(alloc);
     push_packet(&mut journal)?;
     push_messages(alloc, &mut journal)?;
     push_link(&mut journal)?;

@@ -2,8 +2,8 @@
 ghost use Rattle.std.specs.Prelude.{IfOk};
 ghost use Rattle.wire.specs.Messages.{HasSpelling};
 
-use ctrl_msg::{Body, Message, Receiver, SharedTables};
-use message_bag::Bag;
+use ctrl_msg::{Body, Message, Place, SharedTables};
+use message_bag::PostBag;
 use std::alloc::Global;
 use std::test::Fail;
 use switch_table::{PartRows, Partitions, Tables};
@@ -20,7 +20,7 @@ fn install(alloc: Global) -> Result<Message, Fail>
     };
     let tables = SharedTables::new(alloc, tables)?;
     Ok(Message {
-        to: Receiver::Switch(1),
+        to: Place::Switch(1),
         body: Body::Install { boot: 2, tables },
     })
 }
@@ -30,13 +30,17 @@ fn hello() -> Message
     ensures { HasSpelling result }
 {
     Message {
-        to: Receiver::Controller,
+        to: Place::Controller,
         body: Body::Hello { switch: 7, boot: 4 },
     }
 }
 
 // The boot and the version that the message of this number tells.
-fn told(bag: &Bag, alloc: Global, number: u32) -> Result<Option<(Option<u32>, Option<u32>)>, Fail> {
+fn told(
+    bag: &PostBag,
+    alloc: Global,
+    number: u32,
+) -> Result<Option<(Option<u32>, Option<u32>)>, Fail> {
     match bag.get(alloc, number)? {
         Some(message) => Ok(Some((message.body.boot(), message.body.version()))),
         None => Ok(None),
@@ -44,7 +48,7 @@ fn told(bag: &Bag, alloc: Global, number: u32) -> Result<Option<(Option<u32>, Op
 }
 
 // Posts a message that isn't too long, where the bag isn't full.
-fn post(bag: &mut Bag, alloc: Global, message: &Message) -> Result<u32, Fail>
+fn post(bag: &mut PostBag, alloc: Global, message: &Message) -> Result<u32, Fail>
     requires { HasSpelling message.now }
 {
     let bytes = encode(alloc, message)?;
@@ -55,7 +59,7 @@ fn post(bag: &mut Bag, alloc: Global, message: &Message) -> Result<u32, Fail>
 }
 
 // Delivers the message, if it may be.
-fn deliver(bag: &mut Bag, number: u32) -> bool {
+fn deliver(bag: &mut PostBag, number: u32) -> bool {
     if !bag.may_be_delivered(number) {
         return false;
     }
@@ -64,7 +68,7 @@ fn deliver(bag: &mut Bag, number: u32) -> bool {
 }
 
 // Forgets the message, if it is there.
-fn forget(bag: &mut Bag, number: u32) -> bool {
+fn forget(bag: &mut PostBag, number: u32) -> bool {
     if !bag.may_be_delivered(number) {
         return false;
     }
@@ -73,7 +77,7 @@ fn forget(bag: &mut Bag, number: u32) -> bool {
 }
 
 // Messages 1, an install, and 2, of a switch that boots.
-fn posted(alloc: Global, bag: &mut Bag) -> Result<bool, Fail> {
+fn posted(alloc: Global, bag: &mut PostBag) -> Result<bool, Fail> {
     let hello = hello();
     let first = post(bag, alloc, &install(alloc)?)?;
     let second = post(bag, alloc, &hello)?;
@@ -83,7 +87,7 @@ fn posted(alloc: Global, bag: &mut Bag) -> Result<bool, Fail> {
 #[test]
 fn messages_wait_until_they_are_delivered_or_forgotten(rt: HostRuntime) -> Result<(), Fail> {
     let alloc = rt.alloc();
-    let mut bag = Bag::new(alloc);
+    let mut bag = PostBag::new(alloc);
     assert!(rt; posted(alloc, &mut bag)?);
     assert!(rt; told(&bag, alloc, 0)?.is_none());
     assert!(rt; told(&bag, alloc, 1)? == Some((Some(2), Some(3))));

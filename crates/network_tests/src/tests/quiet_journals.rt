@@ -2,7 +2,7 @@
 ghost use Rattle.std.specs.Prelude.{IfOk};
 ghost use Rattle.net_file.specs.Net.{IsNet};
 
-use journal::{Advert, Body, Item, Journal, Message, Receiver, SharedMessage, SharedTables};
+use journal::{Advert, Body, Item, Journal, Message, Place, SharedMessage, SharedTables};
 use journal_reports::quiet;
 use net_file::{Net, read_net, solo};
 use std::alloc::Global;
@@ -24,7 +24,7 @@ fn one_switch(alloc: Global) -> Result<Net, Fail>
     Ok(solo(alloc)?)
 }
 
-fn sent(alloc: Global, number: u32, to: Receiver, body: Body) -> Result<Item, Fail> {
+fn sent(alloc: Global, number: u32, to: Place, body: Body) -> Result<Item, Fail> {
     let message = SharedMessage::new(alloc, Message { to, body })?;
     Ok(Item::Sent { number, message })
 }
@@ -40,7 +40,7 @@ fn install(alloc: Global, number: u32) -> Result<Item, Fail> {
     sent(
         alloc,
         number,
-        Receiver::Switch(0),
+        Place::Switch(0),
         Body::Install { boot: 1, tables },
     )
 }
@@ -56,7 +56,7 @@ fn send(
     alloc: Global,
     journal: &mut Journal,
     number: u32,
-    to: Receiver,
+    to: Place,
     body: Body,
 ) -> Result<(), Fail> {
     let item = sent(alloc, number, to, body)?;
@@ -74,7 +74,7 @@ fn is_quiet(alloc: Global, journal: &Journal, net: &Net) -> Result<bool, Fail>
 fn crashes_are_confirmed(rt: HostRuntime) -> Result<(), Fail> {
     let alloc = rt.alloc();
     let net = two_switches(alloc)?;
-    let mut journal = Journal::empty(alloc);
+    let mut journal = Journal::new(alloc);
     assert!(rt; is_quiet(alloc, &journal, &net)?);
     push(&mut journal, Item::Down { switch: 1 })?;
     assert!(rt; !is_quiet(alloc, &journal, &net)?);
@@ -95,7 +95,7 @@ fn push_update(alloc: Global, journal: &mut Journal) -> Result<(), Fail> {
 fn updates_are_answered(rt: HostRuntime) -> Result<(), Fail> {
     let alloc = rt.alloc();
     let net = one_switch(alloc)?;
-    let mut journal = Journal::empty(alloc);
+    let mut journal = Journal::new(alloc);
     push_update(alloc, &mut journal)?;
     assert!(rt; !is_quiet(alloc, &journal, &net)?);
     push(&mut journal, Item::Delivered { number: 2 })?;
@@ -104,7 +104,7 @@ fn updates_are_answered(rt: HostRuntime) -> Result<(), Fail> {
         boot: 1,
         version: 2,
     };
-    send(alloc, &mut journal, 3, Receiver::Switch(0), stamp)?;
+    send(alloc, &mut journal, 3, Place::Switch(0), stamp)?;
     assert!(rt; !is_quiet(alloc, &journal, &net)?);
     Ok(())
 }
@@ -121,7 +121,7 @@ fn advertise(alloc: Global, journal: &mut Journal, number: u32, seq: u32) -> Res
         alloc,
         journal,
         number,
-        Receiver::Switch(0),
+        Place::Switch(0),
         Body::Advertise { advert },
     )
 }
@@ -137,7 +137,7 @@ fn is_quiet_with(
 ) -> Result<bool, Fail>
     requires { IsNet net.now }
 {
-    let mut journal = Journal::empty(alloc);
+    let mut journal = Journal::new(alloc);
     advertise(alloc, &mut journal, 1, first)?;
     advertise(alloc, &mut journal, 2, second)?;
     let forgotten = if delivered == 1 { 2 } else { 1 };

@@ -4,7 +4,7 @@ ghost use Rattle.controller.specs.Sends.{NamesThere};
 ghost use Rattle.net_file.specs.Net.{IsNet};
 
 use controller::{Act, Controller, Plan, Sends, compile, tables_of};
-use ctrl_msg::{Body, Receiver};
+use ctrl_msg::{Body, Place};
 use net_file::{Net, read_net};
 use policy_rules::{Action, Policy, PortRange, Prefix, Proto, Row};
 use std::alloc::Global;
@@ -83,8 +83,8 @@ fn seen(act: &Act) -> Seen {
         Act::Retired(version) => ('-', 0, 0, *version),
         Act::Post(message) => {
             let to = match message.to {
-                Receiver::Switch(s) => s,
-                Receiver::Controller => u32::MAX,
+                Place::Switch(s) => s,
+                Place::Controller => u32::MAX,
             };
             let boot = message.body.boot().unwrap_or(0);
             let version = message.body.version().unwrap_or(0);

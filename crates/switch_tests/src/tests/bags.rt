@@ -2,8 +2,8 @@
 ghost use Rattle.wire.specs.Messages.{HasSpelling};
 
 use crate::tests::messages::{collect, hello, install, install_of};
-use ctrl_msg::{Body, Message, Receiver};
-use message_bag::FrameBag;
+use ctrl_msg::{Body, Message, Place};
+use message_bag::Bag;
 use policy_rules::Rule;
 use std::alloc::Global;
 use std::test::*;
@@ -11,7 +11,7 @@ use switch_table::Tables;
 use wire::encode;
 
 // Posts a message that isn't too long, where the bag isn't full.
-fn post(bag: &mut FrameBag, alloc: Global, message: &Message) -> Result<u32, Fail>
+fn post(bag: &mut Bag, alloc: Global, message: &Message) -> Result<u32, Fail>
     requires { HasSpelling message.now }
 {
     let bytes = encode(alloc, message)?;
@@ -21,16 +21,12 @@ fn post(bag: &mut FrameBag, alloc: Global, message: &Message) -> Result<u32, Fai
     Ok(bag.post(alloc, message)?)
 }
 
-fn take(bag: &FrameBag, alloc: Global, number: u32) -> Result<Message, Fail> {
+fn take(bag: &Bag, alloc: Global, number: u32) -> Result<Message, Fail> {
     Ok(bag.take(alloc, number)?.ok_or("no such message")?)
 }
 
 // The receiver and the boot of the installation of this number, and how many rules it brings.
-fn installed(
-    bag: &FrameBag,
-    alloc: Global,
-    number: u32,
-) -> Result<Option<(Receiver, u32, usize)>, Fail> {
+fn installed(bag: &Bag, alloc: Global, number: u32) -> Result<Option<(Place, u32, usize)>, Fail> {
     let Message { to, body } = take(bag, alloc, number)?;
     match body {
         Body::Install { boot, tables } => match tables.tables().auth.items().first() {
@@ -44,7 +40,7 @@ fn installed(
 #[test]
 fn messages_come_out_of_a_bag(rt: HostRuntime) -> Result<(), Fail> {
     let alloc = rt.alloc();
-    let mut bag = FrameBag::new(alloc);
+    let mut bag = Bag::new(alloc);
     assert_eq!(rt; post(&mut bag, alloc, &collect())?, 1);
     // Tables of 40,000 bytes, of 52 bytes, and the first ones again.
     assert_eq!(rt; post(&mut bag, alloc, &install(alloc, 1038, 12)?)?, 2);
@@ -63,7 +59,7 @@ fn messages_come_out_of_a_bag(rt: HostRuntime) -> Result<(), Fail> {
     );
     for (number, rules) in [(2, 1050), (3, 0), (4, 1050)] {
         let told = installed(&bag, alloc, number)?;
-        assert!(rt; told == Some((Receiver::Switch(1), 1, rules)));
+        assert!(rt; told == Some((Place::Switch(1), 1, rules)));
     }
     let last = take(&bag, alloc, 5)?;
     assert!(rt; matches!(last.body, Body::Hello { switch: 0, boot: 2 }));
@@ -80,7 +76,7 @@ fn first_rules(tables: &Tables) -> Option<&[Rule]> {
 }
 
 // Whether the installation of this number is this one, whose tables have one partition.
-fn gives(bag: &FrameBag, alloc: Global, number: u32, message: &Message) -> Result<bool, Fail> {
+fn gives(bag: &Bag, alloc: Global, number: u32, message: &Message) -> Result<bool, Fail> {
     let taken = take(bag, alloc, number)?;
     match (&taken.body, &message.body) {
         (
@@ -122,7 +118,7 @@ fn installations_of_the_same_tables_each_come_out_as_their_own(
     rt: HostRuntime,
 ) -> Result<(), Fail> {
     let alloc = rt.alloc();
-    let mut bag = FrameBag::new(alloc);
+    let mut bag = Bag::new(alloc);
     for (number, version, switch, boot, defaults, rows) in &INSTALLATIONS {
         let message = install_of(alloc, *version, *switch, *boot, *defaults, *rows)?;
         assert_eq!(rt; post(&mut bag, alloc, &message)?, *number);

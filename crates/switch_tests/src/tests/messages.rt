@@ -2,7 +2,7 @@
 ghost use Rattle.std.specs.Prelude.{◌<◌, ◌^◌, length, IfOk};
 ghost use Rattle.wire.specs.Messages.{HasSpelling};
 
-use ctrl_msg::{Body, Message, Receiver, SharedTables};
+use ctrl_msg::{Body, Message, Place, SharedTables};
 use policy_rules::{Action, Partition, Rule, Rules};
 use std::alloc::Global;
 use std::test::Fail;
@@ -13,7 +13,7 @@ pub fn collect() -> Message
     ensures { HasSpelling result }
 {
     Message {
-        to: Receiver::Switch(0),
+        to: Place::Switch(0),
         body: Body::Collect {
             boot: 1,
             version: 1,
@@ -25,7 +25,7 @@ pub fn hello() -> Message
     ensures { HasSpelling result }
 {
     Message {
-        to: Receiver::Controller,
+        to: Place::Controller,
         body: Body::Hello { switch: 0, boot: 2 },
     }
 }
@@ -34,7 +34,7 @@ pub fn cache_rule() -> Message
     ensures { HasSpelling result }
 {
     Message {
-        to: Receiver::Switch(5),
+        to: Place::Switch(5),
         body: Body::CacheRule {
             version: 3,
             word: Word::any(),
@@ -107,7 +107,7 @@ pub fn install_of(
     };
     let tables = SharedTables::new(alloc, tables)?;
     Ok(Message {
-        to: Receiver::Switch(switch),
+        to: Place::Switch(switch),
         body: Body::Install { boot, tables },
     })
 }

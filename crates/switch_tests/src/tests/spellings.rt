@@ -2,7 +2,7 @@
 ghost use Rattle.wire.specs.Messages.{HasSpelling};
 
 use crate::tests::messages::{cache_rule, collect, hello, install};
-use ctrl_msg::{Body, Message, Receiver};
+use ctrl_msg::{Body, Message, Place};
 use std::alloc::Global;
 use std::test::*;
 use wire::{WireError, decode, encode};
@@ -26,7 +26,7 @@ fn spellings_byte_by_byte(rt: HostRuntime) -> Result<(), Fail> {
 fn a_spelling_is_read(rt: HostRuntime) -> Result<(), Fail> {
     let read = decode(rt.alloc(), &[255, 7, 0, 0, 0, 0, 2]).ok();
     let read = read.ok_or("the bytes are a message")?;
-    assert_eq!(rt; read.to, Receiver::Controller);
+    assert_eq!(rt; read.to, Place::Controller);
     assert!(rt; matches!(read.body, Body::Hello { switch: 0, boot: 2 }));
     Ok(())
 }

@@ -11,7 +11,7 @@ returns-clause-sends c = λ before is.
     let told = settling_acts before c.args.marks.now in
     let base : c.settle.new.acts.items ≡ told = c.in_ok-settle.ensures.acts before is
     ∙ ap (λ l. l ++ told) c.new-acts.ensures.items in
-    c.new.ensures
+    c.from_items.ensures
     ∙ elim c.if-settled.branch [
       | then-settled+in_ok-install_all w ↦ added asked _ c.settle.new.acts.items told all
           w.if-settled.true

@@ -4,7 +4,7 @@ use Rattle.cut_tree.specs.Shape.{shape_of}
 use Rattle.partition.specs.Plan.{sizes_of}
 use Rattle.controller.proofs.PlanLemmas.{IsReady, placement_refused, plan_sound, planned_at, rules_refused, tree_refused}
 use Rattle.controller.proofs.planning.compile.Goals as goal
-use Rattle.controller.proofs.planning.compile.Goals.{After-choose_targets}
+use Rattle.controller.proofs.planning.compile.Goals.{After-place}
 
 pub returns-in_err-rules-clause-refused : goal.returns-in_err-rules-clause-refused
 returns-in_err-rules-clause-refused c =
@@ -22,7 +22,7 @@ returns-in_err-tree-clause-refused c =
     c.in_err-tree.ensures.refused)
 
 -- what stands as targets are chosen
-ready_to_host : (c : After-choose_targets) → IsReady c.args.policy.now c.args.net.now c.deref.result.now
+ready_to_host : (c : After-place) → IsReady c.args.policy.now c.args.net.now c.deref.result.now
     (shape_of c.in_ok-tree.tree) c.deref-3.result.now c.deref-4.result.now
 ready_to_host c = record {
   few = c.in_ok-rules.ensures.few;
@@ -38,13 +38,13 @@ pub returns-in_err-targets-clause-refused : goal.returns-in_err-targets-clause-r
 returns-in_err-targets-clause-refused c =
     let p = err_from_is_err_and c.from_residual-in_err-targets.result
     c.from_residual-in_err-targets.ensures.1 in
-    let ready = ready_to_host (goal.at.returns-in_err-targets-clause-refused c).After-choose_targets in
+    let ready = ready_to_host (goal.at.returns-in_err-targets-clause-refused c).After-place in
     rw (p.1, p.2) (placement_refused _ _ _ _ _ _ c.in_err-targets.field-0.0 ready
     c.in_err-targets.ensures.refused)
 
 pub new-requires-clause-sound : goal.new-requires-clause-sound
 new-requires-clause-sound c =
-    let ready = ready_to_host (goal.at.new-requires-clause-sound c).After-choose_targets in
+    let ready = ready_to_host (goal.at.new-requires-clause-sound c).After-place in
     let planned = planned_at _ _ _ _ _ _ _ ready c.in_ok-targets.ensures.value in
     let sound = plan_sound _ _ _ c.requires
     (c.plan_laws.ensures.holds _ _ _ c.in_ok-rules.ensures.policy c.requires planned) in
@@ -57,7 +57,7 @@ new-requires-clause-sound c =
 
 pub returns-clause-plan : goal.returns-clause-plan
 returns-clause-plan c =
-    let ready = ready_to_host (goal.at.returns-clause-plan c).After-choose_targets in
+    let ready = ready_to_host (goal.at.returns-clause-plan c).After-place in
     rw (
       c.in_ok-plan.ensures.hosted,
       c.deref-5.ensures.value,

@@ -7,5 +7,5 @@ loop-other-init c =
     c.in_ok-messages.ensures.items ∙ sym (told_none _ _ c.ranges.near.fits)
 
 pub returns : goal.returns
-returns c = c.new.ensures ∙ c.loop-other.invariant
+returns c = c.from_items.ensures ∙ c.loop-other.invariant
     ∙ told_all _ _ c.loop-other.other c.ranges.near.fits c.loop-other-test.false

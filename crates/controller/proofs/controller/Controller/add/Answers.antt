@@ -45,7 +45,7 @@ returns-clause-sends c =
     let Next : ℕ → KeptPlan = λ n. record { version = n + 1; plan = c.args.plan } in
     let next : c.in_ok-version.version ≡ Next old.count = c.in_ok-version.ensures
     ∙ ap Next c.count.ensures.count in
-    c.new-2.ensures ∙ c.in_ok-settle.ensures.acts _ c.add_version-settled.ensures.settled
+    c.from_items.ensures ∙ c.in_ok-settle.ensures.acts _ c.add_version-settled.ensures.settled
     ∙ ap (λ l. l ++ settling_acts (with_version old) new)
     (c.in_ok-acts.ensures ∙ ap
     (λ (version : KeptPlan). map (λ s. install_act s (boot_recorded old s) version)

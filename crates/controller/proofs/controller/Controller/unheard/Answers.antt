@@ -11,7 +11,7 @@ returns c =
     let is = c.self.invariant in
     let Stay : ControllerValue → Type 0 = λ value. SettlesWith value.marks value.plans value in
     record {
-      none = c.new-2.ensures ∙ c.new.ensures.items;
+      none = c.from_items.ensures ∙ c.new.ensures.items;
       idle = ap (λ (value : ControllerValue). settling_acts value.marks value.marks) (sym c.self.view_is)
           ∙ nothing_sent marks is.marks;
       after = subst Stay c.self.view_is (record {

@@ -25,9 +25,9 @@ invariant_of-result c =
         sound = net_begun net files.net of_net c.requires.net;
         owners = owners_begun net files.net c.ports.result of_net c.ports.ensures;
       };
-      refines = λ able. as_begun net policies files c.empty.result c.new-2.result c.new-3.result
-          switches controller near of_net c.in_ok-files.ensures.policies c.empty.ensures
-          c.new-2.ensures c.new-3.ensures
+      refines = λ able. as_begun net policies files c.new-2.result c.new-3.result c.new-4.result
+          switches controller near of_net c.in_ok-files.ensures.policies c.new-2.ensures
+          c.new-3.ensures c.new-4.ensures
           (begun_refines net policies c.in_ok-plan.plan switches controller near c.requires.net
           c.requires.some c.requires.sound c.requires.ports
           (c.in_ok-plan.ensures.policy ∙ first) planned

@@ -3,7 +3,7 @@ use Rattle.wire.specs.Frames.{frames}
 use Rattle.wire.proofs.Holding.{on_err}
 use Rattle.message_bag.specs.KeptFrames.{frames_in}
 use Rattle.message_bag.proofs.Posting.{all_stay, kept_after, posted_after, still_kept, unchanged_after}
-use Rattle.message_bag.proofs.frame_bag.FrameBag.post_tables.Goals as goal
+use Rattle.message_bag.proofs.bag.Bag.post_tables.Goals as goal
 
 pub invariant_of-self : goal.invariant_of-self
 invariant_of-self c =

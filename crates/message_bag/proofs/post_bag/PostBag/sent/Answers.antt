@@ -1,6 +1,6 @@
 use Rattle.std.proofs.Common.{length, ap, sym, ◌∙◌}
 use Rattle.message_bag.proofs.Zipped.{length_of_zip}
-use Rattle.message_bag.proofs.bag.Bag.sent.Goals as goal
+use Rattle.message_bag.proofs.post_bag.PostBag.sent.Goals as goal
 
 pub returns : goal.returns
 returns c =

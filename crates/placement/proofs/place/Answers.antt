@@ -5,8 +5,8 @@ use Rattle.std.proofs.lemmas.List.{take_more, drop_more, drop_all, append-nil, t
 use Rattle.placement.specs.Placement.{AreFirst}
 use Rattle.placement.proofs.FirstLemmas.{first_there, first_fits, first_distinct}
 use Rattle.placement.proofs.TurnLemmas.{Loaded, loaded_none, loaded_more, loaded_refused, taken_within, taken_all, placement_is, refusal_is}
-use Rattle.placement.proofs.choose_targets.Goals as goal
-use Rattle.placement.proofs.choose_targets.Goals.{After-items, After-number_at-size}
+use Rattle.placement.proofs.place.Goals as goal
+use Rattle.placement.proofs.place.Goals.{After-items, After-number_at-size}
 
 -- the turn that the loop has come to
 turn : (c : After-number_at-size)

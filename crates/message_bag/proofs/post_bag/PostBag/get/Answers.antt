@@ -5,7 +5,7 @@ use Rattle.message_bag.specs.Deliveries as statuses
 use Rattle.message_bag.specs.Posts.{IsMessageOf, Post, is_post_deliverable}
 use Rattle.message_bag.proofs.Taken.{found_known, found_there}
 use Rattle.message_bag.proofs.Zipped.{deliverable_as}
-use Rattle.message_bag.proofs.bag.Bag.get.Goals as goal
+use Rattle.message_bag.proofs.post_bag.PostBag.get.Goals as goal
 
 is_there : (c : goal.After-take)
     → statuses.is_deliverable c.self.inside.deliveries c.args.number ≡ true

@@ -3,7 +3,7 @@ use Rattle.wire.specs.Frames.{frames}
 use Rattle.wire.specs.Messages.{message}
 use Rattle.message_bag.specs.KeptFrames.{frames_in}
 use Rattle.message_bag.proofs.Posting.{alone_is, kept_after, posted_after, same_grown}
-use Rattle.message_bag.proofs.frame_bag.FrameBag.post_alone.Goals as goal
+use Rattle.message_bag.proofs.bag.Bag.post_alone.Goals as goal
 
 its : (c : goal.After-push)
     → frames_in c.self.inside.tables.items (c.deref.result.now, None) ≡ frames c.args.message.now

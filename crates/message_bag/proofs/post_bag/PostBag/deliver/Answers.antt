@@ -1,6 +1,6 @@
 use Rattle.message_bag.specs.Deliveries.{delivered_status}
 use Rattle.message_bag.proofs.Zipped.{posts_changed}
-use Rattle.message_bag.proofs.bag.Bag.deliver.Goals as goal
+use Rattle.message_bag.proofs.post_bag.PostBag.deliver.Goals as goal
 
 pub returns : goal.returns
 returns c = posts_changed delivered_status c.self.inside.frames c.self.inside.deliveries _ _

@@ -2,7 +2,7 @@ use Rattle.std.proofs.Common.{ap, sym, ◌∙◌}
 use Rattle.message_bag.specs.Deliveries as statuses
 use Rattle.message_bag.specs.Posts.{next_waiting_post}
 use Rattle.message_bag.proofs.Zipped.{statuses_of_zip}
-use Rattle.message_bag.proofs.bag.Bag.next_waiting.Goals as goal
+use Rattle.message_bag.proofs.post_bag.PostBag.next_waiting.Goals as goal
 
 pub returns : goal.returns
 returns c =

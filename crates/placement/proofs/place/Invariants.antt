@@ -1,6 +1,6 @@
 use Rattle.std.proofs.Common.{take, drop}
 use Rattle.placement.proofs.TurnLemmas.{Loaded}
-use Rattle.placement.proofs.choose_targets.Given as goal
+use Rattle.placement.proofs.place.Given as goal
 
 abbrev pub invariant-loop-partition : goal.invariant-loop-partition
 invariant-loop-partition l =

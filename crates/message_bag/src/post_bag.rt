@@ -1,0 +1,120 @@
+ghost use Rattle.std.specs.Prelude.{◌≡◌, ◌<◌, ◌+◌, ◌-◌, ◌^◌, [], ◌∷◌, ◌++◌, length, is_some, IsTrue, IfOk, IfSome, OnOk, OnErr};
+ghost use Rattle.message_bag.specs.Posts.{IsMessageOf, is_post_deliverable, next_waiting_post, new_post, with_delivered, with_forgotten};
+ghost use Rattle.message_bag.specs.Feeding.{HasShortSpelling};
+
+use crate::bag::Bag;
+use crate::deliveries::Deliveries;
+use ctrl_msg::Message;
+use std::alloc::{AllocError, Global};
+use std::marker::Model;
+
+/// The messages that were posted, numbered from 1 in their order: at most 2^32 - 1. Contracts see
+/// the list of their frames, each message with whether it was delivered and whether it is
+/// forgotten.
+#[derive(Drop)]
+pub struct PostBag {
+    frames: Bag,
+    deliveries: Deliveries,
+}
+
+impl Model for PostBag {
+    ghost use Rattle.std.specs.Prelude.{◌≡◌, List, length};
+    ghost use Rattle.std.specs.List.{zip};
+    ghost use Rattle.message_bag.specs.Posts.{Post};
+
+    ghost Value = { List Post };
+
+    ghost view = { λ b. zip b.frames b.deliveries };
+
+    ghost invariant = { λ b. length b.frames ≡ length b.deliveries };
+}
+
+impl PostBag {
+    /// A bag in which nothing was posted; it takes no memory yet.
+    pub fn new(alloc: Global) -> PostBag
+        ensures { result ≡ [] }
+    {
+        PostBag {
+            frames: Bag::new(alloc),
+            deliveries: Deliveries::new(alloc),
+        }
+    }
+
+    /// Posts a message, and answers its number: one more than there were messages.
+    ///
+    /// # Errors
+    /// Want of memory alone; nothing changes then.
+    pub fn post(&mut self, alloc: Global, message: &Message) -> Result<u32, AllocError>
+        requires spelling { HasShortSpelling message.now }
+        requires few { length self.old < 2 ^ 32 - 1 }
+        ensures number { IfOk result (λ number. number ≡ length self.old + 1) }
+        ensures posted { OnOk result (self.new ≡ self.old ++ new_post message.now ∷ []) }
+        ensures unchanged { OnErr result (self.new ≡ self.old) }
+    {
+        self.deliveries.add()?;
+        match self.frames.post(alloc, message) {
+            Ok(number) => Ok(number),
+            Err(error) => {
+                self.deliveries.take_back();
+                Err(error)
+            }
+        }
+    }
+
+    /// How many messages were posted.
+    pub fn sent(&self) -> u32
+        ensures { result ≡ length self.now }
+    {
+        self.deliveries.count()
+    }
+
+    /// The message of this number, out of its frames; `None` exactly where none of this number was
+    /// posted, or it is forgotten.
+    ///
+    /// # Errors
+    /// Want of memory alone.
+    pub fn get(&self, alloc: Global, number: u32) -> Result<Option<Message>, AllocError>
+        ensures found { IfOk result (λ answer. is_some answer ≡ is_post_deliverable self.now number) }
+        ensures message { IfOk result (λ answer. IfSome answer (IsMessageOf self.now number)) }
+    {
+        if self.may_be_delivered(number) {
+            self.frames.take(alloc, number)
+        } else {
+            Ok(None)
+        }
+    }
+
+    /// Whether a message of this number was posted and isn't forgotten.
+    #[tactic(auto, using(crate::proofs::Zipped::deliverable_same))]
+    pub fn may_be_delivered(&self, number: u32) -> bool
+        ensures { result ≡ is_post_deliverable self.now number }
+    {
+        self.deliveries.may_be_delivered(number)
+    }
+
+    /// The message of this number was delivered, perhaps once more.
+    #[tactic(auto, using(crate::proofs::Zipped::deliverable_same))]
+    pub fn deliver(&mut self, number: u32)
+        requires { IsTrue (is_post_deliverable self.old number) }
+        ensures { self.new ≡ with_delivered self.old number }
+    {
+        self.deliveries.deliver(number);
+    }
+
+    /// The message of this number is never delivered again.
+    #[tactic(auto, using(crate::proofs::Zipped::deliverable_same))]
+    pub fn forget(&mut self, number: u32)
+        requires { IsTrue (is_post_deliverable self.old number) }
+        ensures { self.new ≡ with_forgotten self.old number }
+    {
+        self.deliveries.forget(number);
+    }
+
+    /// The least number at or above `from` of a message that was never delivered and isn't
+    /// forgotten; `None` exactly where there is none.
+    pub fn next_waiting(&self, from: u32) -> Option<u32>
+        ensures { result ≡ next_waiting_post self.now from }
+    {
+        self.deliveries.next_waiting(from)
+    }
+}
