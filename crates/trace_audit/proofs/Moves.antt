@@ -14,7 +14,7 @@ pub none_seen : {A B : Type 0} (seen : A → B) (found : Option A) (there : Opti
 none_seen seen None there e f = sym e
 none_seen seen (Some x) there e f = absurd cc
 
-some_same : {A : Type 0} (a b : A) (o : Option A) → o ≡ Some a → o ≡ Some b → a ≡ b
+pub some_same : {A : Type 0} (a b : A) (o : Option A) → o ≡ Some a → o ≡ Some b → a ≡ b
 some_same a b o p q = cc
 
 -- the item at a place of a slice is there in the list

@@ -12,6 +12,7 @@ use Rattle.update_machine.specs.Machine.{End, Machine, Packet, Decides, Ends, En
 use Rattle.trace_audit.specs.Reading.{Follows, Line, Whole, Open, ReadsLine, Reads, State, first_state, made_by, newest_policy}
 use Rattle.trace_audit.specs.Told.{Told}
 use Rattle.trace_audit.specs.Told as told
+use Rattle.trace_audit.proofs.Moves.{some_same}
 
 -- ---- some lines and more
 
@@ -72,9 +73,6 @@ follows_sound files old told.Nothing new own sound f =
     policies_stay old new (ap (λ s. s.machine.policies) f) sound
 
 -- ---- only one
-
-some_same : {A : Type 0} (a b : A) (o : Option A) → o ≡ Some a → o ≡ Some b → a ≡ b
-some_same a b o p q = cc
 
 state_same : (a b : State) → a.machine ≡ b.machine → a.pending ≡ b.pending → a ≡ b
 state_same a b m p =
