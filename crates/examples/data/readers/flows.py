@@ -15,6 +15,7 @@ COLUMNS = {
     "protocol": "pr proto protocol ipproto ipprotocol protocolidentifier prot protocolnumber",
 }
 SEPARATORS = ",;\t"
+OPEN = "a double quote is opened and isn't closed in its line"
 
 
 def name_of(title):
@@ -45,17 +46,28 @@ def packets_of(lines):
     """Each flow's line, and its packet or why it can't be said."""
     reader = csv.reader(lines, delimiter=separator_of(lines[0]), skipinitialspace=True)
     try:
-        places = columns_of(next(reader))
+        heading = next(reader)
+        places = columns_of(heading)
         missing = [field for field in COLUMNS if field not in places]
         if missing:
             raise Refused(f"line 1: the heading has no column for: {', '.join(missing)}")
-        for fields in reader:
-            if [text.strip() for text in fields] == ["Summary"]:
-                return  # nfdump's two lines behind it have no flow
-            if fields:
-                yield reader.line_num, spoken(fields, places)
+        yield from flows_of(reader, heading, places)
     except csv.Error as why:
         raise Refused(f"line {reader.line_num}: {why}") from why
+
+
+def flows_of(reader, heading, places):
+    """The flows behind the heading, which stands again where files were joined."""
+    before = reader.line_num
+    for fields in reader:
+        first, before = before + 1, reader.line_num
+        if [text.strip() for text in fields] == ["Summary"]:
+            next(reader, None), next(reader, None)  # nfdump's two lines behind it have no flow
+            before = reader.line_num
+        elif before > first:
+            yield from ((line, Unsaid(OPEN)) for line in range(first, before + 1))
+        elif fields and fields != heading:
+            yield before, spoken(fields, places)
 
 
 def spoken(fields, places):
