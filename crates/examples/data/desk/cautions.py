@@ -1,4 +1,4 @@
-"""What the program accepts in files and seldom is meant: keys that are passed over, no drain."""
+"""What the program accepts in files and seldom is meant: what is passed over, no drain."""
 import tomllib
 from difflib import get_close_matches
 
@@ -6,7 +6,6 @@ from .records import header_line, key_line, lines_of, records_of
 
 KEYS = ["leaf_rules", "backups", "cache", "switch", "link"]
 ROW_KEYS = {"switch": ["name", "ports", "authority"], "link": ["ends"]}
-MOVES = ("drain", "hop", "lose")
 
 
 def network_cautions(lines, name):
@@ -41,11 +40,13 @@ def unknown_keys(table, known, lines, what, start=None):
 
 def schedule_cautions(path, name, has_network):
     """That nothing moves the last packet, which on a network may stand on its way then."""
-    last, moved = None, False
+    last, moved, packets = None, False, 0
     for record in records_of(lines_of(path)):
         if record.row and record.fields[0] == "packet":
-            last, moved = record, False
-        elif record.fields[0] in MOVES:
+            last, moved, packets = record, False, packets + 1
+        elif record.fields[0] == "drain":
+            moved = True
+        elif record.fields[0] in ("hop", "lose") and record.fields[1:] == [str(packets)]:
             moved = True
     if has_network and last is not None and not moved:
         yield (
@@ -54,10 +55,21 @@ def schedule_cautions(path, name, has_network):
         )
 
 
+def later_policy_cautions(folder):
+    """The policy files that no replay takes, since one before them isn't there."""
+    there = [(folder / f"policy{number}.csv").is_file() for number in range(2, 65)]
+    first = there.index(False) if False in there else len(there)
+    for number, is_there in enumerate(there[first:], first + 2):
+        if is_there:
+            yield f"policy{number}.csv is passed over, since policy{first + 2}.csv isn't there"
+
+
 def folder_cautions(folder, schedule):
     """The cautions of a folder: of its network, and of its schedule where one is named."""
     network = folder / "net.toml"
     if network.is_file():
         yield from network_cautions(lines_of(network), "net.toml")
+    if schedule is not None:
+        yield from later_policy_cautions(folder)
     if schedule is not None and (folder / schedule).is_file():
         yield from schedule_cautions(folder / schedule, schedule, network.is_file())
