@@ -51,7 +51,8 @@ class ReadFault(Exception):
 
 
 def is_number(text, least, most):
-    return re.fullmatch("0|[1-9][0-9]*", text) is not None and least <= int(text) <= most
+    """Whether the text is such a number; of more than ten digits none is."""
+    return re.fullmatch("0|[1-9][0-9]{0,9}", text) is not None and least <= int(text) <= most
 
 
 def is_address(text):

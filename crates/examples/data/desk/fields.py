@@ -7,6 +7,7 @@ import re
 from .records import quoted
 
 MOST_PRIORITY, MOST_NUMBER, MOST_PORT = 4294967295, 999999999, 63
+MOST_DIGITS = 10  # a number of more is too large for any field
 PROTOCOLS = {
     "igmp": 2, "gre": 47, "esp": 50, "ah": 51, "icmp6": 58, "icmpv6": 58, "ipv6-icmp": 58,
     "ospf": 89, "vrrp": 112, "sctp": 132,
@@ -29,8 +30,8 @@ def number_fault(text, most, least=0):
     if not re.fullmatch("[0-9]+", text):
         return f"it is no number in digits, from {least} to {most}"
     if len(text) > 1 and text[0] == "0":
-        return f"it has a leading zero: write {int(text)}"
-    if not least <= int(text) <= most:
+        return f"it has a leading zero: write {text.lstrip('0')[:20] or 0}"
+    if len(text) > MOST_DIGITS or not least <= int(text) <= most:
         return f"it isn't from {least} to {most}"
     return ""
 

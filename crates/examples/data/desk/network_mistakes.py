@@ -63,7 +63,7 @@ class Place:
     def of(self, key):
         """The line and the text of a key; the key alone where it has no line of its own."""
         at = self.start and key_line(self.lines, key, self.start)
-        return f"{self.name}, line {at}: {self.lines[at - 1].strip()}" if at else key
+        return f"{self.name}, line {at}: {self.lines[at - 1].strip()[:200]}" if at else key
 
 
 def no_document(path, name, lines):
@@ -87,17 +87,19 @@ def no_document(path, name, lines):
     yield "Python's reader takes it, but for TOML here integers have at most 64 bits"
     for at, line in enumerate(lines, 1):
         if re.search(r"\d[\d_]{18}", line):
-            yield f"{name}, line {at}: {line.strip()}"
+            yield f"{name}, line {at}: {line.strip()[:200]}"
 
 
 def toml_fault(error, name, lines):
     """What Python's reader of TOML says, with the line's text."""
     place = re.search(r" \(at line (\d+), column (\d+)\)$", error)
+    if "integer string conversion" in error:
+        error = "integers have at most 64 bits (at end of document)"
     if place is None:
         yield f"TOML: {error.removesuffix(' (at end of document)')}, at the end of {name}"
         return
     at = int(place[1])
-    yield f"{name}, line {at}, column {place[2]}: {quoted(lines[at - 1].rstrip())[1:-1]}"
+    yield f"{name}, line {at}, column {place[2]}: {quoted(lines[at - 1].rstrip())[1:-1][:200]}"
     said = error[: place.start()]
     yield f"TOML: {said}" + TOML_HINTS.get(said, "")
 

@@ -58,7 +58,7 @@ def spelled(letter):
 def quoted_if_odd(text):
     """A field as it is, or in quotes where blanks, quotes or commas would be missed."""
     plain = re.fullmatch(r"[!#-+\--~]+( [!#-+\--~]+)*", text)
-    return text if plain else quoted(text)[:200]
+    return text[:200] if plain else quoted(text)[:200]
 
 
 # Networks.
