@@ -115,7 +115,7 @@ def plan_of(policy, network):
     net = SOLO
     if network is not None:
         with open(network, "rb") as file:
-            net = tomllib.load(file)
+            net = tomllib.loads(file.read().decode("utf-8-sig"))
     names = [row["name"] for row in net["switch"]]
     rules, words = rules_of(policy)
     parts = leaves(rules, (0, 0), net.get("leaf_rules", 64))

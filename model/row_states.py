@@ -9,7 +9,7 @@ import slow_replay
 def world_of(net, policies):
     """The network before the first row; without a network file it is the switch s0."""
     path = Path(net) if net else None
-    text = tomllib.loads(path.read_text()) if path else slow_replay.SOLO
+    text = tomllib.loads(path.read_text("utf-8-sig")) if path else slow_replay.SOLO
     return slow_replay.World(text, list(map(str, policies)))
 
 

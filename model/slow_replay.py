@@ -869,7 +869,7 @@ def main():
     if "--net" in args:
         at = args.index("--net")
         with open(args[at + 1], "rb") as file:
-            net = tomllib.load(file)
+            net = tomllib.loads(file.read().decode("utf-8-sig"))
         del args[at : at + 2]
     if len(args) < 2:
         sys.exit(__doc__)

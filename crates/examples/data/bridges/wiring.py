@@ -11,7 +11,7 @@ class Net:
     """The network's file. A switch is its number, which is that of its bridge too."""
 
     def __init__(self, path):
-        net = tomllib.loads(path.read_text("utf-8")) if path else SOLO
+        net = tomllib.loads(path.read_text("utf-8-sig")) if path else SOLO
         rows = net["switch"]
         self.names = [row["name"] for row in rows]
         self.owner = {port: at for at, row in enumerate(rows) for port in row.get("ports", [])}
