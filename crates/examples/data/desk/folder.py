@@ -1,6 +1,8 @@
 """The folder of a journal, and the files beside it."""
 import csv
+import sys
 import tomllib
+from collections import Counter
 from pathlib import Path
 from typing import NamedTuple
 
@@ -58,7 +60,7 @@ class Case:
         if not path.is_file():
             return SOLO
         try:
-            net = tomllib.loads(path.read_text(encoding="utf-8"))
+            net = tomllib.loads(path.read_text(encoding="utf-8-sig"))
         except ValueError as error:
             raise Mistake(f"{path}: {error}") from error
         if not is_network(net):
@@ -74,7 +76,7 @@ class Case:
         path = self.policy_file(file)
         if not path.is_file():
             return None
-        with open(path, newline="", encoding="utf-8", errors="replace") as text:
+        with open(path, newline="", encoding="utf-8-sig", errors="replace") as text:
             reader = csv.reader(text)
             rows = [(reader.line_num, row) for row in reader if row]
         if not rows or rows[0][1] != HEADING or any(len(row) != len(HEADING) for _, row in rows):
@@ -88,10 +90,23 @@ class Case:
 
     def play(self):
         """The whole journal, followed to its end."""
-        play = self.start()
+        play, meters = self.start(), {}
         for item in self.items():
             play.follow(item)
+            if item.kind == "meter":
+                meters[item.said["port"]] = item.said["count"]
+        self.check_end(play, meters)
         return play
+
+    def check_end(self, play, meters):
+        """That the lines behind the journal count the packets that left; without them, a caution.
+        """
+        left = Counter(packet.port for packet in play.packets.values() if packet.end == "out")
+        if meters and meters != left:
+            raise Mistake(f"{self.journal}: the meters count other packets than those that left")
+        if left and not meters:
+            print(f"{self.journal}: no line `meter` counts the packets that left: the journal is "
+                  "cut, or its play stopped full", file=sys.stderr)
 
 
 def case_of(name):

@@ -149,7 +149,7 @@ def is_indented(kind):
 
 def items_of(lines, name="the journal"):
     """The items of these lines of a journal, in order; a line that is none is a mistake."""
-    row = 0
+    row, last, ended = 0, 0, False
     for number, line in enumerate(lines, 1):
         text = line.removesuffix("\n")
         bare = text.removeprefix("  ")
@@ -157,14 +157,25 @@ def items_of(lines, name="the journal"):
         said = said_by(bare) if is_indented(kind) == (bare != text) else None
         if said is None or (row == 0 and is_indented(kind)):
             raise Mistake(f"{name}, line {number}: {text[:60]!r} is no line of a journal")
-        if kind == "row":
+        if kind in FACTS_BEHIND:
+            row, ended = 0, True
+        elif kind == "row":
             row = said["row"]
-        elif kind in FACTS_BEHIND:
-            row = 0
+            if ended or row < last:
+                raise Mistake(f"{name}, line {number}: row {row} stands behind the journal's end")
+            last = row
         yield Item(number, row, kind, said, bare)
 
 
 def read_items(path):
     """The items of the journal in this file, one at a time."""
     with open(path, encoding="utf-8", errors="replace") as file:
-        yield from items_of(file, path)
+        yield from items_of(whole_lines(file, path), path)
+
+
+def whole_lines(file, path):
+    """The lines of a file, of which each has its end: a number that is cut is another one."""
+    for number, line in enumerate(file, 1):
+        if not line.endswith("\n"):
+            raise Mistake(f"{path}, line {number}: the journal is cut, this line has no end")
+        yield line

@@ -65,6 +65,8 @@ class Play:
     def on_entered(self, item):
         if self.asked.get("event") != "packet":
             raise item.mistake("no row brought a packet in")
+        if item.said["packet"] in self.packets:
+            raise item.mistake(f"packet {item.said['packet']} came in before")
         self.packets[item.said["packet"]] = Packet(self.asked, item)
 
     def on_closed(self, item):
