@@ -172,7 +172,7 @@ def data_of(case):
 
 def page_of(case):
     """The text of the page: one file, which asks nothing of a network."""
-    data = json.dumps(data_of(case), separators=(",", ":")).replace("</", "<\\/")
+    data = json.dumps(data_of(case), separators=(",", ":")).replace("<", "\\u003c")
     text = (HERE / "page.html").read_text(encoding="utf-8")
     for mark, file in PARTS.items():
         text = text.replace(f"[[{mark}]]", (HERE / file).read_text(encoding="utf-8"))

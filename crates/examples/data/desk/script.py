@@ -11,6 +11,8 @@ class Mistake(Exception):
 
 def run(name, main):
     """Does the work of the script; a mistake and an interrupt are one line each, and a status."""
+    if sys.stdout is None:
+        end(f"{name}: the output is closed", MISTAKE)
     try:
         main()
         sys.stdout.flush()

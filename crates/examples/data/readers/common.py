@@ -156,6 +156,8 @@ def finish(name, args, rows, left, passed, told):
 def run(name, main):
     """Ends with the status of `main`; a refusal, an interrupt and a closed pipe end it too."""
     try:
+        if sys.stdout is None:
+            raise Refused("the output is closed")
         sys.exit(main())
     except BrokenPipeError:
         os.dup2(os.open(os.devnull, os.O_WRONLY), sys.stdout.fileno())
