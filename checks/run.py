@@ -216,12 +216,14 @@ def wrong_words_are_one_line(desk):
 
 @case
 def an_interrupt_is_one_line(desk):
-    slow = desk.folder / "slow"
-    slow.write_text("#!/bin/sh\nexec /bin/sleep 60\n")
+    slow, begun = desk.folder / "slow", desk.folder / "begun"
+    slow.write_text(f"#!/bin/sh\ntouch '{begun}'\nexec /bin/sleep 60\n")
     slow.chmod(0o755)
     command = [sys.executable, str(EXAMPLES / "run"), "campus", "--program", str(slow)]
     with subprocess.Popen(command, stderr=subprocess.PIPE, text=True) as child:
-        time.sleep(2)
+        while not begun.exists() and child.poll() is None:
+            time.sleep(0.1)
+        time.sleep(0.2)
         child.send_signal(signal.SIGINT)
         errors = child.communicate()[1]
     assert errors == "examples/run: interrupted\n" and child.returncode == 130
