@@ -447,7 +447,7 @@ use net_file::{Ports, read_net};
 use policy_file::read_policy;
 use policy_rules::{Leg, Targets};
 use std::{env, fs};
-use switch_core::{Answer, Arrived, Entered, Switch, switch_laws};
+use switch_core::{Arrived, Entered, Switch, switch_laws};
 use tunnel::Tunnel;
 
 // A header of one of the 512 blocks of destinations.
@@ -467,7 +467,7 @@ fn enter_all(switch: &mut Switch, near: u64, ports: &Ports, turns: u32) -> u32 {
     for turn in 0..turns {
         if switch.holds_version(switch.stamp()) {
             let entered = switch.enter(turn, &header(turn), near, ports);
-            if let Entered::Answered(Answer::Decided { .. }) = entered {
+            if let Entered::Decided { .. } = entered {
                 decided = decided.wrapping_add(1);
             }
         }
@@ -489,7 +489,7 @@ fn arrive_all(switch: &mut Switch, base: &Database, near: u64, ports: &Ports, tu
                     && !switch.holds_version(2)
                 {
                     let arrived = switch.arrive(&tunnel, near, ports);
-                    if let Arrived::Answered(Answer::Decided { .. }) = arrived {
+                    if let Arrived::Decided { .. } = arrived {
                         decided = decided.wrapping_add(1);
                     }
                 }

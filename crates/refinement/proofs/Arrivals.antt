@@ -17,8 +17,8 @@ use Rattle.switch_core.specs.Answering.{arrived_on, decided_at, decided_in, look
 use Rattle.switch_core.specs.Deciding.{place_of_first, part_numbered}
 use Rattle.switch_core.specs.Ends.{around}
 use Rattle.switch_core.specs.State.{SwitchValue, held_tables}
-use Rattle.switch_core.specs.declared.answers.Arrived.{Arrived}
-use Rattle.switch_core.specs.declared.answers.Arrived.TheVariants as arrived
+use Rattle.switch_core.specs.Answers.{Arrival}
+use Rattle.switch_core.specs.Answers as arrived
 use Rattle.switch_core.specs.declared.packet.Packet.{Packet}
 use Rattle.switch_table.specs.Tables.{Hosted}
 use Rattle.switch_table.specs.declared.tables.Tables.{Tables}
@@ -115,7 +115,7 @@ at_end_on setting before items s header (Seek version partition) none end =
 -- ---- what the switch answers, and what the journal's definitions say
 
 -- what becomes of a packet that arrives
-abbrev pub GoesOut : Targets → Standing → Arrived → Type 0
+abbrev pub GoesOut : Targets → Standing → Arrival → Type 0
 GoesOut targets at (arrived.Out port) = ⊤
 GoesOut targets at (arrived.Answered what) = IsComing targets at what
 
@@ -229,7 +229,7 @@ module _ (setting : Setting) (journal : List Item) (s : ℕ) (w : SwitchValue) (
 -- ---- what becomes of the packet
 
 pub arrival_goes : (targets : Targets) (before : List Item) (number : ℕ) (at : Standing)
-    (t : Flight) (what : Arrived) (facts : PacketFacts) → IsSeen at at.ingress facts
+    (t : Flight) (what : Arrival) (facts : PacketFacts) → IsSeen at at.ingress facts
     → AreOfFacts t.version t.rule facts → GoesOut targets at what
     → arrived_flight t.version t.rule what
     ≡ flight_by targets at.packet

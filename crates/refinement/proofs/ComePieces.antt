@@ -1,5 +1,5 @@
 -- A packet that comes in: the calls that its step counts, and where each packet is then.
-use Rattle.std.proofs.Common.{ℕ, ◌≡◌, ◌==◌, Bool, true, false, if◌then◌else◌, cond, Option, List, [], ◌∷◌, ◌++◌, refl, ap, sym, ◌∙◌, eqb-true, arith}
+use Rattle.std.proofs.Common.{ℕ, ◌≡◌, ◌==◌, Bool, true, false, if◌then◌else◌, cond, Option, List, [], ◌∷◌, ◌++◌, refl, ap, sym, ◌∙◌, eqb-true, arith, Some, None}
 use Rattle.std.proofs.lemmas.Bool.Decides.{nat_tests}
 use Rattle.std.proofs.lemmas.List.Sums.{sum_by-cons}
 use Rattle.policy_rules.specs.declared.packet.Leg.{Leg}
@@ -8,8 +8,7 @@ use Rattle.journal.specs.declared.item.Item.TheVariants as item
 use Rattle.steps.specs.declared.step.Step.{Step}
 use Rattle.steps.specs.declared.step.Step.TheVariants.{Packet as PacketStep}
 use Rattle.switch_core.specs.State.{call_counted}
-use Rattle.switch_core.specs.declared.answers.Entered.{Entered}
-use Rattle.switch_core.specs.declared.answers.Entered.TheVariants as entered
+use Rattle.switch_core.specs.Answers.{Answer}
 use Rattle.refinement.specs.Calls.{AreInStep}
 use Rattle.refinement.specs.SwitchOf.{switch_of}
 use Rattle.refinement.proofs.SwitchSteps.{calls_refine}
@@ -39,11 +38,11 @@ once first items packet later =
     let one : ◌≡◌ {A = ℕ} (cond (is_packet first) 1 0) 1 = ap (λ b. cond b 1 0) packet in
     omega (arith, sum, one, later_packets items later)
 
-pub entered_once : (number : ℕ) (at : Standing) (what : Entered)
+pub entered_once : (number : ℕ) (at : Standing) (what : Option Answer)
     → count_of is_packet (entered_items number at what) ≡ 1
-entered_once number at entered.Closed =
+entered_once number at None =
     once (item.Closed at.packet at.switch) [] refl tt
-entered_once number at (entered.Answered what) =
+entered_once number at (Some what) =
     once (item.Entered at.packet at.switch at.header) (answer_items number at what) refl
     (answer_later number at what)
 
@@ -51,7 +50,7 @@ entered_once number at (entered.Answered what) =
 
 -- the switch where it comes in is called, and no other
 pub come_called : (setting : Setting) (journal : List Item) (row number q : ℕ) (at : Standing)
-    (what : Entered) (b : Bool) → SendFrom number (entered_items number at what)
+    (what : Option Answer) (b : Bool) → SendFrom number (entered_items number at what)
     → (at.switch == q) ≡ b
     → switch_of setting (journal ++ item.Row row (PacketStep at.switch at.header)
     ∷ entered_items number at what) q
@@ -60,14 +59,14 @@ come_called setting journal row number q at what b sends is =
     by_answer what sends
     ∙ ap (λ b. if b then call_counted (switch_of setting journal q) else switch_of setting journal q) is
   where
-    by_answer : (what : Entered) → SendFrom number (entered_items number at what)
+    by_answer : (what : Option Answer) → SendFrom number (entered_items number at what)
         → switch_of setting (journal ++ item.Row row (PacketStep at.switch at.header)
         ∷ entered_items number at what) q
         ≡ (if at.switch == q then call_counted (switch_of setting journal q)
         else switch_of setting journal q)
-    by_answer entered.Closed sends =
+    by_answer None sends =
         calls_refine.closed setting journal row at.packet at.switch q at.header
-    by_answer (entered.Answered what) sends =
+    by_answer (Some what) sends =
         calls_refine.entered setting journal row at.packet at.switch q at.header
         (answer_items number at what) (answer_later number at what)
         ((are_apart number journal (item.Row row (PacketStep at.switch at.header)
@@ -76,7 +75,7 @@ come_called setting journal row number q at what b sends is =
 -- ---- the packets
 
 pub come_along : (setting : Setting) (journal : List Item) (row number : ℕ) (taken : Step) (targets : Targets)
-    (at : Standing) (answer : Entered) (kept : Option Flight) (q : ℕ) (b : Bool)
+    (at : Standing) (answer : Option Answer) (kept : Option Flight) (q : ℕ) (b : Bool)
     → Known setting journal → (q == at.packet) ≡ b → IsUnknown (what_is_known journal at.packet)
     → (what_is_known journal at.packet).found ≡ at.down → GoesIn targets at answer
     → ((leg : Leg) → targets leg ≡ targets_of setting journal leg)

@@ -1,5 +1,5 @@
 -- A packet that comes in: what its step writes.
-use Rattle.std.proofs.Common.{ℕ, ◌≡◌, ◌<◌, ◌==◌, Bool, true, false, if◌then◌else◌, List, [], ◌∷◌, ◌++◌, refl, ap, sym, subst, ◌∙◌, length, eq-eqb}
+use Rattle.std.proofs.Common.{ℕ, ◌≡◌, ◌<◌, ◌==◌, Bool, true, false, if◌then◌else◌, List, [], ◌∷◌, ◌++◌, refl, ap, sym, subst, ◌∙◌, length, eq-eqb, Option, Some, None}
 use Rattle.failover.specs.Links.{no_links}
 use Rattle.five_tuple.specs.Header.{IsHeader}
 use Rattle.five_tuple.specs.declared.header.Header.{Header}
@@ -8,11 +8,10 @@ use Rattle.net_file.specs.declared.ports.Ports.{Ports}
 use Rattle.journal.specs.declared.item.Item.{Item}
 use Rattle.journal.specs.declared.item.Item.TheVariants as item
 use Rattle.steps.specs.declared.step.Step.{Step}
-use Rattle.switch_core.specs.Answering.{enter_answer, incoming_packet, looked_up}
+use Rattle.switch_core.specs.Answering.{admitted, incoming_packet, looked_up}
 use Rattle.switch_core.specs.Ends.{around}
 use Rattle.switch_core.specs.State.{SwitchValue, serves as serves_now}
-use Rattle.switch_core.specs.declared.answers.Entered.{Entered}
-use Rattle.switch_core.specs.declared.answers.Entered.TheVariants as entry_is
+use Rattle.switch_core.specs.Answers.{Answer}
 use Rattle.switch_core.specs.declared.packet.Packet.{Packet}
 use Rattle.update_machine.specs.Links.{serves}
 use Rattle.update_machine.specs.Messages.{next_message}
@@ -108,12 +107,12 @@ module _ (setting : Setting) (journal : List Item) (row i s : ℕ) (taken : Step
   -- what its switch answers is what the journal's definitions say
   pub come_law : packet_items setting i s header (journal ++ item.Row row taken ∷ [])
       ≡ entered_items (next_message journal) (coming_in i header s) (entry w mask ports i header)
-  unfolding packet_items enter_answer
+  unfolding packet_items admitted
   come_law = by_serving (serves journal s) refl
     where
-      answer : Bool → Entered
-      answer b = if b then entry_is.Answered (looked_up w (around mask ports) packet)
-          else entry_is.Closed
+      answer : Bool → Option Answer
+      answer b = if b then Some (looked_up w (around mask ports) packet)
+          else None
 
       items : Bool → List Item
       items b = elim b [
@@ -124,14 +123,13 @@ module _ (setting : Setting) (journal : List Item) (row i s : ℕ) (taken : Step
       by_serving : (b : Bool) → serves journal s ≡ b
           → items (serves begun s)
           ≡ entered_items (next_message journal) (coming_in i header s)
-          (if serves_now w then entry_is.Answered (looked_up w (around mask ports)
-          (incoming_packet w i header)) else entry_is.Closed)
+          (if serves_now w then Some (looked_up w (around mask ports)
+          (incoming_packet w i header)) else None)
       by_serving false off =
           ap items (serving_begun ∙ off)
           ∙ ap (λ b. entered_items (next_message journal) (coming_in i header s)
-          (if b then entry_is.Answered (looked_up w (around mask ports)
-          (incoming_packet w i header))
-          else entry_is.Closed)) (sym (comes.sees.serving ∙ off))
+          (if b then Some (looked_up w (around mask ports) (incoming_packet w i header))
+          else None)) (sym (comes.sees.serving ∙ off))
       by_serving true on =
           ap items (serving_begun ∙ on)
           ∙ ap (λ more. item.Entered i s header ∷ more)
@@ -139,32 +137,29 @@ module _ (setting : Setting) (journal : List Item) (row i s : ℕ) (taken : Step
           ∙ ap (λ n. answer_items n (coming_in i header s)
           (looked_up w (around mask ports) packet)) same_number)
           ∙ ap (λ (p : Packet). entered_items (next_message journal) (coming_in i header s)
-          (entry_is.Answered (looked_up w (around mask ports) p))) (sym same_packet)
+          (Some (looked_up w (around mask ports) p))) (sym same_packet)
           ∙ ap (λ b. entered_items (next_message journal) (coming_in i header s)
-          (if b then entry_is.Answered (looked_up w (around mask ports)
-          (incoming_packet w i header))
-          else entry_is.Closed)) (sym (comes.sees.serving ∙ on))
+          (if b then Some (looked_up w (around mask ports) (incoming_packet w i header))
+          else None)) (sym (comes.sees.serving ∙ on))
 
   -- and it goes on by it
   pub come_goes : GoesIn (targets_of setting (looking journal row taken i s header))
       (coming_in i header s) (entry w mask ports i header)
-  unfolding enter_answer
+  unfolding admitted
   come_goes = by_serving (serves journal s) refl
     where
       by_serving : (b : Bool) → serves journal s ≡ b
           → GoesIn (targets_of setting full) (coming_in i header s)
-          (if serves_now w then entry_is.Answered (looked_up w (around mask ports)
-          (incoming_packet w i header)) else entry_is.Closed)
+          (if serves_now w then Some (looked_up w (around mask ports)
+          (incoming_packet w i header)) else None)
       by_serving false off =
           subst (λ b. GoesIn (targets_of setting full) (coming_in i header s)
-          (if b then entry_is.Answered (looked_up w (around mask ports)
-          (incoming_packet w i header))
-          else entry_is.Closed)) (sym (comes.sees.serving ∙ off)) tt
+          (if b then Some (looked_up w (around mask ports) (incoming_packet w i header))
+          else None)) (sym (comes.sees.serving ∙ off)) tt
       by_serving true on =
           subst (λ b. GoesIn (targets_of setting full) (coming_in i header s)
-          (if b then entry_is.Answered (looked_up w (around mask ports)
-          (incoming_packet w i header))
-          else entry_is.Closed)) (sym (comes.sees.serving ∙ on))
+          (if b then Some (looked_up w (around mask ports) (incoming_packet w i header))
+          else None)) (sym (comes.sees.serving ∙ on))
           (subst (λ (p : Packet). GoesIn (targets_of setting full) (coming_in i header s)
-          (entry_is.Answered (looked_up w (around mask ports) p))) (sym same_packet)
+          (Some (looked_up w (around mask ports) p))) (sym same_packet)
           (refl, looked_goes setting full s w mask ports packet (asked on)))

@@ -17,12 +17,10 @@ use Rattle.journal.specs.declared.item.Item.TheVariants as item
 use Rattle.switch_core.specs.Deciding.{by_entry, by_rule, part_numbered, rule_in}
 use Rattle.switch_core.specs.Ends.{around, cause_of, exit_by, leave_by, next_of, set_out}
 use Rattle.switch_core.specs.Answering.{answer_by, decided_at, looked_up, seek_by}
-use Rattle.switch_core.specs.declared.answers.Answer.{Answer}
-use Rattle.switch_core.specs.declared.answers.Answer.TheVariants as answer
+use Rattle.switch_core.specs.Answers.{Answer}
+use Rattle.switch_core.specs.Answers as answer
 use Rattle.switch_core.specs.State.{SwitchValue, stamp_tables}
 use Rattle.switch_core.specs.declared.answers.Decision.{Decision}
-use Rattle.switch_core.specs.declared.answers.Entered.{Entered}
-use Rattle.switch_core.specs.declared.answers.Entered.TheVariants as entered
 use Rattle.switch_core.specs.declared.answers.Next.TheVariants.{Out}
 use Rattle.switch_core.specs.declared.packet.Packet.{Packet}
 use Rattle.switch_table.specs.declared.search.Found.{Found}
@@ -224,20 +222,20 @@ answer_goes targets before number at version rule (answer.Stuck cause leg) facts
     rw own refl
 
 -- a packet that just came in
-abbrev pub GoesIn : Targets → Standing → Entered → Type 0
-GoesIn targets at entered.Closed = ⊤
-GoesIn targets at (entered.Answered what) =
+abbrev pub GoesIn : Targets → Standing → Option Answer → Type 0
+GoesIn targets at None = ⊤
+GoesIn targets at (Some what) =
     (at.ingress ≡ at.switch) × IsComing targets at what
 
 pub entered_goes : (targets : Targets) (before : List Item) (number : ℕ) (at : Standing)
-    (what : Entered) (facts : PacketFacts) → IsUnknown facts → facts.found ≡ at.down
+    (what : Option Answer) (facts : PacketFacts) → IsUnknown facts → facts.found ≡ at.down
     → GoesIn targets at what
     → entered_flight what
     ≡ flight_by targets at.packet
     (facts_along at.packet before (entered_items number at what) facts)
-entered_goes targets before number at entered.Closed facts unknown unmarked comes =
+entered_goes targets before number at None facts unknown unmarked comes =
     rw unknown.travels refl
-entered_goes targets before number at (entered.Answered what) facts unknown unmarked comes =
+entered_goes targets before number at (Some what) facts unknown unmarked comes =
     let own : (at.packet == at.packet) ≡ true = eq-eqb _ _ refl in
     let came : Item = item.Entered at.packet at.switch at.header in
     let seen : PacketFacts = facts_after (retired_mark before) came facts in

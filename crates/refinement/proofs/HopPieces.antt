@@ -7,7 +7,7 @@ use Rattle.journal.specs.declared.item.Item.TheVariants as item
 use Rattle.net_file.specs.declared.ports.Ports.{Ports}
 use Rattle.steps.specs.declared.step.Step.TheVariants.{Hop}
 use Rattle.switch_core.specs.Ends.{around}
-use Rattle.switch_core.specs.Answering.{arrive_answer}
+use Rattle.switch_core.specs.Answering.{received}
 use Rattle.switch_core.specs.Moving.{link_found_down, hop_answer}
 use Rattle.switch_core.specs.State.{SwitchValue, call_counted}
 use Rattle.switch_core.specs.declared.answers.HopEnd.{HopEnd}
@@ -94,7 +94,7 @@ ended_later : (number : ℕ) (w : SwitchValue) (near : ℕ) (ports : Ports) (t :
     (end : HopEnd) → AreInStep (ended_items number w near ports t end)
 unfolding arrival_items
 ended_later number w near ports t hop.Arrive =
-    arrived_later number (standing_at w.number t) t (arrive_answer w (around near ports) t.tunnel)
+    arrived_later number (standing_at w.number t) t (received w (around near ports) t.tunnel)
 ended_later number w near ports t (hop.Move other) = (tt, tt)
 ended_later number w near ports t (hop.Stuck cause) = (tt, tt)
 
@@ -150,8 +150,7 @@ ended_other : (q number : ℕ) (w : SwitchValue) (near : ℕ) (ports : Ports) (t
     → NoneName q (ended_items number w near ports t end)
 unfolding arrival_items
 ended_other q number w near ports t hop.Arrive other =
-    arrived_other q number (standing_at w.number t) t (arrive_answer w (around near ports) t.tunnel)
-    other
+    arrived_other q number (standing_at w.number t) t (received w (around near ports) t.tunnel) other
 ended_other q number w near ports t (hop.Move two) other = (other, tt)
 ended_other q number w near ports t (hop.Stuck cause) other = (other, tt)
 

@@ -9,17 +9,13 @@ use Rattle.policy_rules.specs.declared.packet.Leg.{Leg}
 use Rattle.policy_rules.specs.declared.packet.Leg.TheVariants.{Seek, Exit}
 use Rattle.journal.specs.declared.item.Item.{Item}
 use Rattle.journal.specs.declared.item.Item.TheVariants as item
-use Rattle.switch_core.specs.Answering.{arrive_answer}
+use Rattle.switch_core.specs.Answering.{received}
 use Rattle.switch_core.specs.Ends.{around}
 use Rattle.switch_core.specs.Moving.{link_found_down, hop_answer}
 use Rattle.switch_core.specs.State.{SwitchValue, call_counted}
-use Rattle.switch_core.specs.declared.answers.Answer.{Answer}
-use Rattle.switch_core.specs.declared.answers.Answer.TheVariants as answer
-use Rattle.switch_core.specs.declared.answers.Arrived.{Arrived}
-use Rattle.switch_core.specs.declared.answers.Arrived.TheVariants as arrive_answer
+use Rattle.switch_core.specs.Answers.{Answer, Arrival}
+use Rattle.switch_core.specs.Answers as answer
 use Rattle.switch_core.specs.declared.answers.Decision.{Decision}
-use Rattle.switch_core.specs.declared.answers.Entered.{Entered}
-use Rattle.switch_core.specs.declared.answers.Entered.TheVariants as entered
 use Rattle.switch_core.specs.declared.answers.HopEnd.{HopEnd}
 use Rattle.switch_core.specs.declared.answers.HopEnd.TheVariants as hop
 use Rattle.switch_core.specs.declared.answers.Next.{Next}
@@ -78,10 +74,10 @@ answer_later number at (answer.Seek tunnel) =
     (route_later at.packet tunnel.leg tunnel.route, tt)
 answer_later number at (answer.Stuck cause leg) = (tt, tt)
 
-pub arrived_later : (number : ℕ) (at : Standing) (t : Flight) (what : Arrived)
+pub arrived_later : (number : ℕ) (at : Standing) (t : Flight) (what : Arrival)
     → AreInStep (arrived_items number at t.version t.rule what)
-arrived_later number at t (arrive_answer.Out port) = (tt, tt)
-arrived_later number at t (arrive_answer.Answered what) = answer_later number at what
+arrived_later number at t (answer.Out port) = (tt, tt)
+arrived_later number at t (answer.Answered what) = answer_later number at what
 
 -- ---- none moves the packet on
 
@@ -104,14 +100,14 @@ unfolding sent_from
 decided_still number at decision None onward = end_still at decision onward
 decided_still number at decision (Some message) onward = end_still at decision onward
 
-pub arrived_still : (number : ℕ) (at : Standing) (t : Flight) (what : Arrived)
+pub arrived_still : (number : ℕ) (at : Standing) (t : Flight) (what : Arrival)
     → stays_on_way (arrived_items number at t.version t.rule what) ≡ false
-arrived_still number at t (arrive_answer.Out port) = refl
-arrived_still number at t (arrive_answer.Answered (answer.Decided decision cache onward)) =
+arrived_still number at t (answer.Out port) = refl
+arrived_still number at t (answer.Answered (answer.Decided decision cache onward)) =
     decided_still number at decision (cache_message at.ingress cache) onward
-arrived_still number at t (arrive_answer.Answered (answer.Seek tunnel)) =
+arrived_still number at t (answer.Answered (answer.Seek tunnel)) =
     route_still at.packet tunnel.leg tunnel.route
-arrived_still number at t (arrive_answer.Answered (answer.Stuck cause leg)) = refl
+arrived_still number at t (answer.Answered (answer.Stuck cause leg)) = refl
 
 -- ---- what is sent
 
@@ -155,15 +151,15 @@ answer_sends number at (answer.Seek tunnel) =
     route_sends number at.packet tunnel.leg tunnel.route
 answer_sends number at (answer.Stuck cause leg) = (tt, refl)
 
-pub entered_sends : (number : ℕ) (at : Standing) (what : Entered)
+pub entered_sends : (number : ℕ) (at : Standing) (what : Option Answer)
     → SendPosts number (entered_items number at what) (entered_posts at what)
-entered_sends number at entered.Closed = (tt, refl)
-entered_sends number at (entered.Answered what) = answer_sends number at what
+entered_sends number at None = (tt, refl)
+entered_sends number at (Some what) = answer_sends number at what
 
-arrived_sends : (number : ℕ) (at : Standing) (t : Flight) (what : Arrived)
+arrived_sends : (number : ℕ) (at : Standing) (t : Flight) (what : Arrival)
     → SendPosts number (arrived_items number at t.version t.rule what) (arrived_posts at what)
-arrived_sends number at t (arrive_answer.Out port) = (tt, refl)
-arrived_sends number at t (arrive_answer.Answered what) = answer_sends number at what
+arrived_sends number at t (answer.Out port) = (tt, refl)
+arrived_sends number at t (answer.Answered what) = answer_sends number at what
 
 turned_sends : (number i here : ℕ) (found : Option ℕ) (end : HopEnd) (route : List ℕ)
     (rest : List Item) (posts : List Post) → SendPosts number rest posts
@@ -180,7 +176,7 @@ ended_sends : (number : ℕ) (switch : SwitchValue) (near : ℕ) (ports : Ports)
 unfolding arrival_items arrival_posts
 ended_sends number switch near ports t hop.Arrive =
     arrived_sends number (standing_at switch.number t) t
-    (arrive_answer switch (around near ports) t.tunnel)
+    (received switch (around near ports) t.tunnel)
 ended_sends number switch near ports t (hop.Move other) = (tt, refl)
 ended_sends number switch near ports t (hop.Stuck cause) = (tt, refl)
 

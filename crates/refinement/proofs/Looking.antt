@@ -17,7 +17,7 @@ use Rattle.switch_core.specs.Answering.{answer_by, decided_at, looked_up, seek_b
 use Rattle.switch_core.specs.Deciding.{by_entry, by_rule, rule_for_cache, no_rule, part_numbered, rule_in}
 use Rattle.switch_core.specs.Ends.{Site, around, next_of, set_out}
 use Rattle.switch_core.specs.State.{SwitchValue, stamp_tables}
-use Rattle.switch_core.specs.declared.answers.Answer.TheVariants.{Decided}
+use Rattle.switch_core.specs.Answers.{Decided}
 use Rattle.switch_core.specs.declared.answers.Decision.{Decision}
 use Rattle.switch_core.specs.declared.packet.Packet.{Packet}
 use Rattle.switch_table.specs.Tables.{Hosted, has_target, part_of}

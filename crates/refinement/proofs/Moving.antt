@@ -14,11 +14,11 @@ use Rattle.policy_rules.specs.declared.packet.Leg.TheVariants.{Seek, Exit}
 use Rattle.journal.specs.declared.item.Item.{Item}
 use Rattle.journal.specs.declared.item.Item.TheVariants as item
 use Rattle.steps.specs.declared.step.Step.TheVariants.{Hop}
-use Rattle.switch_core.specs.Answering.{arrive_answer, arrived_on}
+use Rattle.switch_core.specs.Answering.{arrived_on, received}
 use Rattle.switch_core.specs.Ends.{around, cause_of}
 use Rattle.switch_core.specs.Moving.{Moved, link_found_down as found_by, hop_answer, hopped_to, move_answer, moved_along, rerouted_here}
 use Rattle.switch_core.specs.State.{SwitchValue, call_counted}
-use Rattle.switch_core.specs.declared.answers.Arrived.{Arrived}
+use Rattle.switch_core.specs.Answers.{Arrival}
 use Rattle.switch_core.specs.declared.answers.HopEnd.{HopEnd}
 use Rattle.switch_core.specs.declared.answers.HopEnd.TheVariants as hop
 use Rattle.switch_core.specs.declared.packet.Packet.{Packet}
@@ -242,10 +242,10 @@ module _ (setting : Setting) (journal : List Item) (row i s : ℕ) (header : Hea
       → Stays now → AreNow now ws found → IsAtEnd setting now s header leg
       → arrive_items setting i s now
       ≡ arrival_items number (call_counted w) mask ports (at_place route k found)
-  unfolding arrival_items arrive_answer
+  unfolding arrival_items received
   arrival_is now ws route k found stays are end =
       let u : Flight = at_place route k found in
-      let what : Arrived = arrived_on (call_counted w) (around mask ports) (packet found) leg in
+      let what : Arrival = arrived_on (call_counted w) (around mask ports) (packet found) leg in
       arrive_law setting now s (call_counted w) mask ports (packet found)
       (asked_now now ws found stays are) u leg
       (subst (AreOfFacts t.version t.rule) (sym are.same) (of_now now ws found are))
@@ -259,10 +259,10 @@ module _ (setting : Setting) (journal : List Item) (row i s : ℕ) (header : Hea
       → arrival (call_counted w) mask ports (at_place route k found)
       ≡ flight_by targets i (facts_along i now
       (arrival_items number (call_counted w) mask ports (at_place route k found)) ws)
-  unfolding arrival arrival_items arrive_answer
+  unfolding arrival arrival_items received
   arrival_goes_on now ws route k found stays are =
       let u : Flight = at_place route k found in
-      let what : Arrived = arrived_on (call_counted w) (around mask ports) (packet found) leg in
+      let what : Arrival = arrived_on (call_counted w) (around mask ports) (packet found) leg in
       let at : Standing = at_switch s (packet found) in
       arrival_goes (targets_of setting now) now number at u what ws
       (record { on = are.on; header = are.entered; came = are.came; found = are.marked })
@@ -281,7 +281,7 @@ module _ (setting : Setting) (journal : List Item) (row i s : ℕ) (header : Hea
   arrival_stays route k found =
       let u : Flight = at_place route k found in
       arrived_still number (standing_at (call_counted w).number u) u
-      (arrive_answer (call_counted w) (around mask ports) u.tunnel)
+      (received (call_counted w) (around mask ports) u.tunnel)
 
   -- ---- what a hop comes to
 

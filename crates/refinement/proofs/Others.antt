@@ -5,13 +5,9 @@ use Rattle.ctrl_msg.specs.declared.message.Message.{Message}
 use Rattle.policy_rules.specs.declared.packet.Leg.{Leg}
 use Rattle.policy_rules.specs.declared.packet.Leg.TheVariants.{Seek, Exit}
 use Rattle.journal.specs.declared.item.Item.{Item}
-use Rattle.switch_core.specs.declared.answers.Answer.{Answer}
-use Rattle.switch_core.specs.declared.answers.Answer.TheVariants as answer
-use Rattle.switch_core.specs.declared.answers.Arrived.{Arrived}
-use Rattle.switch_core.specs.declared.answers.Arrived.TheVariants as arrived
+use Rattle.switch_core.specs.Answers.{Answer, Arrival}
+use Rattle.switch_core.specs.Answers as answer
 use Rattle.switch_core.specs.declared.answers.Decision.{Decision}
-use Rattle.switch_core.specs.declared.answers.Entered.{Entered}
-use Rattle.switch_core.specs.declared.answers.Entered.TheVariants as entered
 use Rattle.switch_core.specs.declared.answers.Next.{Next}
 use Rattle.switch_core.specs.declared.answers.Next.TheVariants as next
 use Rattle.update_machine.specs.Marks.{retired_mark}
@@ -83,15 +79,15 @@ answer_other q number at (answer.Seek tunnel) other =
     (route_other q at.packet tunnel.leg tunnel.route other, tt)
 answer_other q number at (answer.Stuck cause leg) other = (other, tt)
 
-pub entered_other : (q number : ℕ) (at : Standing) (what : Entered) → (at.packet == q) ≡ false
+pub entered_other : (q number : ℕ) (at : Standing) (what : Option Answer) → (at.packet == q) ≡ false
     → NoneName q (entered_items number at what)
-entered_other q number at entered.Closed other = (refl, tt)
-entered_other q number at (entered.Answered what) other =
+entered_other q number at None other = (refl, tt)
+entered_other q number at (Some what) other =
     (other, answer_other q number at what other)
 
-pub arrived_other : (q number : ℕ) (at : Standing) (flight : Flight) (what : Arrived)
+pub arrived_other : (q number : ℕ) (at : Standing) (flight : Flight) (what : Arrival)
     → (at.packet == q) ≡ false → NoneName q (arrived_items number at flight.version flight.rule
     what)
-arrived_other q number at flight (arrived.Out port) other = (other, tt)
-arrived_other q number at flight (arrived.Answered what) other =
+arrived_other q number at flight (answer.Out port) other = (other, tt)
+arrived_other q number at flight (answer.Answered what) other =
     answer_other q number at what other

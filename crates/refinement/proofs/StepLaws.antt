@@ -1,5 +1,5 @@
 -- The laws of this crate, of what is known within a step.
-use Rattle.std.proofs.Common.{ℕ, ◌≡◌, ◌<◌, ◌==◌, Bool, true, false, if◌then◌else◌, List, [], ◌∷◌, ◌++◌, refl, ap, sym, ◌∙◌, length, eq-eqb, arith, rules}
+use Rattle.std.proofs.Common.{ℕ, ◌≡◌, ◌<◌, ◌==◌, Bool, true, false, if◌then◌else◌, List, [], ◌∷◌, ◌++◌, refl, ap, sym, ◌∙◌, length, eq-eqb, arith, rules, Option}
 use Rattle.five_tuple.specs.Header.{IsHeader}
 use Rattle.five_tuple.specs.declared.header.Header.{Header}
 use Rattle.journal.specs.declared.item.Item.{Item}
@@ -8,7 +8,7 @@ use Rattle.net_file.specs.declared.ports.Ports.{Ports}
 use Rattle.steps.specs.declared.step.Step.{Step}
 use Rattle.steps.specs.declared.step.Step.TheVariants.{Packet}
 use Rattle.switch_core.specs.State.{SwitchValue}
-use Rattle.switch_core.specs.declared.answers.Entered.{Entered}
+use Rattle.switch_core.specs.Answers.{Answer}
 use Rattle.refinement.specs.SwitchOf.{switch_of}
 use Rattle.tunnel.specs.Moves.{here}
 use Rattle.update_machine.specs.LinkMasks.{near}
@@ -52,7 +52,7 @@ module _ (setting : Setting) (journal : List Item) (row s : ℕ) (header : Heade
   abbrev first : Item
   first = item.Row row (Packet s header)
 
-  abbrev answer : Entered
+  abbrev answer : Option Answer
   answer = entry_at setting journal ports s header
 
   abbrev items : List Item

@@ -1,6 +1,6 @@
 -- What a switch answers to a packet, and what the step of the same packet is in the definitions
 -- over journals.
-use Rattle.std.specs.Prelude.{ℕ, ◌≡◌, ◌+◌, ◌<◌, ◌≤◌, ◌==◌, false, Some, List, [], ◌∷◌, ◌++◌, length, IsTrue}
+use Rattle.std.specs.Prelude.{ℕ, ◌≡◌, ◌+◌, ◌<◌, ◌≤◌, ◌==◌, false, Some, List, [], ◌∷◌, ◌++◌, length, IsTrue, Option}
 use Rattle.message_bag.specs.Posts.{Post, new_post, with_delivered, with_forgotten}
 use Rattle.ctrl_msg.specs.declared.message.Message.{Message}
 use Rattle.five_tuple.specs.Header.{IsHeader}
@@ -13,7 +13,7 @@ use Rattle.steps.specs.declared.step.Step.TheVariants.{Packet, Hop}
 use Rattle.switch_core.specs.Answering.{CanLookUp, IsAtAuthority}
 use Rattle.switch_core.specs.Moving.{hop_answer}
 use Rattle.switch_core.specs.State.{serves}
-use Rattle.switch_core.specs.declared.answers.Entered.{Entered}
+use Rattle.switch_core.specs.Answers.{Answer}
 use Rattle.switch_core.specs.declared.answers.HopEnd.TheVariants as hop
 use Rattle.refinement.specs.SwitchOf.{switch_of}
 use Rattle.travelling.specs.Travelling.{Flight}
@@ -39,7 +39,7 @@ pub record IsOfNet (setting : Setting) (journal : List Item) (ports : Ports) : T
 -- ---- a packet comes in
 
 -- the answer of the switch that the journal says to the next packet
-abbrev pub entry_at : Setting → List Item → Ports → ℕ → Header → Entered
+abbrev pub entry_at : Setting → List Item → Ports → ℕ → Header → Option Answer
 entry_at setting journal ports s header =
     entry (switch_of setting journal s) (near setting journal s) ports (next_packet journal) header
 

@@ -1,17 +1,17 @@
 -- What is said of a packet before a route is taken, by the switch that counted the call.
-use Rattle.std.proofs.Common.{ℕ, ◌≡◌, ◌∙◌, true, false, List, refl, ap, sym, subst}
+use Rattle.std.proofs.Common.{ℕ, ◌≡◌, ◌∙◌, Option, Some, None, true, false, List, option_map, refl, ap, sym, subst}
 use Rattle.failover.specs.Links.{no_links}
 use Rattle.five_tuple.specs.declared.header.Header.{Header}
-use Rattle.switch_core.specs.Answering.{enter_answer, incoming_packet, looked_up}
+use Rattle.switch_core.specs.Answers.{Answer, Answered, Arrival, entered_with, entry_of}
+use Rattle.switch_core.specs.Answering.{admitted, enter_answer, incoming_packet, looked_up}
 use Rattle.switch_core.specs.Deciding.{packet_with}
 use Rattle.switch_core.specs.Ends.{Site, are_isolated, cause_of, leave_by, next_of, set_out}
 use Rattle.switch_core.specs.State.{SwitchValue, call_counted, serves}
-use Rattle.switch_core.specs.Verdicts.{answer_of}
-use Rattle.switch_core.specs.declared.answers.Answer.{Answer}
-use Rattle.switch_core.specs.declared.answers.Entered.TheVariants as entry
+use Rattle.switch_core.specs.Verdicts.{IsByLookup, answer_of}
+use Rattle.switch_core.specs.declared.answers.Entered.{Entered}
 use Rattle.switch_core.specs.declared.packet.Packet.{Packet}
 use Rattle.switch_core.specs.declared.verdicts.Verdict.{Verdict}
-use Rattle.switch_core.specs.declared.verdicts.Verdict.TheVariants.{Decided, Seek}
+use Rattle.switch_core.specs.declared.verdicts.Verdict.TheVariants.{Out, Decided, Seek}
 use Rattle.switch_core.proofs.Arrivals.{entry_by}
 
 -- one more call changes no answer
@@ -23,37 +23,58 @@ answer_counted s after site packet verdict is =
   where
     by_verdict : (verdict : Verdict) →
         answer_of (call_counted s) site packet verdict ≡ answer_of s site packet verdict
+    by_verdict (Out port) = refl
     by_verdict (Decided decision word) = refl
     by_verdict (Seek leg targets) = refl
 
 module _ (s after : SwitchValue) (site : Site) (number : ℕ) (header : Header)
     (verdict : Verdict) where
   -- what is said of a packet that comes in at a switch that serves
-  pub admitted : (ingress : ℕ) → after ≡ call_counted s → serves s ≡ true → ingress ≡ s.number →
+  pub was_admitted : (ingress : ℕ) → after ≡ call_counted s → serves s ≡ true → ingress ≡ s.number →
       answer_of s site (packet_with number header ingress no_links) verdict
-      ≡ looked_up s site (packet_with number header ingress no_links) →
-      entry.Answered (answer_of after site (incoming_packet s number header) verdict)
-      ≡ enter_answer s site (incoming_packet s number header)
-  admitted ingress is serving here looked =
-      ap entry.Answered (answer_counted s after site (incoming_packet s number header) verdict is
+      ≡ Answered (looked_up s site (packet_with number header ingress no_links)) →
+      Some (answer_of after site (incoming_packet s number header) verdict)
+      ≡ option_map Answered (admitted s site (incoming_packet s number header))
+  was_admitted ingress is serving here looked =
+      ap Some (answer_counted s after site (incoming_packet s number header) verdict is
       ∙ subst (λ i. answer_of s site (packet_with number header i no_links) verdict
-      ≡ looked_up s site (packet_with number header i no_links)) here looked)
-      ∙ sym (entry_by s site (incoming_packet s number header) true serving)
+      ≡ Answered (looked_up s site (packet_with number header i no_links))) here looked)
+      ∙ ap (option_map Answered)
+      (sym (entry_by s site (incoming_packet s number header) true serving))
 
   -- and what is answered then
-  pub answered : (answer : Answer) (ingress : ℕ) (down : List ℕ) → ingress ≡ s.number →
+  pub answered : (result : Entered) (ingress : ℕ) (down : List ℕ) → ingress ≡ s.number →
       down ≡ no_links →
-      answer ≡ answer_of after site (packet_with number header ingress down) verdict →
-      entry.Answered (answer_of after site (incoming_packet s number header) verdict)
-      ≡ enter_answer s site (incoming_packet s number header) →
-      entry.Answered answer ≡ enter_answer s site (incoming_packet s number header)
-  answered answer ingress down here none is so =
-      ap entry.Answered (is
-      ∙ ap (λ i. answer_of after site (packet_with number header i down) verdict) here
-      ∙ ap (λ d. answer_of after site (packet_with number header s.number d) verdict) none)
-      ∙ so
+      ((answer : Answer) →
+      answer_of after site (packet_with number header ingress down) verdict ≡ Answered answer →
+      result ≡ entered_with answer) →
+      Some (answer_of after site (incoming_packet s number header) verdict)
+      ≡ option_map Answered (admitted s site (incoming_packet s number header)) →
+      result ≡ enter_answer s site (incoming_packet s number header)
+  answered result ingress down here none is =
+      by_answer (admitted s site (incoming_packet s number header))
+    where
+      what : ℕ → List ℕ → Arrival
+      what i d = answer_of after site (packet_with number header i d) verdict
+
+      by_answer : (answer : Option Answer) →
+          Some (what s.number no_links) ≡ option_map Answered answer → result ≡ entry_of answer
+      by_answer None so = absurd cc
+      by_answer (Some answer) so =
+          let own : what s.number no_links ≡ Answered answer = cc in
+          is answer (ap (λ i. what i down) here ∙ ap (what s.number) none ∙ own)
+
+-- of a packet that comes in there is a lookup
+pub by_lookup : (s : SwitchValue) (site : Site) (packet : Packet) (verdict : Verdict)
+    (answer : Option Answer) →
+    Some (answer_of s site packet verdict) ≡ option_map Answered answer → IsByLookup verdict
+by_lookup s site packet (Out port) None is = absurd cc
+by_lookup s site packet (Out port) (Some answer) is = absurd cc
+by_lookup s site packet (Decided decision word) answer is = tt
+by_lookup s site packet (Seek leg targets) answer is = tt
 
 -- at a switch that doesn't serve
 pub not_admitted : (s : SwitchValue) (site : Site) (packet : Packet) → serves s ≡ false →
-    entry.Closed ≡ enter_answer s site packet
-not_admitted s site packet closed = sym (entry_by s site packet false closed)
+    None ≡ option_map Answered (admitted s site packet)
+not_admitted s site packet closed =
+    ap (option_map Answered) (sym (entry_by s site packet false closed))

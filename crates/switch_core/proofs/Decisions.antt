@@ -26,12 +26,11 @@ use Rattle.switch_table.specs.declared.search.Found.TheVariants.{Cached, Authori
 use Rattle.switch_table.specs.declared.tables.Tables.{Tables}
 use Rattle.ctrl_msg.specs.declared.message.Body.{Body}
 use Rattle.switch_core.specs.AnswerLaws.{IsRightAnswer, IsArriving, IsByOwnRule, IsDecidedIn, IsDecision, IsReady, lookup_by_stamp, route_known, rule_to_cache, setting_out}
-use Rattle.switch_core.specs.Answering.{arrive_answer, enter_answer, looked_up, packet_of}
+use Rattle.switch_core.specs.Answering.{admitted, arrive_answer, enter_answer, looked_up, packet_of}
 use Rattle.switch_core.specs.Deciding.{by_entry, by_rule, own_part}
 use Rattle.switch_core.specs.Ends.{Site, cause_of, next_of}
 use Rattle.switch_core.specs.State.{SwitchValue, held_tables, stamp_tables}
-use Rattle.switch_core.specs.declared.answers.Answer.{Answer}
-use Rattle.switch_core.specs.declared.answers.Answer.TheVariants.{Decided, Seek, Stuck}
+use Rattle.switch_core.specs.Answers.{Answer, Decided, Seek, Stuck, arrived_with, entered_with, entry_of}
 use Rattle.switch_core.specs.declared.answers.Arrived.TheVariants as arrival
 use Rattle.switch_core.specs.declared.answers.Decision.{Decision}
 use Rattle.switch_core.specs.declared.answers.Entered.TheVariants as entry
@@ -138,34 +137,57 @@ by_lookup s site packet answer ready law = by_found (lookup_by_stamp s packet.he
         by_way (SeekLeg s.stamp partition) targets (route_known s site.near packet targets)
         (law.redirect partition targets is)
 
+-- the answer of which a call tells a decision
+told_entry : (answer : Answer) (decision : Decision) (way : Next) →
+    entered_with answer ≡ entry.Decided decision way →
+    (cache : Option Body) × (answer ≡ Decided decision cache way)
+told_entry (Decided own cache goes) decision way is =
+    let same_own : own ≡ decision = cc in
+    let same_way : goes ≡ way = cc in
+    (cache, ap (λ d. Decided d cache goes) same_own ∙ ap (Decided decision cache) same_way)
+told_entry (Seek tunnel) decision way is = absurd cc
+told_entry (Stuck cause leg) decision way is = absurd cc
+
+told_arrival : (answer : Answer) (decision : Decision) (cache : Option Body) (way : Next) →
+    arrived_with answer ≡ arrival.Decided decision cache way →
+    answer ≡ Decided decision cache way
+told_arrival (Decided own rule goes) decision cache way is =
+    let same_own : own ≡ decision = cc in
+    let same_rule : rule ≡ cache = cc in
+    let same_way : goes ≡ way = cc in
+    ap (λ d. Decided d rule goes) same_own ∙ ap (λ c. Decided decision c goes) same_rule
+    ∙ ap (Decided decision cache) same_way
+told_arrival (Seek tunnel) decision cache way is = absurd cc
+told_arrival (Stuck cause leg) decision cache way is = absurd cc
+
 pub decided_on_entry : (s : SwitchValue) (site : Site) (packet : Packet) (decision : Decision)
-    (cache : Option Body) (way : Next) → IsReady s packet.header →
-    enter_answer s site packet ≡ entry.Answered (Decided decision cache way) →
-    IsDecision s site packet decision cache way
-decided_on_entry s site packet decision cache way ready is =
-    let both : entry.Answered (looked_up s site packet)
-    ≡ entry.Answered (Decided decision cache way) =
-    sym (entry_by s site packet true ready.serving) ∙ is in
-    let same : looked_up s site packet ≡ Decided decision cache way = cc in
-    subst (IsSourced s site packet) same
-    (by_lookup s site packet _ ready (lookup_is s site packet ready))
+    (way : Next) → IsReady s packet.header →
+    enter_answer s site packet ≡ entry.Decided decision way →
+    (cache : Option Body) × (admitted s site packet ≡ Some (Decided decision cache way))
+    × IsDecision s site packet decision cache way
+decided_on_entry s site packet decision way ready is =
+    let looked = entry_by s site packet true ready.serving in
+    let told = told_entry (looked_up s site packet) decision way (sym (ap entry_of looked) ∙ is) in (
+      told.0,
+      looked ∙ ap Some told.1,
+      subst (IsSourced s site packet) told.1
+          (by_lookup s site packet _ ready (lookup_is s site packet ready)),
+    )
 
 pub decided_on_arrival : (s : SwitchValue) (site : Site) (t : TunnelValue) (decision : Decision)
     (cache : Option Body) (way : Next) → IsArriving s t →
-    arrive_answer s site t ≡ arrival.Answered (Decided decision cache way) →
+    arrive_answer s site t ≡ arrival.Decided decision cache way →
     IsDecision s site (packet_of t) decision cache way
 decided_on_arrival s site t decision cache way arriving is = by_leg t.leg refl
   where
     packet : Packet
     packet = packet_of t
 
-    by_answer : (answer : Answer) → arrive_answer s site t ≡ arrival.Answered answer →
+    by_answer : (answer : Answer) → arrive_answer s site t ≡ arrived_with answer →
         IsSourced s site packet answer → IsDecision s site packet decision cache way
     by_answer answer came sourced =
-        let both : arrival.Answered answer ≡ arrival.Answered (Decided decision cache way) =
-        sym came ∙ is in
-        let same : answer ≡ Decided decision cache way = cc in
-        subst (IsSourced s site packet) same sourced
+        subst (IsSourced s site packet)
+        (told_arrival answer decision cache way (sym came ∙ is)) sourced
 
     by_tables : (version partition : ℕ) (held : Option Tables) →
         t.leg ≡ SeekLeg version partition → held_tables s version ≡ held →
@@ -180,7 +202,7 @@ decided_on_arrival s site t decision cache way arriving is = by_leg t.leg refl
 
     by_leg : (leg : Leg) → t.leg ≡ leg → IsDecision s site packet decision cache way
     by_leg (ExitLeg port) leg =
-        let out : arrival.Out port ≡ arrival.Answered (Decided decision cache way) =
+        let out : arrival.Out port ≡ arrival.Decided decision cache way =
         sym (arrive_out s site t port leg) ∙ is in
         absurd (cc)
     by_leg (SeekLeg version partition) leg =

@@ -7,7 +7,6 @@ use Rattle.std.proofs.lemmas.List.Quantifiers.{position-Some}
 use Rattle.std.proofs.lemmas.Option.{slice_get-get_or}
 use Rattle.five_tuple.specs.Header.{number_of}
 use Rattle.five_tuple.specs.declared.header.Header.{Header}
-use Rattle.failover.specs.Links.{no_links}
 use Rattle.policy_rules.proofs.CallerLemmas.{find-position}
 use Rattle.policy_rules.specs.Rules.{is_held}
 use Rattle.policy_rules.specs.declared.packet.Cause.{Cause}
@@ -22,13 +21,11 @@ use Rattle.switch_table.specs.declared.search.Found.{Found}
 use Rattle.switch_table.specs.declared.search.Found.TheVariants.{Cached, Authority, Redirect}
 use Rattle.switch_table.specs.declared.tables.Tables.{Tables}
 use Rattle.switch_core.specs.AnswerLaws.{IsRightAnswer, IsDecidedIn, IsReady, lookup_by_stamp, route_known, setting_out}
-use Rattle.switch_core.specs.Answering.{IsUncached, answer_by, decided_at, enter_answer, incoming_packet, looked_up, seek_by}
+use Rattle.switch_core.specs.Answering.{IsUncached, admitted, answer_by, decided_at, incoming_packet, looked_up, seek_by}
 use Rattle.switch_core.specs.Deciding.{IsFirstHit, IsFound, by_entry, rule_for_cache, no_part, no_rule, own_part, part_numbered, rule_in}
 use Rattle.switch_core.specs.Ends.{Site, cause_of, next_of, set_out}
 use Rattle.switch_core.specs.State.{IsSwitch, SwitchValue, held_tables, holds_version, no_tables, serves, stamp_tables}
-use Rattle.switch_core.specs.declared.answers.Answer.{Answer}
-use Rattle.switch_core.specs.declared.answers.Answer.TheVariants.{Decided, Seek, Stuck}
-use Rattle.switch_core.specs.declared.answers.Entered.TheVariants as entry
+use Rattle.switch_core.specs.Answers.{Answer, Decided, Seek, Stuck}
 use Rattle.switch_core.specs.declared.packet.Packet.{Packet}
 use Rattle.switch_core.proofs.Held.{lookup_is_found, sound_found}
 
@@ -195,17 +192,17 @@ lookup_is s site packet ready = record {
 -- ---- nothing goes to a cache as a packet comes in
 
 pub lookup_uncached : (s : SwitchValue) (site : Site) (packet : Packet) →
-    packet.ingress ≡ s.number → IsUncached (entry.Answered (looked_up s site packet))
+    packet.ingress ≡ s.number → IsUncached (Some (looked_up s site packet))
 unfolding looked_up answer_by decided_at rule_for_cache
 lookup_uncached s site packet here = by_found (lookup_by_stamp s packet.header)
   where
     by_way : (leg : Leg) (way : Result TunnelValue Cause) →
-        IsUncached (entry.Answered (seek_by leg way))
+        IsUncached (Some (seek_by leg way))
     by_way leg (Ok tunnel) = tt
     by_way leg (Err cause) = tt
 
     by_found : (found : Found) →
-        IsUncached (entry.Answered (answer_by s site packet (stamp_tables s) found))
+        IsUncached (Some (answer_by s site packet (stamp_tables s) found))
     by_found (Cached cached) = refl
     by_found (Authority partition place) = rw (eq-eqb packet.ingress s.number here) refl
     by_found (Redirect partition targets) =
@@ -213,28 +210,11 @@ lookup_uncached s site packet here = by_found (lookup_by_stamp s packet.header)
         (set_out s site.near packet (SeekLeg (stamp_tables s).version partition) targets)
 
 pub entry_uncached : (s : SwitchValue) (site : Site) (number : ℕ) (header : Header) →
-    IsUncached (enter_answer s site (incoming_packet s number header))
-unfolding enter_answer
+    IsUncached (admitted s site (incoming_packet s number header))
+unfolding admitted
 entry_uncached s site number header = by_test (serves s)
   where
     by_test : (test : Bool) → IsUncached (cond test
-        (entry.Answered (looked_up s site (incoming_packet s number header))) entry.Closed)
+        (Some (looked_up s site (incoming_packet s number header))) None)
     by_test true = lookup_uncached s site (incoming_packet s number header) refl
     by_test false = tt
-
--- the answer to a packet that comes in at a switch that serves
-pub entered_by : (s : SwitchValue) (site : Site) (number : ℕ) (header : Header) (ingress : ℕ)
-    (down : List ℕ) (answer : Answer) → ingress ≡ s.number → down ≡ no_links → serves s ≡ true
-    → answer ≡ looked_up s site
-    (record { number = number; header = header; ingress = ingress; down = down })
-    → entry.Answered answer ≡ enter_answer s site (incoming_packet s number header)
-unfolding enter_answer
-entered_by s site number header ingress down answer here none serving is =
-    subst (λ t. entry.Answered answer ≡ cond t
-    (entry.Answered (looked_up s site (incoming_packet s number header))) entry.Closed)
-    (sym serving)
-    (ap entry.Answered (is
-    ∙ ap (λ i. looked_up s site
-    (record { number = number; header = header; ingress = i; down = down })) here
-    ∙ ap (λ d. looked_up s site
-    (record { number = number; header = header; ingress = s.number; down = d })) none))

@@ -27,12 +27,9 @@ use Rattle.switch_core.specs.Deciding.{by_rule, own_part}
 use Rattle.switch_core.specs.Ends.{Site, cause_of, next_of}
 use Rattle.switch_core.specs.Moving.{Moved, link_found_down, hop_answer}
 use Rattle.switch_core.specs.State.{SwitchValue, held_tables, serves, stamp_tables}
-use Rattle.switch_core.specs.declared.answers.Answer.{Answer}
-use Rattle.switch_core.specs.declared.answers.Answer.TheVariants.{Decided, Seek, Stuck}
+use Rattle.switch_core.specs.Answers.{Answer, Decided, Seek, Stuck, arrived_with, entered_with}
 use Rattle.switch_core.specs.declared.answers.Arrived.{Arrived}
-use Rattle.switch_core.specs.declared.answers.Arrived.TheVariants as arrival
 use Rattle.switch_core.specs.declared.answers.Entered.{Entered}
-use Rattle.switch_core.specs.declared.answers.Entered.TheVariants as entry
 use Rattle.switch_core.specs.declared.answers.HopEnd.TheVariants as hop
 use Rattle.switch_core.specs.declared.answers.Next.{Next}
 use Rattle.switch_core.specs.declared.answers.Next.TheVariants as goes
@@ -121,7 +118,7 @@ one_entry s site packet answer ready law = by_test (serves s) refl
     by_test true serving =
         let one = law.answered (ready serving) in
         let two = (entry_is s site packet).answered (ready serving) in
-        one.1 ∙ ap entry.Answered (same_answer s site packet one.0 two.0 one.2 two.2)
+        one.1 ∙ ap entered_with (same_answer s site packet one.0 two.0 one.2 two.2)
         ∙ sym two.1
 
 -- ---- of a packet that arrives
@@ -135,13 +132,13 @@ one_arrival s site t answer arriving law = by_leg t.leg refl
     by_tables version partition leg (Some tables) held =
         let one = law.decided version partition tables arriving leg held in
         let two = arrive_held s site t version partition tables arriving leg held in
-        one.1 ∙ ap arrival.Answered (same_decided s site (packet_of t) version partition tables
+        one.1 ∙ ap arrived_with (same_decided s site (packet_of t) version partition tables
         one.0 two.0 one.2 two.2) ∙ sym two.1
     by_tables version partition leg None held =
         let gone = ap (λ (o : Option Tables). is_some o) held in
         let one = law.anew version partition arriving leg gone in
         let two = arrive_anew s site t version partition arriving leg gone in
-        one.1 ∙ ap arrival.Answered (same_answer s site (packet_of t) one.0 two.0 one.2 two.2)
+        one.1 ∙ ap arrived_with (same_answer s site (packet_of t) one.0 two.0 one.2 two.2)
         ∙ sym two.1
 
     by_leg : (leg : Leg) → t.leg ≡ leg → answer ≡ arrive_answer s site t

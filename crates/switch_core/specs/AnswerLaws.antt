@@ -33,13 +33,12 @@ use Rattle.switch_table.specs.declared.search.Found.TheVariants.{Cached, Authori
 use Rattle.switch_table.specs.declared.tables.Tables.{Tables}
 use Rattle.ctrl_msg.specs.declared.message.Body.{Body}
 use Rattle.ctrl_msg.specs.declared.message.Body.TheVariants.{CacheRule}
-use Rattle.switch_core.specs.Answering.{IsAtAuthority, arrive_answer, enter_answer, looked_up, packet_of}
+use Rattle.switch_core.specs.Answering.{IsAtAuthority, admitted, arrive_answer, enter_answer, looked_up, packet_of}
 use Rattle.switch_core.specs.Deciding.{IsFirstHit, by_entry, by_rule, own_part}
 use Rattle.switch_core.specs.Ends.{Site, cause_of, next_of}
 use Rattle.switch_core.specs.Moving.{Moved, link_found_down, hop_answer}
 use Rattle.switch_core.specs.State.{IsSwitch, SwitchValue, held_tables, holds_version, serves, stamp_tables}
-use Rattle.switch_core.specs.declared.answers.Answer.{Answer}
-use Rattle.switch_core.specs.declared.answers.Answer.TheVariants.{Decided, Seek, Stuck}
+use Rattle.switch_core.specs.Answers.{Answer, Decided, Seek, Stuck, arrived_with, entered_with}
 use Rattle.switch_core.specs.declared.answers.Arrived.{Arrived}
 use Rattle.switch_core.specs.declared.answers.Arrived.TheVariants as arrival
 use Rattle.switch_core.specs.declared.answers.Decision.{Decision}
@@ -166,7 +165,7 @@ pub record IsEntry (s : SwitchValue) (site : Site) (packet : Packet)
   pub closed : (enter_answer ≡ entry.Closed) ↔ IsFalse (serves s)
   -- otherwise it is looked up
   pub answered : IsReady s packet.header →
-      (answer : Answer) × (enter_answer ≡ entry.Answered answer)
+      (answer : Answer) × (enter_answer ≡ entered_with answer)
       × IsRightAnswer s site packet answer
 
 -- the answer of `enter` is one, and the only one
@@ -213,13 +212,13 @@ pub record IsArrival (s : SwitchValue) (site : Site) (t : TunnelValue)
   -- the leg's partition to hold the header
   pub decided : (version partition : ℕ) (tables : Tables) →
       IsArriving s t → t.leg ≡ SeekLeg version partition → held_tables s version ≡ Some tables →
-      (answer : Answer) × (arrive_answer ≡ arrival.Answered answer)
+      (answer : Answer) × (arrive_answer ≡ arrived_with answer)
       × IsDecidedIn s site (packet_of t) version tables partition answer
   -- where the leg's version isn't held it is looked up anew under the stamp, as if it came in here
   -- with the links that it found down
   pub anew : (version partition : ℕ) →
       IsArriving s t → t.leg ≡ SeekLeg version partition → IsFalse (holds_version s version) →
-      (answer : Answer) × (arrive_answer ≡ arrival.Answered answer)
+      (answer : Answer) × (arrive_answer ≡ arrived_with answer)
       × IsRightAnswer s site (packet_of t) answer
 
 -- the answer of `arrive` is one, and the only one
@@ -254,12 +253,13 @@ pub record IsDecision (s : SwitchValue) (site : Site) (packet : Packet)
 pub record DecisionLaws : Type 0 where
   -- so is every decision of a packet that comes in or arrives
   pub on_entry : (s : SwitchValue) (site : Site) (packet : Packet)
-      (decision : Decision) (cache : Option Body) (way : Next) → IsReady s packet.header →
-      enter_answer s site packet ≡ entry.Answered (Decided decision cache way) →
-      IsDecision s site packet decision cache way
+      (decision : Decision) (way : Next) → IsReady s packet.header →
+      enter_answer s site packet ≡ entry.Decided decision way →
+      (cache : Option Body) × (admitted s site packet ≡ Some (Decided decision cache way))
+      × IsDecision s site packet decision cache way
   pub on_arrival : (s : SwitchValue) (site : Site) (t : TunnelValue)
       (decision : Decision) (cache : Option Body) (way : Next) → IsArriving s t →
-      arrive_answer s site t ≡ arrival.Answered (Decided decision cache way) →
+      arrive_answer s site t ≡ arrival.Decided decision cache way →
       IsDecision s site (packet_of t) decision cache way
   -- by the tables of a plan, rules of the switch's own decide as the plan's policy does
   pub as_policy : (s : SwitchValue) (header : Header) (decision : Decision) (rows : List Row)

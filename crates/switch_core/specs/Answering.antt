@@ -2,7 +2,7 @@
 -- functions: both by the answer of one lookup (Yu, Rexford, Freedman and Wang, "Scalable Flow-Based
 -- Networking with DIFANE", SIGCOMM 2010). What they say are the relations of `AnswerLaws`, which
 -- allow no other answer.
-use Rattle.std.specs.Prelude.{⊤, ℕ, ◌≡◌, None, if◌then◌else◌, IsSomeAnd, IsTrue, IfSome, Result, Ok, Err}
+use Rattle.std.specs.Prelude.{⊤, ℕ, ◌≡◌, Option, Some, None, if◌then◌else◌, IsSomeAnd, IsTrue, IfSome, Result, Ok, Err}
 use Rattle.std.specs.Option.{option_map_or}
 use Rattle.five_tuple.specs.declared.header.Header.{Header}
 use Rattle.policy_rules.specs.Hosted.{is_in}
@@ -16,12 +16,10 @@ use Rattle.switch_table.specs.Lookup.{lookup_of}
 use Rattle.switch_table.specs.declared.tables.Tables.{Tables}
 use Rattle.switch_table.specs.declared.search.Found.{Found}
 use Rattle.switch_table.specs.declared.search.Found.TheVariants.{Cached, Authority, Redirect}
-use Rattle.switch_core.specs.declared.answers.Answer.{Answer}
-use Rattle.switch_core.specs.declared.answers.Answer.TheVariants.{Decided, Seek, Stuck}
+use Rattle.switch_core.specs.Answers.{Answer, Arrival, Decided, Seek, Stuck, arrival_of, entry_of}
+use Rattle.switch_core.specs.Answers as arrival
 use Rattle.switch_core.specs.declared.answers.Arrived.{Arrived}
-use Rattle.switch_core.specs.declared.answers.Arrived.TheVariants as arrival
 use Rattle.switch_core.specs.declared.answers.Entered.{Entered}
-use Rattle.switch_core.specs.declared.answers.Entered.TheVariants as entry
 use Rattle.switch_core.specs.declared.packet.Packet.{Packet}
 use Rattle.switch_core.specs.Deciding.{by_entry, by_rule, rule_for_cache, place_of_first, own_part, part_numbered, rule_in}
 use Rattle.switch_core.specs.Ends.{Site, next_of, set_out}
@@ -80,14 +78,17 @@ incoming_packet s number header = record {
 }
 
 -- closed exactly where the switch doesn't serve
-unfoldable pub enter_answer : SwitchValue → Site → Packet → Entered
-enter_answer s site packet =
-    if serves s then entry.Answered (looked_up s site packet) else entry.Closed
+unfoldable pub admitted : SwitchValue → Site → Packet → Option Answer
+admitted s site packet = if serves s then Some (looked_up s site packet) else None
 
 -- nothing goes to a cache
-abbrev pub IsUncached : Entered → Type 0
-IsUncached (entry.Answered (Decided decision cache way)) = cache ≡ None
+abbrev pub IsUncached : Option Answer → Type 0
+IsUncached (Some (Decided decision cache way)) = cache ≡ None
 IsUncached _ = ⊤
+
+-- as `enter` answers it
+abbrev pub enter_answer : SwitchValue → Site → Packet → Entered
+enter_answer s site packet = entry_of (admitted s site packet)
 
 -- ---- a packet is at the end of its route
 
@@ -110,11 +111,15 @@ IsAtAuthority s header (ExitLeg port) = ⊤
 
 -- out by the leg's port; or by the tables of the leg's version, and where the switch hasn't got
 -- them by a new lookup
-abbrev pub arrived_on : SwitchValue → Site → Packet → Leg → Arrived
+abbrev pub arrived_on : SwitchValue → Site → Packet → Leg → Arrival
 arrived_on s site packet (ExitLeg port) = arrival.Out port
 arrived_on s site packet (SeekLeg version partition) =
     arrival.Answered (option_map_or (decided_in s site packet partition)
     (held_tables s version) (looked_up s site packet))
 
-unfoldable pub arrive_answer : SwitchValue → Site → TunnelValue → Arrived
-arrive_answer s site t = arrived_on s site (packet_of t) t.leg
+unfoldable pub received : SwitchValue → Site → TunnelValue → Arrival
+received s site t = arrived_on s site (packet_of t) t.leg
+
+-- as `arrive` answers it
+abbrev pub arrive_answer : SwitchValue → Site → TunnelValue → Arrived
+arrive_answer s site t = arrival_of (received s site t)

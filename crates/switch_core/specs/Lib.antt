@@ -1,6 +1,7 @@
 pub mod State
 pub mod Ends
 pub mod Deciding
+pub mod Answers
 pub mod Answering
 pub mod Verdicts
 pub mod Moving

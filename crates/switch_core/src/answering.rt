@@ -1,8 +1,8 @@
-ghost use Rattle.std.specs.Prelude.{◌≡◌, ℕ, List, IsSomeAnd, IsTrue};
+ghost use Rattle.std.specs.Prelude.{◌≡◌, ℕ, List, IsSomeAnd, IsTrue, option_map};
 ghost use Rattle.policy_rules.specs.Hosted.{is_in};
 ghost use Rattle.policy_rules.specs.declared.packet.Leg.TheVariants.{Seek as SeekLeg};
-ghost use Rattle.switch_core.specs.declared.answers.Arrived.TheVariants.{Answered};
-ghost use Rattle.switch_core.specs.Exports.{CanLookUp, IsAtAuthority, IsFirstHit, IsFound, IsUncached, Site as SiteValue, answer_by, answer_of, around, arrive_answer, arrived_as, arrived_on, call_counted, decided_at, decided_in, enter_answer, entered_as, holds_version, incoming_packet, looked_up, own_part, packet_of, packet_with, serves};
+ghost use Rattle.switch_core.specs.Answers.{Answered};
+ghost use Rattle.switch_core.specs.Exports.{CanLookUp, IsAtAuthority, IsFirstHit, IsFound, IsUncached, Site as SiteValue, admitted, admitted_as, answer_by, answer_of, around, arrive_answer, arrived_on, call_counted, decided_at, decided_in, enter_answer, holds_version, incoming_packet, looked_up, own_part, packet_of, packet_with, serves};
 
 use crate::answers::{Arrived, Decision, Entered};
 use crate::deciding::{cache_word, found_in, own_part, rule_in};
@@ -10,7 +10,7 @@ use crate::kept::KeptTables;
 use crate::packet::Packet;
 use crate::site::Site;
 use crate::switch::Switch;
-use crate::verdicts::{Received, Verdict};
+use crate::verdicts::Verdict;
 use failover::DownSet;
 use five_tuple::Header;
 use net_file::Ports;
@@ -30,7 +30,8 @@ impl Switch {
         ensures answer { result
             ≡ enter_answer self.old (around near ports.now)
             (incoming_packet self.old packet h.now) }
-        ensures uncached { IsUncached result }
+        ensures uncached { IsUncached
+            (admitted self.old (around near ports.now) (incoming_packet self.old packet h.now)) }
         ensures after { self.new ≡ call_counted self.old }
     {
         let packet = Packet {
@@ -41,10 +42,7 @@ impl Switch {
         };
         match self.admit(h) {
             None => Entered::Closed,
-            Some(verdict) => {
-                let answer = self.answer(Site { near, ports }, &packet, verdict);
-                Entered::Answered(answer)
-            }
+            Some(verdict) => self.answer_entry(Site { near, ports }, &packet, verdict),
         }
     }
 
@@ -54,10 +52,10 @@ impl Switch {
     pub fn admit(&mut self, h: &Header) -> Option<Verdict>
         requires { CanLookUp self.old }
         ensures answer { (site : SiteValue) (number : ℕ) →
-            entered_as self.new site (incoming_packet self.old number h.now) result
-            ≡ enter_answer self.old site (incoming_packet self.old number h.now) }
+            admitted_as self.new site (incoming_packet self.old number h.now) result
+            ≡ option_map Answered (admitted self.old site (incoming_packet self.old number h.now)) }
         ensures uncached { (site : SiteValue) (number : ℕ) →
-            IsUncached (entered_as self.new site (incoming_packet self.old number h.now) result) }
+            IsUncached (admitted self.old site (incoming_packet self.old number h.now)) }
         ensures after { self.new ≡ call_counted self.old }
     {
         if !self.serves() {
@@ -74,7 +72,7 @@ impl Switch {
     /// looked up anew under the switch's stamp. `arrive_laws` and `lookup_laws` say how.
     ///
     /// `near` has a bit for each switch to which there is a usable link.
-    #[tactic(auto, unfolding(crate::specs::Answering::arrive_answer))]
+    #[tactic(auto, unfolding(crate::specs::Answering::received))]
     pub fn arrive(&mut self, t: &Tunnel, near: u64, ports: &Ports) -> Arrived
         requires serving { IsTrue (serves self.old) }
         requires stamped { CanLookUp self.old }
@@ -82,36 +80,31 @@ impl Switch {
         ensures answer { result ≡ arrive_answer self.old (around near ports.now) t.now }
         ensures after { self.new ≡ call_counted self.old }
     {
-        match self.receive(&t.header, t.ingress, t.leg) {
-            Received::Out(port) => Arrived::Out(port),
-            Received::Judged(verdict) => {
-                let answer = self.answer(Site { near, ports }, &carried(t), verdict);
-                Arrived::Answered(answer)
-            }
-        }
+        let verdict = self.receive(&t.header, t.ingress, t.leg);
+        self.answer_arrival(Site { near, ports }, &carried(t), verdict)
     }
 
     /// `arrive` before any route is taken: what is said of a packet of this header that came in at
     /// `ingress` and is at the end of its route, whatever its number and the links that it found
     /// down. It copies no route and no set of links.
-    pub fn receive(&mut self, h: &Header, ingress: u32, leg: Leg) -> Received
+    pub fn receive(&mut self, h: &Header, ingress: u32, leg: Leg) -> Verdict
         requires serving { IsTrue (serves self.old) }
         requires stamped { CanLookUp self.old }
         requires authority { IsAtAuthority self.old h.now leg }
         ensures answer { (site : SiteValue) (number : ℕ) (down : List ℕ) →
-            arrived_as self.new site (packet_with number h.now ingress down) result
+            answer_of self.new site (packet_with number h.now ingress down) result
             ≡ arrived_on self.old site (packet_with number h.now ingress down) leg }
         ensures after { self.new ≡ call_counted self.old }
     {
         match leg {
             Leg::Exit { port } => {
                 self.count();
-                Received::Out(port)
+                Verdict::Out(port)
             }
             Leg::Seek { version, partition } => {
                 let verdict = self.judge(h, ingress, version, partition);
                 self.count();
-                Received::Judged(verdict)
+                verdict
             }
         }
     }
@@ -120,8 +113,8 @@ impl Switch {
     fn judge(&self, h: &Header, ingress: u32, version: u32, partition: u32) -> Verdict
         requires stamped { IsTrue (holds_version self.now self.now.stamp) }
         requires authority { IsAtAuthority self.now h.now (SeekLeg version partition) }
-        ensures { (site : SiteValue) (number : ℕ) (down : List ℕ) → Answered
-            (answer_of self.now site (packet_with number h.now ingress down) result)
+        ensures { (site : SiteValue) (number : ℕ) (down : List ℕ) →
+            answer_of self.now site (packet_with number h.now ingress down) result
             ≡ arrived_on self.now site
             (packet_with number h.now ingress down) (SeekLeg version partition) }
     {
@@ -137,7 +130,7 @@ impl Switch {
         requires { IsTrue (holds_version self.now self.now.stamp) }
         ensures { (site : SiteValue) (number : ℕ) (down : List ℕ) →
             answer_of self.now site (packet_with number h.now ingress down) result
-            ≡ looked_up self.now site (packet_with number h.now ingress down) }
+            ≡ Answered (looked_up self.now site (packet_with number h.now ingress down)) }
     {
         let tables = self.stamp_tables();
         let found = found_in(&self.cache, tables, h);
@@ -150,8 +143,8 @@ impl Switch {
         requires { IsFound tables.now h.now found.now }
         ensures { (site : SiteValue) (number : ℕ) (down : List ℕ) →
             answer_of self.now site (packet_with number h.now ingress down) result
-            ≡ answer_by self.now site
-            (packet_with number h.now ingress down) tables.now found.now }
+            ≡ Answered (answer_by self.now site
+            (packet_with number h.now ingress down) tables.now found.now) }
     {
         match found {
             Found::Cached(entry) => Verdict::Decided {
@@ -179,8 +172,8 @@ impl Switch {
             (λ part. IsTrue (is_in h.now part)) }
         ensures { (site : SiteValue) (number : ℕ) (down : List ℕ) →
             answer_of self.now site (packet_with number h.now ingress down) result
-            ≡ decided_in self.now site
-            (packet_with number h.now ingress down) partition tables.now }
+            ≡ Answered (decided_in self.now site
+            (packet_with number h.now ingress down) partition tables.now) }
     {
         let place = tables.first_place(partition, h);
         let tables = tables.tables();
@@ -201,8 +194,8 @@ impl Switch {
         requires { IsFirstHit h.now part.now place }
         ensures { (site : SiteValue) (number : ℕ) (down : List ℕ) →
             answer_of self.now site (packet_with number h.now ingress down) result
-            ≡ decided_at self.now site
-            (packet_with number h.now ingress down) version part.now place }
+            ≡ Answered (decided_at self.now site
+            (packet_with number h.now ingress down) version part.now place) }
     {
         let rule = rule_in(part, place);
         Verdict::Decided {

@@ -25,9 +25,23 @@ pub enum Next {
     Stuck(Cause),
 }
 
-/// What a switch answers to a packet whose header it looked up.
+/// What a switch answers to a packet that comes into the network.
 #[derive(Drop)]
-pub enum Answer {
+pub enum Entered {
+    /// The switch doesn't serve.
+    Closed,
+    Decided { decision: Decision, next: Next },
+    /// To an authority switch of the packet's partition.
+    Seek(Tunnel),
+    /// There is no route for this leg, which the lookup gave.
+    Stuck { cause: Cause, leg: Leg },
+}
+
+/// What a switch answers to a packet at the end of its route.
+#[derive(Drop)]
+pub enum Arrived {
+    /// Out of the network, by this port of the switch.
+    Out(u32),
     Decided {
         decision: Decision,
         /// A rule for the cache of the switch where the packet entered, unless that is this one.
@@ -41,22 +55,6 @@ pub enum Answer {
         cause: Cause,
         leg: Leg,
     },
-}
-
-/// What a switch answers to a packet that comes into the network.
-#[derive(Drop)]
-pub enum Entered {
-    /// The switch doesn't serve.
-    Closed,
-    Answered(Answer),
-}
-
-/// What a switch answers to a packet at the end of its route.
-#[derive(Drop)]
-pub enum Arrived {
-    /// Out of the network, by this port of the switch.
-    Out(u32),
-    Answered(Answer),
 }
 
 /// What becomes of a packet that is on its way.

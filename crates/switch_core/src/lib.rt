@@ -7,10 +7,8 @@
 //!
 //! ```text
 //! let mut switch = Switch::begin(alloc, 0, 256, tables, base)?;
-//! if let Entered::Answered(answer) = switch.enter(1, &header, near, &ports) {
-//!     if let Answer::Seek(mut packet) = answer {
-//!         let hop = switch.hop(&mut packet, near);
-//!     }
+//! if let Entered::Seek(mut packet) = switch.enter(1, &header, near, &ports) {
+//!     let hop = switch.hop(&mut packet, near);
 //! }
 //! let heard = switch.hear(alloc, 7, &body, near)?;
 //! ```
@@ -30,11 +28,11 @@ mod site;
 mod switch;
 mod verdicts;
 
-pub use answers::{Answer, Arrived, Decision, Entered, Heard, Hop, HopEnd, Next, Replies};
+pub use answers::{Arrived, Decision, Entered, Heard, Hop, HopEnd, Next, Replies};
 pub use laws::{
     arrive_laws, decision_laws, enter_laws, exit_laws, hop_laws, lookup_laws, switch_laws,
 };
 pub use policy_rules::{Cause, How};
 pub use site::Site;
 pub use switch::Switch;
-pub use verdicts::{Received, Verdict};
+pub use verdicts::Verdict;

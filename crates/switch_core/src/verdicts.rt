@@ -1,9 +1,10 @@
 ghost use Rattle.std.specs.Prelude.{◌≡◌, ◌∷◌, []};
 ghost use Rattle.ctrl_msg.specs.declared.message.Body.TheVariants.{CacheRule};
 ghost use Rattle.policy_rules.specs.declared.packet.Leg.TheVariants.{Exit as ExitLeg};
-ghost use Rattle.switch_core.specs.Exports.{answer_of, cached_by, exit_by, next_of, seek_by, set_out, site_of};
+ghost use Rattle.switch_core.specs.Answers.{Answered};
+ghost use Rattle.switch_core.specs.Exports.{Answer, IsByLookup, answer_of, arrival_of, cached_by, entered_with, exit_by, next_of, set_out, site_of};
 
-use crate::answers::{Answer, Decision, Next};
+use crate::answers::{Arrived, Decision, Entered, Next};
 use crate::packet::Packet;
 use crate::site::Site;
 use crate::switch::Switch;
@@ -11,10 +12,12 @@ use ctrl_msg::Body;
 use policy_rules::{Action, Cause, Leg, Targets};
 use ternary::Word;
 
-/// What a lookup or a rule says of a packet, before a route is taken: small beside the answer,
-/// which has room for a route. `Switch::way` finds the route.
+/// What a switch says of a packet, before a route is taken: small beside the answer, which has room
+/// for a route. `Switch::way` finds the route.
 #[derive(Drop)]
 pub enum Verdict {
+    /// Out of the network, by this port of the switch: at the end of the packet's way to it.
+    Out(u32),
     /// Decided, with the word of a rule for the cache of the switch where the packet entered,
     /// unless that is this one. It goes on as the decision's action says.
     Decided {
@@ -26,14 +29,6 @@ pub enum Verdict {
         leg: Leg,
         targets: Targets,
     },
-}
-
-/// What is said of a packet at the end of its route, before another one is taken.
-#[derive(Drop)]
-pub enum Received {
-    /// Out of the network, by this port of the switch.
-    Out(u32),
-    Judged(Verdict),
 }
 
 impl Decision {
@@ -61,17 +56,42 @@ fn cached_by(decision: &Decision, word: Option<Word>) -> Option<Body>
 }
 
 impl Switch {
-    /// The answer to a packet of this verdict.
-    pub(crate) fn answer(&self, site: Site, packet: &Packet, verdict: Verdict) -> Answer
-        ensures { result ≡ answer_of self.now (site_of site.entry) packet.now verdict }
+    /// The answer to a packet that comes in, of this verdict.
+    pub(crate) fn answer_entry(&self, site: Site, packet: &Packet, verdict: Verdict) -> Entered
+        requires { IsByLookup verdict }
+        ensures { (answer : Answer)
+            → answer_of self.now (site_of site.entry) packet.now verdict ≡ Answered answer
+            → result ≡ entered_with answer }
     {
         match verdict {
-            Verdict::Decided { decision, word } => Answer::Decided {
+            Verdict::Out(_) => unreachable!(),
+            Verdict::Decided { decision, .. } => Entered::Decided {
+                decision,
+                next: self.next(site, packet, decision.action),
+            },
+            Verdict::Seek { leg, targets } => match self.set_out(site.near, packet, leg, &targets) {
+                Ok(tunnel) => Entered::Seek(tunnel),
+                Err(cause) => Entered::Stuck { cause, leg },
+            },
+        }
+    }
+
+    /// The answer to a packet at the end of its route, of this verdict.
+    pub(crate) fn answer_arrival(&self, site: Site, packet: &Packet, verdict: Verdict) -> Arrived
+        ensures { result
+            ≡ arrival_of (answer_of self.now (site_of site.entry) packet.now verdict) }
+    {
+        match verdict {
+            Verdict::Out(port) => Arrived::Out(port),
+            Verdict::Decided { decision, word } => Arrived::Decided {
                 decision,
                 cache: cached_by(&decision, word),
                 next: self.next(site, packet, decision.action),
             },
-            Verdict::Seek { leg, targets } => self.seek(site.near, packet, leg, &targets),
+            Verdict::Seek { leg, targets } => match self.set_out(site.near, packet, leg, &targets) {
+                Ok(tunnel) => Arrived::Seek(tunnel),
+                Err(cause) => Arrived::Stuck { cause, leg },
+            },
         }
     }
 
@@ -98,16 +118,6 @@ impl Switch {
         match self.set_out(near, packet, Leg::Exit { port }, &targets) {
             Ok(tunnel) => Next::Exit(tunnel),
             Err(cause) => Next::Stuck(cause),
-        }
-    }
-
-    // To one of these authority switches.
-    fn seek(&self, near: u64, packet: &Packet, leg: Leg, targets: &Targets) -> Answer
-        ensures { result ≡ seek_by leg (set_out self.now near packet.now leg targets.now) }
-    {
-        match self.set_out(near, packet, leg, targets) {
-            Ok(tunnel) => Answer::Seek(tunnel),
-            Err(cause) => Answer::Stuck { cause, leg },
         }
     }
 }

@@ -6,11 +6,11 @@ use Rattle.journal.specs.declared.item.Item.TheVariants as item
 use Rattle.message_bag.specs.Posts.{Post}
 use Rattle.net_file.specs.declared.ports.Ports.{Ports}
 use Rattle.policy_rules.specs.declared.packet.Leg.{Leg}
-use Rattle.switch_core.specs.Answering.{arrive_answer, arrived_on}
+use Rattle.switch_core.specs.Answering.{arrived_on, received}
 use Rattle.switch_core.specs.Ends.{around}
 use Rattle.switch_core.specs.Moving.{Moved, link_found_down, hop_answer, hopped_to, is_free, move_answer}
 use Rattle.switch_core.specs.State.{SwitchValue, call_counted}
-use Rattle.switch_core.specs.declared.answers.Arrived.{Arrived}
+use Rattle.switch_core.specs.Answers.{Arrival}
 use Rattle.switch_core.specs.declared.answers.HopEnd.{HopEnd}
 use Rattle.switch_core.specs.declared.answers.HopEnd.TheVariants as hop
 use Rattle.tunnel.specs.Moves.{advanced_tunnel, next}
@@ -240,10 +240,10 @@ pub arrival_log : {T E : Type 0} (r : Result T E) (number : ℕ) (w : SwitchValu
     (arrived_on w (around near ports) (packet_standing at) leg)) old new
     → LogAfter r (arrival_items number w near ports t) (arrival_posts w near ports t) packet
     (arrival w near ports t) old new
-unfolding arrival_items arrival_posts arrival arrive_answer
+unfolding arrival_items arrival_posts arrival received
 arrival_log r number w near ports t at version rule leg packet old new at_is version_is rule_is
     leg_is log =
-    let P : Standing → ℕ → Option ℕ → Arrived → Type 0 = λ at version rule what.
+    let P : Standing → ℕ → Option ℕ → Arrival → Type 0 = λ at version rule what.
     LogAfter r (arrived_items number at version rule what) (arrived_posts at what) packet
     (arrived_flight version rule what) old new in
     subst (λ leg. P (standing_at w.number t) t.version t.rule

@@ -6,11 +6,11 @@ use Rattle.five_tuple.specs.declared.header.Header.{Header}
 use Rattle.journal.specs.declared.item.Item.{Item}
 use Rattle.journal.specs.declared.item.Item.TheVariants as item
 use Rattle.net_file.specs.declared.ports.Ports.{Ports}
-use Rattle.switch_core.specs.Answering.{arrive_answer, enter_answer, incoming_packet}
+use Rattle.switch_core.specs.Answering.{admitted, incoming_packet, received}
 use Rattle.switch_core.specs.Ends.{around}
 use Rattle.switch_core.specs.Moving.{link_found_down, hop_answer}
 use Rattle.switch_core.specs.State.{SwitchValue, call_counted}
-use Rattle.switch_core.specs.declared.answers.Entered.{Entered}
+use Rattle.switch_core.specs.Answers.{Answer}
 use Rattle.switch_core.specs.declared.answers.HopEnd.{HopEnd}
 use Rattle.switch_core.specs.declared.answers.HopEnd.TheVariants as hop
 use Rattle.tunnel.specs.Moves.{next}
@@ -28,25 +28,25 @@ coming_in packet header switch = record {
 }
 
 -- the switch's answer to it
-abbrev pub entry : SwitchValue → ℕ → Ports → ℕ → Header → Entered
+abbrev pub entry : SwitchValue → ℕ → Ports → ℕ → Header → Option Answer
 entry s near ports packet header =
-    enter_answer s (around near ports) (incoming_packet s packet header)
+    admitted s (around near ports) (incoming_packet s packet header)
 
 -- what its arrival writes where the next message has this number, what it posts, and where the
 -- packet is then
 unfoldable pub arrival_items : ℕ → SwitchValue → ℕ → Ports → Flight → List Item
 arrival_items number s near ports flight =
     arrived_items number (standing_at s.number flight) flight.version flight.rule
-    (arrive_answer s (around near ports) flight.tunnel)
+    (received s (around near ports) flight.tunnel)
 
 unfoldable pub arrival_posts : SwitchValue → ℕ → Ports → Flight → List Post
 arrival_posts s near ports flight =
-    arrived_posts (standing_at s.number flight) (arrive_answer s (around near ports) flight.tunnel)
+    arrived_posts (standing_at s.number flight) (received s (around near ports) flight.tunnel)
 
 unfoldable pub arrival : SwitchValue → ℕ → Ports → Flight → Option Flight
 arrival s near ports flight =
     arrived_flight flight.version flight.rule
-    (arrive_answer s (around near ports) flight.tunnel)
+    (received s (around near ports) flight.tunnel)
 
 -- ---- as it moves on
 

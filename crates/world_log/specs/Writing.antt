@@ -12,13 +12,9 @@ use Rattle.policy_rules.specs.declared.policy.Action.TheVariants as action
 use Rattle.journal.specs.declared.item.Item.{Item}
 use Rattle.journal.specs.declared.item.Item.TheVariants as item
 use Rattle.switch_core.specs.Deciding.{packet_with}
-use Rattle.switch_core.specs.declared.answers.Answer.{Answer}
-use Rattle.switch_core.specs.declared.answers.Answer.TheVariants as answer
-use Rattle.switch_core.specs.declared.answers.Arrived.{Arrived}
-use Rattle.switch_core.specs.declared.answers.Arrived.TheVariants as arrived
+use Rattle.switch_core.specs.Answers.{Answer, Arrival}
+use Rattle.switch_core.specs.Answers as answer
 use Rattle.switch_core.specs.declared.answers.Decision.{Decision}
-use Rattle.switch_core.specs.declared.answers.Entered.{Entered}
-use Rattle.switch_core.specs.declared.answers.Entered.TheVariants as entered
 use Rattle.switch_core.specs.declared.answers.Next.{Next}
 use Rattle.switch_core.specs.declared.answers.Next.TheVariants as next
 use Rattle.switch_core.specs.declared.packet.Packet.{Packet}
@@ -136,30 +132,30 @@ answer_flight version rule (answer.Stuck cause leg) = None
 
 -- ---- as it comes in
 
-abbrev pub entered_items : ℕ → Standing → Entered → List Item
-entered_items number at entered.Closed = item.Closed at.packet at.switch ∷ []
-entered_items number at (entered.Answered what) =
+abbrev pub entered_items : ℕ → Standing → Option Answer → List Item
+entered_items number at None = item.Closed at.packet at.switch ∷ []
+entered_items number at (Some what) =
     item.Entered at.packet at.switch at.header ∷ answer_items number at what
 
-abbrev pub entered_posts : Standing → Entered → List Post
-entered_posts at entered.Closed = []
-entered_posts at (entered.Answered what) = answer_posts at what
+abbrev pub entered_posts : Standing → Option Answer → List Post
+entered_posts at None = []
+entered_posts at (Some what) = answer_posts at what
 
-abbrev pub entered_flight : Entered → Option Flight
-entered_flight entered.Closed = None
-entered_flight (entered.Answered what) = answer_flight 0 None what
+abbrev pub entered_flight : Option Answer → Option Flight
+entered_flight None = None
+entered_flight (Some what) = answer_flight 0 None what
 
 -- ---- at the end of its route
 
 -- where the packet had this version and this rule
-abbrev pub arrived_items : ℕ → Standing → ℕ → Option ℕ → Arrived → List Item
-arrived_items number at version rule (arrived.Out port) = left_item at version rule port ∷ []
-arrived_items number at version rule (arrived.Answered what) = answer_items number at what
+abbrev pub arrived_items : ℕ → Standing → ℕ → Option ℕ → Arrival → List Item
+arrived_items number at version rule (answer.Out port) = left_item at version rule port ∷ []
+arrived_items number at version rule (answer.Answered what) = answer_items number at what
 
-abbrev pub arrived_posts : Standing → Arrived → List Post
-arrived_posts at (arrived.Out port) = []
-arrived_posts at (arrived.Answered what) = answer_posts at what
+abbrev pub arrived_posts : Standing → Arrival → List Post
+arrived_posts at (answer.Out port) = []
+arrived_posts at (answer.Answered what) = answer_posts at what
 
-abbrev pub arrived_flight : ℕ → Option ℕ → Arrived → Option Flight
-arrived_flight version rule (arrived.Out port) = None
-arrived_flight version rule (arrived.Answered what) = answer_flight version rule what
+abbrev pub arrived_flight : ℕ → Option ℕ → Arrival → Option Flight
+arrived_flight version rule (answer.Out port) = None
+arrived_flight version rule (answer.Answered what) = answer_flight version rule what

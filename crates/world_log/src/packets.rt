@@ -7,14 +7,14 @@ ghost use Rattle.journal.specs.declared.item.Item.TheVariants.{Rerouted};
 ghost use Rattle.tunnel.specs.Moves.{next};
 ghost use Rattle.update_machine.specs.Exports.{sent_from};
 ghost use Rattle.world_log.specs.Packets.{coming_in, entry, hop_posts, hop_flight, hop_written, hopped_switch};
-ghost use Rattle.world_log.specs.Writing.{LogAfter, answer_items, answer_posts, answer_flight, arrived_items, arrived_posts, arrived_flight, cache_message, decided_flight, end_item, entered_items, entered_posts, entered_flight, messages_in, packet_standing};
+ghost use Rattle.world_log.specs.Writing.{LogAfter, arrived_items, arrived_posts, arrived_flight, cache_message, decided_flight, end_item, entered_items, entered_posts, entered_flight, messages_in, packet_standing};
 
 use crate::log::{Log, leaves};
 use five_tuple::Header;
 use journal::{Item, Message, Place, SharedRoute};
 use policy_rules::{Action, Cause, Leg, Targets};
 use std::alloc::{AllocError, Global};
-use switch_core::{Decision, HopEnd, Received, Site, Switch, Verdict};
+use switch_core::{Decision, HopEnd, Site, Switch, Verdict};
 use ternary::Word;
 use travelling::{Standing, StoredFlight};
 use tunnel::Tunnel;
@@ -237,10 +237,8 @@ impl Log {
             self.old self.new }
         ensures counted { switch.new ≡ call_counted switch.old }
     {
-        match switch.receive(&at.header, at.ingress, leg) {
-            Received::Out(port) => self.end(at.packet, leaves(&at, port)),
-            Received::Judged(verdict) => self.settle(alloc, at, verdict, switch, site),
-        }
+        let verdict = switch.receive(&at.header, at.ingress, leg);
+        self.settle(alloc, at, verdict, switch, site)
     }
 
     // This becomes of the packet.
@@ -255,15 +253,16 @@ impl Log {
         requires ingress { at.ingress < 64 }
         requires few { length self.old.bag < 2 ^ 32 - 1 }
         ensures { LogAfter result
-            (answer_items (length self.old.bag + 1) (standing_kept at)
+            (arrived_items (length self.old.bag + 1) (standing_kept at) at.version at.rule
             (answer_of switch.now (site_of site.entry) (packet_standing (standing_kept at)) verdict))
-            (answer_posts (standing_kept at)
+            (arrived_posts (standing_kept at)
             (answer_of switch.now (site_of site.entry) (packet_standing (standing_kept at)) verdict))
-            at.packet (answer_flight at.version at.rule
+            at.packet (arrived_flight at.version at.rule
             (answer_of switch.now (site_of site.entry) (packet_standing (standing_kept at)) verdict))
             self.old self.new }
     {
         match verdict {
+            Verdict::Out(port) => self.end(at.packet, leaves(&at, port)),
             Verdict::Decided { decision, word } => {
                 self.journal.push(Item::Decided {
                     packet: at.packet,

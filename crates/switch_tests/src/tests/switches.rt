@@ -15,7 +15,7 @@ use net_file::{Ports, solo};
 use policy_rules::{Action, Cause, How, Leg, Partition, Rule, Rules, Targets};
 use std::alloc::Global;
 use std::test::Fail;
-use switch_core::{Answer, Arrived, Decision, Entered, Heard, HopEnd, Next, Switch, switch_laws};
+use switch_core::{Arrived, Decision, Entered, Heard, HopEnd, Next, Switch, switch_laws};
 use switch_table::{PartRow, PartRows, Partitions, Tables};
 use ternary::Word;
 use tunnel::Tunnel;
@@ -190,9 +190,7 @@ fn enters(b: &mut Switch, ports: &Ports, version: u32, how: How) -> bool {
         return false;
     }
     match b.enter(8, &Header::pack(&FIELDS), 0b101, ports) {
-        Entered::Answered(Answer::Decided { decision, .. }) => {
-            decision.version == version && decision.how == how
-        }
+        Entered::Decided { decision, .. } => decision.version == version && decision.how == how,
         _ => false,
     }
 }
@@ -201,18 +199,16 @@ fn enters(b: &mut Switch, ports: &Ports, version: u32, how: How) -> bool {
 // the cache of a, and the packet to a, which has its port.
 fn is_decided(arrived: &Arrived, version: u32) -> bool {
     match arrived {
-        Arrived::Answered(
-            Answer::Decided {
-                decision,
-                cache: Some(
-                    Body::CacheRule {
-                        version: cached,
-                        ..
-                    },
-                ),
-                next: Next::Exit(_),
-            },
-        ) => {
+        Arrived::Decided {
+            decision,
+            cache: Some(
+                Body::CacheRule {
+                    version: cached,
+                    ..
+                },
+            ),
+            next: Next::Exit(_),
+        } => {
             let decided = Decision {
                 version,
                 rule: Some(100),
@@ -247,22 +243,14 @@ fn an_authority_switch_decides(rt: HostRuntime) -> Result<(), Fail> {
     Ok(())
 }
 
-// The packet, where it sets out to an authority switch.
-fn sought(answer: Answer) -> Option<Tunnel> {
-    match answer {
-        Answer::Seek(packet) => Some(packet),
-        _ => None,
-    }
-}
-
 // A packet that comes in at a, and sets out.
 fn setting_out(a: &mut Switch, ports: &Ports) -> Option<Tunnel> {
     if !a.holds_version(a.stamp()) {
         return None;
     }
     match a.enter(7, &Header::pack(&FIELDS), 0b010, ports) {
-        Entered::Answered(answer) => sought(answer),
-        Entered::Closed => None,
+        Entered::Seek(packet) => Some(packet),
+        _ => None,
     }
 }
 

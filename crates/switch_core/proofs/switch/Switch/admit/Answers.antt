@@ -1,8 +1,8 @@
-use Rattle.std.proofs.Common.{ap, sym, subst, ◌∙◌}
+use Rattle.std.proofs.Common.{ap, sym, ◌∙◌}
 use Rattle.failover.specs.Links.{no_links}
-use Rattle.switch_core.specs.Answering.{IsUncached, incoming_packet}
+use Rattle.switch_core.specs.Answering.{incoming_packet}
 use Rattle.switch_core.specs.State.{SwitchValue}
-use Rattle.switch_core.proofs.Admitting.{admitted, not_admitted}
+use Rattle.switch_core.proofs.Admitting.{not_admitted, was_admitted}
 use Rattle.switch_core.proofs.Lookups.{entry_uncached}
 use Rattle.switch_core.proofs.switch.Switch.admit.Goals as goal
 
@@ -12,9 +12,13 @@ returns-then-not-serves-clause-answer c = λ site number.
     (incoming_packet c.args.self.now number c.args.h.now)
     (sym c.serves.ensures ∙ c.if-not-serves.true)
 
+pub returns-then-not-serves-clause-uncached : goal.returns-then-not-serves-clause-uncached
+returns-then-not-serves-clause-uncached c = λ site number.
+    entry_uncached c.args.self.now site number c.args.h.now
+
 pub returns-clause-answer : goal.returns-clause-answer
 returns-clause-answer c = λ site number.
-    admitted c.args.self.now c.count-2.new.self site number c.args.h.now
+    was_admitted c.args.self.now c.count-2.new.self site number c.args.h.now
     c.look_up-verdict.result c.self.inside.number c.count-2.ensures
     (sym c.serves.ensures ∙ c.if-not-serves.false)
     (ap (λ (s : SwitchValue). s.number) c.self.view_is)
@@ -22,10 +26,4 @@ returns-clause-answer c = λ site number.
 
 pub returns-clause-uncached : goal.returns-clause-uncached
 returns-clause-uncached c = λ site number.
-    subst IsUncached
-    (sym (admitted c.args.self.now c.count-2.new.self site number c.args.h.now
-    c.look_up-verdict.result c.self.inside.number c.count-2.ensures
-    (sym c.serves.ensures ∙ c.if-not-serves.false)
-    (ap (λ (s : SwitchValue). s.number) c.self.view_is)
-    (c.look_up-verdict.ensures site number no_links)))
-    (entry_uncached c.args.self.now site number c.args.h.now)
+    entry_uncached c.args.self.now site number c.args.h.now

@@ -1,15 +1,20 @@
-use Rattle.std.proofs.Common.{◌≡◌, subst}
+use Rattle.std.proofs.Common.{◌≡◌, ◌∙◌, ap, subst}
 use Rattle.tunnel.specs.Tunnel.{TunnelValue}
-use Rattle.switch_core.specs.Answering.{arrive_answer, arrived_on, packet_of}
+use Rattle.switch_core.specs.Answering.{arrived_on, packet_of, received}
+use Rattle.switch_core.specs.Answers.{arrival_of}
 use Rattle.switch_core.specs.Ends.{around}
-use Rattle.switch_core.specs.declared.answers.Arrived.TheVariants.{Out}
+use Rattle.switch_core.specs.Verdicts.{answer_of}
+use Rattle.switch_core.specs.declared.packet.Packet.{Packet}
 use Rattle.switch_core.proofs.switch.Switch.arrive.Goals as goal
 
-pub returns-in-Out-clause-answer : goal.returns-in-Out-clause-answer
-unfolding arrive_answer
-returns-in-Out-clause-answer c =
-    subst (λ (t : TunnelValue). Out c.in-Out.port
-    ≡ arrived_on c.args.self.now (around c.args.near c.args.ports.now) (packet_of t) t.leg)
-    c.t.view_is
-    (c.in-Out.ensures.answer (around c.args.near c.args.ports.now) c.t.inside.packet
-    c.t.inside.down)
+pub returns-clause-answer : goal.returns-clause-answer
+unfolding received
+returns-clause-answer c =
+    let site = around c.args.near c.args.ports.now in
+    c.answer_arrival.ensures
+    ∙ ap (λ (p : Packet). arrival_of (answer_of c.receive-verdict.new.self site p
+    c.receive-verdict.result)) c.carried.ensures
+    ∙ ap arrival_of (subst (λ (t : TunnelValue).
+    answer_of c.receive-verdict.new.self site (packet_of t) c.receive-verdict.result
+    ≡ arrived_on c.args.self.now site (packet_of t) t.leg) c.t.view_is
+    (c.receive-verdict.ensures.answer site c.t.inside.packet c.t.inside.down))

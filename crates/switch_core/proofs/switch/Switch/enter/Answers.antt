@@ -1,21 +1,44 @@
-use Rattle.std.proofs.Common.{ap, sym, subst}
-use Rattle.switch_core.specs.Answering.{IsUncached}
+use Rattle.std.proofs.Common.{◌≡◌, Option, None, Some, ap, option_map, refl}
+use Rattle.switch_core.specs.Answers.{Answer, Answered, entry_of}
+use Rattle.switch_core.specs.Answering.{admitted, incoming_packet}
 use Rattle.switch_core.specs.Ends.{around}
 use Rattle.switch_core.specs.State.{SwitchValue}
-use Rattle.switch_core.proofs.Admitting.{answered}
+use Rattle.switch_core.proofs.Admitting.{answered, by_lookup}
 use Rattle.switch_core.proofs.Lookups.{entry_uncached}
 use Rattle.switch_core.proofs.switch.Switch.enter.Goals as goal
+
+-- a packet that isn't looked up finds the switch closed
+closed : (answer : Option Answer) → None ≡ option_map Answered answer
+    → entry_of None ≡ entry_of answer
+closed None is = refl
+closed (Some answer) is = absurd cc
+
+pub answer_entry-requires : goal.answer_entry-requires
+answer_entry-requires c =
+    let site = around c.args.near c.args.ports.now in
+    by_lookup c.admit.new.self site
+    (incoming_packet c.args.self.now c.args.packet c.args.h.now) c.in-Some.verdict
+    (admitted c.args.self.now site (incoming_packet c.args.self.now c.args.packet c.args.h.now))
+    (c.in-Some.ensures.answer site c.args.packet)
+
+pub returns-in-None : goal.returns-in-None
+returns-in-None c =
+    let site = around c.args.near c.args.ports.now in
+    record {
+      answer = closed (admitted c.args.self.now site
+          (incoming_packet c.args.self.now c.args.packet c.args.h.now)) (c.in-None.ensures.answer site c.args.packet);
+      uncached = entry_uncached c.args.self.now site c.args.packet c.args.h.now;
+      after = c.admit.ensures.after;
+    }
 
 pub returns-in-Some : goal.returns-in-Some
 returns-in-Some c =
     let site = around c.args.near c.args.ports.now in
-    let answers = answered c.args.self.now c.admit.new.self site c.args.packet c.args.h.now
-    c.in-Some.verdict c.answer-answer.result c.self.inside.number
-    c.empty.result (ap (λ (s : SwitchValue). s.number) c.self.view_is) c.empty.ensures.value
-    c.answer-answer.ensures (c.in-Some.ensures.answer site c.args.packet) in
     record {
-      answer = answers;
-      uncached = subst IsUncached (sym answers) (entry_uncached c.args.self.now site
-          c.args.packet c.args.h.now);
+      answer = answered c.args.self.now c.admit.new.self site c.args.packet c.args.h.now
+          c.in-Some.verdict c.answer_entry.result c.self.inside.number c.empty.result
+          (ap (λ (s : SwitchValue). s.number) c.self.view_is) c.empty.ensures.value
+          c.answer_entry.ensures (c.in-Some.ensures.answer site c.args.packet);
+      uncached = entry_uncached c.args.self.now site c.args.packet c.args.h.now;
       after = c.admit.ensures.after;
     }

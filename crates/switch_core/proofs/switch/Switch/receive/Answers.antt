@@ -1,14 +1,13 @@
 use Rattle.std.proofs.Common.{ap, sym, ◌∙◌}
 use Rattle.switch_core.specs.Answering.{arrived_on}
 use Rattle.switch_core.specs.Deciding.{packet_with}
-use Rattle.switch_core.specs.declared.answers.Arrived.TheVariants.{Answered}
 use Rattle.switch_core.proofs.Admitting.{answer_counted}
 use Rattle.switch_core.proofs.switch.Switch.receive.Goals as goal
 
 pub returns-in-Seek-clause-answer : goal.returns-in-Seek-clause-answer
 returns-in-Seek-clause-answer c = λ site number down.
     let packet = packet_with number c.args.h.now c.args.ingress down in
-    ap Answered (answer_counted c.args.self.now c.count-in-Seek.new.self site packet
-    c.judge-verdict.result c.count-in-Seek.ensures)
+    answer_counted c.args.self.now c.count-in-Seek.new.self site packet
+    c.judge-verdict.result c.count-in-Seek.ensures
     ∙ c.judge-verdict.ensures site number down
     ∙ ap (arrived_on c.args.self.now site packet) (sym c.in-Seek.is)

@@ -1,5 +1,5 @@
 -- What was written of a packet is its switch's answer.
-use Rattle.std.proofs.Common.{◌+◌, ◌∷◌, [], List, length, map, subst, sym, ◌∙◌}
+use Rattle.std.proofs.Common.{◌+◌, ◌∷◌, [], List, None, length, map, subst, sym, ◌∙◌}
 use Rattle.std.specs.Option.{option_copied}
 use Rattle.std.specs.Prelude.{Result, unwrap_or}
 use Rattle.failover.specs.Links.{no_links}
@@ -13,11 +13,24 @@ use Rattle.switch_core.specs.declared.verdicts.Verdict.{Verdict}
 use Rattle.travelling.specs.Travelling.{standing_kept}
 use Rattle.tunnel.specs.Tunnel.{TunnelValue}
 use Rattle.update_machine.specs.Messages.{sent_from}
-use Rattle.world_log.specs.Writing.{LogAfter, answer_items, answer_posts, answer_flight, cache_message, messages_in, packet_standing, set_item, set_flight}
+use Rattle.world_log.specs.Writing.{LogAfter, arrived_flight, arrived_items, arrived_posts, cache_message, messages_in, packet_standing, set_item, set_flight}
 use Rattle.world_log.proofs.Going.{sought, way_is}
 use Rattle.world_log.proofs.Logs.{log_ends, log_failed}
 use Rattle.world_log.proofs.Writing.{both_written, part_first, part_none}
 use Rattle.world_log.proofs.log.Log.settle.Goals as goal
+
+pub returns-in-Out : goal.returns-in-Out
+returns-in-Out c =
+    let at = standing_kept c.args.at in
+    let P : Verdict → Type 0 = λ verdict.
+    let what = answer_of c.args.switch.now (site_of c.args.site) (packet_standing at) verdict in
+    LogAfter c.end.result
+    (arrived_items (length c.args.self.now.bag + 1) at c.args.at.version c.args.at.rule what)
+    (arrived_posts at what) c.args.at.packet
+    (arrived_flight c.args.at.version c.args.at.rule what) c.args.self.now c.end.new.self in
+    subst P (sym c.in-Out.is)
+    (subst (λ (i : Item). LogAfter c.end.result (i ∷ []) [] c.args.at.packet None
+    c.args.self.now c.end.new.self) c.leaves.ensures c.end.ensures)
 
 pub returns-in_err-push-in-Decided : goal.returns-in_err-push-in-Decided
 returns-in_err-push-in-Decided c =
@@ -30,8 +43,9 @@ returns-in_err-send_rule-in-Decided c =
     let P : Verdict → Type 0 = λ verdict.
     let what = answer_of c.args.switch.now (site_of c.args.site) (packet_standing at) verdict in
     LogAfter c.from_residual-in_err-send_rule-in-Decided.result
-    (answer_items (length c.args.self.now.bag + 1) at what) (answer_posts at what)
-    c.args.at.packet (answer_flight c.args.at.version c.args.at.rule what) c.args.self.now
+    (arrived_items (length c.args.self.now.bag + 1) at c.args.at.version c.args.at.rule what)
+    (arrived_posts at what) c.args.at.packet
+    (arrived_flight c.args.at.version c.args.at.rule what) c.args.self.now
     c.send_rule.new.self in
     subst P (sym c.in-Decided.is)
     (log_failed c.from_residual-in_err-send_rule-in-Decided.result _ _ _ _ _ _
@@ -50,8 +64,9 @@ returns-in_ok-send_rule-in-Decided c =
     let P : Verdict → Type 0 = λ verdict.
     let what = answer_of c.args.switch.now (site_of c.args.site) (packet_standing at) verdict in
     LogAfter c.leave.result
-    (answer_items (length c.args.self.now.bag + 1) at what) (answer_posts at what)
-    c.args.at.packet (answer_flight c.args.at.version c.args.at.rule what) c.args.self.now
+    (arrived_items (length c.args.self.now.bag + 1) at c.args.at.version c.args.at.rule what)
+    (arrived_posts at what) c.args.at.packet
+    (arrived_flight c.args.at.version c.args.at.rule what) c.args.self.now
     c.leave.new.self in
     subst P (sym c.in-Decided.is)
     (log_ends c.leave.result (decided ∷ sends) _ posts c.args.at.packet _ c.args.self.now
@@ -69,8 +84,9 @@ returns-in-Seek c =
     let P : Verdict → Type 0 = λ verdict.
     let what = answer_of s site (packet_standing at) verdict in
     LogAfter c.set_out.result
-    (answer_items (length c.args.self.now.bag + 1) at what) (answer_posts at what)
-    c.args.at.packet (answer_flight c.args.at.version c.args.at.rule what) c.args.self.now
+    (arrived_items (length c.args.self.now.bag + 1) at c.args.at.version c.args.at.rule what)
+    (arrived_posts at what) c.args.at.packet
+    (arrived_flight c.args.at.version c.args.at.rule what) c.args.self.now
     c.set_out.new.self in
     let is = way_is s site.near at leg c.in-Seek.targets
     (unwrap_or (option_copied c.links.result) no_links) c.way-way.result c.links.ensures

@@ -1,0 +1,45 @@
+-- What becomes of a packet at a switch, and how the calls answer it.
+use Rattle.std.specs.Prelude.{ℕ, Option, Some, None}
+use Rattle.ctrl_msg.specs.declared.message.Body.{Body}
+use Rattle.policy_rules.specs.declared.packet.Cause.{Cause}
+use Rattle.policy_rules.specs.declared.packet.Leg.{Leg}
+use Rattle.switch_core.specs.declared.answers.Arrived.{Arrived}
+use Rattle.switch_core.specs.declared.answers.Arrived.TheVariants as arrived
+use Rattle.switch_core.specs.declared.answers.Decision.{Decision}
+use Rattle.switch_core.specs.declared.answers.Entered.{Entered}
+use Rattle.switch_core.specs.declared.answers.Entered.TheVariants as entered
+use Rattle.switch_core.specs.declared.answers.Next.{Next}
+use Rattle.tunnel.specs.Tunnel.{TunnelValue}
+
+-- of a packet whose header was looked up: it is decided, with a rule for the cache of the switch
+-- where it entered, unless that is this one; or it sets out to an authority switch of its
+-- partition; or no route leads there
+pub data Answer : Type 0 where
+  Decided : Decision → Option Body → Next → Answer
+  Seek : TunnelValue → Answer
+  Stuck : Cause → Leg → Answer
+
+-- of a packet at the end of its route: out of the network, by this port, or such an answer
+pub data Arrival : Type 0 where
+  Out : ℕ → Arrival
+  Answered : Answer → Arrival
+
+-- as `enter` answers it, where the switch serves
+abbrev pub entered_with : Answer → Entered
+entered_with (Decided decision cache way) = entered.Decided decision way
+entered_with (Seek tunnel) = entered.Seek tunnel
+entered_with (Stuck cause leg) = entered.Stuck cause leg
+
+abbrev pub entry_of : Option Answer → Entered
+entry_of None = entered.Closed
+entry_of (Some answer) = entered_with answer
+
+-- as `arrive` answers it
+abbrev pub arrived_with : Answer → Arrived
+arrived_with (Decided decision cache way) = arrived.Decided decision cache way
+arrived_with (Seek tunnel) = arrived.Seek tunnel
+arrived_with (Stuck cause leg) = arrived.Stuck cause leg
+
+abbrev pub arrival_of : Arrival → Arrived
+arrival_of (Out port) = arrived.Out port
+arrival_of (Answered answer) = arrived_with answer
