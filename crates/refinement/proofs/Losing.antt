@@ -1,5 +1,5 @@
 -- A packet is lost.
-use Rattle.std.proofs.Common.{ℕ, ◌≡◌, ◌==◌, Bool, true, false, if◌then◌else◌, Option, Some, None, List, [], ◌∷◌, ◌++◌, refl, ap, sym, ◌∙◌, eqb-true, arith, length}
+use Rattle.std.proofs.Common.{ℕ, ◌≡◌, ◌==◌, Bool, true, false, if◌then◌else◌, Some, None, List, [], ◌∷◌, ◌++◌, refl, ap, sym, ◌∙◌, arith, length}
 use Rattle.std.specs.Prelude.{is_some}
 use Rattle.std.proofs.lemmas.Bool.Decides.{nat_tests}
 use Rattle.journal.specs.declared.item.Item.{Item}
@@ -13,7 +13,7 @@ use Rattle.steps.specs.Steps.{IsStep}
 use Rattle.update_machine.specs.Setting.{Setting}
 use Rattle.packet_laws.specs.Facts.{what_is_known}
 use Rattle.packet_laws.proofs.PacketFacts.{facts_grow}
-use Rattle.refinement.specs.Refinement.{RefineJournal, Control, Refinement}
+use Rattle.refinement.specs.Refinement.{RefineJournal, Control}
 use Rattle.refinement.specs.Flights.{flight_in}
 use Rattle.travelling.specs.Travelling.{Flights, WithOne, flight}
 use Rattle.refinement.proofs.Known.{Known, reached_known, flight_stays}
@@ -69,80 +69,52 @@ gone setting journal row i before q false knows is was =
     was ∙ sym (flight_stays setting journal (item.Row row (Lose i) ∷ item.Lost i ∷ []) q knows
     (refl, (other, tt)))
 
-pub lost : (control : Control) (setting : Setting) (journal : List Item)
-    (switches : List SwitchValue) (before after : Flights) (count row i : ℕ)
-    → RefineJournal setting journal switches before count control
-    → IsStep setting.net (length setting.policies) (Lose i)
-    → is_some (flight before i) ≡ true → WithOne before i None after
-    → (piece setting journal row (Lose i) ≡ item.Row row (Lose i) ∷ item.Lost i ∷ [])
-    × RefineJournal setting (journal ++ item.Row row (Lose i) ∷ item.Lost i ∷ []) switches after
-    count
-    control
-unfolding RefineJournal
-lost control setting journal switches before after count row i refines may travelling without =
-    let on : travels journal i ≡ true =
-    sym (ap is_some (refines.packet i) ∙ travels_as setting journal i) ∙ travelling in
-    let is : piece setting journal row (Lose i) ≡ item.Row row (Lose i) ∷ item.Lost i ∷ [] =
-    lose_piece setting journal row i
-    ∙ ap (λ b. item.Row row (Lose i) ∷ (if b then item.Lost i ∷ [] else nothing)) on in (
-      is,
+module _ (control : Control) (setting : Setting) (journal : List Item)
+    (switches : List SwitchValue) (before : Flights) (count row i : ℕ)
+    (refines : RefineJournal setting journal switches before count control) where
+  -- it travels where the table has it
+  travels_there : travels journal i ≡ is_some (flight before i)
+  unfolding RefineJournal
+  travels_there = sym (ap is_some (refines.packet i) ∙ travels_as setting journal i)
+
+  -- so this is its piece
+  pub lost_piece : is_some (flight before i) ≡ true
+      → piece setting journal row (Lose i) ≡ item.Row row (Lose i) ∷ item.Lost i ∷ []
+  lost_piece travelling =
+      lose_piece setting journal row i
+      ∙ ap (λ b. item.Row row (Lose i) ∷ (if b then item.Lost i ∷ [] else nothing))
+      (travels_there ∙ travelling)
+
+  -- without it the table is as the journal says then
+  pub lost : (after : Flights) → IsStep setting.net (length setting.policies) (Lose i)
+      → is_some (flight before i) ≡ true → WithOne before i None after
+      → RefineJournal setting (journal ++ item.Row row (Lose i) ∷ item.Lost i ∷ []) switches after
+      count control
+  unfolding RefineJournal
+  lost after may travelling without =
       refines_silent control setting journal switches switches before after count count row (Lose i)
-          (item.Lost i ∷ []) refines (record {
-            may = may;
-            piece_is = is;
-            not_told = refl;
-            sends = tt;
-            as_many = refl;
-            each = switches_stay control setting journal switches before count
-                (item.Row row (Lose i) ∷ item.Lost i ∷ []) refines (λ s. (refl, (refl, tt)))
-                (λ s. (refl, (refl, tt)));
-            travels = λ q. without q
-                ∙ gone setting journal row i before q (q == i)
-                (reached_known setting journal refines.sound refines.reached) refl
-                (refines.packet q);
-          }) (omega arith) refl,
-    )
+      (item.Lost i ∷ []) refines (record {
+        may = may;
+        piece_is = lost_piece travelling;
+        not_told = refl;
+        sends = tt;
+        as_many = refl;
+        each = switches_stay control setting journal switches before count
+            (item.Row row (Lose i) ∷ item.Lost i ∷ []) refines (λ s. (refl, (refl, tt)))
+            (λ s. (refl, (refl, tt)));
+        travels = λ q. without q
+            ∙ gone setting journal row i before q (q == i)
+            (reached_known setting journal refines.sound refines.reached) refl
+            (refines.packet q);
+      }) (omega arith) refl
 
--- of a packet that didn't travel, nothing changes
-stayed : (before : Flights) (i q : ℕ) (b : Bool) → (q == i) ≡ b
-    → is_some (flight before i) ≡ false
-    → (if b then None else flight before q) ≡ flight before q
-stayed before i q true is resting =
-    sym (none_there (flight before q) (ap (λ k. is_some (flight before k)) (eqb-true _ _ is)
-    ∙ resting))
-  where
-    none_there : {X : Type 0} (o : Option X) → is_some o ≡ false → o ≡ None
-    none_there None none = refl
-    none_there (Some x) none = absurd cc
-stayed before i q false is resting = refl
-
-pub not_lost : (control : Control) (setting : Setting) (journal : List Item)
-    (switches : List SwitchValue) (before after : Flights) (count row i : ℕ)
-    → RefineJournal setting journal switches before count control
-    → IsStep setting.net (length setting.policies) (Lose i)
-    → is_some (flight before i) ≡ false → WithOne before i None after
-    → (piece setting journal row (Lose i) ≡ item.Row row (Lose i) ∷ item.Nothing ∷ [])
-    × RefineJournal setting (grown journal row (Lose i) item.Nothing) switches after count control
-unfolding RefineJournal
-not_lost control setting journal switches before after count row i refines may resting without =
-    let off : travels journal i ≡ false =
-    sym (ap is_some (refines.packet i) ∙ travels_as setting journal i) ∙ resting in
-    let still : (piece setting journal row (Lose i) ≡ item.Row row (Lose i) ∷ nothing)
-    × Refinement setting (grown journal row (Lose i) item.Nothing) switches before count control =
-    nothing_happens control setting journal switches before count row (Lose i) refines may
-    (λ q. refl) (lose_piece setting journal row i
-    ∙ ap (λ b. item.Row row (Lose i) ∷ (if b then item.Lost i ∷ [] else nothing)) off) in (
-      still.0,
-      record {
-        sound = still.1.sound;
-        reached = still.1.reached;
-        many = still.1.many;
-        each = still.1.each;
-        packet = λ q. without q ∙ stayed before i q (q == i) refl resting ∙ still.1.packet q;
-        counted = still.1.counted;
-        controller = still.1.controller;
-        bag = still.1.bag;
-        up = still.1.up;
-        usable = still.1.usable;
-      },
-    )
+  -- and of a packet that doesn't travel nothing happens
+  pub not_lost : IsStep setting.net (length setting.policies) (Lose i)
+      → is_some (flight before i) ≡ false
+      → (piece setting journal row (Lose i) ≡ item.Row row (Lose i) ∷ nothing)
+      × RefineJournal setting (grown journal row (Lose i) item.Nothing) switches before count control
+  not_lost may resting =
+      nothing_happens control setting journal switches before count row (Lose i) refines may
+      (λ q. refl) (lose_piece setting journal row i
+      ∙ ap (λ b. item.Row row (Lose i) ∷ (if b then item.Lost i ∷ [] else nothing))
+      (travels_there ∙ resting))

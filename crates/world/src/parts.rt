@@ -95,10 +95,10 @@ impl Parts {
         requires { HasBegun (LoseStep packet) self.old }
         ensures { Plays (LoseStep packet) result self.old self.new }
     {
-        if !self.log.travelling.remove(packet) {
+        if !self.log.travelling.has(packet) {
             return self.log.journal.push(Item::Nothing);
         }
-        self.log.journal.push(Item::Lost { packet })
+        self.log.lose(packet)
     }
 
     // A message is never delivered again.

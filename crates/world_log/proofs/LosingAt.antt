@@ -7,22 +7,9 @@ use Rattle.journal.specs.declared.item.Item.{Item}
 use Rattle.journal.specs.declared.item.Item.TheVariants as item
 use Rattle.policy_rules.proofs.CallerLemmas.{filter_more}
 use Rattle.travelling.specs.Travelling.{IsNextAt, Flights, WithOne, WithoutAt, numbers_at, stands_at, flight}
+use Rattle.world_log.specs.Losing.{AreLostBelow, numbers_below}
 use Rattle.world_log.specs.Writing.{IsPart}
 use Rattle.travelling.proofs.Numbers.{beyond, filter_on, none_between}
-
--- those below a number
-abbrev pub numbers_below : Flights → ℕ → ℕ → List ℕ
-numbers_below before switch from =
-    filter (λ i. stands_at switch (flight before i)) (range_with_len 0 from)
-
--- of the packets below this number those that stood at the switch are lost
-pub record AreLostBelow (before : Flights) (switch from : ℕ) (journal now : List Item)
-    (after : Flights) : Type 0 where
-  pub within : from ≤ length before
-  pub written : now ≡ journal ++ map item.Lost (numbers_below before switch from)
-  pub lost : (i : ℕ) → i < from → flight after i
-      ≡ (if stands_at switch (flight before i) then None else flight before i)
-  pub later : (i : ℕ) → from ≤ i → flight after i ≡ flight before i
 
 pub none_lost : (before : Flights) (switch : ℕ) (journal : List Item)
     → AreLostBelow before switch 0 journal journal before

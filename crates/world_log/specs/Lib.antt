@@ -1,3 +1,4 @@
 pub mod Writing
 pub mod Packets
 pub mod Sending
+pub mod Losing

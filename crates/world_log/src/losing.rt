@@ -1,7 +1,8 @@
-//! Packets that are lost with the switch where they stand.
-ghost use Rattle.std.specs.Prelude.{◌≡◌, ◌++◌, map, OnOk, OnErr};
+//! Packets that are lost where they stand.
+ghost use Rattle.std.specs.Prelude.{◌≡◌, ◌++◌, ◌∷◌, [], ℕ, map, None, OnOk, OnErr};
 ghost use Rattle.journal.specs.declared.item.Item.TheVariants.{Lost as LostItem};
-ghost use Rattle.travelling.specs.Travelling.{WithoutAt, numbers_at};
+ghost use Rattle.travelling.specs.Travelling.{WithOne, WithoutAt, numbers_at};
+ghost use Rattle.world_log.specs.Losing.{AreLostBelow};
 ghost use Rattle.world_log.specs.Writing.{IsPart};
 
 use crate::log::Log;
@@ -9,23 +10,42 @@ use journal::Item;
 use std::alloc::AllocError;
 
 impl Log {
-    /// The packets that stand at the switch are lost, ascending by number. The search for the next
-    /// goes on behind each of them, and reads no other packet.
+    /// The packet is lost. It leaves the table once that is written.
     ///
     /// # Errors
-    /// Want of memory alone; a part of the items is written then.
+    /// Want of memory alone; nothing changes then.
+    pub fn lose(&mut self, packet: u32) -> Result<(), AllocError>
+        ensures written { OnOk result (self.new.journal
+            ≡ self.old.journal ++ LostItem packet ∷ []) }
+        ensures lost { OnOk result (WithOne self.old.travelling packet None self.new.travelling) }
+        ensures unsent { self.new.bag ≡ self.old.bag }
+        ensures unchanged { OnErr result (self.new ≡ self.old) }
+    {
+        self.journal.push(Item::Lost { packet })?;
+        let _ = self.travelling.remove(packet);
+        Ok(())
+    }
+
+    /// The packets that stand at the switch are lost, ascending by number, and each leaves the table
+    /// once its loss is written. The search for the next goes on behind each of them, and reads no
+    /// other packet.
+    ///
+    /// # Errors
+    /// Want of memory alone. A part of the items is written then, and the packets of these alone
+    /// have left the table.
     pub fn lose_at(&mut self, switch: u32) -> Result<(), AllocError>
         ensures written { OnOk result (self.new.journal ≡ self.old.journal
             ++ map LostItem (numbers_at self.old.travelling switch)) }
         ensures lost { OnOk result (WithoutAt self.old.travelling switch self.new.travelling) }
         ensures part { OnErr result (IsPart self.old.journal
             (map LostItem (numbers_at self.old.travelling switch)) self.new.journal) }
+        ensures left { OnErr result ((bound : ℕ) × AreLostBelow self.old.travelling switch bound
+            self.old.journal self.new.journal self.new.travelling) }
         ensures unsent { self.new.bag ≡ self.old.bag }
     {
         let mut from = 0;
         while let Some(packet) = self.travelling.next_at(from, switch) {
-            let _ = self.travelling.remove(packet);
-            self.journal.push(Item::Lost { packet })?;
+            self.lose(packet)?;
             from = packet as usize + 1;
         }
         Ok(())

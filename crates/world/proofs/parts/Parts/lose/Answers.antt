@@ -1,26 +1,42 @@
-use Rattle.std.proofs.Common.{refl, sym, ◌∙◌}
+use Rattle.std.proofs.Common.{◌∷◌, ◌++◌, [], ap, refl, subst, sym, ◌∙◌}
+use Rattle.std.proofs.lemmas.Result.{on_err_weaker, on_ok_weaker}
 use Rattle.journal.specs.declared.item.Item.TheVariants as item
+use Rattle.steps.specs.declared.step.Step.TheVariants.{Lose}
 use Rattle.world.specs.Parts.{control_in, setting_in}
-use Rattle.world.proofs.Frame.{goes_one, net_stays, none_in, plane_stays}
-use Rattle.refinement.proofs.Losing.{lost, not_lost}
+use Rattle.world.proofs.Frame.{PartsRefineJournalAs, goes_nothing, goes_quiet, net_stays, none_in, plane_stays, with_posts}
+use Rattle.world_log.proofs.Writing.{part_none}
+use Rattle.world_log.specs.declared.log.Log.{Log}
+use Rattle.refinement.proofs.Losing.{lost, lost_piece, not_lost}
 use Rattle.world.proofs.parts.Parts.lose.Goals as goal
 
-pub returns-then-not-remove : goal.returns-then-not-remove
-returns-then-not-remove c = λ before row begins.
+pub returns-then-not-has : goal.returns-then-not-has
+returns-then-not-has c = λ before row begins.
     let self = c.args.self.now in
-    goes_one begins (net_stays refl refl) item.Nothing
-    self.log.bag (plane_stays refl refl refl) refl (none_in _)
+    goes_nothing begins refl
     (not_lost (control_in self) (setting_in self) before self.switches.items self.log.travelling
-    c.remove.new.self self.packets row c.args.packet begins.ready.refines begins.ready.may
-    (sym c.remove.ensures.was ∙ c.if-not-remove.true) c.remove.ensures.after)
+    self.packets row c.args.packet begins.ready.refines begins.ready.may
+    (sym c.has.ensures ∙ c.if-not-has.true))
     c.push.ensures.pushed c.push.ensures.unchanged
 
 pub returns : goal.returns
 returns c = λ before row begins.
     let self = c.args.self.now in
-    goes_one begins (net_stays refl refl)
-    (item.Lost c.args.packet) self.log.bag (plane_stays refl refl refl) refl (none_in _)
+    let new = c.lose.new.self in
+    let all = record self { log = new } in
+    let travelling = sym c.has.ensures ∙ c.if-not-has.false in
+    goes_quiet begins (net_stays refl refl) (item.Lost c.args.packet ∷ [])
+    (plane_stays refl refl refl)
+    (lost_piece (control_in self) (setting_in self) before self.switches.items self.log.travelling
+    self.packets row c.args.packet begins.ready.refines travelling)
+    (on_ok_weaker c.lose.result (λ grown. none_in self.packets) c.lose.ensures.written)
+    c.lose.ensures.written
+    (on_err_weaker c.lose.result
+    (λ same. part_none self.log.journal (item.Lost c.args.packet ∷ []) new.journal
+    (ap (λ (log : Log). log.journal) same)) c.lose.ensures.unchanged)
+    (on_ok_weaker c.lose.result (λ without.
+    subst (λ bag. PartsRefineJournalAs self
+    (before ++ item.Row row (Lose c.args.packet) ∷ item.Lost c.args.packet ∷ []) all
+    (with_posts self bag)) (sym c.lose.ensures.unsent)
     (lost (control_in self) (setting_in self) before self.switches.items self.log.travelling
-    c.remove.new.self self.packets row c.args.packet begins.ready.refines begins.ready.may
-    (sym c.remove.ensures.was ∙ c.if-not-remove.false) c.remove.ensures.after)
-    c.push-2.ensures.pushed c.push-2.ensures.unchanged
+    self.packets row c.args.packet begins.ready.refines new.travelling begins.ready.may travelling
+    without)) c.lose.ensures.lost)

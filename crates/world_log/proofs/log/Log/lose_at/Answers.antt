@@ -1,4 +1,4 @@
-use Rattle.std.proofs.Common.{refl, arith}
+use Rattle.std.proofs.Common.{◌∙◌, refl, arith}
 use Rattle.world_log.proofs.LosingAt.{lost_all, lost_more, lost_part, lost_within, lost_written, none_lost}
 use Rattle.world_log.proofs.log.Log.lose_at.Goals as goal
 use Rattle.world_log.proofs.Writing.{on_err}
@@ -10,8 +10,9 @@ loop-packet-init c =
 pub loop-packet-preserved : goal.loop-packet-preserved
 loop-packet-preserved c = (
   lost_more _ _ _ _ _ _ c.loop-packet.invariant.0 c.in-Some.packet c.in-Some.ensures
-      c.push.new.self c.remove.new.self c.in_ok-push.ensures.pushed c.remove.ensures.after,
-  c.loop-packet.invariant.1,
+      c.lose.new.self.journal c.lose.new.self.travelling c.in_ok-lose.ensures.written
+      c.in_ok-lose.ensures.lost,
+  c.lose.ensures.unsent ∙ c.loop-packet.invariant.1,
 )
 
 pub loop-packet-smaller : goal.loop-packet-smaller
@@ -20,10 +21,18 @@ loop-packet-smaller c =
     c.in-Some.ensures in
     omega (arith, within, c.in-Some.ensures.0)
 
-pub returns-in_err-push-clause-part : goal.returns-in_err-push-clause-part
-returns-in_err-push-clause-part c =
+pub returns-in_err-lose-clause-part : goal.returns-in_err-lose-clause-part
+returns-in_err-lose-clause-part c =
     on_err c.from_residual.result
-    (rw c.in_err-push.ensures.unchanged (lost_part _ _ _ _ _ _ c.loop-packet.invariant.0))
+    (rw c.in_err-lose.ensures.unchanged (lost_part _ _ _ _ _ _ c.loop-packet.invariant.0))
+
+pub returns-in_err-lose-clause-left : goal.returns-in_err-lose-clause-left
+returns-in_err-lose-clause-left c =
+    on_err c.from_residual.result
+    (rw c.in_err-lose.ensures.unchanged (c.loop-packet.from, c.loop-packet.invariant.0))
+
+pub returns-in_err-lose-clause-unsent : goal.returns-in_err-lose-clause-unsent
+returns-in_err-lose-clause-unsent c = c.lose.ensures.unsent ∙ c.loop-packet.invariant.1
 
 pub returns-clause-written : goal.returns-clause-written
 returns-clause-written c =

@@ -1,0 +1,21 @@
+-- Packets that are lost where they stand.
+use Rattle.std.specs.Prelude.{ℕ, ◌≡◌, ◌<◌, ◌≤◌, if◌then◌else◌, None, List, ◌++◌, filter, length, map}
+use Rattle.std.specs.List.{range_with_len}
+use Rattle.journal.specs.declared.item.Item.{Item}
+use Rattle.journal.specs.declared.item.Item.TheVariants as item
+use Rattle.travelling.specs.Travelling.{Flights, flight, stands_at}
+
+-- the packets below a number that stand at the switch, ascending
+abbrev pub numbers_below : Flights → ℕ → ℕ → List ℕ
+numbers_below flights switch bound =
+    filter (λ i. stands_at switch (flight flights i)) (range_with_len 0 bound)
+
+-- of the packets below a number those that stood at the switch are lost: their losses are written,
+-- and they travel no more; no other loss is written, and all others are as before
+pub record AreLostBelow (before : Flights) (switch bound : ℕ) (journal now : List Item)
+    (after : Flights) : Type 0 where
+  pub within : bound ≤ length before
+  pub written : now ≡ journal ++ map item.Lost (numbers_below before switch bound)
+  pub lost : (i : ℕ) → i < bound → flight after i
+      ≡ (if stands_at switch (flight before i) then None else flight before i)
+  pub later : (i : ℕ) → bound ≤ i → flight after i ≡ flight before i
