@@ -2,3 +2,5 @@ mod Readings
 mod Lines
 mod Verdicts
 mod Moves
+mod Runs
+mod Known

@@ -7,15 +7,13 @@ use Rattle.policy_rules.specs.declared.policy.Hit.{Hit}
 use Rattle.policy_rules.specs.declared.policy.Row.{Row}
 use Rattle.update_machine.specs.Machine.{Decides, Machine, Packet, submitted_policy}
 use Rattle.trace_audit.specs.Reading.{IsPrinted}
+use Rattle.trace_audit.proofs.Readings.{some_same}
 
 -- a number of which nothing is known
 pub none_seen : {A B : Type 0} (seen : A → B) (found : Option A) (there : Option B)
     → option_map seen found ≡ there → is_some found ≡ false → there ≡ None
 none_seen seen None there e f = sym e
 none_seen seen (Some x) there e f = absurd cc
-
-pub some_same : {A : Type 0} (a b : A) (o : Option A) → o ≡ Some a → o ≡ Some b → a ≡ b
-some_same a b o p q = cc
 
 -- the item at a place of a slice is there in the list
 pub policy_there : (slice items : List (List Row)) (place : ℕ) (rows : List Row) → slice ≡ items

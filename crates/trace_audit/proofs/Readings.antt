@@ -12,7 +12,6 @@ use Rattle.update_machine.specs.Machine.{End, Machine, Packet, Decides, Ends, En
 use Rattle.trace_audit.specs.Reading.{Follows, Line, Whole, Open, ReadsLine, Reads, State, first_state, made_by, newest_policy}
 use Rattle.trace_audit.specs.Told.{Told}
 use Rattle.trace_audit.specs.Told as told
-use Rattle.trace_audit.proofs.Moves.{some_same}
 
 -- ---- some lines and more
 
@@ -62,7 +61,7 @@ follows_sound files old (told.Entered packet) new own sound f =
     policies_stay old new (ap (λ m. m.policies) f.2.after) sound
 follows_sound files old (told.Submitted file version) new own sound f =
     subst (All IsPolicy) (sym (ap (λ m. m.policies) f.0.after))
-    (All-push IsPolicy old.machine.policies f.0.policy sound (made_in files file (newest_policy old.machine) f.0.policy own f.0.there))
+    (All-push IsPolicy old.machine.policies f.0.policy sound (made_in files file (newest_policy old.machine.policies) f.0.policy own f.0.there))
 follows_sound files old (told.Retired version) new own sound f =
     policies_stay old new (ap (λ m. m.policies) f.0.after) sound
 follows_sound files old (told.Decided packet version rule action) new own sound f =
@@ -73,6 +72,9 @@ follows_sound files old told.Nothing new own sound f =
     policies_stay old new (ap (λ s. s.machine.policies) f) sound
 
 -- ---- only one
+
+pub some_same : {A : Type 0} (a b : A) (o : Option A) → o ≡ Some a → o ≡ Some b → a ≡ b
+some_same a b o p q = cc
 
 state_same : (a b : State) → a.machine ≡ b.machine → a.pending ≡ b.pending → a ≡ b
 state_same a b m p =

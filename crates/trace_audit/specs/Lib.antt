@@ -1,4 +1,6 @@
 pub mod Told
 pub mod Reading
 pub mod Verdicts
+pub mod Run
+pub mod Decided
 pub mod Seen

@@ -16,8 +16,8 @@ use Rattle.trace_audit.specs.Told as told
 abbrev pub made_by : List (List Row) → ℕ → Option (List Row) → Option (List Row)
 made_by files file newest = if file == 0 then None else slice_get files (file - 1)
 
-abbrev pub newest_policy : Machine → Option (List Row)
-newest_policy machine = slice_get machine.policies (length machine.policies - 1)
+abbrev pub newest_policy : List (List Row) → Option (List Row)
+newest_policy policies = slice_get policies (length policies - 1)
 
 -- ---- states
 
@@ -52,7 +52,7 @@ Follows files old (told.Row header) new = new ≡ record old { pending = header 
 Follows files old (told.Entered packet) new = (header : Header) × (old.pending ≡ Some header)
     × Enters old.machine packet header new.machine × (new.pending ≡ None)
 Follows files old (told.Submitted file version) new =
-    Submits old.machine version (made_by files file (newest_policy old.machine)) new.machine
+    Submits old.machine version (made_by files file (newest_policy old.machine.policies)) new.machine
     × (version ≤ most_versions) × (new.pending ≡ old.pending)
 Follows files old (told.Retired version) new =
     Retires old.machine version new.machine × (new.pending ≡ old.pending)

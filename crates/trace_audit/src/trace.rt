@@ -1,6 +1,8 @@
 ghost use Rattle.std.specs.Prelude.{◌≡◌, ◌↔◌, All, IfOk};
 ghost use Rattle.policy_rules.specs.Policy.{IsPolicy};
+ghost use Rattle.trace_audit.specs.Decided.{AreJustified};
 ghost use Rattle.trace_audit.specs.Reading.{AreGood, Whole, lines_of};
+ghost use Rattle.trace_audit.specs.Run.{AreRun};
 ghost use Rattle.trace_audit.specs.Seen.{IsRead, state_seen};
 ghost use Rattle.trace_audit.specs.Verdicts.{IsVerdict};
 ghost use Rattle.trace_audit.specs.declared.trace.Verdict.TheVariants.{Yes};
@@ -27,15 +29,32 @@ pub enum Verdict {
 ///
 /// # Errors
 /// Want of memory alone.
-#[tactic(auto, using(crate::proofs::Verdicts::verdict_exact))]
 pub fn audit(alloc: Global, trace: &[u8], files: &[Policy]) -> Result<Verdict, AllocError>
     ensures verdict { IfOk result (IsVerdict files.now (lines_of trace.now)) }
     ensures exactly { IfOk result
         (λ verdict. (verdict ≡ Yes) ↔ AreGood files.now (lines_of trace.now)) }
+    ensures run { IfOk result (λ verdict. verdict ≡ Yes → AreRun files.now (lines_of trace.now)) }
+    ensures justified { IfOk result
+        (λ verdict. verdict ≡ Yes → AreJustified files.now (lines_of trace.now)) }
 {
     files_are_sound(files);
-    let verdict = read_lines(alloc, trace, files)?;
-    Ok(verdict)
+    let mut auditor = Auditor::new(alloc, files)?;
+    let mut rest = trace;
+    let mut line: u32 = 0;
+    while !rest.is_empty() {
+        line = line.saturating_add(1);
+        match cut(rest, b'\n') {
+            None => return Ok(Verdict::No { line }),
+            Some((text, next)) => {
+                let good = take_line(&mut auditor, alloc, files, text)?;
+                if !good {
+                    return Ok(Verdict::No { line });
+                }
+                rest = next;
+            }
+        }
+    }
+    Ok(Verdict::Yes)
 }
 
 // Each file's rows are a policy, which is known where they are read.
@@ -45,27 +64,6 @@ fn files_are_sound(files: &[Policy])
     for policy in files {
         let _rows = policy.rows();
     }
-}
-
-// Reads the lines up to the first bad one.
-fn read_lines(alloc: Global, trace: &[u8], files: &[Policy]) -> Result<Verdict, AllocError>
-    requires { All IsPolicy files.now }
-    ensures { IfOk result (IsVerdict files.now (lines_of trace.now)) }
-{
-    let mut auditor = Auditor::new(alloc, files)?;
-    let mut rest = trace;
-    let mut line: u32 = 0;
-    while !rest.is_empty() {
-        line = line.saturating_add(1);
-        let Some((text, next)) = cut(rest, b'\n') else {
-            return Ok(Verdict::No { line });
-        };
-        if !take_line(&mut auditor, alloc, files, text)? {
-            return Ok(Verdict::No { line });
-        }
-        rest = next;
-    }
-    Ok(Verdict::Yes)
 }
 
 // Reads a line, and says whether it is good.

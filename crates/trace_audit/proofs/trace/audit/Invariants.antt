@@ -2,7 +2,7 @@ use Rattle.std.proofs.Common.{length}
 use Rattle.trace_audit.specs.Reading.{lines_of}
 use Rattle.trace_audit.specs.Seen.{state_seen}
 use Rattle.trace_audit.proofs.Verdicts.{IsSoFar}
-use Rattle.trace_audit.proofs.trace.read_lines.Given as goal
+use Rattle.trace_audit.proofs.trace.audit.Given as goal
 
 abbrev pub invariant-loop-rest : goal.invariant-loop-rest
 invariant-loop-rest l = IsSoFar l.fn.files l.fn.trace l.rest l.line (state_seen l.auditor)

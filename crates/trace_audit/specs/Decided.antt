@@ -1,0 +1,129 @@
+-- What the lines of a trace tell of a packet's decision, in the order of the lines.
+use Rattle.std.specs.Prelude.{⊤, ℕ, ◌≡◌, ◌≢◌, ◌⊎◌, ◌+◌, ◌-◌, ◌<◌, ◌≤◌, ◌==◌, if◌then◌else◌, Option, Some, None, option_to_list, List, [], ◌∷◌, ◌++◌, All, Contains, length, slice_get}
+use Rattle.five_tuple.specs.declared.header.Header.{Header}
+use Rattle.policy_rules.specs.Policy.{IsFirstMatch}
+use Rattle.policy_rules.specs.declared.policy.Action.{Action}
+use Rattle.policy_rules.specs.declared.policy.Action.TheVariants as action
+use Rattle.policy_rules.specs.declared.policy.Hit.{Hit}
+use Rattle.policy_rules.specs.declared.policy.Row.{Row}
+use Rattle.update_machine.specs.Machine.{End, Dropped, LeftBy}
+use Rattle.trace_audit.specs.Reading.{IsPrinted, Line, Open, Whole, made_by, newest_policy}
+use Rattle.trace_audit.specs.Told.{Told, told_of}
+use Rattle.trace_audit.specs.Told as told
+
+-- ---- what was told
+
+abbrev pub with_told : Option Told → List Told → List Told
+with_told None more = more
+with_told (Some first) more = first ∷ more
+
+-- what these lines tell, in order; each good line tells one thing
+abbrev pub all_told : List Line → List Told
+all_told [] = []
+all_told (Whole text ∷ lines) = with_told (told_of text) (all_told lines)
+all_told (Open text ∷ lines) = all_told lines
+
+-- ---- versions
+
+-- the policies of the versions behind what is told: a line that submits the next version adds the
+-- policy that its file makes
+abbrev pub policies_with : List (List Row) → List (List Row) → Told → List (List Row)
+policies_with files policies (told.Submitted file version) = if version == length policies + 1
+    then policies ++ option_to_list (made_by files file (newest_policy policies)) else policies
+policies_with files policies _ = policies
+
+abbrev pub policies_from : List (List Row) → List (List Row) → List Told → List (List Row)
+policies_from files policies [] = policies
+policies_from files policies (first ∷ more) =
+    policies_from files (policies_with files policies first) more
+
+-- of the first file, and those that were submitted; the first version's first
+abbrev pub policies_told : List (List Row) → List Told → List (List Row)
+policies_told files ts = policies_from files (option_to_list (made_by files 1 None)) ts
+
+-- no version above this one is retired by it
+abbrev pub RetiresUpTo : ℕ → Told → Type 0
+RetiresUpTo mark (told.Retired version) = version ≤ mark
+RetiresUpTo mark _ = ⊤
+
+-- the mark: the greatest version that was retired, or 0
+pub record IsMark (ts : List Told) (mark : ℕ) : Type 0 where
+  pub greatest : All (RetiresUpTo mark) ts
+  pub retired : (mark ≡ 0) ⊎ Contains ts (told.Retired mark)
+
+-- ---- packets
+
+-- neither a row nor an entry
+abbrev pub IsBetween : Told → Type 0
+IsBetween (told.Row header) = ⊥
+IsBetween (told.Entered packet) = ⊥
+IsBetween _ = ⊤
+
+-- no entry of this packet
+abbrev pub EntersOther : ℕ → Told → Type 0
+EntersOther packet (told.Entered other) = other ≢ packet
+EntersOther packet _ = ⊤
+
+-- no decision of this packet
+abbrev pub DecidesOther : ℕ → Told → Type 0
+DecidesOther packet (told.Decided other version rule action) = other ≢ packet
+DecidesOther packet _ = ⊤
+
+-- the last row is a packet's, with this header, and no packet entered since
+pub record IsWaiting (ts : List Told) (header : Header) : Type 0 where
+  pub before : List Told
+  pub after : List Told
+  pub row : ts ≡ before ++ told.Row (Some header) ∷ after
+  pub last : All IsBetween after
+
+-- the packet entered once, behind a row of its own with this header, under this mark
+pub record HasEntered (ts : List Told) (packet : ℕ) (header : Header) (mark : ℕ) : Type 0 where
+  pub before : List Told
+  pub after : List Told
+  pub entry : ts ≡ before ++ told.Entered packet ∷ after
+  pub none_before : All (EntersOther packet) before
+  pub none_after : All (EntersOther packet) after
+  pub own_row : IsWaiting before header
+  pub own_mark : IsMark before mark
+
+-- the packet got one decision, with this action: the first match of its header under one version
+-- that was submitted before, and is above the mark at its entry
+pub record HasDecision (files : List (List Row)) (ts : List Told) (packet : ℕ) (action : Action)
+    : Type 0 where
+  pub before : List Told
+  pub after : List Told
+  pub version : ℕ
+  pub rule_text : List ℕ
+  pub action_text : List ℕ
+  pub decision : ts ≡ before ++ told.Decided packet version rule_text action_text ∷ after
+  pub none_before : All (DecidesOther packet) before
+  pub none_after : All (DecidesOther packet) after
+  pub header : Header
+  pub mark : ℕ
+  pub entered : HasEntered before packet header mark
+  pub above_mark : mark < version
+  pub policy : List Row
+  pub submitted : slice_get (policies_told files before) (version - 1) ≡ Some policy
+  pub hit : Hit
+  pub first_match : IsFirstMatch policy header hit
+  pub printed : IsPrinted rule_text action_text hit
+  pub acts : hit.action ≡ action
+
+-- the packet got its one decision before it ended, and none behind its end
+pub record IsDecidedOnce (files : List (List Row)) (before after : List Told) (packet : ℕ)
+    (action : Action) : Type 0 where
+  pub decided : HasDecision files before packet action
+  pub none_later : All (DecidesOther packet) after
+
+-- a packet that is told to be dropped, or out by a port, was decided so
+abbrev pub IsJustified : List (List Row) → List Told → List Told → ℕ → End → Type 0
+IsJustified files before after packet Dropped =
+    IsDecidedOnce files before after packet action.Drop
+IsJustified files before after packet (LeftBy port) =
+    IsDecidedOnce files before after packet (action.Out port)
+IsJustified files before after packet _ = ⊤
+
+abbrev pub AreJustified : List (List Row) → List Line → Type 0
+AreJustified files lines = (before after : List Told) (packet : ℕ) (end : End)
+    → all_told lines ≡ before ++ told.Ended packet end ∷ after
+    → IsJustified files before after packet end

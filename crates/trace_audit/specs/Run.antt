@@ -1,0 +1,49 @@
+-- The moves that the lines of a trace tell, as items of a journal.
+use Rattle.std.specs.Prelude.{ℕ, ◌≡◌, List, [], ◌∷◌, ◌++◌}
+use Rattle.five_tuple.specs.declared.header.Header.{Header}
+use Rattle.policy_rules.specs.declared.packet.Cause.{Cause}
+use Rattle.policy_rules.specs.declared.packet.How.{How}
+use Rattle.policy_rules.specs.declared.packet.Leaving.{Leaving}
+use Rattle.policy_rules.specs.declared.packet.Leg.{Leg}
+use Rattle.policy_rules.specs.declared.policy.Hit.{Hit}
+use Rattle.policy_rules.specs.declared.policy.Row.{Row}
+use Rattle.journal.specs.declared.item.Item.{Item}
+use Rattle.journal.specs.declared.item.Item.TheVariants as item
+use Rattle.update_machine.specs.Machine.{Dropped, IsRun, LeftBy, Lost, Stuck}
+use Rattle.update_machine.specs.Setting.{Setting}
+use Rattle.trace_audit.specs.Decided.{IsWaiting, all_told}
+use Rattle.trace_audit.specs.Reading.{IsPrinted, Line}
+use Rattle.trace_audit.specs.Told.{Told}
+use Rattle.trace_audit.specs.Told as told
+
+-- the items of what is told behind these: the one that it tells, where it is a move, and else none.
+-- A packet enters with the header of its row. What the machine doesn't look at may be anything.
+abbrev pub AreItemsOf : List Told → Told → List Item → Type 0
+AreItemsOf before (told.Entered packet) items = (switch : ℕ) × (header : Header)
+    × IsWaiting before header × (items ≡ item.Entered packet switch header ∷ [])
+AreItemsOf before (told.Submitted file version) items = items ≡ item.Submitted file version ∷ []
+AreItemsOf before (told.Retired version) items = items ≡ item.Retired version ∷ []
+AreItemsOf before (told.Decided packet version rule action) items = (hit : Hit) × (how : How)
+    × IsPrinted rule action hit
+    × (items ≡ item.Decided packet version hit.rule hit.action how ∷ [])
+AreItemsOf before (told.Ended packet Dropped) items = items ≡ item.Dropped packet ∷ []
+AreItemsOf before (told.Ended packet (LeftBy port)) items = (leaving : Leaving)
+    × (items ≡ item.Left packet port leaving ∷ [])
+AreItemsOf before (told.Ended packet Lost) items = items ≡ item.Lost packet ∷ []
+AreItemsOf before (told.Ended packet Stuck) items = (switch : ℕ) × (cause : Cause) × (leg : Leg)
+    × (down : List ℕ) × (items ≡ item.Stuck packet switch cause leg down ∷ [])
+AreItemsOf before (told.Row header) items = items ≡ []
+AreItemsOf before told.Nothing items = items ≡ []
+
+-- the items of all that is told behind these, one after another
+abbrev pub AreItems : List Told → List Told → List Item → Type 0
+AreItems before [] items = items ≡ []
+AreItems before (first ∷ more) items = (front rest : List Item) × (items ≡ front ++ rest)
+    × AreItemsOf before first front × AreItems (before ++ first ∷ []) more rest
+
+-- the moves that the lines tell are a run of the machine that has the policies of these files, on
+-- whatever network
+pub record AreRun (files : List (List Row)) (lines : List Line) : Type 0 where
+  pub moves : List Item
+  pub told : AreItems [] (all_told lines) moves
+  pub run : (setting : Setting) → setting.policies ≡ files → IsRun setting moves
