@@ -134,6 +134,7 @@ zip_holds rows net tree targets policy defined few placement =
     (small_leaves tree (rules_of rows) any_word net.leaf_rules defined) in
     let there = targets_there net (sizes_of parts) targets placement in
     record {
+      parts = record { tree = tree; defined = defined; leaves = firsts };
       sound = rw firsts (parts_sound rows net.leaf_rules tree policy defined);
       ended = rw firsts (parts_ended rows net.leaf_rules tree policy defined);
       few = omega (arith, pairs, number, few);

@@ -4,7 +4,7 @@
 use Rattle.std.specs.Prelude.{ℕ, ◌≡◌, ◌<◌, ◌≤◌, nat_lt, if◌then◌else◌, Result, Ok, Err, List, length, map, All}
 use Rattle.std.specs.List.{zip}
 use Rattle.std.specs.Result.{result_map_both}
-use Rattle.cut_tree.specs.DefinedTree.{tree_of}
+use Rattle.cut_tree.specs.DefinedTree.{IsDefinedTree, tree_of}
 use Rattle.cut_tree.specs.Shape.{Shape, leaf_count}
 use Rattle.net_file.specs.Net.{IsNet}
 use Rattle.net_file.specs.declared.net.Net.{Net}
@@ -15,6 +15,7 @@ use Rattle.policy_rules.specs.Policy.{IsPolicy}
 use Rattle.policy_rules.specs.RuleList.{rules_of, word_total}
 use Rattle.policy_rules.specs.declared.policy.Row.{Row}
 use Rattle.policy_rules.specs.declared.rules.Partition.{Partition}
+use Rattle.policy_rules.specs.declared.rules.Rule.{Rule}
 use Rattle.policy_rules.specs.Hosted.{NoPlan, TooManyWords, TooManyLeaves, NoRoom}
 use Rattle.partition.specs.Parts.{parts_of}
 
@@ -41,8 +42,15 @@ plan_of rows net = if nat_lt 4096 (word_total rows)
     then Err (TooManyWords (word_total rows))
     else plan_of_tree net (tree_of (rules_of rows) net.leaf_rules)
 
+-- the partitions are the leaves of the tree that is defined for the rules with this cap
+pub record AreLeaves (rules : List Rule) (cap : ℕ) (parts : List Partition) : Type 0 where
+  pub tree : Shape
+  pub defined : IsDefinedTree rules cap tree
+  pub leaves : parts ≡ parts_of tree
+
 -- what holds of each plan
 pub record IsPlan (rows : List Row) (net : Net) (plan : List Hosted) : Type 0 where
+  pub parts : AreLeaves (rules_of rows) net.leaf_rules (map (λ hosted. hosted.0) plan)
   pub sound : AreSoundPartitions rows (map (λ hosted. hosted.0) plan)
   pub ended : All LastCovers (map (λ hosted. hosted.0) plan)
   pub few : length plan ≤ 512
@@ -52,7 +60,7 @@ pub record IsPlan (rows : List Row) (net : Net) (plan : List Hosted) : Type 0 wh
   pub targets : All (λ hosted. All (λ s. s < length net.switches) hosted.1) plan
 
 pub record PlanLaws : Type 0 where
-  -- its partitions are sound for the policy and small, the last rule of each covers its region, and
-  -- each is hosted where there is room
+  -- its partitions are the leaves of the defined tree; they are sound for the policy and small, the
+  -- last rule of each covers its region, and each is hosted where there is room
   pub holds : (rows : List Row) (net : Net) (plan : List Hosted)
       → IsPolicy rows → IsNet net → plan_of rows net ≡ Ok plan → IsPlan rows net plan
