@@ -126,4 +126,4 @@ not_rerouted_over_a_link_found_down : StrongCause open_net
     (item.Rerouted 1 (0 ∷ 1 ∷ [])) → ⊥
 unfolding found_down with_link has_link has
 not_rerouted_over_a_link_found_down causes =
-    let up : true ≡ false = causes.1 0 0 1 refl refl in cc
+    let up : true ≡ false = causes.1.by.avoids 0 0 1 refl refl in cc

@@ -1,6 +1,7 @@
 -- The strong causes follow from those that are read off the items, and from what is kept.
 use Rattle.std.proofs.Common.{ℕ, ◌≡◌, ◌<◌, Option, Some, None, List, [], length, sym, subst, ◌∙◌, arith, inl, inr, ◌⊎◌}
 use Rattle.std.specs.Prelude.{IsFalse, IsTrue}
+use Rattle.failover.specs.Paths.{IsRoute}
 use Rattle.policy_rules.specs.declared.packet.Cause.{Cause}
 use Rattle.policy_rules.specs.declared.packet.How.{How}
 use Rattle.policy_rules.specs.declared.packet.Leg.{Leg}
@@ -9,11 +10,13 @@ use Rattle.policy_rules.specs.declared.policy.Action.{Action}
 use Rattle.journal.specs.declared.item.Item.{Item}
 use Rattle.journal.specs.declared.item.Item.TheVariants as item
 use Rattle.update_machine.specs.Causes.{HaveCauses}
+use Rattle.update_machine.specs.LinkMasks.{links_known}
 use Rattle.update_machine.specs.Moves.{route_for}
 use Rattle.update_machine.specs.Ways.{found_down, targets_of}
 use Rattle.update_machine.specs.Setting.{Setting, IsSetting}
 use Rattle.update_machine.specs.Versions.{holds_version, stamp_of}
 use Rattle.update_machine.specs.Travels.{leg_of}
+use Rattle.update_machine.proofs.CallerLemmas.{known_link_laws}
 use Rattle.control_laws.specs.ItemCauses.{HasItemCause}
 use Rattle.control_laws.proofs.Facts.{Behind, have_weaker}
 use Rattle.control_laws.proofs.Serving.{serving_hold}
@@ -21,8 +24,8 @@ use Rattle.packet_laws.specs.OnWay.{IsOnLeg}
 use Rattle.packet_laws.specs.Facts.{PacketFacts, what_is_known}
 use Rattle.packet_laws.specs.KeptFacts.{AllKept}
 use Rattle.packet_laws.specs.Stages.{stage_of}
-use Rattle.packet_laws.specs.StrongCauses.{AvoidsFound, FindsLinkDown, FurtherCause, IsOnRightLeg, IsStuckOnLeg, RaisesVersion, SeeksRightly, StrongCause}
-use Rattle.packet_laws.specs.WayCauses.{FindsNoRoute, IsBlockedOn, IsDecided, IsLookedUp, MeetsDown, TakesLeg, TakesRoute, WayCause}
+use Rattle.packet_laws.specs.StrongCauses.{FindsLinkDown, FurtherCause, IsLeastRoute, IsOnRightLeg, IsStuckOnLeg, RaisesVersion, SeeksRightly, StrongCause}
+use Rattle.packet_laws.specs.WayCauses.{FindsNoRoute, IsAt, IsBlockedOn, IsDecided, IsLookedUp, MeetsDown, TakesLeg, TakesRoute, WayCause}
 use Rattle.packet_laws.proofs.AllKept.{Before, kept_before, known_before, knows}
 use Rattle.packet_laws.proofs.Ends.{decision_out, leaves_rightly, mark_in, meets_link, seeks_rightly, stands_known, stuck_rightly}
 use Rattle.packet_laws.proofs.Here.{IsHere, here_of, leg_in, seeking_of, some_same}
@@ -130,12 +133,19 @@ raises_version setting before i version partition route knows_it takes earlier p
         on.current)
         (subst (λ v. IsFalse (holds_version before s v)) version_same misses.missing)
 
-route_avoids : (setting : Setting) (before : List Item) (i s : ℕ) (leg : Leg) (route : List ℕ)
-    → Knows setting before i (stage_of before i)
-    → route_for setting before i s leg ≡ Some route → AvoidsFound before i route
-route_avoids setting before i s leg route knows_it leads =
-    (route_way setting before s (targets_of setting before leg) (found_down before i) route
-    knows_it.links leads).avoids
+least_route : (setting : Setting) (before : List Item) (i s : ℕ) (leg : Leg) (route : List ℕ)
+    → Knows setting before i (stage_of before i) → IsAt before i s
+    → route_for setting before i s leg ≡ Some route → IsLeastRoute setting before i leg route
+least_route setting before i s leg route knows_it at leads =
+    let targets = targets_of setting before leg in
+    let down = found_down before i in
+    record {
+      switch = s;
+      stands = stands_known setting before i s knows_it at;
+      least = subst (IsRoute (links_known setting before s down) s targets) leads
+          (known_link_laws.route setting before s targets down);
+      avoids = (route_way setting before s targets down route knows_it.links leads).avoids;
+    }
 
 further : (setting : Setting) (before : List Item) (next : Item) → Before setting before
     → HasItemCause setting before next → WayCause setting before next
@@ -145,15 +155,23 @@ further setting before (item.Retired version) known cause way = cause
 further setting before (item.Seeking packet version partition route) known cause way = (
   raises_version setting before packet version partition route (knows setting before packet known)
       way,
-  route_avoids setting before packet way.switch (Seek version partition) route
-      (knows setting before packet known) way.leads,
+  least_route setting before packet way.switch (Seek version partition) route
+      (knows setting before packet known) way.at way.leads,
 )
 further setting before (item.Exiting packet route) known cause way =
-    route_avoids setting before packet way.by.switch (Exit way.port) route
-    (knows setting before packet known) way.by.leads
+    record {
+      port = way.port;
+      own_leg = (way.by.takes.decision, way.by.takes.decided, way.by.takes.action);
+      by = least_route setting before packet way.by.switch (Exit way.port) route
+          (knows setting before packet known) way.by.at way.by.leads;
+    }
 further setting before (item.Rerouted packet route) known cause way =
-    route_avoids setting before packet way.switch way.leg route (knows setting before packet known)
-    way.leads
+    record {
+      leg = way.leg;
+      own_leg = way.blocked.takes;
+      by = least_route setting before packet way.switch way.leg route
+          (knows setting before packet known) way.at way.leads;
+    }
 further setting before (item.FoundDown packet one two) known cause way =
     finds_link setting before packet one two (knows setting before packet known) way
 further setting before (item.Decided packet version rule act by) known cause way =

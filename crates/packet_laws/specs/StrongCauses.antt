@@ -2,6 +2,7 @@
 -- promise: each packet is decided by one whole version that wasn't retired as it came in, or was
 -- lost by a row, or was stuck where no route was known.
 use Rattle.std.specs.Prelude.{⊤, ℕ, ◌≡◌, ◌<◌, ◌≤◌, Some, None, List}
+use Rattle.failover.specs.Paths.{IsRoute}
 use Rattle.policy_rules.specs.declared.packet.Cause.{Cause}
 use Rattle.policy_rules.specs.declared.packet.Leg.{Leg}
 use Rattle.policy_rules.specs.declared.packet.Leg.TheVariants.{Seek, Exit}
@@ -10,13 +11,14 @@ use Rattle.journal.specs.declared.item.Item.TheVariants as item
 use Rattle.steps.specs.Steps.{HasLink}
 use Rattle.update_machine.specs.Adverts.{route_from}
 use Rattle.update_machine.specs.Causes.{LeavesRightly}
+use Rattle.update_machine.specs.LinkMasks.{links_known}
 use Rattle.update_machine.specs.Marks.{current_mark}
 use Rattle.update_machine.specs.Moves.{cause_at}
-use Rattle.update_machine.specs.Packets.{decision_of}
+use Rattle.update_machine.specs.Packets.{decision_of, standing}
 use Rattle.update_machine.specs.Setting.{Setting}
 use Rattle.update_machine.specs.Travels.{leg_of}
 use Rattle.update_machine.specs.Ways.{found_down, targets_of}
-use Rattle.update_machine.specs.ExactCauses.{FindsNextDown, FindsNoPath}
+use Rattle.update_machine.specs.ExactCauses.{FindsNextDown, FindsNoPath, SeeksOwn}
 use Rattle.control_laws.specs.ItemCauses.{RetiresRightly, SubmitsRightly}
 use Rattle.packet_laws.specs.Facts.{entry_mark}
 use Rattle.packet_laws.specs.KeptFacts.{Avoids}
@@ -59,15 +61,43 @@ RaisesVersion before packet version = (earlier partition : ℕ)
 abbrev pub AvoidsFound : List Item → ℕ → List ℕ → Type 0
 AvoidsFound before packet route = Avoids (found_down before packet) route
 
+-- from where the packet stands, over the links that its switch knows less those that the packet
+-- found down, the route is a shortest one to the first target of the leg that is reached, and of
+-- these the least; so it uses no link that the packet found down
+pub record IsLeastRoute (setting : Setting) (before : List Item) (packet : ℕ) (leg : Leg)
+    (route : List ℕ) : Type 0 where
+  pub switch : ℕ
+  pub stands : standing before packet ≡ Some switch
+  pub least : (let links = links_known setting before switch (found_down before packet) in
+      IsRoute links switch (targets_of setting before leg) (Some route))
+  pub avoids : AvoidsFound before packet route
+
+-- it exits by the port of its decision
+pub record ExitsByLeast (setting : Setting) (before : List Item) (packet : ℕ) (route : List ℕ)
+    : Type 0 where
+  pub port : ℕ
+  pub own_leg : SeeksOwn setting before packet (Exit port)
+  pub by : IsLeastRoute setting before packet (Exit port) route
+
+-- it goes on with the leg that it is on
+pub record TurnsToLeast (setting : Setting) (before : List Item) (packet : ℕ) (route : List ℕ)
+    : Type 0 where
+  pub leg : Leg
+  pub own_leg : leg_of before packet ≡ Some leg
+  pub by : IsLeastRoute setting before packet leg route
+
 -- what is asked of an item beyond its cause
 abbrev pub FurtherCause : Setting → List Item → Item → Type 0
 FurtherCause setting before (item.Submitted file version) =
     SubmitsRightly setting before file version
 FurtherCause setting before (item.Retired version) = RetiresRightly setting before version
 FurtherCause setting before (item.Seeking packet version partition route) =
-    RaisesVersion before packet version × AvoidsFound before packet route
-FurtherCause setting before (item.Exiting packet route) = AvoidsFound before packet route
-FurtherCause setting before (item.Rerouted packet route) = AvoidsFound before packet route
+    RaisesVersion before packet version
+    × IsLeastRoute setting before packet (Seek version partition) route
+FurtherCause setting before (item.Exiting packet route) =
+    ExitsByLeast setting before packet route
+FurtherCause setting before (item.Rerouted packet route) =
+    TurnsToLeast setting before packet route
 FurtherCause setting before (item.FoundDown packet one two) =
     FindsLinkDown setting before packet one two
 FurtherCause setting before (item.Decided packet version rule action how) =
