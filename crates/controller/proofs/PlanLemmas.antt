@@ -1,7 +1,8 @@
 -- The plan of a policy is sound.
-use Rattle.std.proofs.Common.{ℕ, ◌≡◌, ◌∙◌, ◌+◌, ◌^◌, ◌<◌, ◌≤◌, List, [], ◌∷◌, ◌++◌, length, take, get_or, Ok, Err, refl, sym, ap, subst, arith, All, take_all}
+use Rattle.std.proofs.Common.{ℕ, ◌≡◌, ◌∙◌, ◌+◌, ◌^◌, ◌<◌, ◌≤◌, List, [], ◌∷◌, ◌++◌, length, take, get_or, map, Ok, Err, refl, sym, ap, subst, arith, All, take_all}
 use Rattle.std.specs.List.{zip}
 use Rattle.std.proofs.lemmas.Grind.{take_at_read}
+use Rattle.std.proofs.lemmas.List.{get_or-map, length-map}
 use Rattle.std.proofs.lemmas.Slice.Zip.{get_or-zip, length-zip}
 use Rattle.std.proofs.lemmas.List.Elements.{All-weaker}
 use Rattle.base.specs.Refusals.{IfRefused}
@@ -24,6 +25,8 @@ use Rattle.controller.specs.Causes.{of_placement, of_rules, of_tree}
 use Rattle.policy_rules.specs.declared.policy.Row.{Row}
 use Rattle.policy_rules.specs.declared.rules.Partition.{Partition}
 use Rattle.policy_rules.specs.declared.rules.Rule.{Rule}
+use Rattle.switch_table.proofs.TableLemmas.{tables_lead}
+use Rattle.controller.specs.Leads.{LeadEveryHeader}
 use Rattle.controller.specs.Plan.{IsSoundPlan, RefusesPlan}
 
 pub plan_sound : (rows : List Row) (net : Net) (plan : List Hosted) → IsNet net
@@ -36,6 +39,25 @@ plan_sound rows net plan network is = record {
       (λ hosted. length hosted.0.rules < 2 ^ 32)
       (λ hosted small. omega (arith, small, network.leaf_rules)) plan is.leaves;
 }
+
+some_targets : (rows : List Row) (net : Net) (plan : List Hosted) → IsPlan rows net plan
+    → All (λ hosted. 0 < length hosted.1) plan
+some_targets rows net plan is = λ k d within.
+    let first = λ (hosted : Hosted). hosted.0 in
+    let second = λ (hosted : Hosted). hosted.1 in
+    let sizes : length (sizes_of (map first plan)) ≡ length plan =
+    length-map (map first plan) (λ part. length part.rules) ∙ length-map plan first in
+    let due = is.placement.hosted k (omega (arith, within, sizes)) in
+    let there : get_or (map second plan) k [] ≡ (get_or plan k d).1 =
+    get_or-map second plan k d [] within in
+    omega (arith, due.number, ap length there)
+
+-- from each switch the tables of a plan lead each header to the policy's first match
+pub plan_leads : (rows : List Row) (net : Net) (plan : List Hosted) → IsPlan rows net plan
+    → LeadEveryHeader rows plan
+unfolding LeadEveryHeader
+plan_leads rows net plan is version switch header sound =
+    tables_lead rows plan version switch header is.sound (some_targets rows net plan is) sound
 
 pub small_rules : (most : ℕ) (parts : List Partition) → most ≤ 8192
     → All (λ part. length part.rules ≤ most) parts → All (λ part. length part.rules < 2 ^ 32) parts

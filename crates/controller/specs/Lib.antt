@@ -1,4 +1,5 @@
 pub mod Plan
+pub mod Leads
 pub mod Causes
 pub mod Controller
 pub mod Sends

@@ -2,8 +2,8 @@
 //! gives to a switch.
 //!
 //! `compile` promises the defined plan of a policy on a network, or the first cause for which there
-//! is none. `tables_of` promises the tables that the plan's definition gives to a switch, which are
-//! sound: they lead each header to the policy's first match.
+//! is none. From each switch the plan's tables lead each header to the policy's first match.
+//! `tables_of` promises the tables that the plan's definition gives to a switch, which are sound.
 //!
 //! ```text
 //! let plan = compile(alloc, &policy, &net)?;       // TooManyWords, TooManyLeaves or NoRoom

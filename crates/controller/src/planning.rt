@@ -1,6 +1,7 @@
 ghost use Rattle.std.specs.Prelude.{◌≡◌, ◌^◌, ◌<◌, length, All, Ok, IfOk, IfErr};
 ghost use Rattle.net_file.specs.Net.{IsNet};
-ghost use Rattle.partition.specs.Plan.{plan_of, rooms_of, sizes_of};
+ghost use Rattle.partition.specs.Plan.{IsPlan, plan_of, rooms_of, sizes_of};
+ghost use Rattle.controller.specs.Leads.{LeadEveryHeader};
 ghost use Rattle.controller.specs.Plan.{RefusesPlan};
 
 use crate::plan::Plan;
@@ -13,7 +14,7 @@ use policy_rules::{Partition, Policy, to_rules};
 use std::alloc::{AllocError, Global};
 
 /// The plan of a policy on a network: the partitions of its tree with the network's leaves, hosted
-/// by the switches.
+/// by the switches. From each switch its tables lead each header to the policy's first match.
 ///
 /// # Errors
 /// `TooManyWords` where its rows have more than 4,096 words; otherwise `TooManyLeaves` where its
@@ -22,6 +23,8 @@ use std::alloc::{AllocError, Global};
 pub fn compile(alloc: Global, policy: &Policy, net: &Net) -> Result<Plan, PlanError>
     requires { IsNet net.now }
     ensures plan { IfOk result (λ plan. plan_of policy.now net.now ≡ Ok plan.hosted) }
+    ensures parts { IfOk result (λ plan. IsPlan policy.now net.now plan.hosted) }
+    ensures leads { IfOk result (λ plan. LeadEveryHeader policy.now plan.hosted) }
     ensures policy { IfOk result (λ plan. plan.policy ≡ policy.now) }
     ensures refused { IfErr result (RefusesPlan policy.now net.now) }
 {

@@ -2,7 +2,7 @@ use Rattle.std.proofs.Common.{◌∙◌, ap}
 use Rattle.std.proofs.lemmas.Result.{err_from_is_err_and}
 use Rattle.cut_tree.specs.Shape.{shape_of}
 use Rattle.partition.specs.Plan.{sizes_of}
-use Rattle.controller.proofs.PlanLemmas.{IsReady, placement_refused, plan_sound, planned_at, rules_refused, tree_refused}
+use Rattle.controller.proofs.PlanLemmas.{IsReady, placement_refused, plan_leads, plan_sound, planned_at, rules_refused, tree_refused}
 use Rattle.controller.proofs.planning.compile.Goals as goal
 use Rattle.controller.proofs.planning.compile.Goals.{After-place}
 
@@ -64,3 +64,27 @@ returns-clause-plan c =
       c.deref-6.ensures.value,
       c.in_ok-parts.ensures.parts,
     ) (planned_at _ _ _ _ _ _ _ ready c.in_ok-targets.ensures.value)
+
+pub returns-clause-parts : goal.returns-clause-parts
+returns-clause-parts c =
+    let ready = ready_to_host (goal.at.returns-clause-parts c).After-place in
+    let planned = planned_at _ _ _ _ _ _ _ ready c.in_ok-targets.ensures.value in
+    rw (
+      c.in_ok-plan.ensures.hosted,
+      c.deref-5.ensures.value,
+      c.deref-6.ensures.value,
+      c.in_ok-parts.ensures.parts,
+    ) (c.plan_laws.ensures.holds _ _ _ c.in_ok-rules.ensures.policy c.requires planned)
+
+pub returns-clause-leads : goal.returns-clause-leads
+returns-clause-leads c =
+    let ready = ready_to_host (goal.at.returns-clause-leads c).After-place in
+    let planned = planned_at _ _ _ _ _ _ _ ready c.in_ok-targets.ensures.value in
+    rw (
+      c.in_ok-plan.ensures.hosted,
+      c.deref-5.ensures.value,
+      c.deref-6.ensures.value,
+      c.in_ok-parts.ensures.parts,
+    )
+    (plan_leads _ _ _
+    (c.plan_laws.ensures.holds _ _ _ c.in_ok-rules.ensures.policy c.requires planned))

@@ -1,0 +1,14 @@
+-- Where the tables of a plan lead.
+use Rattle.std.specs.Prelude.{ℕ, List}
+use Rattle.five_tuple.specs.Header.{IsHeader}
+use Rattle.five_tuple.specs.declared.header.Header.{Header}
+use Rattle.partition.specs.Plan.{Hosted}
+use Rattle.policy_rules.specs.declared.policy.Row.{Row}
+use Rattle.switch_table.specs.Lookup.{LeadsToFirstMatch, table_lookup}
+use Rattle.switch_table.specs.Tables.{tables_of}
+
+-- for any version the tables of each switch decide each header as the first match among the rows
+-- does, or send it to targets whose tables all do
+unfoldable pub LeadEveryHeader : List Row → List Hosted → Type 0
+LeadEveryHeader rows plan = (version switch : ℕ) (header : Header) → IsHeader header
+    → LeadsToFirstMatch rows plan version header (table_lookup (tables_of plan version switch) header)
