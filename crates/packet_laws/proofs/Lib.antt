@@ -11,6 +11,7 @@ pub mod Served
 pub mod CrashServed
 pub mod Lookups
 pub mod Rests
+pub mod StepsOfPlays
 pub mod Reached
 pub mod Caches
 pub mod Routes
@@ -47,3 +48,4 @@ mod Rows
 mod Plays
 mod EntryTrials
 mod Together
+mod OnTheWay

@@ -1,14 +1,15 @@
 -- The causes of a reached journal's items, and what holds between its steps.
-use Rattle.std.proofs.Common.{List, []}
+use Rattle.std.proofs.Common.{List, [], take}
 use Rattle.journal.specs.declared.item.Item.{Item}
-use Rattle.update_machine.specs.Answers.{IsReached}
+use Rattle.update_machine.specs.Answers.{IsReached, after_steps}
 use Rattle.update_machine.specs.Causes.{HaveCauses}
 use Rattle.update_machine.specs.Travels.{travels}
 use Rattle.update_machine.specs.Setting.{Setting, IsSetting}
 use Rattle.update_machine.proofs.CallerLemmas.{answers_so_far}
 use Rattle.control_laws.specs.Always.{HoldsReached}
 use Rattle.control_laws.proofs.Reached.{IsCarried, OfSettings, reached_by, reached_carries, setting_carries, so_far_carries}
-use Rattle.packet_laws.specs.Between.{HoldsBetween}
+use Rattle.packet_laws.specs.Between.{HoldsBetween, steps_played}
+use Rattle.packet_laws.proofs.StepsOfPlays.{played_carries}
 use Rattle.packet_laws.proofs.Rests.{IsSettled, IsWayItem, piece_settled}
 
 pub settled_at_first : (setting : Setting) → IsSettled setting []
@@ -44,6 +45,11 @@ between Holds settled = record {
       settled setting journal is
       (so_far_carries setting (OfSettings IsSettled setting) (settled_carried setting) events journal
       own answers is);
+  played = λ setting events journal full own play n is.
+      settled setting (after_steps setting [] (take n
+      (steps_played setting events journal full play))) is
+      (played_carries setting (OfSettings IsSettled setting) (settled_carried setting) events journal
+      full own play n is);
 }
 
 -- what holds where all items have their causes holds of each journal that is reached, within a

@@ -1,10 +1,10 @@
 -- What always holds, holds between steps too; so all of it holds there.
-use Rattle.std.proofs.Common.{ℕ, List, [], sym, subst}
+use Rattle.std.proofs.Common.{ℕ, List, [], sym, subst, take}
 use Rattle.journal.specs.declared.item.Item.{Item}
+use Rattle.update_machine.specs.Answers.{after_steps}
 use Rattle.update_machine.specs.Causes.{HaveCauses}
 use Rattle.update_machine.specs.Setting.{Setting, IsSetting}
-use Rattle.update_machine.proofs.CallerLemmas.{begins_itself}
-use Rattle.control_laws.specs.Always.{HoldsAlways, HoldsReached}
+use Rattle.control_laws.specs.Always.{HoldsAlways}
 use Rattle.control_laws.specs.BootLaws.{BootsAreKnown, OpensAtOneVersion, ServingIsKnown}
 use Rattle.control_laws.specs.ItemCauses.{HasItemCause}
 use Rattle.control_laws.specs.Acknowledged.{IsAckedFirst, MembersAcknowledged}
@@ -12,7 +12,7 @@ use Rattle.control_laws.specs.Bounds.{MarksAreBounded}
 use Rattle.control_laws.specs.Heard.{AcksHold, InstallsArePlanned}
 use Rattle.control_laws.specs.Serving.{ServingHold}
 use Rattle.control_laws.specs.Planned.{TablesArePlanned}
-use Rattle.packet_laws.specs.Between.{HoldsBetween}
+use Rattle.packet_laws.specs.Between.{HoldsBetween, steps_played}
 use Rattle.packet_laws.specs.Travelling.{PacketsTravel, RulesAreRight}
 use Rattle.packet_laws.specs.Whole.{KeepVersionsWhole}
 
@@ -30,7 +30,7 @@ pub record Laws : Type 0 where
   pub members : HoldsAlways (λ setting journal. MembersAcknowledged setting journal)
   pub marks : HoldsAlways (λ setting journal. MarksAreBounded setting journal)
   pub holding : HoldsAlways (λ setting journal. ServingHold setting journal)
-  pub rules : HoldsReached (λ setting journal. IsSetting setting → RulesAreRight setting journal)
+  pub rules : HoldsBetween (λ setting journal. IsSetting setting → RulesAreRight setting journal)
   pub packets : HoldsBetween (λ setting journal.
       IsSetting setting → PacketsTravel setting journal)
 
@@ -66,10 +66,14 @@ together laws = record {
       (laws.causes.behind.ends.answered setting events journal answers)
       (laws.rules.answered setting events journal own answers is)
       (laws.packets.answered setting events journal own answers is);
-  so_far = λ setting events journal own answers is.
-      let begins = begins_itself setting events journal answers in
-      whole laws setting journal
+  so_far = λ setting events journal own answers is. whole laws setting journal
       (laws.causes.behind.ends.so_far setting events journal answers)
-      (laws.rules.begun setting events journal own begins is)
+      (laws.rules.so_far setting events journal own answers is)
       (laws.packets.so_far setting events journal own answers is);
+  played = λ setting events journal full own play n is.
+      let steps = take n (steps_played setting events journal full play) in
+      whole laws setting (after_steps setting [] steps)
+      (laws.causes.behind.ends.stepped setting steps)
+      (laws.rules.played setting events journal full own play n is)
+      (laws.packets.played setting events journal full own play n is);
 }

@@ -1,13 +1,20 @@
 -- When a fact holds between steps of a network that is asked for steps of its own.
-use Rattle.std.specs.Prelude.{List}
+use Rattle.std.specs.Prelude.{ℕ, Option, Some, None, List, [], take}
 use Rattle.journal.specs.declared.item.Item.{Item}
 use Rattle.steps.specs.declared.step.Event.{Event}
-use Rattle.update_machine.specs.Answers.{Answers, AnswersSoFar, IsReached}
+use Rattle.update_machine.specs.Answers.{Answers, AnswersSoFar, IsReached, StepOfRow, after_steps}
+use Rattle.update_machine.specs.Full.{IsPlay}
 use Rattle.update_machine.specs.Setting.{Setting}
 use Rattle.control_laws.specs.Always.{AreEvents}
 
+-- the steps of a play, in order
+abbrev pub steps_played : (setting : Setting) (events : List Event) (journal : List Item)
+    (full : Option ℕ) → IsPlay setting events journal full → List StepOfRow
+steps_played setting events journal None play = play.answers.steps
+steps_played setting events journal (Some row) play = play.steps
+
 -- it holds behind any steps of the network, in each answer to events of it, and in what an answer
--- writes until some step ends
+-- writes until some step ends; and behind each step of a play
 pub record HoldsBetween (Holds : Setting → List Item → Type 0) : Type 0 where
   pub reached : (setting : Setting) (journal : List Item) → IsReached setting journal
       → Holds setting journal
@@ -15,3 +22,8 @@ pub record HoldsBetween (Holds : Setting → List Item → Type 0) : Type 0 wher
       → AreEvents setting events → Answers setting events journal → Holds setting journal
   pub so_far : (setting : Setting) (events : List Event) (journal : List Item)
       → AreEvents setting events → AnswersSoFar setting events journal → Holds setting journal
+  pub played : (setting : Setting) (events : List Event) (journal : List Item)
+      (full : Option ℕ) → AreEvents setting events → (play : IsPlay setting events journal full)
+      → (n : ℕ)
+      → Holds setting
+      (after_steps setting [] (take n (steps_played setting events journal full play)))

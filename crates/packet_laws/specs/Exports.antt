@@ -5,6 +5,7 @@ pub use Rattle.packet_laws.specs.Drains.{drain_left}
 pub use Rattle.packet_laws.specs.Entries.{AreEntered, rows_played}
 pub use Rattle.packet_laws.specs.Hops.{detour_count, exit_count, hops_taken, most_hops, most_switches, routes_taken, search_count}
 pub use Rattle.packet_laws.specs.KeptFacts.{AllKept}
+pub use Rattle.packet_laws.specs.OnTheWay.{HeldOnTheWay, HoldsSoFar, IsKeptBehind}
 pub use Rattle.packet_laws.specs.Rest.{AreResting}
 pub use Rattle.packet_laws.specs.Routes.{finding_count, hops_on_route, most_routes}
 pub use Rattle.packet_laws.specs.Stops.{GoesOrStops}

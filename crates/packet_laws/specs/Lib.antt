@@ -15,4 +15,5 @@ pub mod Routes
 pub mod Stops
 pub mod Entries
 pub mod Whole
+pub mod OnTheWay
 pub mod Exports

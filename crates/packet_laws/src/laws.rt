@@ -166,6 +166,5 @@ pub fn steps_keep_versions_whole()
     members_acknowledged();
     marks_are_bounded();
     serving_switches_hold();
-    cache_rules_are_right();
     packets_travel();
 }

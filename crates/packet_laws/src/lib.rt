@@ -10,6 +10,7 @@
 #![tactic(auto)]
 
 mod laws;
+mod way_laws;
 
 pub use laws::{
     answers_are_runs, cache_rules_are_right, causes_are_strong, deliveries_rise, drains_end,
@@ -17,3 +18,4 @@ pub use laws::{
     packet_rows_are_entered, packets_arrive, packets_rest, packets_take_few_hops,
     packets_take_few_routes, packets_travel, plays_exist, steps_keep_versions_whole,
 };
+pub use way_laws::{journals_hold_so_far, plays_held_on_the_way, steps_are_kept};

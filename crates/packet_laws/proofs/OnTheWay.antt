@@ -1,0 +1,121 @@
+-- What held on the way, by the laws that say it one by one.
+use Rattle.std.specs.Prelude.{length}
+use Rattle.std.proofs.Common.{ℕ, ◌≤◌, ◌∙◌, Option, List, [], ◌++◌, ap, arith, sym, subst, take}
+use Rattle.std.proofs.Math.Seq.{take-append_seam}
+use Rattle.journal.specs.declared.item.Item.{Item}
+use Rattle.steps.specs.declared.step.Event.{Event}
+use Rattle.update_machine.specs.Answers.{after_steps}
+use Rattle.update_machine.specs.Causes.{HasCause, HaveCauses}
+use Rattle.update_machine.specs.Full.{IsPlay}
+use Rattle.update_machine.specs.Machine.{IsRun}
+use Rattle.update_machine.specs.Marks.{AreSettled, most_versions}
+use Rattle.update_machine.specs.Setting.{IsSetting, Setting}
+use Rattle.control_laws.specs.Always.{AreEvents, HoldsAlways, HoldsAtEnds, HoldsReached}
+use Rattle.control_laws.specs.Rises.{RisesRightly}
+use Rattle.packet_laws.specs.Between.{HoldsBetween, steps_played}
+use Rattle.packet_laws.specs.Hops.{detour_count, exit_count, hops_taken, most_hops, most_switches, routes_taken, search_count}
+use Rattle.packet_laws.specs.OnTheWay.{HeldOnTheWay, HoldsSoFar, IsKeptBehind, TakesFew}
+use Rattle.packet_laws.specs.Routes.{hops_on_route, most_routes}
+use Rattle.packet_laws.specs.StrongCauses.{StrongCause}
+use Rattle.packet_laws.specs.Whole.{KeepVersionsWhole}
+use Rattle.packet_laws.proofs.StepsOfPlays.{play_begins}
+
+-- a fact of the journals of settings, within a step too
+abbrev pub OfReached : (Setting → List Item → Type 0) → Type 0
+OfReached Holds = HoldsReached (λ setting journal. IsSetting setting → Holds setting journal)
+
+-- the laws of journals that may end within a step
+pub record Laws : Type 0 where
+  pub run : OfReached (λ setting journal. IsRun setting journal)
+  pub causes : OfReached (λ setting journal. HaveCauses (HasCause setting) [] journal)
+  pub strong : OfReached (λ setting journal. HaveCauses (StrongCause setting) [] journal)
+  pub rises : HoldsAlways (λ setting journal. HaveCauses (RisesRightly setting) [] journal)
+  pub searches : OfReached (λ setting journal. (i : ℕ) → search_count journal i ≤ most_versions)
+  pub exits : OfReached (λ setting journal. (i : ℕ) → exit_count journal i ≤ 1)
+  pub detours : OfReached (λ setting journal.
+      (i : ℕ) → detour_count journal i ≤ length setting.net.links)
+  pub routes : OfReached (λ setting journal. (i : ℕ) → routes_taken journal i ≤ most_routes)
+  pub on_route : OfReached (λ setting journal. (i : ℕ) → hops_on_route journal i ≤ most_switches)
+  pub hops : OfReached (λ setting journal. (i : ℕ) → hops_taken journal i ≤ most_hops)
+
+-- what always holds, holds where a journal is reached
+always_reached : (Holds : Setting → List Item → Type 0) → HoldsAlways Holds → HoldsReached Holds
+always_reached Holds law = record {
+  reached = λ setting journal at.
+      subst (Holds setting) (sym at.written) (law.behind.ends.stepped setting at.steps);
+  within = λ setting journal rest at.
+      subst (Holds setting)
+      (ap (take (length journal)) (sym at.written) ∙ take-append_seam journal rest)
+      (law.behind.items setting at.steps (length journal));
+  answered = λ setting events journal own answers.
+      law.behind.ends.answered setting events journal answers;
+  begun = λ setting events journal own begins. law.behind.begun setting events journal begins;
+}
+
+-- whatever gives each of the laws gives all
+all_so_far : Laws → (setting : Setting) (journal : List Item) → IsSetting setting
+    → ((Holds : Setting → List Item → Type 0) → HoldsReached Holds → Holds setting journal)
+    → HoldsSoFar setting journal
+all_so_far laws setting journal is give = record {
+  run = give _ laws.run is;
+  causes = give _ laws.causes is;
+  strong = give _ laws.strong is;
+  rises = give _ (always_reached _ laws.rises);
+  few = λ i. record {
+    searches = give _ laws.searches is i;
+    exits = give _ laws.exits is i;
+    detours = omega (arith, give _ laws.detours is i, is.net.few_links);
+    routes = give _ laws.routes is i;
+    on_route = give _ laws.on_route is i;
+    hops = give _ laws.hops is i;
+  };
+}
+
+pub holds_so_far : Laws → OfReached HoldsSoFar
+holds_so_far laws = record {
+  reached = λ setting journal at is. all_so_far laws setting journal is
+      (λ Holds law. law.reached setting journal at);
+  within = λ setting journal rest at is. all_so_far laws setting journal is
+      (λ Holds law. law.within setting journal rest at);
+  answered = λ setting events journal own answers is. all_so_far laws setting journal is
+      (λ Holds law. law.answered setting events journal own answers);
+  begun = λ setting events journal own begins is. all_so_far laws setting journal is
+      (λ Holds law. law.begun setting events journal own begins);
+}
+
+-- ---- behind steps
+
+abbrev pub OfSteps : (Setting → List Item → Type 0) → Type 0
+OfSteps Holds = HoldsBetween (λ setting journal. IsSetting setting → Holds setting journal)
+
+pub kept_behind : OfSteps KeepVersionsWhole → HoldsAtEnds AreSettled → OfSteps IsKeptBehind
+kept_behind whole settle = record {
+  reached = λ setting journal at is. record {
+    versions = whole.reached setting journal at is;
+    settled = subst (AreSettled setting) (sym at.written) (settle.stepped setting at.steps);
+  };
+  answered = λ setting events journal own answers is. record {
+    versions = whole.answered setting events journal own answers is;
+    settled = settle.answered setting events journal answers;
+  };
+  so_far = λ setting events journal own answers is. record {
+    versions = whole.so_far setting events journal own answers is;
+    settled = settle.so_far setting events journal answers;
+  };
+  played = λ setting events journal full own play n is. record {
+    versions = whole.played setting events journal full own play n is;
+    settled = settle.stepped setting (take n (steps_played setting events journal full play));
+  };
+}
+
+-- ---- plays
+
+pub held_on_the_way : OfReached HoldsSoFar → OfSteps IsKeptBehind
+    → (setting : Setting) (events : List Event) (journal : List Item) (full : Option ℕ)
+    → IsSetting setting → AreEvents setting events → IsPlay setting events journal full
+    → HeldOnTheWay setting events journal full
+held_on_the_way so_far behind setting events journal full is own play = record {
+  kept = λ steps n within. behind.played setting events journal full own steps n is;
+  so_far = so_far.begun setting events journal own (play_begins setting events journal full play)
+      is;
+}

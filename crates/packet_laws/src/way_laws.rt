@@ -1,0 +1,43 @@
+//! The laws of what held on the way.
+ghost use Rattle.std.specs.Prelude.{List, Option, ℕ};
+ghost use Rattle.update_machine.specs.Exports.{Event, IsPlay, IsSetting, Item, Setting};
+ghost use Rattle.control_laws.specs.Always.{AreEvents, HoldsReached};
+ghost use Rattle.packet_laws.specs.Exports.{HeldOnTheWay, HoldsBetween, HoldsSoFar, IsKeptBehind};
+
+use crate::laws::{
+    answers_are_runs, causes_are_strong, ends_have_causes, packets_take_few_hops,
+    packets_take_few_routes, steps_keep_versions_whole,
+};
+use control_laws::{current_rises_rightly, marks_settle};
+
+/// At each moment, within a step too, the journal is a run of the machine whose ends and items have
+/// their causes, the current mark rose as it may, and each packet took few routes and hops.
+pub fn journals_hold_so_far()
+    ensures { HoldsReached (λ setting journal. IsSetting setting → HoldsSoFar setting journal) }
+{
+    answers_are_runs();
+    ends_have_causes();
+    causes_are_strong();
+    current_rises_rightly();
+    packets_take_few_routes();
+    packets_take_few_hops();
+}
+
+/// Behind each step the versions are whole, and the marks stand where they are to stand.
+pub fn steps_are_kept()
+    ensures { HoldsBetween (λ setting journal. IsSetting setting → IsKeptBehind setting journal) }
+{
+    steps_keep_versions_whole();
+    marks_settle();
+}
+
+/// So it was on the way of each play of events of a network: behind each of its steps, and at its
+/// end.
+pub fn plays_held_on_the_way()
+    ensures { (setting : Setting) (events : List Event) (journal : List Item) (full : Option ℕ)
+        → IsSetting setting → AreEvents setting events → IsPlay setting events journal full
+        → HeldOnTheWay setting events journal full }
+{
+    journals_hold_so_far();
+    steps_are_kept();
+}
