@@ -9,17 +9,12 @@ use Rattle.update_machine.specs.Packets.{next_packet}
 use Rattle.update_machine.specs.Setting.{Setting}
 use Rattle.update_machine.specs.Travels.{next_travelling, travels}
 use Rattle.packet_laws.specs.Facts.{what_is_known}
+use Rattle.world.specs.Least.{IsLeastFrom}
 use Rattle.world.specs.State.{RefinesJournal, WorldValue, setting_at}
 use Rattle.refinement.specs.Refinement.{RefineJournal}
 use Rattle.refinement.specs.Flights.{flight_in, flight_of}
 use Rattle.travelling.specs.Travelling.{IsNextFrom, Flights, flight}
 use Rattle.refinement.proofs.Known.{reached_known}
-
--- the least number from here on that satisfies the test
-abbrev IsLeast : (ℕ → Bool) → ℕ → Option ℕ → Type 0
-IsLeast test from None = (i : ℕ) → from ≤ i → test i ≡ false
-IsLeast test from (Some least) = (from ≤ least) × (test least ≡ true)
-    × ((i : ℕ) → from ≤ i → i < least → test i ≡ false)
 
 differ : {X : Type 0} (b : Bool) → b ≡ true → b ≡ false → X
 differ true holds fails = cc fails
@@ -27,7 +22,7 @@ differ false holds fails = cc holds
 
 -- a test that fails at the first number has its least one behind it
 onward : (test : ℕ → Bool) (from : ℕ) (next : Option ℕ) → test from ≡ false
-    → IsLeast test from next → IsLeast test (from + 1) next
+    → IsLeastFrom test from next → IsLeastFrom test (from + 1) next
 onward test from None fails least = λ i behind. least i (omega (arith, behind))
 onward test from (Some i) fails least = (
   elim (cases_lt from i) [
@@ -42,7 +37,7 @@ onward test from (Some i) fails least = (
 
 -- one that holds there has it there
 first : (test : ℕ → Bool) (from : ℕ) (next : Option ℕ) → test from ≡ true
-    → IsLeast test from next → next ≡ Some from
+    → IsLeastFrom test from next → next ≡ Some from
 first test from None holds least = differ (test from) holds (least from (omega arith))
 first test from (Some i) holds least = elim (cases_lt from i) [
   | inl below ↦ differ (test from) holds (least.2 from (omega arith) below)
@@ -52,13 +47,13 @@ first test from (Some i) holds least = elim (cases_lt from i) [
 ]
 
 by_first : (test : ℕ → Bool) (from : ℕ) (next rest : Option ℕ) (b : Bool) → test from ≡ b
-    → IsLeast test from next → (IsLeast test (from + 1) next → next ≡ rest)
+    → IsLeastFrom test from next → (IsLeastFrom test (from + 1) next → next ≡ rest)
     → next ≡ cond b (Some from) rest
 by_first test from next rest true holds least on = first test from next holds least
 by_first test from next rest false fails least on = on (onward test from next fails least)
 
 least_is_found : (test : ℕ → Bool) (from count : ℕ) (next : Option ℕ)
-    → ((i : ℕ) → from + count ≤ i → test i ≡ false) → IsLeast test from next
+    → ((i : ℕ) → from + count ≤ i → test i ≡ false) → IsLeastFrom test from next
     → next ≡ find test (range_with_len from count)
 least_is_found test from zero None over least = refl
 least_is_found test from zero (Some i) over least =
@@ -71,23 +66,20 @@ some_travels : {X : Type 0} (b : Bool) (x : X) → IsSome (cond b (Some x) None)
 some_travels true x is = refl
 some_travels false x is = cc is
 
--- the least packet on its way is the least that travels
-least_travels : (setting : Setting) (journal : List Item) (travelling : Flights)
-    (next : Option ℕ)
+-- the least packet on its way from a number on is the least that travels
+least_from : (setting : Setting) (journal : List Item) (travelling : Flights)
     → ((i : ℕ) → flight travelling i ≡ flight_in setting journal i)
-    → ((i : ℕ) → next_packet journal ≤ i → travels journal i ≡ false)
-    → IsNextFrom travelling 1 next → next ≡ next_travelling journal
-unfolding flight_in next_packet next_travelling
-least_travels setting journal travelling next tie over least =
-    least_is_found (travels journal) 1 _ next (λ i behind. over i (omega (arith, behind)))
-    (by next least)
+    → (from : ℕ) (next : Option ℕ) → IsNextFrom travelling from next
+    → IsLeastFrom (travels journal) from next
+unfolding flight_in
+least_from setting journal travelling tie from next least = by next least
   where
     none : (i : ℕ) → flight travelling i ≡ None → travels journal i ≡ false
     none i is = false_from_ne_true (travels journal i)
         (λ yes. none-some (flight_of setting journal i) (sym is ∙ tie i
         ∙ cond-true (travels journal i) (Some (flight_of setting journal i)) None yes))
 
-    by : (b : Option ℕ) → IsNextFrom travelling 1 b → IsLeast (travels journal) 1 b
+    by : (b : Option ℕ) → IsNextFrom travelling from b → IsLeastFrom (travels journal) from b
     by None least = λ i behind. none i (least i behind)
     by (Some i) least = (
       least.0,
@@ -96,11 +88,25 @@ least_travels setting journal travelling next tie over least =
       λ k behind below. none k (least.2 k behind below),
     )
 
+-- from the first number on it is the least of all
+least_travels : (journal : List Item) (next : Option ℕ)
+    → ((i : ℕ) → next_packet journal ≤ i → travels journal i ≡ false)
+    → IsLeastFrom (travels journal) 1 next → next ≡ next_travelling journal
+unfolding next_packet next_travelling
+least_travels journal next over least =
+    least_is_found (travels journal) 1 _ next (λ i behind. over i (omega (arith, behind))) least
+
+pub least_from_in : (world : WorldValue) (from : ℕ) (next : Option ℕ) → RefinesJournal world
+    → IsNextFrom world.travelling from next → IsLeastFrom (travels world.journal) from next
+unfolding RefineJournal
+least_from_in world from next refines least =
+    least_from (setting_at world) world.journal world.travelling refines.packet from next least
+
 pub least_travels_in : (world : WorldValue) (next : Option ℕ) → RefinesJournal world
     → IsNextFrom world.travelling 1 next → next ≡ next_travelling world.journal
 unfolding RefineJournal what_is_known
 least_travels_in world next refines least =
-    least_travels (setting_at world) world.journal world.travelling next refines.packet
+    least_travels world.journal next
     (λ i new. ((reached_known (setting_at world) world.journal refines.sound
     refines.reached).kept.unknown i new).travels)
-    least
+    (least_from_in world 1 next refines least)

@@ -1,9 +1,11 @@
 -- The least message that waits in the bag is the least that the journal says to wait.
-use Rattle.std.proofs.Common.{ℕ, ◌≡◌, ◌+◌, ◌-◌, Bool, true, false, Option, Some, None, List, length, refl, ap, ◌∙◌, arith}
+use Rattle.std.proofs.Common.{ℕ, zero, suc, ◌≡◌, ◌+◌, ◌-◌, ◌<◌, ◌≤◌, inl, inr, Bool, true, false, cond, Option, Some, None, List, length, refl, ap, sym, subst, ◌∙◌, arith}
 use Rattle.std.specs.Prelude.{find, not, ◌&&◌, is_some, option_map}
 use Rattle.std.specs.List.{range_with_len}
 use Rattle.std.specs.Option.{option_map_or}
+use Rattle.std.proofs.lemmas.Bool.{cases_lt}
 use Rattle.std.proofs.lemmas.List.{length-map}
+use Rattle.std.proofs.lemmas.Option.{slice_get_past}
 use Rattle.policy_rules.proofs.CallerLemmas.{find_same}
 use Rattle.message_bag.specs.Deliveries as statuses
 use Rattle.message_bag.specs.Posts as bag
@@ -14,6 +16,7 @@ use Rattle.journal.specs.declared.item.Item.{Item}
 use Rattle.update_machine.specs.Folds.{count_of}
 use Rattle.update_machine.specs.Messages.{is_deliverable, is_forgotten, is_sending, is_waiting, next_message, next_waiting, was_delivered}
 use Rattle.update_machine.specs.Links.{message_of}
+use Rattle.world.specs.Least.{IsLeastFrom}
 use Rattle.world.specs.State.{RefinesJournal, WorldValue}
 use Rattle.refinement.specs.Refinement.{RefineJournal}
 use Rattle.refinement.specs.Bags.{IsBagOf, post_in}
@@ -53,6 +56,63 @@ least_waits journal posts of =
     ap (λ count. find (statuses.is_waiting all) (range_with_len 1 count)) many
     ∙ find_same (statuses.is_waiting all) (is_waiting journal) (waits_same journal posts of)
     (range_with_len 1 (count_of is_sending journal))
+
+-- ---- from any number on
+
+-- what fails at the first number and at this one behind it fails at either
+next_fails : (test : ℕ → Bool) (from i : ℕ) → test from ≡ false → from ≤ i
+    → (from + 1 ≤ i → test i ≡ false) → test i ≡ false
+next_fails test from i fails above rest = elim (cases_lt from i) [
+  | inl past ↦ rest (omega (arith, past))
+  | inr here ↦
+      let same : from ≡ i = omega (arith, here, above) in
+      subst (λ k. test k ≡ false) same fails
+]
+
+-- what a search finds is the least
+by_test : (test : ℕ → Bool) (from : ℕ) (rest : Option ℕ) (b : Bool) → test from ≡ b
+    → IsLeastFrom test (from + 1) rest → IsLeastFrom test from (cond b (Some from) rest)
+by_test test from rest true is least =
+    (omega arith, is, λ i above below. absurd (omega (arith, above, below)))
+by_test test from None false is least = λ i above. next_fails test from i is above
+    (λ behind. least i behind)
+by_test test from (Some i) false is least = (
+  omega (arith, least.0),
+  least.1,
+  λ k above below. next_fails test from k is above (λ behind. least.2 k behind below),
+)
+
+found_is_least : (test : ℕ → Bool) (from count : ℕ)
+    → ((i : ℕ) → from + count ≤ i → test i ≡ false)
+    → IsLeastFrom test from (find test (range_with_len from count))
+found_is_least test from zero over = λ i above. over i (omega (arith, above))
+found_is_least test from (suc count) over =
+    by_test test from (find test (range_with_len (from + 1) count)) (test from) refl
+    (found_is_least test (from + 1) count (λ i behind. over i (omega (arith, behind))))
+
+-- no post behind the last waits
+none_behind : (all : List Status) (i : ℕ) → length all < i
+    → statuses.is_waiting all i ≡ false
+none_behind all zero behind = refl
+none_behind all (suc place) behind =
+    ap (λ o. option_map_or statuses.waits o false)
+    (slice_get_past all place (omega (arith, behind)))
+
+least_from : (journal : List Item) (posts : List bag.Post) → IsBagOf journal posts → (from : ℕ)
+    → IsLeastFrom (is_waiting journal) from (bag.next_waiting_post posts from)
+least_from journal posts of from =
+    let all : List Status = bag.statuses_of posts in
+    subst (λ next. IsLeastFrom (is_waiting journal) from next)
+    (sym (find_same (statuses.is_waiting all) (is_waiting journal) (waits_same journal posts of)
+    (range_with_len from (length all + 1 - from))))
+    (found_is_least (is_waiting journal) from (length all + 1 - from)
+    (λ i behind. sym (waits_same journal posts of i)
+    ∙ none_behind all i (omega (arith, behind))))
+
+pub least_from_in : (world : WorldValue) → RefinesJournal world → (from : ℕ)
+    → IsLeastFrom (is_waiting world.journal) from (bag.next_waiting_post world.bag from)
+unfolding RefineJournal
+least_from_in world refines from = least_from world.journal world.bag refines.bag from
 
 pub least_waits_in : (world : WorldValue) → RefinesJournal world
     → bag.next_waiting_post world.bag 1 ≡ next_waiting world.journal

@@ -6,3 +6,4 @@ pub mod GoesTold
 pub mod Filling
 pub mod LeastHops
 pub mod LeastWaiting
+pub mod SoFar

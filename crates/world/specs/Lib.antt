@@ -1,4 +1,5 @@
 pub mod Files
+pub mod Least
 pub mod NoStep
 pub mod State
 pub mod Parts

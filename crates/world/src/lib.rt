@@ -4,9 +4,10 @@
 //! state, and that it stays tied to its journal: each switch is what the journal says of it, with
 //! as many calls as the journal counts, the packets on their way are those that travel, the bag has
 //! the messages that were sent, each as it was delivered or forgotten, the controller's marks and
-//! plans are those that the journal says, and so are the links that each switch can use. Behind a
-//! full journal no step begins (`Full`). Where memory runs out within a step, a part of the step's
-//! items is written, and no further step is taken. Each policy is compiled at most once, when it is
+//! plans are those that the journal says, and so are the links that each switch can use. What is to
+//! be kept on the way holds behind each step. Behind a full journal no step begins (`Full`). Where
+//! memory runs out within a step, a part of the step's items is written, which is a run whose ends
+//! have causes too, and no further step is taken. Each policy is compiled at most once, when it is
 //! first asked for, and all that take a plan share it (`Files`).
 //!
 //! ```text

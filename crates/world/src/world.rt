@@ -4,8 +4,11 @@ ghost use Rattle.controller.specs.Plan.{RefusesPlan};
 ghost use Rattle.net_file.specs.Net.{IsNet};
 ghost use Rattle.policy_rules.specs.Policy.{IsPolicy};
 ghost use Rattle.update_machine.specs.Exports.{HasRoom, IsFull, NamesOwnPort, next_packet, next_travelling, next_waiting, piece, setting_of, travels};
+ghost use Rattle.update_machine.specs.Messages.{is_waiting};
+ghost use Rattle.packet_laws.specs.Exports.{HoldsSoFar, IsKeptBehind};
 ghost use Rattle.steps.specs.Steps.{IsStep};
 ghost use Rattle.base.specs.declared.error.Failure.TheVariants.{NoMemory};
+ghost use Rattle.world.specs.Least.{IsLeastFrom};
 ghost use Rattle.world.specs.NoStep.{no_step};
 ghost use Rattle.world.specs.State.{IsBegun, RefinesJournal, comes_in, setting_at};
 ghost use Rattle.travelling.specs.Travelling.{IsNextFrom, flight};
@@ -20,6 +23,7 @@ use controller::{Controller, PlanError, compile};
 use journal::Journal;
 use message_bag::PostBag;
 use net_file::Net;
+use packet_laws::{journals_hold_so_far, steps_are_kept};
 use policy_rules::Policy;
 use refinement::near_masks;
 use std::alloc::Global;
@@ -120,7 +124,12 @@ impl World {
         ensures lost { IsErrOf result NoMemory → self.new.is_spent ≡ true }
         ensures spent { self.old.is_spent ≡ true
             → (IsErrOf result NoMemory) × (self.new ≡ self.old) }
+
+        // However the step ends, what is written is a run whose ends have causes.
+        ensures so_far { self.old.is_spent ≡ false
+            → HoldsSoFar (setting_at self.old) self.new.journal }
     {
+        journals_hold_so_far();
         if self.is_spent {
             return Err(Failure::NoMemory);
         }
@@ -137,6 +146,8 @@ impl World {
     /// none.
     pub fn next_travelling(&self, from: u32) -> Option<u32>
         ensures next { IsNextFrom self.now.travelling from result }
+        ensures least { self.now.is_spent ≡ false
+            → IsLeastFrom (travels self.now.journal) from result }
         ensures first { self.now.is_spent ≡ false → from ≡ 1
             → result ≡ next_travelling self.now.journal }
     {
@@ -147,6 +158,8 @@ impl World {
     /// forgotten; `None` exactly where there is none.
     pub fn next_waiting(&self, from: u32) -> Option<u32>
         ensures next { result ≡ next_waiting_post self.now.bag from }
+        ensures least { self.now.is_spent ≡ false
+            → IsLeastFrom (is_waiting self.now.journal) from result }
         ensures first { self.now.is_spent ≡ false → from ≡ 1
             → result ≡ next_waiting self.now.journal }
     {
@@ -210,5 +223,18 @@ impl World {
         ensures { self.now.is_spent ≡ false → RefinesJournal self.now }
     {
         let _spent = self.is_spent;
+    }
+
+    /// As long as memory didn't run out within a step, the journal is a run of the machine whose
+    /// ends have causes, and behind the last step the versions are whole and the marks settled.
+    pub fn keeps_on_the_way(&self)
+        ensures so_far { self.now.is_spent ≡ false
+            → HoldsSoFar (setting_at self.now) self.now.journal }
+        ensures kept { self.now.is_spent ≡ false
+            → IsKeptBehind (setting_at self.now) self.now.journal }
+    {
+        journals_hold_so_far();
+        steps_are_kept();
+        self.refines();
     }
 }

@@ -1,9 +1,13 @@
-use Rattle.std.proofs.Common.{◌≤◌, subst, sym, arith, length}
+use Rattle.std.proofs.Common.{◌≤◌, List, subst, sym, arith, length}
+use Rattle.journal.specs.declared.item.Item.{Item}
 use Rattle.update_machine.specs.Full.{HasRoom, IsFull}
 use Rattle.update_machine.specs.Packets.{next_packet}
 use Rattle.steps.specs.Steps.{IsStep}
-use Rattle.world.specs.State.{WorldValue}
+use Rattle.world.specs.State.{WorldValue, setting_at}
 use Rattle.world.proofs.Filling.{has_room, is_full, not_full}
+use Rattle.world.proofs.SoFar.{part_so_far, so_far_in, step_so_far}
+use Rattle.world.specs.Parts.{world_value}
+use Rattle.packet_laws.specs.OnTheWay.{HoldsSoFar}
 use Rattle.world.proofs.world.World.step.Goals as goal
 
 pub play-requires : goal.play-requires
@@ -50,3 +54,38 @@ returns-clause-refused c = λ able full.
     (has_room _ _ _ _ _ _ (c.self.invariant.refines c.if-self.false)
     (omega (arith, c.sent.ensures, c.if-sent-ge-FULL_AT.false))) in
     absurd (omega (arith, room, full))
+
+pub returns-then-sent-ge-FULL_AT-clause-so_far : goal.returns-then-sent-ge-FULL_AT-clause-so_far
+returns-then-sent-ge-FULL_AT-clause-so_far c = λ able.
+    subst (λ (w : WorldValue). HoldsSoFar (setting_at w) w.journal) c.self.view_is
+    (so_far_in c.journals_hold_so_far.ensures
+    (world_value c.self.inside.parts c.self.inside.is_spent)
+    (c.self.invariant.refines c.if-self.false))
+
+pub returns-in_err-play-clause-so_far : goal.returns-in_err-play-clause-so_far
+returns-in_err-play-clause-so_far c = λ able.
+    let old = world_value c.self.inside.parts c.self.inside.is_spent in
+    let after : List Item = c.play.new.self.log.journal in
+    let refines = c.self.invariant.refines c.if-self.false in
+    let room = subst (λ (w : WorldValue). HasRoom w.journal) c.self.view_is
+    (has_room _ _ _ _ _ _ refines
+    (omega (arith, c.sent.ensures, c.if-sent-ge-FULL_AT.false))) in
+    let may = subst (λ (w : WorldValue). IsStep w.net (length w.policies) c.args.step.now)
+    (sym c.self.view_is) (c.requires.may room) in
+    subst (λ (w : WorldValue). HoldsSoFar (setting_at w) after) c.self.view_is
+    (part_so_far c.journals_hold_so_far.ensures old c.args.row c.args.step.now after refines may
+    c.in_err-play.ensures.part)
+
+pub returns-clause-so_far : goal.returns-clause-so_far
+returns-clause-so_far c = λ able.
+    let old = world_value c.self.inside.parts c.self.inside.is_spent in
+    let after : List Item = c.play.new.self.log.journal in
+    let refines = c.self.invariant.refines c.if-self.false in
+    let room = subst (λ (w : WorldValue). HasRoom w.journal) c.self.view_is
+    (has_room _ _ _ _ _ _ refines
+    (omega (arith, c.sent.ensures, c.if-sent-ge-FULL_AT.false))) in
+    let may = subst (λ (w : WorldValue). IsStep w.net (length w.policies) c.args.step.now)
+    (sym c.self.view_is) (c.requires.may room) in
+    subst (λ (w : WorldValue). HoldsSoFar (setting_at w) after) c.self.view_is
+    (step_so_far c.journals_hold_so_far.ensures old c.args.row c.args.step.now after refines may
+    c.in_ok-play.ensures.written)

@@ -1,0 +1,58 @@
+-- What a world wrote so far.
+use Rattle.std.proofs.Common.{ℕ, ◌≡◌, List, ◌++◌, append_assoc, length}
+use Rattle.journal.specs.declared.item.Item.{Item}
+use Rattle.packet_laws.specs.OnTheWay.{HoldsSoFar, IsKeptBehind}
+use Rattle.packet_laws.specs.Between.{HoldsBetween}
+use Rattle.control_laws.specs.Always.{HoldsReached}
+use Rattle.refinement.specs.Refinement.{RefineJournal}
+use Rattle.refinement.proofs.Known.{reached_more}
+use Rattle.steps.specs.Steps.{IsStep}
+use Rattle.steps.specs.declared.step.Step.{Step}
+use Rattle.update_machine.specs.Pieces.{piece}
+use Rattle.update_machine.specs.Setting.{IsSetting, Setting}
+use Rattle.world.specs.State.{RefinesJournal, WorldValue, setting_at}
+use Rattle.world_log.specs.Writing.{IsPart}
+
+-- the law of what is written so far, and that of what is kept behind steps
+abbrev pub SoFarLaw : Type 0
+SoFarLaw = HoldsReached (λ setting journal. IsSetting setting → HoldsSoFar setting journal)
+
+abbrev pub BehindLaw : Type 0
+BehindLaw = HoldsBetween (λ setting journal. IsSetting setting → IsKeptBehind setting journal)
+
+pub so_far_in : SoFarLaw → (world : WorldValue) → RefinesJournal world
+    → HoldsSoFar (setting_at world) world.journal
+unfolding RefineJournal
+so_far_in law world refines =
+    law.reached (setting_at world) world.journal refines.reached refines.sound
+
+pub kept_in : BehindLaw → (world : WorldValue) → RefinesJournal world
+    → IsKeptBehind (setting_at world) world.journal
+unfolding RefineJournal
+kept_in law world refines =
+    law.reached (setting_at world) world.journal refines.reached refines.sound
+
+-- a part of a step's piece is written
+pub part_so_far : SoFarLaw → (world : WorldValue) (row : ℕ) (step : Step) (after : List Item)
+    → RefinesJournal world → IsStep world.net (length world.policies) step
+    → IsPart world.journal (piece (setting_at world) world.journal row step) after
+    → HoldsSoFar (setting_at world) after
+unfolding RefineJournal
+part_so_far law world row step after refines own part =
+    let setting : Setting = setting_at world in
+    let journal = world.journal in
+    law.within setting after part.rest
+    (rw (part.grown, append_assoc journal part.written part.rest, ← part.split)
+    (reached_more setting journal row step refines.reached own))
+    refines.sound
+
+-- all of it is
+pub step_so_far : SoFarLaw → (world : WorldValue) (row : ℕ) (step : Step) (after : List Item)
+    → RefinesJournal world → IsStep world.net (length world.policies) step
+    → after ≡ world.journal ++ piece (setting_at world) world.journal row step
+    → HoldsSoFar (setting_at world) after
+unfolding RefineJournal
+step_so_far law world row step after refines own written =
+    let setting : Setting = setting_at world in
+    law.reached setting after
+    (rw written (reached_more setting world.journal row step refines.reached own)) refines.sound

@@ -1,0 +1,9 @@
+-- The least number from one on that passes a test.
+use Rattle.std.specs.Prelude.{ℕ, ◌≡◌, ◌<◌, ◌≤◌, Bool, true, false, Option, MatchOption}
+
+-- the least number at or above `from` that passes the test; none where none does
+abbrev pub IsLeastFrom : (ℕ → Bool) → ℕ → Option ℕ → Type 0
+IsLeastFrom test from next = MatchOption next
+    ((i : ℕ) → from ≤ i → test i ≡ false)
+    (λ least. (from ≤ least) × (test least ≡ true)
+    × ((i : ℕ) → from ≤ i → i < least → test i ≡ false))
