@@ -1,6 +1,7 @@
 ghost use Rattle.std.specs.Prelude.{◌≡◌, ◌≤◌, ◌+◌, All, IfErr, IfOk, IsOk, OnOk, length, map, slice_index_or, []};
 ghost use Rattle.meters.specs.Meters.{kept_meters};
 ghost use Rattle.net_file.specs.Exports.{IsNet, port_mask};
+ghost use Rattle.packet_laws.specs.Exports.{HeldOnTheWay};
 ghost use Rattle.partition.specs.Plan.{plan_of};
 ghost use Rattle.policy_rules.specs.Policy.{IsPolicy};
 ghost use Rattle.steps.specs.Steps.{IsEvent};
@@ -16,6 +17,7 @@ use base::Failure;
 use journal::Journal;
 use meters::{Board, Meter};
 use net_file::Net;
+use packet_laws::plays_held_on_the_way;
 use policy_rules::Policy;
 use std::alloc::{AllocError, Global};
 use steps::Event;
@@ -55,6 +57,8 @@ pub fn replay<M: Meter>(
     requires few { length events.now ≤ max_events }
     ensures play { IfOk result (λ played.
         IsPlay (setting_of net.now policies.items) events.now played.journal played.full) }
+    ensures held { IfOk result (λ played. HeldOnTheWay (setting_of net.now policies.items)
+        events.now played.journal played.full) }
     ensures kept { IfOk result (λ played. map M.seen played.meters.items
         ≡ kept_meters (port_mask net.now.switches) (left_in played.journal)
         (map M.seen meters.items)) }
@@ -86,10 +90,13 @@ pub fn play<M: Meter>(
     requires few { length events.now ≤ max_events }
     ensures play { IfOk result (λ played.
         IsPlay (setting_at world) events.now played.journal played.full) }
+    ensures held { IfOk result (λ played.
+        HeldOnTheWay (setting_at world) events.now played.journal played.full) }
     ensures kept { IfOk result (λ played. map M.seen played.meters.items
         ≡ kept_meters ports (left_in played.journal) (map M.seen meters.items)) }
 {
     world.refines();
+    plays_held_on_the_way();
     let mut world = world;
     let mut board = Board::new(meters, ports);
     let mut row = 0u32;

@@ -91,3 +91,16 @@ returns-clause-kept g c =
     ap (map g.M.Meter.seen) c.into_meters-2.ensures ∙ c.loop-event.invariant.kept
     ∙ ap (λ (journal : List Item). kept_meters c.args.ports (left_in journal)
     (map g.M.Meter.seen c.args.meters.items)) (sym c.into_journal-2.ensures)
+
+pub returns-in-Err-Refused-clause-held : goal.returns-in-Err-Refused-clause-held
+returns-in-Err-Refused-clause-held g c =
+    c.plays_held_on_the_way.ensures (setting_at c.args.world) c.args.events.now _
+    (Some (c.loop-event.row + 1))
+    (tie_of c.args.world (c.refines.ensures c.requires.begun.able)).sound c.requires.events
+    (returns-in-Err-Refused-clause-play g c)
+
+pub returns-clause-held : goal.returns-clause-held
+returns-clause-held g c =
+    c.plays_held_on_the_way.ensures (setting_at c.args.world) c.args.events.now _ None
+    (tie_of c.args.world (c.refines.ensures c.requires.begun.able)).sound c.requires.events
+    (returns-clause-play g c)
