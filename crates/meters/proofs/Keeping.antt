@@ -147,6 +147,15 @@ kept_elsewhere port leaving meter apart =
 
 -- ---- a step over a list whose meters before a place noted the leavings already
 
+pub drop_at : {M : Type 0} (meters : List M) (at : ℕ) (meter : M) → at < length meters
+    → get_or meters at meter ≡ meter → drop at meters ≡ meter ∷ drop (at + 1) meters
+drop_at meters at meter within is_meter =
+    rw add-one (drop-cons meters at meter within ∙ ap (λ m. m ∷ drop (suc at) meters) is_meter)
+
+pub drop_set : {M : Type 0} (meters : List M) (at : ℕ) (new : M)
+    → drop (at + 1) (set meters at new) ≡ drop (at + 1) meters
+drop_set meters at new = drop-set-lt (at + 1) meters at new (omega arith)
+
 pub after_stay : {M : Type 0} (seen : M → Seen) (left : PortLeavings) (meters : List M) (at : ℕ)
     → (old new : M) → at < length meters → get_or meters at old ≡ old
     → meters_after left (seen old ∷ []) ≡ seen new ∷ []
@@ -156,12 +165,10 @@ pub after_stay : {M : Type 0} (seen : M → Seen) (left : PortLeavings) (meters 
 after_stay seen left meters at old new within is_old stays =
     let first = map seen (take at meters) in
     let rest = map seen (drop (at + 1) meters) in
-    let split : drop at meters ≡ old ∷ drop (at + 1) meters =
-    rw add-one (drop-cons meters at old within ∙ ap (λ m. m ∷ drop (suc at) meters) is_old) in
     rw (
-      split,
+      drop_at meters at old within is_old,
       take_more_set meters at new within,
-      drop-set-lt (at + 1) meters at new (omega arith),
+      drop_set meters at new,
       map-append,
       append_assoc,
     )
@@ -179,6 +186,12 @@ removed meters at new within =
     rw (take-set, add-one) (ap (λ rest. take at meters ++ rest)
     (drop-set-lt (suc at) meters at new (omega arith)))
 
+pub drop_removed : {M : Type 0} (meters : List M) (at : ℕ) (new : M) → at < length meters
+    → drop at (remove (set meters at new) at) ≡ drop (at + 1) meters
+drop_removed meters at new within =
+    ap (drop at) (removed meters at new within)
+    ∙ (seam (take at meters) (drop (at + 1) meters) at (length-take-le at meters (omega arith))).1
+
 pub after_leave : {M : Type 0} (seen : M → Seen) (left : PortLeavings) (meters : List M) (at : ℕ)
     → (old new : M) (after : List M) → at < length meters → get_or meters at old ≡ old
     → meters_after left (seen old ∷ []) ≡ [] → after ≡ remove (set meters at new) at
@@ -186,11 +199,15 @@ pub after_leave : {M : Type 0} (seen : M → Seen) (left : PortLeavings) (meters
     ≡ map seen (take at after) ++ meters_after left (map seen (drop at after))
 after_leave seen left meters at old new after within is_old leaves is_after =
     let rest = map seen (drop (at + 1) meters) in
-    let split : drop at meters ≡ old ∷ drop (at + 1) meters =
-    rw add-one (drop-cons meters at old within ∙ ap (λ m. m ∷ drop (suc at) meters) is_old) in
     let parts = seam (take at meters) (drop (at + 1) meters) at
     (length-take-le at meters (omega arith)) in
-    rw (is_after, removed meters at new within, parts.0, parts.1, split)
+    rw (
+      is_after,
+      removed meters at new within,
+      parts.0,
+      parts.1,
+      drop_at meters at old within is_old,
+    )
     (ap (λ more. map seen (take at meters) ++ more) (kept-append left (seen old ∷ []) rest
     ∙ ap (λ one. one ++ meters_after left rest) leaves))
 

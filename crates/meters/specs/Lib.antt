@@ -1,2 +1,3 @@
+pub mod Gone
 pub mod Meters
 pub mod Seen

@@ -3,6 +3,7 @@ use Rattle.std.specs.Prelude.{◌≡◌, ◌==◌, ℕ, Bool, true, false, not, 
 use Rattle.std.specs.List.{list_any, range_with_len}
 use Rattle.base.specs.Masks.{has}
 use Rattle.policy_rules.specs.declared.packet.Leaving.{Leaving}
+use Rattle.meters.specs.declared.flows.FlowRecord.{FlowRecord}
 use Rattle.meters.specs.declared.meter.Stay.{Stay}
 use Rattle.meters.specs.Seen.{Seen}
 use Rattle.meters.specs.declared.meter.Stay.TheVariants as stay
@@ -24,6 +25,10 @@ meter_with more meter = record meter { held = meter.held ++ more }
 -- its list is ended
 abbrev pub has_ended : Seen → Bool
 has_ended meter = meter.is_ended meter.held
+
+-- the flow records of its list
+abbrev pub records_of : Seen → List FlowRecord
+records_of meter = meter.recorded meter.held
 
 -- what a note of a leaving makes of a meter, by its answer
 abbrev pub IsNoted : Leaving → Seen → Seen → Stay → Type 0
@@ -53,10 +58,3 @@ meters_after left meters =
 -- the meters that stay in a network with these ports
 abbrev pub kept_meters : ℕ → PortLeavings → List Seen → List Seen
 kept_meters ports left meters = meters_after left (filter (λ meter. has ports meter.port) meters)
-
--- where the old meters are those that stayed until now, the new ones are those that stay with one
--- more leaving
-abbrev pub GoesOnKept : ℕ × Leaving → List Seen → List Seen → Type 0
-GoesOnKept one old new =
-    (ports : ℕ) (left : PortLeavings) (meters : List Seen) → old ≡ kept_meters ports left meters
-    → new ≡ kept_meters ports (left ++ one ∷ []) meters

@@ -1,52 +1,62 @@
 //! The meters of a network's ports.
-ghost use Rattle.std.specs.Prelude.{◌≡◌, ◌∷◌, [], map, filter, OnOk};
+ghost use Rattle.std.specs.Prelude.{◌≡◌, ◌∷◌, ◌++◌, [], map, filter, OnOk};
 ghost use Rattle.base.specs.Masks.{has};
-ghost use Rattle.meters.specs.Meters.{meters_after, kept_meters, GoesOnKept};
+ghost use Rattle.meters.specs.Meters.{meters_after, kept_meters, records_of};
+ghost use Rattle.meters.specs.Gone.{GoesOn, gone_after, seen_board, told_by};
 
+use crate::flows::Flows;
 use crate::meter::{Meter, Stay};
 use policy_rules::Leaving;
 use std::alloc::AllocError;
 use std::marker::Model;
 
-/// Meters at the ports of a network, in order.
+/// Meters at the ports of a network, in order, and the flow records of those that left.
 #[derive(Drop)]
 pub struct Board<M> {
     meters: Vec<M>,
+    gone: Flows,
 }
 
 impl<M> Model for Board<M> {
-    ghost use Rattle.std.specs.Prelude.{List};
+    ghost use Rattle.meters.specs.Gone.{BoardValue};
 
-    ghost Value = { List M };
+    ghost Value = { BoardValue M };
 
-    ghost view = { λ board. board.meters.items };
+    ghost view = { λ board. record { meters = board.meters.items; gone = board.gone } };
 }
 
 impl<M: Meter> Board<M> {
     /// Keeps the meters whose port is in the mask, in order, and drops the others. Takes no memory.
     pub fn new(mut meters: Vec<M>, ports: u64) -> Self
-        ensures chosen { result ≡ filter (λ m. has ports (M.seen m).port) meters.items }
-        ensures kept { map M.seen result ≡ kept_meters ports [] (map M.seen meters.items) }
+        ensures chosen { result.meters ≡ filter (λ m. has ports (M.seen m).port) meters.items }
+        ensures kept { map M.seen result.meters
+            ≡ kept_meters ports [] (map M.seen meters.items) }
+        ensures gone { result.gone ≡ [] }
     {
         meters.retain(|meter| has_port(ports, meter.port()));
-        Board { meters }
+        let gone = Flows::new(Vec::new(*meters.allocator()));
+        Board { meters, gone }
     }
 
-    /// Lets each meter of this port note the leaving, in order, and drops each that then leaves.
+    /// Lets each meter of this port note the leaving, in order. Each that then leaves is dropped;
+    /// before that, its records are put behind those of the meters that left earlier.
     ///
-    /// An error is want of memory of a meter; the meters are then unknown.
+    /// An error is want of memory; the meters and the records are then unknown.
     pub fn note(&mut self, port: u32, leaving: &Leaving) -> Result<(), AllocError>
-        ensures noted { OnOk result (map M.seen self.new
-            ≡ meters_after ((port, leaving.now) ∷ []) (map M.seen self.old)) }
+        ensures noted { OnOk result (map M.seen self.new.meters
+            ≡ meters_after ((port, leaving.now) ∷ []) (map M.seen self.old.meters)) }
+        ensures told { OnOk result (self.new.gone
+            ≡ self.old.gone ++ gone_after ((port, leaving.now) ∷ []) (map M.seen self.old.meters)) }
         ensures goes_on { OnOk result
-            (GoesOnKept (port, leaving.now) (map M.seen self.old) (map M.seen self.new)) }
+            (GoesOn (port, leaving.now) (seen_board M.seen self.old) (seen_board M.seen self.new)) }
     {
         let mut at = 0;
         while at < self.meters.len() {
             match offer(&mut self.meters[at], port, leaving) {
                 Stay::Stay => at += 1,
                 Stay::Leave => {
-                    self.meters.remove(at);
+                    let meter = self.meters.remove(at);
+                    self.gone.append(meter.records()?)?;
                 }
                 Stay::NoMemory => return Err(AllocError),
             }
@@ -56,9 +66,18 @@ impl<M: Meter> Board<M> {
 
     /// The meters that are still there, in order. Takes no memory.
     pub fn into_meters(self) -> Vec<M>
-        ensures { result.items ≡ self }
+        ensures { result.items ≡ self.meters }
     {
         self.meters
+    }
+
+    /// The meters that are still there, in order, and the records of those that left. Takes no
+    /// memory.
+    pub fn finish(self) -> (Vec<M>, Flows)
+        ensures meters { result.0.items ≡ self.meters }
+        ensures gone { result.1 ≡ self.gone }
+    {
+        (self.meters, self.gone)
     }
 }
 
@@ -75,6 +94,10 @@ fn offer<M: Meter>(meter: &mut M, port: u32, leaving: &Leaving) -> Stay
         → meters_after ((port, leaving.now) ∷ []) (M.seen meter.old ∷ []) ≡ M.seen meter.new ∷ [] }
     ensures leave { result ≡ Stay.Leave
         → meters_after ((port, leaving.now) ∷ []) (M.seen meter.old ∷ []) ≡ [] }
+    ensures silent { result ≡ Stay.Stay
+        → told_by (port, leaving.now) (M.seen meter.old) ≡ [] }
+    ensures told { result ≡ Stay.Leave
+        → told_by (port, leaving.now) (M.seen meter.old) ≡ records_of (M.seen meter.new) }
 {
     if meter.port() == port {
         meter.note(leaving)

@@ -1,12 +1,13 @@
 //! Two kinds of meters.
 ghost use Rattle.std.specs.Prelude.{◌≡◌, ◌<◌, [], length, false, nat_le};
 
+use crate::flows::Flows;
 use crate::meter::{Meter, Stay};
 use policy_rules::Leaving;
-use std::alloc::Global;
+use std::alloc::{AllocError, Global};
 use std::marker::Model;
 
-/// A meter that stays for good.
+/// A meter that stays for good, and has no flow records.
 #[derive(Drop)]
 pub struct Recorder {
     port: u32,
@@ -34,7 +35,12 @@ impl Recorder {
 }
 
 impl Meter for Recorder {
-    ghost seen = { λ m. record { port = m.port; held = m.held; is_ended = λ _. false } };
+    ghost seen = { λ m. record {
+      port = m.port;
+      held = m.held;
+      is_ended = λ _. false;
+      recorded = λ _. [];
+    } };
 
     fn port(&self) -> u32 {
         self.port
@@ -50,9 +56,13 @@ impl Meter for Recorder {
     fn notes(&self) -> u64 {
         self.held.len() as u64
     }
+
+    fn records(&self) -> Result<Flows, AllocError> {
+        Ok(Flows::new(Vec::new(*self.held.allocator())))
+    }
 }
 
-/// A meter that leaves when it holds `most` leavings.
+/// A meter that leaves when it holds `most` leavings, and has no flow records.
 #[derive(Drop)]
 pub struct FirstN {
     recorder: Recorder,
@@ -86,6 +96,7 @@ impl Meter for FirstN {
       port = m.recorder.port;
       held = m.recorder.held;
       is_ended = λ held. nat_le m.most (length held);
+      recorded = λ _. [];
     } };
 
     fn port(&self) -> u32 {
@@ -101,5 +112,9 @@ impl Meter for FirstN {
 
     fn notes(&self) -> u64 {
         self.recorder.notes()
+    }
+
+    fn records(&self) -> Result<Flows, AllocError> {
+        self.recorder.records()
     }
 }

@@ -1,9 +1,11 @@
 //! What each kind of meter promises.
-ghost use Rattle.std.specs.Prelude.{◌≡◌, length};
-ghost use Rattle.meters.specs.Meters.{IsNoted};
+ghost use Rattle.std.specs.Prelude.{◌≡◌, length, IfOk};
+ghost use Rattle.meters.specs.Meters.{IsNoted, records_of};
 ghost use Rattle.meters.specs.Seen.{Seen};
 
+use crate::flows::Flows;
 use policy_rules::Leaving;
+use std::alloc::AllocError;
 
 /// What a meter answers to a leaving.
 #[derive(Clone, Copy, Debug, PartialEq, Eq)]
@@ -32,6 +34,13 @@ pub trait Meter: Drop {
     /// How many leavings it holds.
     fn notes(&self) -> u64
         ensures { result ≡ length (seen self.now).held };
+
+    /// The flow records of the list that it holds, by its kind.
+    ///
+    /// # Errors
+    /// Want of memory alone.
+    fn records(&self) -> Result<Flows, AllocError>
+        ensures { IfOk result (λ flows. flows ≡ records_of (seen self.now)) };
 }
 
 impl Meter for Box<dyn Meter> {
@@ -47,5 +56,9 @@ impl Meter for Box<dyn Meter> {
 
     fn notes(&self) -> u64 {
         (**self).notes()
+    }
+
+    fn records(&self) -> Result<Flows, AllocError> {
+        (**self).records()
     }
 }

@@ -1,9 +1,10 @@
--- Meters that note what left in the items of a step, behind those of the steps before it.
+-- A board that notes what left in the items of a step, behind those of the steps before it.
 use Rattle.std.proofs.Common.{◌≡◌, ◌∙◌, ◌-◌, ℕ, List, [], ◌∷◌, ◌++◌, drop, length, take, ap, append_assoc, append-nil, arith, length-drop, refl, subst, sym}
 use Rattle.std.proofs.lemmas.Grind.{flat_map-append}
 use Rattle.std.proofs.lemmas.List.{take_all}
 use Rattle.journal.specs.declared.item.Item.{Item}
-use Rattle.meters.specs.Meters.{PortLeavings, kept_meters}
+use Rattle.meters.specs.Gone.{BoardValue, board_after}
+use Rattle.meters.specs.Meters.{PortLeavings}
 use Rattle.meters.specs.Seen.{Seen}
 use Rattle.replay.specs.Leavings.{KeepUp, StayOn, left_by, left_in}
 
@@ -24,7 +25,7 @@ rest_is here after before items old is =
     ∙ ap (λ (xs : List Item). drop (length xs) items) old ∙ ap (drop (length here)) is
 
 -- they keep up with a step that wrote some items, which they noted
-pub keep_up_next : (start here after items noted : List Item) (old now new : List Seen)
+pub keep_up_next : (start here after items noted : List Item) (old now new : BoardValue Seen)
     → after ≡ here ++ items → KeepUp start here old now → StayOn (left_in noted) now new
     → noted ≡ drop (length here) after → KeepUp start after old new
 keep_up_next start here after items noted old now new written keep stay own =
@@ -38,25 +39,26 @@ keep_up_next start here after items noted old now new written keep stay own =
       left = sym whole ∙ ap (λ left. left ++ left_in noted) keep.left
           ∙ append_assoc (left_in start) keep.more (left_in noted);
       stay = λ ports left meters is.
-          subst (λ (all : PortLeavings). new ≡ kept_meters ports all meters)
+          subst (λ (all : PortLeavings). new ≡ board_after ports all meters)
           (append_assoc left keep.more (left_in noted))
           (stay ports (left ++ keep.more) meters (keep.stay ports left meters is));
     }
 
 -- while nothing happens
-pub keep_up_none : (journal : List Item) (meters : List Seen)
-    → KeepUp journal journal meters meters
-keep_up_none journal meters = record {
+pub keep_up_none : (journal : List Item) (board : BoardValue Seen)
+    → KeepUp journal journal board board
+keep_up_none journal board = record {
   more = [];
   left = sym (append-nil (left_in journal));
   stay = λ ports left own is.
-      subst (λ (all : PortLeavings). meters ≡ kept_meters ports all own) (sym (append-nil left)) is;
+      subst (λ (all : PortLeavings). board ≡ board_after ports all own) (sym (append-nil left)) is;
 }
 
--- meters that stayed until then stay on
-pub kept_up : (before after : List Item) (old new : List Seen) (ports : ℕ) (meters : List Seen)
-    → KeepUp before after old new → old ≡ kept_meters ports (left_in before) meters
-    → new ≡ kept_meters ports (left_in after) meters
+-- where the old board was the one of a journal, the new one is the one of the longer journal
+pub kept_up : (before after : List Item) (old new : BoardValue Seen) (ports : ℕ)
+    (meters : List Seen) → KeepUp before after old new
+    → old ≡ board_after ports (left_in before) meters
+    → new ≡ board_after ports (left_in after) meters
 kept_up before after old new ports meters keep is =
-    subst (λ (left : PortLeavings). new ≡ kept_meters ports left meters) (sym keep.left)
+    subst (λ (left : PortLeavings). new ≡ board_after ports left meters) (sym keep.left)
     (keep.stay ports (left_in before) meters is)

@@ -1,8 +1,9 @@
--- The packets that left in a journal, and the meters that stay while they do.
+-- The packets that left in a journal, and the board of meters while they do.
 use Rattle.std.specs.Prelude.{◌≡◌, ℕ, List, [], ◌∷◌, ◌++◌}
 use Rattle.std.specs.List.{flat_map}
 use Rattle.journal.specs.declared.item.Item.{Item}
 use Rattle.journal.specs.declared.item.Item.TheVariants as item
+use Rattle.meters.specs.Gone.{BoardValue, board_after}
 use Rattle.meters.specs.Meters.{PortLeavings, kept_meters}
 use Rattle.meters.specs.Seen.{Seen}
 use Rattle.net_file.specs.Owners.{port_mask}
@@ -17,22 +18,21 @@ left_by _ = []
 abbrev pub left_in : List Item → PortLeavings
 left_in items = flat_map left_by items
 
--- where the old meters are those that stayed behind some leavings, the new ones are those that stay
--- behind these and more
-abbrev pub StayOn : PortLeavings → List Seen → List Seen → Type 0
+-- where the old board is the one behind some leavings, the new one is the one behind these and more
+abbrev pub StayOn : PortLeavings → BoardValue Seen → BoardValue Seen → Type 0
 StayOn more old new =
-    (ports : ℕ) (left : PortLeavings) (meters : List Seen) → old ≡ kept_meters ports left meters
-    → new ≡ kept_meters ports (left ++ more) meters
+    (ports : ℕ) (left : PortLeavings) (meters : List Seen) → old ≡ board_after ports left meters
+    → new ≡ board_after ports (left ++ more) meters
 
--- the new meters are those that stay behind what left between the one journal and the other,
--- whatever the old ones noted before
-pub record KeepUp (before after : List Item) (old new : List Seen) : Type 0 where
+-- the new board is the one behind what left between the one journal and the other, whatever the
+-- meters of the old one noted before
+pub record KeepUp (before after : List Item) (old new : BoardValue Seen) : Type 0 where
   pub more : PortLeavings
   pub left : left_in after ≡ left_in before ++ more
   pub stay : StayOn more old new
 
--- the new meters keep up with the longer journal, but for a part at its end
-pub record KeepUpWithin (before after : List Item) (old new : List Seen) : Type 0 where
+-- the new board keeps up with the longer journal, but for a part at its end
+pub record KeepUpWithin (before after : List Item) (old new : BoardValue Seen) : Type 0 where
   pub whole : List Item
   pub written : List Item
   pub longer : after ≡ whole ++ written

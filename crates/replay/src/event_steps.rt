@@ -1,4 +1,5 @@
-ghost use Rattle.std.specs.Prelude.{◌≡◌, ◌+◌, ◌≤◌, false, length, map, IsErrOf, OnErr, OnOk, true};
+ghost use Rattle.std.specs.Prelude.{◌≡◌, ◌+◌, ◌≤◌, false, length, IsErrOf, OnErr, OnOk, true};
+ghost use Rattle.meters.specs.Gone.{seen_board};
 ghost use Rattle.steps.specs.Steps.{IsEvent};
 ghost use Rattle.steps.specs.Limits.{max_events};
 ghost use Rattle.world.specs.NoStep.{no_step};
@@ -45,11 +46,11 @@ pub fn take_steps<M: Meter>(
     ensures part { OnErr result (BeginsEvent (setting_at world.old) row event.now world.old.journal
         world.new.journal) }
     ensures kept { OnOk result (KeepUp world.old.journal world.new.journal
-        (map M.seen board.old) (map M.seen board.new)) }
+        (seen_board M.seen board.old) (seen_board M.seen board.new)) }
     ensures kept_full { IsErrOf result no_step → KeepUp world.old.journal world.new.journal
-        (map M.seen board.old) (map M.seen board.new) }
+        (seen_board M.seen board.old) (seen_board M.seen board.new) }
     ensures kept_part { OnErr result (world.new.is_spent ≡ true → KeepUpWithin world.old.journal
-        world.new.journal (map M.seen board.old) (map M.seen board.new)) }
+        world.new.journal (seen_board M.seen board.old) (seen_board M.seen board.new)) }
 {
     let mut is_begun = false;
     while let Some(next) = next_of(world, event, is_begun) {

@@ -6,13 +6,15 @@
 //! causes, and what is to be kept held behind each of its steps (`HeldOnTheWay`). That drains and
 //! flushes end are laws of `packet_laws`: a packet takes few hops, and each message that is delivered
 //! in a flush has a greater number than the one before it. Behind each step the meters note the
-//! packets that left; those that stay are the kept meters of the journal.
+//! packets that left; those that stay are the kept meters of the journal, and the flow records of
+//! those that leave are its gone records.
 //!
 //! ```text
 //! let played = replay(alloc, &net, policies, &events, meters)?; // Plan(why): no first plan
 //! let text = text(alloc, &played.journal, &net)?; // its lines, by `journal_text`
 //! let row = played.full; // the row at which there was no room, if the play stopped there
 //! let meters = played.meters; // those that stayed
+//! let gone = played.gone; // the flow records of those that left
 //! ```
 #![tactic(auto)]
 
@@ -26,7 +28,7 @@ pub use event_steps::take_steps;
 pub use journal::{Item, Journal};
 pub use journal_reports::quiet;
 pub use journal_text::{text, write_text};
-pub use meters::{Board, Meter};
+pub use meters::{Board, Flows, Meter};
 pub use net_file::Net;
 pub use playing::{Played, play, replay};
 pub use policy_rules::Policy;

@@ -1,5 +1,6 @@
 //! Packets that left are noted by the meters of their ports.
-ghost use Rattle.std.specs.Prelude.{map, OnOk};
+ghost use Rattle.std.specs.Prelude.{OnOk};
+ghost use Rattle.meters.specs.Gone.{seen_board};
 ghost use Rattle.replay.specs.Leavings.{StayOn, left_in};
 
 use journal::Item;
@@ -9,10 +10,10 @@ use std::alloc::AllocError;
 /// Lets the meters note each packet that left in these items, in their order.
 ///
 /// # Errors
-/// Want of memory of a meter.
+/// Want of memory of the board.
 pub fn note_left<M: Meter>(board: &mut Board<M>, items: &[Item]) -> Result<(), AllocError>
     ensures { OnOk result
-        (StayOn (left_in items.now) (map M.seen board.old) (map M.seen board.new)) }
+        (StayOn (left_in items.now) (seen_board M.seen board.old) (seen_board M.seen board.new)) }
 {
     for item in items {
         if let Item::Left { port, leaving, .. } = item {

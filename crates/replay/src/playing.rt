@@ -1,4 +1,5 @@
 ghost use Rattle.std.specs.Prelude.{◌≡◌, ◌≤◌, ◌+◌, All, IfErr, IfOk, IsOk, OnOk, length, map, slice_index_or, []};
+ghost use Rattle.meters.specs.Gone.{gone_records};
 ghost use Rattle.meters.specs.Meters.{kept_meters};
 ghost use Rattle.net_file.specs.Exports.{IsNet, port_mask};
 ghost use Rattle.packet_laws.specs.Exports.{HeldOnTheWay};
@@ -15,7 +16,7 @@ use crate::error::ReplayError;
 use crate::event_steps::take_steps;
 use base::Failure;
 use journal::Journal;
-use meters::{Board, Meter};
+use meters::{Board, Flows, Meter};
 use net_file::Net;
 use packet_laws::plays_held_on_the_way;
 use policy_rules::Policy;
@@ -29,6 +30,8 @@ pub struct Played<M> {
     pub journal: Journal,
     /// The meters that stayed, in their order.
     pub meters: Vec<M>,
+    /// The flow records of the meters that left, as each left.
+    pub gone: Flows,
     /// The row of the step that would have begun behind a full journal, where the play ended so.
     pub full: Option<u32>,
 }
@@ -62,6 +65,9 @@ pub fn replay<M: Meter>(
     ensures kept { IfOk result (λ played. map M.seen played.meters.items
         ≡ kept_meters (port_mask net.now.switches) (left_in played.journal)
         (map M.seen meters.items)) }
+    ensures gone { IfOk result (λ played. played.gone
+        ≡ gone_records (port_mask net.now.switches) (left_in played.journal)
+        (map M.seen meters.items)) }
     ensures planned { OnOk result
         (IsOk (plan_of (slice_index_or policies.items 0 []) net.now)) }
     ensures refused { IfErr result
@@ -94,6 +100,8 @@ pub fn play<M: Meter>(
         HeldOnTheWay (setting_at world) events.now played.journal played.full) }
     ensures kept { IfOk result (λ played. map M.seen played.meters.items
         ≡ kept_meters ports (left_in played.journal) (map M.seen meters.items)) }
+    ensures gone { IfOk result (λ played. played.gone
+        ≡ gone_records ports (left_in played.journal) (map M.seen meters.items)) }
 {
     world.refines();
     plays_held_on_the_way();
@@ -104,19 +112,26 @@ pub fn play<M: Meter>(
         row += 1;
         match take_steps(alloc, &mut world, &mut board, row, event) {
             Ok(()) => {}
-            Err(Failure::Refused(Full)) => {
-                return Ok(Played {
-                    journal: world.into_journal(),
-                    meters: board.into_meters(),
-                    full: Some(row),
-                });
-            }
+            Err(Failure::Refused(Full)) => return Ok(ended(world, board, Some(row))),
             Err(Failure::NoMemory) => return Err(AllocError),
         }
     }
-    Ok(Played {
-        journal: world.into_journal(),
-        meters: board.into_meters(),
-        full: None,
-    })
+    Ok(ended(world, board, None))
+}
+
+/// What the play leaves that ended so.
+fn ended<M: Meter>(world: World, board: Board<M>, full: Option<u32>) -> Played<M>
+    ensures journal { result.journal ≡ world.journal }
+    ensures meters { result.meters.items ≡ board.meters }
+    ensures gone { result.gone ≡ board.gone }
+    ensures full { result.full ≡ full }
+{
+    let journal = world.into_journal();
+    let (meters, gone) = board.finish();
+    Played {
+        journal,
+        meters,
+        gone,
+        full,
+    }
 }

@@ -1,9 +1,10 @@
 //! Worked runs with meters at the ports, one of a kind of the caller's own among them.
-ghost use Rattle.std.specs.Prelude.{length, nat_le};
+ghost use Rattle.std.specs.Prelude.{[], length, nat_le};
 
 use crate::files::NO_ROW;
 use crate::runs::{ended, metered, recorded, shelf_of, sink};
-use meters::{FirstN, Leaving, Meter, Recorder, Stay};
+use meters::{FirstN, Flows, Leaving, Meter, Recorder, Stay};
+use std::alloc::AllocError;
 use std::test::Fail;
 
 const TWO_ROWS: &str = "priority,src,dst,sport,dport,proto,action\n\
@@ -42,6 +43,7 @@ impl Meter for Pair {
       port = m.port;
       held = m.held.items;
       is_ended = λ held. nat_le 2 (length held);
+      recorded = λ _. [];
     } };
 
     fn port(&self) -> u32 {
@@ -58,6 +60,10 @@ impl Meter for Pair {
 
     fn notes(&self) -> u64 {
         self.held.len() as u64
+    }
+
+    fn records(&self) -> Result<Flows, AllocError> {
+        Ok(Flows::new(Vec::new(*self.held.allocator())))
     }
 }
 

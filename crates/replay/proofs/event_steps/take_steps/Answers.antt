@@ -1,4 +1,5 @@
-use Rattle.std.proofs.Common.{◌-◌, ◌∙◌, ap, drop, Err, length, map, refl, subst, sym, take, true, true≢false, arith}
+use Rattle.std.proofs.Common.{◌-◌, ◌∙◌, ap, drop, Err, length, refl, subst, sym, take, true, true≢false, arith}
+use Rattle.meters.specs.Gone.{seen_board}
 use Rattle.steps.specs.Steps.{IsEvent}
 use Rattle.update_machine.specs.Setting.{Setting}
 use Rattle.world.specs.State.{WorldValue, setting_at}
@@ -19,7 +20,7 @@ loop-next-init g c = record {
   able = c.requires.able;
   packets = omega (arith, none_yet c.args.event.now);
   took = took_none (setting_at c.args.world.now) c.args.row c.args.event.now c.args.world.now.journal;
-  kept = keep_up_none c.args.world.now.journal (map g.M.Meter.seen c.args.board.now);
+  kept = keep_up_none c.args.world.now.journal (seen_board g.M.Meter.seen c.args.board.now);
 }
 
 -- what holds of the step that is asked for next
@@ -130,7 +131,7 @@ pub returns-in_err-step-clause-kept_full : goal.returns-in_err-step-clause-kept_
 returns-in_err-step-clause-kept_full g c = λ is.
     let full = ap Err (same_error c.from_residual.result _ no_step c.from_residual.ensures.1 is) in
     subst (λ (world : WorldValue). KeepUp c.args.world.now.journal world.journal
-    (map g.M.Meter.seen c.args.board.now) (map g.M.Meter.seen c.loop-next.board))
+    (seen_board g.M.Meter.seen c.args.board.now) (seen_board g.M.Meter.seen c.loop-next.board))
     (sym (c.in_err-step.ensures.unchanged full)) c.loop-next.invariant.kept
 
 pub returns-in_err-note_left-clause-part : goal.returns-in_err-note_left-clause-part

@@ -1,5 +1,6 @@
 use Rattle.world.specs.State.{setting_at}
-use Rattle.std.proofs.Common.{◌≡◌, ◌+◌, false, map}
+use Rattle.std.proofs.Common.{◌≡◌, ◌+◌, false}
+use Rattle.meters.specs.Gone.{seen_board}
 use Rattle.replay.specs.Leavings.{KeepUp}
 use Rattle.replay.proofs.Asked.{brought_so_far, steps_left}
 use Rattle.replay.proofs.Stepping.{Took}
@@ -11,8 +12,8 @@ invariant-loop-next g l = record {
   able : l.world.is_spent ≡ false;
   packets : l.world.packets ≡ l.fn.world.packets + brought_so_far l.event l.is_begun;
   took : Took (setting_at l.fn.world) l.row l.event l.is_begun l.fn.world.journal l.world.journal;
-  kept : KeepUp l.fn.world.journal l.world.journal (map g.M.Meter.seen l.fn.board)
-      (map g.M.Meter.seen l.board);
+  kept : KeepUp l.fn.world.journal l.world.journal (seen_board g.M.Meter.seen l.fn.board)
+      (seen_board g.M.Meter.seen l.board);
 }
 
 abbrev pub decreases-loop-next : goal.decreases-loop-next

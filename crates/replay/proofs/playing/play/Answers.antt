@@ -1,9 +1,9 @@
 use Rattle.world.specs.State.{setting_at}
-use Rattle.std.proofs.Common.{◌+◌, ◌∙◌, Some, None, Err, List, ap, map, refl, sym, subst, arith}
+use Rattle.std.proofs.Common.{◌≡◌, ◌+◌, ◌∙◌, Some, None, Err, List, [], ap, map, refl, sym, subst, arith}
 use Rattle.std.proofs.lemmas.List.{drop_all}
 use Rattle.journal.specs.declared.item.Item.{Item}
-use Rattle.meters.specs.Meters.{kept_meters}
-use Rattle.update_machine.specs.Full.{IsPlay}
+use Rattle.meters.specs.Gone.{BoardValue, board_after, seen_board}
+use Rattle.meters.specs.Seen.{Seen}
 use Rattle.update_machine.specs.Packets.{next_packet}
 use Rattle.update_machine.proofs.CallerLemmas.{start_laws}
 use Rattle.replay.specs.Leavings.{left_in}
@@ -12,6 +12,10 @@ use Rattle.replay.proofs.Events.{PlaysOn, plays_from_start, plays_no_more, plays
 use Rattle.replay.proofs.Keeping.{kept_up}
 use Rattle.replay.proofs.Refining.{tie_of}
 use Rattle.replay.proofs.playing.play.Goals as goal
+
+board_is : (one other : BoardValue Seen) → one.meters ≡ other.meters → one.gone ≡ other.gone
+    → one ≡ other
+board_is one other meters gone = λ i. record { meters = meters i; gone = gone i }
 
 pub loop-event-init : goal.loop-event-init
 loop-event-init g c =
@@ -29,8 +33,10 @@ loop-event-init g c =
       plays_on = λ whole stop rest.
           subst (λ journal. PlaysOn (setting_at world) journal 1 c.args.events.now whole stop)
           begun.silent rest;
-      kept = c.new-board.ensures.kept
-          ∙ ap (λ (journal : List Item). kept_meters c.args.ports (left_in journal)
+      board = board_is (seen_board g.M.Meter.seen c.new-board.result)
+          (board_after c.args.ports [] (map g.M.Meter.seen c.args.meters.items))
+          c.new-board.ensures.kept c.new-board.ensures.gone
+          ∙ ap (λ (journal : List Item). board_after c.args.ports (left_in journal)
           (map g.M.Meter.seen c.args.meters.items)) (sym begun.silent);
     }
 
@@ -46,8 +52,8 @@ loop-event-preserved g c =
           c.take_steps.new.world.journal whole (c.loop-event.row + 1) c.args.events.now
           c.loop-event.event-index _ stop c.loop-event-test.true
           (rw so_far.setting at c.in-Ok.ensures.happens) rest);
-      kept = kept_up _ _ _ _ c.args.ports (map g.M.Meter.seen c.args.meters.items)
-          c.in-Ok.ensures.kept so_far.kept;
+      board = kept_up _ _ _ _ c.args.ports (map g.M.Meter.seen c.args.meters.items)
+          c.in-Ok.ensures.kept so_far.board;
     }
 
 pub returns-in-Err-Refused-clause-play : goal.returns-in-Err-Refused-clause-play
@@ -58,8 +64,7 @@ returns-in-Err-Refused-clause-play g c =
     let after = c.take_steps.new.world.journal in
     let stops = rw so_far.setting at c.in-Err-Refused.ensures.stops (ap Err c.in-Err-Refused.field-0-is)
     in
-    subst (λ played. IsPlay setting c.args.events.now played (Some row))
-    (sym c.into_journal.ensures)
+    rw (c.ended.ensures.journal, c.ended.ensures.full)
     (plays_from_start setting c.args.events.now after (Some row)
     (so_far.plays_on after (Some row)
     (stops_by setting c.loop-event.world.journal after row c.args.events.now
@@ -71,7 +76,7 @@ returns-clause-play g c =
     let journal = c.loop-event.world.journal in
     let row = c.loop-event.row + 1 in
     let none = drop_all c.loop-event.event-index c.args.events.now c.loop-event-test.false in
-    subst (λ played. IsPlay setting c.args.events.now played None) (sym c.into_journal-2.ensures)
+    rw (c.ended-2.ensures.journal, c.ended-2.ensures.full)
     (plays_from_start setting c.args.events.now journal None
     (c.loop-event.invariant.plays_on journal None
     (subst (λ events. PlaysOn setting journal row events journal None) (sym none)
@@ -79,28 +84,38 @@ returns-clause-play g c =
 
 pub returns-in-Err-Refused-clause-kept : goal.returns-in-Err-Refused-clause-kept
 returns-in-Err-Refused-clause-kept g c =
-    ap (map g.M.Meter.seen) c.into_meters.ensures
-    ∙ kept_up _ _ _ _ c.args.ports (map g.M.Meter.seen c.args.meters.items)
+    rw (c.ended.ensures.journal, c.ended.ensures.meters)
+    (ap (λ (board : BoardValue Seen). board.meters)
+    (kept_up _ _ _ _ c.args.ports (map g.M.Meter.seen c.args.meters.items)
     (c.in-Err-Refused.ensures.kept_full (ap Err c.in-Err-Refused.field-0-is))
-    c.loop-event.invariant.kept
-    ∙ ap (λ (journal : List Item). kept_meters c.args.ports (left_in journal)
-    (map g.M.Meter.seen c.args.meters.items)) (sym c.into_journal.ensures)
+    c.loop-event.invariant.board))
+
+pub returns-in-Err-Refused-clause-gone : goal.returns-in-Err-Refused-clause-gone
+returns-in-Err-Refused-clause-gone g c =
+    rw (c.ended.ensures.journal, c.ended.ensures.gone)
+    (ap (λ (board : BoardValue Seen). board.gone)
+    (kept_up _ _ _ _ c.args.ports (map g.M.Meter.seen c.args.meters.items)
+    (c.in-Err-Refused.ensures.kept_full (ap Err c.in-Err-Refused.field-0-is))
+    c.loop-event.invariant.board))
 
 pub returns-clause-kept : goal.returns-clause-kept
 returns-clause-kept g c =
-    ap (map g.M.Meter.seen) c.into_meters-2.ensures ∙ c.loop-event.invariant.kept
-    ∙ ap (λ (journal : List Item). kept_meters c.args.ports (left_in journal)
-    (map g.M.Meter.seen c.args.meters.items)) (sym c.into_journal-2.ensures)
+    rw (c.ended-2.ensures.journal, c.ended-2.ensures.meters)
+    (ap (λ (board : BoardValue Seen). board.meters) c.loop-event.invariant.board)
+
+pub returns-clause-gone : goal.returns-clause-gone
+returns-clause-gone g c =
+    rw (c.ended-2.ensures.journal, c.ended-2.ensures.gone)
+    (ap (λ (board : BoardValue Seen). board.gone) c.loop-event.invariant.board)
 
 pub returns-in-Err-Refused-clause-held : goal.returns-in-Err-Refused-clause-held
 returns-in-Err-Refused-clause-held g c =
-    c.plays_held_on_the_way.ensures (setting_at c.args.world) c.args.events.now _
-    (Some (c.loop-event.row + 1))
+    c.plays_held_on_the_way.ensures (setting_at c.args.world) c.args.events.now _ _
     (tie_of c.args.world (c.refines.ensures c.requires.begun.able)).sound c.requires.events
     (returns-in-Err-Refused-clause-play g c)
 
 pub returns-clause-held : goal.returns-clause-held
 returns-clause-held g c =
-    c.plays_held_on_the_way.ensures (setting_at c.args.world) c.args.events.now _ None
+    c.plays_held_on_the_way.ensures (setting_at c.args.world) c.args.events.now _ _
     (tie_of c.args.world (c.refines.ensures c.requires.begun.able)).sound c.requires.events
     (returns-clause-play g c)

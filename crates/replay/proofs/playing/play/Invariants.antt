@@ -1,7 +1,7 @@
 use Rattle.world.specs.State.{setting_at}
 use Rattle.std.proofs.Common.{ℕ, ◌≡◌, ◌+◌, ◌≤◌, Option, [], List, drop, false, map}
 use Rattle.journal.specs.declared.item.Item.{Item}
-use Rattle.meters.specs.Meters.{kept_meters}
+use Rattle.meters.specs.Gone.{board_after, seen_board}
 use Rattle.replay.specs.Leavings.{left_in}
 use Rattle.replay.proofs.Events.{PlaysOn}
 use Rattle.replay.proofs.playing.play.Given as goal
@@ -15,6 +15,6 @@ invariant-loop-event g l = record {
   plays_on : (whole : List Item) (stop : Option ℕ)
       → PlaysOn (setting_at l.fn.world) l.world.journal (l.row + 1) (drop l.event-index l.events) whole
       stop → PlaysOn (setting_at l.fn.world) [] 1 l.events whole stop;
-  kept : map g.M.Meter.seen l.board
-      ≡ kept_meters l.fn.ports (left_in l.world.journal) (map g.M.Meter.seen l.fn.meters.items);
+  board : seen_board g.M.Meter.seen l.board
+      ≡ board_after l.fn.ports (left_in l.world.journal) (map g.M.Meter.seen l.fn.meters.items);
 }

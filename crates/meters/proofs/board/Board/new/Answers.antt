@@ -5,7 +5,7 @@ use Rattle.meters.proofs.Keeping.{map-filter, kept-nothing}
 use Rattle.meters.proofs.board.Board.new.Goals as goal
 use Rattle.meters.proofs.board.Board.new.Given.{Over}
 
-chosen : (g : Over) (c : goal.After-retain g) → c.retain.new.self.items
+chosen : (g : Over) (c : goal.After-new-gone g) → c.retain.new.self.items
     ≡ filter (λ m. has c.args.ports (g.M.Meter.seen m).port) c.args.meters.items
 chosen g c =
     filter_same _ (λ m. has c.args.ports (g.M.Meter.seen m).port) _

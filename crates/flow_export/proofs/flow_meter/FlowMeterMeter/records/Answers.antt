@@ -1,0 +1,18 @@
+use Rattle.std.proofs.Common.{◌≡◌, ◌∙◌, ap, map, rules}
+use Rattle.std.proofs.lemmas.Iterator.{items_from_collect, YieldsList-from_map}
+use Rattle.std.proofs.lemmas.Iterator.Consumers.{YieldsList-from_rest}
+use Rattle.flow_export.specs.Flows.{FlowMeterValue, flows}
+use Rattle.flow_export.proofs.Counting.{record_at, records_are}
+use Rattle.flow_export.proofs.flow_meter.FlowMeterMeter.records.Goals as goal
+
+pub returns : goal.returns
+returns c =
+    let told = items_from_collect c.collect.result c.collect.ensures.ran (YieldsList-from_map _
+    (record_at c.self.inside.port) (YieldsList-from_rest c.self.inside.counts.entries
+    (c.map-records.ensures.source ∙ c.iter.ensures.rest)) c.map-records.ensures.closure
+    (λ x r q k. search rules)) in
+    let here : c.in_ok-collect.field-0.items
+    ≡ map (record_at c.self.inside.port) c.self.inside.counts.entries = search rules in
+    c.new.ensures ∙ here ∙ ap (map (record_at c.self.inside.port)) c.self.invariant
+    ∙ records_are c.self.inside.port c.self.inside.held.items
+    ∙ ap (λ (meter : FlowMeterValue). flows meter.port meter.held) c.self.view_is

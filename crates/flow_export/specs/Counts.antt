@@ -1,0 +1,16 @@
+-- The counts of a flow meter, as a map holds them.
+use Rattle.std.specs.Prelude.{ℕ, List, map}
+use Rattle.std.specs.Map.{lookup}
+use Rattle.std.specs.Option.{unwrap_or}
+use Rattle.five_tuple.specs.HeaderNumbers.{header_eq}
+use Rattle.five_tuple.specs.declared.header.Header.{Header}
+use Rattle.policy_rules.specs.declared.packet.Leaving.{Leaving}
+use Rattle.flow_export.specs.Flows.{headers_of, packets_of}
+
+-- each header with how many packets had it, in the order in which they first left
+abbrev pub counts_of : List Leaving → List (Header × ℕ)
+counts_of held = map (λ header. (header, packets_of held header)) (headers_of held)
+
+-- the count of a header, and 0 where it has none
+abbrev pub count_at : Header → List (Header × ℕ) → ℕ
+count_at header counts = unwrap_or (lookup (header_eq header) counts) 0

@@ -1,0 +1,28 @@
+-- The flows of a list of leavings: which headers it has, and how many packets had each.
+use Rattle.std.specs.Prelude.{ℕ, not, List, [], ◌∷◌, count_by, filter, map}
+use Rattle.five_tuple.specs.HeaderNumbers.{header_eq}
+use Rattle.five_tuple.specs.declared.header.Header.{Header}
+use Rattle.meters.specs.declared.flows.FlowRecord.{FlowRecord}
+use Rattle.policy_rules.specs.declared.packet.Leaving.{Leaving}
+
+-- the different headers, in the order in which they first left
+abbrev pub headers_of : List Leaving → List Header
+headers_of [] = []
+headers_of (one ∷ more) =
+    one.header ∷ filter (λ header. not (header_eq one.header header)) (headers_of more)
+
+-- how many packets had the header
+abbrev pub packets_of : List Leaving → Header → ℕ
+packets_of held header = count_by (λ one. header_eq one.header header) held
+
+-- a record for each different header
+abbrev pub flows : ℕ → List Leaving → List FlowRecord
+flows port held =
+    map (λ header. record { port = port; header = header; packets = packets_of held header })
+    (headers_of held)
+
+-- what a flow meter holds at its port, and with how many headers it leaves
+pub record FlowMeterValue : Type 0 where
+  pub port : ℕ
+  pub held : List Leaving
+  pub most : ℕ

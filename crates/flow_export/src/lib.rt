@@ -1,0 +1,18 @@
+//! A meter that counts flows: how many packets of each header left its port.
+//!
+//! A `FlowMeter` notes each leaving, as any meter does. Its records are the flows of what it noted:
+//! one for each different header, in the order in which they first left, with the number of packets
+//! that had it. It leaves as soon as it has so many headers as its maker says, so that the table of
+//! its counts stays small.
+//!
+//! ```text
+//! let meter = FlowMeter::new(alloc, 3, 4096); // at port 3
+//! meter.note(&leaving) // Leave with the 4,096th header
+//! meter.records()?.items() // a record for each header
+//! ```
+#![tactic(auto)]
+
+mod flow_meter;
+
+pub use flow_meter::FlowMeter;
+pub use meters::{FlowRecord, Flows, Leaving, Meter, Stay};

@@ -1,0 +1,47 @@
+-- The flow records of the meters that left, and what contracts see of a board.
+use Rattle.std.specs.Prelude.{◌≡◌, ◌==◌, ◌&&◌, if◌then◌else◌, ℕ, Bool, List, [], ◌∷◌, ◌++◌, map, filter, flat_map}
+use Rattle.base.specs.Masks.{has}
+use Rattle.policy_rules.specs.declared.packet.Leaving.{Leaving}
+use Rattle.meters.specs.Meters.{PortLeavings, has_ended, kept_meters, meter_with, meters_after, records_of}
+use Rattle.meters.specs.Seen.{Seen}
+use Rattle.meters.specs.declared.flows.FlowRecord.{FlowRecord}
+
+-- the meter leaves with this leaving: it is one of its port, and ends its list
+abbrev pub leaves_with : ℕ × Leaving → Seen → Bool
+leaves_with one meter = (one.0 == meter.port) && has_ended (meter_with (one.1 ∷ []) meter)
+
+-- the records of a meter that leaves with this leaving, for the list that it then holds
+abbrev pub told_by : ℕ × Leaving → Seen → List FlowRecord
+told_by one meter =
+    if leaves_with one meter then records_of (meter_with (one.1 ∷ []) meter) else []
+
+-- the records of the meters that leave while packets leave, leaving by leaving and meter by meter
+abbrev pub gone_after : PortLeavings → List Seen → List FlowRecord
+gone_after [] meters = []
+gone_after (one ∷ left) meters =
+    flat_map (told_by one) meters ++ gone_after left (meters_after (one ∷ []) meters)
+
+-- the records of the meters that leave in a network with these ports
+abbrev pub gone_records : ℕ → PortLeavings → List Seen → List FlowRecord
+gone_records ports left meters = gone_after left (filter (λ meter. has ports meter.port) meters)
+
+-- the meters on a board, in order, and the records of those that left it
+pub record BoardValue (M : Type 0) : Type 0 where
+  pub meters : List M
+  pub gone : List FlowRecord
+
+abbrev pub seen_board : {M : Type 0} → (M → Seen) → BoardValue M → BoardValue Seen
+seen_board seen board = record { meters = map seen board.meters; gone = board.gone }
+
+-- the board of a network with these ports, behind these leavings
+abbrev pub board_after : ℕ → PortLeavings → List Seen → BoardValue Seen
+board_after ports left meters = record {
+  meters = kept_meters ports left meters;
+  gone = gone_records ports left meters;
+}
+
+-- where the old board is the one behind some leavings, the new one is the one behind one more
+abbrev pub GoesOn : ℕ × Leaving → BoardValue Seen → BoardValue Seen → Type 0
+GoesOn one old new =
+    (ports : ℕ) (left : PortLeavings) (meters : List Seen) → old ≡ board_after ports left meters
+    → new ≡ board_after ports (left ++ one ∷ []) meters
