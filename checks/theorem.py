@@ -3,7 +3,8 @@
 
 A definition is reached if a clause of `run` names it, or a definition that is reached does. The
 first tier is what is reached without passing one of STOPS; the core of it is what CORE reaches so.
-The second tier is what else is reached. The page names a file of specs/ as `crate/File.antt`.
+The second tier is what else is reached without passing HELD, and the third part what HELD reaches
+alone. The page names a file of specs/ as `crate/File.antt`.
 
 It ends with 1 where the files that the page names in its part on a tier aren't exactly those that
 are reached; where a file of the first tier has a definition that this tier doesn't reach, or
@@ -28,6 +29,8 @@ STOPS = {
     "plan_of": "plans",
     "PrintOutcome": "plans and tables in print",
     "kept_by": "meters",
+    "HeldOnTheWay": "what held on the way",
+    "AreWithinLimits": "limits of files",
     "IsVerdict": "quiet networks",
     "asks_quiet": "quiet networks",
     "is_asked": "quiet networks",
@@ -48,6 +51,7 @@ STOPS = {
     "IsAfterReads": "reads",
 }
 CORE = ("IsRun", "HasCause", "AreEntered")
+HELD = ("HeldOnTheWay",)
 MARK = "-- First tier. "  # with this a file of the first tier begins, and no other one
 DEFINES = re.compile(r"(?:abbrev pub|unfoldable pub|pub record|pub data|pub) ([^\s:]+)")
 TOKEN = re.compile(r"[A-Za-z_][\w-]*(?:\.[A-Za-z_][\w-]*)*")
@@ -197,15 +201,17 @@ def clauses():
 
 
 def tiers(specs):
-    """The lines of the contract, the core, the first tier and the second, by file."""
+    """The lines of the contract, the core, the two tiers and the third part, by file."""
     contract, names = clauses()
     tokens = {token.split(".")[0] for line in contract for token in TOKEN.findall(line)}
     roots = [specs.named(*names[token]) for token in sorted(tokens & names.keys())]
     roots = [found for found in roots if found]
     every, first = specs.reached(roots), specs.reached(roots, STOPS)
     three = [(specs.modules[path], name) for path in every for name in every[path] if name in CORE]
-    second = {path: every[path] for path in every if path not in first}
-    return contract, specs.reached(three, STOPS), first, second
+    both = specs.reached(roots, HELD)
+    second = {path: both[path] for path in both if path not in first}
+    third = {path: every[path] for path in every if path not in both}
+    return contract, specs.reached(three, STOPS), first, second, third
 
 
 def lines_of(files):
@@ -275,9 +281,10 @@ def listed(specs, by_file):
 
 def main():
     specs = Specs()
-    contract, core, first, second = tiers(specs)
+    contract, core, first, second, third = tiers(specs)
     if "--list" in sys.argv:
-        for by_file in (core, {path: first[path] for path in first if path not in core}, second):
+        beyond = {path: first[path] for path in first if path not in core}
+        for by_file in (core, beyond, second, third):
             listed(specs, by_file)
             print()
     types = specs.types(first)
@@ -288,6 +295,7 @@ def main():
         "| types declared in `src/` that these speak of "
         f"| {len(types)} | {lines_declared(types):,} |",
         f"| the second tier | {len(second)} | {lines_of(second):,} |",
+        f"| what held on the way | {len(third)} | {lines_of(third):,} |",
     ]
     page, wrong = PAGE.read_text(), 0
     for row in rows:
@@ -299,9 +307,11 @@ def main():
         wrong += found != 1
     if "--write" in sys.argv:
         PAGE.write_text(page)
-    one, two = page.split("## The first tier\n")[1].split("## The second tier\n")
+    one, others = page.split("## The first tier\n")[1].split("## The second tier\n")
+    two, three = others.split("## What held on the way\n")
     told = [f"first tier: {name}" for name in misnamed(first, one)]
     told += [f"second tier: {name}" for name in misnamed(second, two)]
+    told += [f"what held on the way: {name}" for name in misnamed(third, three)]
     told += [f"first tier: {name}" for name in [*needless(specs, first), *mismarked(first)]]
     told += [*mistyped(types, page), *misstated(specs, page), *misstated(specs, TRUST.read_text())]
     for line in told:

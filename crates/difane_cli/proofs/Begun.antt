@@ -1,5 +1,5 @@
 -- A network on which a policy begins to be in force, and the events that may happen on it.
-use Rattle.std.proofs.Common.{ℕ, ◌≡◌, false, Option, Result, Ok, Err, List, [], length, refl, sym, ap, subst, ◌∙◌, All}
+use Rattle.std.proofs.Common.{ℕ, ◌≡◌, ◌≤◌, false, Option, Result, Ok, Err, List, [], length, refl, sym, ap, subst, ◌∙◌, All}
 use Rattle.std.specs.Prelude.{IsOk, IsTrue, slice_index_or}
 use Rattle.std.specs.Option.{ForSome}
 use Rattle.schedule.specs.Case.{IsPlayable, LoadCase, NamesPort}
@@ -13,6 +13,7 @@ use Rattle.policy_rules.specs.declared.policy.Action.{Action}
 use Rattle.policy_rules.specs.declared.policy.Action.TheVariants as action
 use Rattle.policy_rules.specs.declared.policy.Row.{Row}
 use Rattle.policy_rules.specs.Hosted.{NoPlan}
+use Rattle.steps.specs.Limits.{max_events}
 use Rattle.steps.specs.Steps.{IsEvent}
 use Rattle.steps.specs.declared.step.Event.{Event}
 use Rattle.update_machine.specs.Setting.{Setting, setting_of, IsSetting, NamesOwnPort}
@@ -89,12 +90,16 @@ all_are_events net policies count setting events same many may =
 pub asked_for : (args : ReplayCommand) (net : Net) (policies : List (List Row))
     (events : List Event) (setting : Setting) → IsNetOf args.net net
     → setting ≡ setting_of net policies → length policies ≡ length args.policies
-    → IsReplayOf args
+    → length events ≤ max_events → All (λ rows. length rows ≤ 2000) policies → IsReplayOf args
     (record { setting = setting; events = events; report = report.Lines args.quiet })
-asked_for args net policies events setting named own many = record {
+asked_for args net policies events setting named own many few short = record {
   net = subst (λ s. IsNetOf args.net s.net) (sym own) named;
   policies = ap (λ s. length s.policies) own ∙ many;
   report = refl;
+  limits = record {
+    events = few;
+    rows = subst (λ s. All (λ rows. length rows ≤ 2000) s.policies) (sym own) short;
+  };
 }
 
 -- what is planned goes on

@@ -6,9 +6,9 @@ use Rattle.journal.specs.declared.item.Item.{Item}
 use Rattle.meters.specs.Seen.{Seen}
 use Rattle.net_file.specs.declared.net.Net.{Net}
 use Rattle.journal_reports.specs.Plain.{IsPlain}
-use Rattle.update_machine.specs.Answers.{BeginsAnswer}
 use Rattle.update_machine.specs.Full.{IsPlay}
-use Rattle.update_machine.proofs.CallerLemmas.{answers_so_far, begins_itself, stop_begins}
+use Rattle.packet_laws.specs.OnTheWay.{HeldOnTheWay}
+use Rattle.packet_laws.proofs.StepsOfPlays.{play_begins}
 use Rattle.update_machine.specs.Setting.{Setting}
 use Rattle.difane_cli.specs.Tasks.{Inputs, Play}
 use Rattle.shelf.specs.Shelf.{Files}
@@ -27,32 +27,24 @@ use Rattle.difane_cli.specs.Prints.{IsAfterText}
 use Rattle.command_line.specs.Commands.{Command}
 use Rattle.replay.specs.Leavings.{kept_by}
 
-begins : (inputs : Inputs) (journal : List Item) (full : Option ℕ)
-    → IsPlay inputs.setting inputs.events journal full
-    → BeginsAnswer inputs.setting inputs.events journal
-begins inputs journal None play = begins_itself inputs.setting inputs.events journal
-    (answers_so_far inputs.setting inputs.events journal play.answers)
-begins inputs journal (Some row) play = stop_begins inputs.setting inputs.events journal row play
-
 -- what the journal of a play is, and what follows
 pub played : AnswerLaws → (command : Command) (files : Option Files) (inputs : Inputs)
     (journal : List Item) (full : Option ℕ) → IsPlayOf command inputs
     → ForSome (known_task files (Some command)) (λ read. read ≡ Ok (Play inputs))
     → MayBePlayed inputs → IsPlay inputs.setting inputs.events journal full
+    → HeldOnTheWay inputs.setting inputs.events journal full
     → IsAnswer command files inputs journal full
-played laws command files inputs journal full asked accepted sound play = record {
+played laws command files inputs journal full asked accepted sound play held = record {
   asked = asked;
   stated = stated_by files command inputs accepted;
   accepted = accepted;
   sound = sound;
   play = play;
-  run = laws.run.begun inputs.setting inputs.events journal
-      sound.events (begins inputs journal full play) sound.setting;
-  causes = laws.causes.begun inputs.setting inputs.events journal
-      sound.events (begins inputs journal full play) sound.setting;
-  strong = laws.strong.begun inputs.setting inputs.events journal
-      sound.events (begins inputs journal full play) sound.setting;
+  run = held.so_far.run;
+  causes = held.so_far.causes;
+  strong = held.so_far.strong;
   entered = laws.entered inputs.setting inputs.events journal full play;
+  held = held;
 }
 
 -- the answer that the judge gave is the one that is asked for
@@ -68,7 +60,7 @@ judged laws command files inputs journal full net given answer own asked decides
     verdict laws.quiet (asks_quiet inputs.report) inputs.setting inputs.events journal full given
     sound answer.play asked
     (decides inputs.setting own (laws.plain.begun inputs.setting inputs.events journal
-    answer.sound.events (begins inputs journal full answer.play) sound))
+    answer.sound.events (play_begins inputs.setting inputs.events journal full answer.play) sound))
 
 -- memory ran out before an answer was given, and nothing was written
 pub unjudged : (command : Command) (files : Option Files) (takes_memory : Bool) (inputs : Inputs)

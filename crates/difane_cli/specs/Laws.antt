@@ -1,5 +1,5 @@
 -- What follows behind steps of the network, and at the end of a play.
-use Rattle.std.specs.Prelude.{ℕ, Option, List, []}
+use Rattle.std.specs.Prelude.{ℕ, Option, List}
 use Rattle.control_laws.specs.Always.{HoldsAtEnds, HoldsReached}
 use Rattle.packet_laws.specs.Entries.{AreEntered, rows_played}
 use Rattle.journal.specs.declared.item.Item.{Item}
@@ -9,12 +9,9 @@ use Rattle.convergence_laws.specs.Converged.{HasConverged}
 use Rattle.convergence_laws.specs.Stuck.{GetStuckApart}
 use Rattle.convergence_laws.specs.Updated.{IsUpdated}
 use Rattle.steps.specs.declared.step.Event.{Event}
-use Rattle.update_machine.specs.Causes.{HasCause, HaveCauses}
 use Rattle.update_machine.specs.Full.{IsPlay}
-use Rattle.update_machine.specs.Machine.{IsRun}
 use Rattle.update_machine.specs.Quiet.{IsQuiet}
-use Rattle.update_machine.specs.Setting.{Setting, IsSetting}
-use Rattle.packet_laws.specs.StrongCauses.{StrongCause}
+use Rattle.update_machine.specs.Setting.{Setting}
 
 -- what holds at the end of a play, where the network is quiet
 pub record QuietLaws : Type 0 where
@@ -25,13 +22,8 @@ pub record QuietLaws : Type 0 where
   pub updated : HoldsAtEnds (λ setting journal.
       IsQuiet setting journal → IsUpdated setting journal)
 
--- what follows behind steps of the network
+-- what follows of a play, and behind steps of the network
 pub record AnswerLaws : Type 0 where
-  pub run : HoldsReached (λ setting journal. IsSetting setting → IsRun setting journal)
-  pub causes : HoldsReached (λ setting journal.
-      IsSetting setting → HaveCauses (HasCause setting) [] journal)
-  pub strong : HoldsReached (λ setting journal.
-      IsSetting setting → HaveCauses (StrongCause setting) [] journal)
   pub entered : (setting : Setting) (events : List Event) (journal : List Item) (full : Option ℕ)
       → IsPlay setting events journal full → AreEntered (rows_played full events) journal
   pub plain : HoldsReached (λ setting journal. IsNet setting.net → IsPlain setting journal)

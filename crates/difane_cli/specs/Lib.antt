@@ -1,6 +1,7 @@
 pub mod Codes
 pub mod Inputs
 pub mod Tasks
+pub mod Limits
 pub mod Texts
 pub mod Run
 pub mod Laws

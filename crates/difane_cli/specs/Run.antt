@@ -15,8 +15,10 @@ use Rattle.update_machine.specs.Machine.{IsRun}
 use Rattle.update_machine.specs.Setting.{IsSetting}
 use Rattle.steps.specs.Steps.{IsEvent}
 use Rattle.packet_laws.specs.StrongCauses.{StrongCause}
+use Rattle.packet_laws.specs.OnTheWay.{HeldOnTheWay}
 use Rattle.packet_laws.specs.Entries.{AreEntered, rows_played}
 use Rattle.schedule.specs.Case.{load_case}
+use Rattle.difane_cli.specs.Limits.{AreWithinLimits}
 use Rattle.difane_cli.specs.Inputs.{case_inputs, known_task}
 use Rattle.difane_cli.specs.Texts.{play_text}
 use Rattle.difane_cli.specs.Verdict.{IsVerdict, asks_quiet, is_asked}
@@ -33,11 +35,12 @@ use Rattle.difane_cli.specs.declared.status.Status.TheVariants as status
 
 -- ---- plays
 
--- the inputs are on the network that the command names, and have a policy for each that it names
+-- the inputs have the network and the policies that the command names, and are within the limits
 pub record IsReplayOf (command : ReplayCommand) (inputs : Inputs) : Type 0 where
   pub net : IsNetOf command.net inputs.setting.net
   pub policies : length inputs.setting.policies ≡ length command.policies
   pub report : inputs.report ≡ report.Lines command.quiet
+  pub limits : AreWithinLimits inputs
 
 -- the inputs are as a command asks for them: those of a replay, or the load case
 abbrev pub IsPlayOf : Command → Inputs → Type 0
@@ -69,11 +72,10 @@ pub record MayBePlayed (inputs : Inputs) : Type 0 where
   pub setting : IsSetting inputs.setting
   pub events : All (IsEvent inputs.setting.net (length inputs.setting.policies)) inputs.events
 
--- the journal is that of the play of these inputs, which are those that the files state and the
--- ones of the task, where these are known: it answers them, or it answers them up to a row at which
--- the play stopped full; so it is a run of the machine, its ends have their causes, and its items
--- have the strong ones; its rows but for hops and deliveries are those that were played, in order;
--- and the packets that came in or were refused are those of its packet rows, each right behind it
+-- the journal is that of the play of these inputs, which are those of the files and of the task,
+-- where these are known, to its end or to a row at which it stopped full; so it is a run of the
+-- machine, its ends and items have their causes, and its rows and entries are the schedule's; and
+-- what is to be kept held on the way
 pub record IsAnswer (command : Command) (files : Option Files) (inputs : Inputs)
     (journal : List Item) (full : Option ℕ) : Type 0 where
   pub asked : IsPlayOf command inputs
@@ -85,13 +87,13 @@ pub record IsAnswer (command : Command) (files : Option Files) (inputs : Inputs)
   pub causes : HaveCauses (HasCause inputs.setting) [] journal
   pub strong : HaveCauses (StrongCause inputs.setting) [] journal
   pub entered : AreEntered (rows_played full inputs.events) journal
+  pub held : HeldOnTheWay inputs.setting inputs.events journal full
 
 -- there are inputs such that the journal is that of their play, to its end or to a row at which it
 -- stopped full; the meters that were given back are those that stayed of the ones that were taken;
 -- and the output gained what is to be told. Of a replay this is the text of the journal, and where
--- it didn't stop full the meters' lines, and with `--quiet` the one that says whether the network
--- is quiet: where it says yes, all have converged, and every switch that is up stamps with the
--- newest version. Of a load case it is the summary, and nothing where it stopped full
+-- it didn't stop full the meters' lines, and with `--quiet` whether the network is quiet: where it
+-- is, all have converged, on the newest version. Of a load case it is the summary, unless it did
 pub record Played (command : Command) (files : Option Files) (full : Option ℕ)
     (journal : List Item) (taken given : List Seen) (before now : SinkState) : Type 0 where
   pub inputs : Inputs
@@ -127,8 +129,7 @@ abbrev pub WantsMemory : Report → Option ℕ → Type 0
 WantsMemory asked full = IsTrue (is_asked (asks_quiet asked) full) ⊎ IsTrue (is_made asked full)
 
 -- the same of either play, but that memory ran out behind it, where it is wanted or the output's
--- own writes take any; and the output wasn't touched or gained a part of the text. Where it ran out
--- before it was known whether the network is quiet, no line says so
+-- writes take any; a part of the text was written, or none, and no answer that wasn't known
 pub record Unfinished (command : Command) (files : Option Files) (takes_memory : Bool)
     (journal : List Item) (taken given : List Seen) (before now : SinkState) : Type 0 where
   pub inputs : Inputs

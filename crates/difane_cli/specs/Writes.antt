@@ -3,8 +3,7 @@ use Rattle.std.specs.Prelude.{ℕ, ◌≡◌, ◌⊎◌, List, [], ◌≤◌, Bo
 use Rattle.shelf.specs.Sink.{with_gained, GainedPart, SinkState, Rose}
 use Rattle.journal.specs.declared.item.Item.{Item}
 
--- the output gained this text; where it is empty, it wasn't touched: no write was made, not even of
--- nothing
+-- the output gained this text; where it is empty no write was made, not even of nothing
 pub record Wrote (text : List ℕ) (before now : SinkState) : Type 0 where
   pub whole : now.bytes ≡ with_gained before.bytes text
   pub untouched : text ≡ [] → now ≡ before

@@ -1,5 +1,5 @@
 //! The files of a command, read and checked one after another.
-ghost use Rattle.std.specs.Prelude.{◌≡◌, All, IsTrue, IfOk, IfErr, Ok, Some, length};
+ghost use Rattle.std.specs.Prelude.{◌≡◌, ◌≤◌, All, IsTrue, IfOk, IfErr, Ok, Some, length};
 ghost use Rattle.net_file.specs.Net.{IsNet};
 ghost use Rattle.policy_file.specs.Ports.{names_port_of};
 ghost use Rattle.policy_rules.specs.Policy.{IsPolicy};
@@ -109,6 +109,7 @@ pub fn read_policy<F: Shelf>(
     ensures shelf { IsAfterReads 1 (F.state shelf.old) (F.state shelf.new) }
     ensures own_ports { IfOk result (All (λ row. IsTrue (names_port_of ports row.action))) }
     ensures sound { IfOk result IsPolicy }
+    ensures few { IfOk result (λ policy. length policy ≤ 2000) }
 {
     let bytes = read_bytes(alloc, shelf, name)?;
     check_policy(alloc, name, &bytes, ports)
@@ -131,6 +132,7 @@ fn read_policies<F: Shelf>(
     ensures own_ports { IfOk result (λ policies.
         All (All (λ row. IsTrue (names_port_of ports row.action))) policies.items) }
     ensures sound { IfOk result (λ policies. All IsPolicy policies.items) }
+    ensures few { IfOk result (λ policies. All (λ rows. length rows ≤ 2000) policies.items) }
 {
     let mut policies = Vec::new(alloc);
     for name in names {

@@ -23,7 +23,7 @@ use journal_reports::{answers_are_plain, summarize, summary_text};
 use journal_text::write_text;
 use meters::Meter;
 use net_file::Net;
-use packet_laws::{answers_are_runs, causes_are_strong, ends_have_causes, packet_rows_are_entered};
+use packet_laws::packet_rows_are_entered;
 use replay::Played;
 use shelf::{Sink, SinkError, write_whole};
 use std::alloc::Global;
@@ -85,9 +85,6 @@ pub fn play<M: Meter, K: Sink>(
 fn answer_laws()
     ensures { AnswerLaws }
 {
-    answers_are_runs();
-    ends_have_causes();
-    causes_are_strong();
     packet_rows_are_entered();
     answers_are_plain();
     quiet_networks_have_converged();

@@ -36,6 +36,7 @@ fn state_policy(alloc: Global, name: &str, bytes: &[u8]) -> Result<Policy, Stop>
     ensures stopped { IfErr result
         (StopsCheck (read_from policy_code name.now (policy_of bytes.now))) }
     ensures sound { IfOk result IsPolicy }
+    ensures few { IfOk result (λ policy. length policy ≤ 2000) }
 {
     match read_policy(alloc, bytes) {
         Ok(policy) => Ok(policy),
@@ -50,6 +51,7 @@ pub fn check_policy(alloc: Global, name: &str, bytes: &[u8], ports: u64) -> Resu
     ensures stopped { IfErr result (StopsCheck (policy_stated ports name.now bytes.now)) }
     ensures own_ports { IfOk result (All (λ row. IsTrue (names_port_of ports row.action))) }
     ensures sound { IfOk result IsPolicy }
+    ensures few { IfOk result (λ policy. length policy ≤ 2000) }
 {
     let policy = state_policy(alloc, name, bytes)?;
     match check_ports(&policy, ports) {

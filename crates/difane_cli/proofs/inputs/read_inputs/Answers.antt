@@ -80,3 +80,4 @@ returns-clause-asked g c =
     c.in_ok-events.events.items (setting_at c.in_ok-world.world) c.in_ok-net.ensures.named
     c.in_ok-world.ensures.begun.own
     (c.in_ok-policies.ensures.many ∙ as_many _ _ c.deref-names.ensures.value)
+    c.in_ok-events.ensures.sound.few c.in_ok-policies.ensures.few

@@ -1,6 +1,6 @@
 use Rattle.std.specs.Prelude.{IsTrue, Vec}
 use Rattle.std.specs.Global.{Global}
-use Rattle.std.proofs.Common.{ℕ, ◌≡◌, ◌+◌, Ok, Err, All, List, [], ◌∷◌, ◌++◌, ap, arith, drop, length, length-append, subst, sym}
+use Rattle.std.proofs.Common.{ℕ, ◌≡◌, ◌≤◌, ◌+◌, Ok, Err, All, List, [], ◌∷◌, ◌++◌, ap, arith, drop, length, length-append, subst, sym}
 use Rattle.std.proofs.lemmas.List.Elements.{All-push}
 use Rattle.policy_file.specs.Ports.{names_port_of}
 use Rattle.policy_rules.specs.Policy.{IsPolicy}
@@ -47,6 +47,7 @@ loop-name-preserved g c =
     let before = c.loop-name.policies.items in
     let rows = c.in_ok-policy.policy in
     let pushed : c.push.new.self.items ≡ before ++ rows ∷ [] = c.in_ok-push.ensures.items in
+    let IsShort : List Row → Type 0 = λ (rows : List Row). length rows ≤ 2000 in
     let HasOwn : List Row → Type 0 = All (λ row. IsTrue (names_port_of c.args.ports row.action)) in
     record {
       read = subst (λ (policies : List (List Row)). HasRead c.args.ports (names_seen names)
@@ -68,4 +69,6 @@ loop-name-preserved g c =
           c.in_ok-policy.ensures.own_ports);
       sound = subst (All IsPolicy) (sym pushed)
           (All-push IsPolicy before rows c.loop-name.invariant.sound c.in_ok-policy.ensures.sound);
+      few = subst (All IsShort) (sym pushed)
+          (All-push IsShort before rows c.loop-name.invariant.few c.in_ok-policy.ensures.few);
     }

@@ -1,4 +1,4 @@
-use Rattle.std.proofs.Common.{◌≡◌, All, drop, length}
+use Rattle.std.proofs.Common.{◌≡◌, ◌≤◌, All, drop, length}
 use Rattle.std.specs.Prelude.{IsTrue}
 use Rattle.policy_file.specs.Ports.{names_port_of}
 use Rattle.policy_rules.specs.Policy.{IsPolicy}
@@ -14,4 +14,5 @@ invariant-loop-name g l = record {
   many : length l.policies.items ≡ l.name-index;
   own_ports : All (All (λ row. IsTrue (names_port_of l.ports row.action))) l.policies.items;
   sound : All IsPolicy l.policies.items;
+  few : All (λ rows. length rows ≤ 2000) l.policies.items;
 }

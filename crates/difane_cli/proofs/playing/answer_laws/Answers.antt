@@ -2,9 +2,6 @@ use Rattle.difane_cli.proofs.playing.answer_laws.Goals as goal
 
 pub returns : goal.returns
 returns c = record {
-  run = c.answers_are_runs.ensures;
-  causes = c.ends_have_causes.ensures;
-  strong = c.causes_are_strong.ensures;
   entered = c.packet_rows_are_entered.ensures;
   plain = c.answers_are_plain.ensures;
   quiet = record {
