@@ -1,5 +1,6 @@
 mod AfterTexts
 mod Begun
+mod CalmReads
 mod Gains
 mod MeterLines
 mod OneSwitch

@@ -80,6 +80,11 @@ EndsRead known read seen old new (Err stop) =
     ForSome known (λ given. Accounts (read given) (status_of stop))
     × (NeedsReadFault old.files (status_of stop) → Rose old.faults new.faults)
 
+-- where files are known, a reading that doesn't end with a read fault counts no fault
+abbrev pub IsCalmRead : {V : Type 0} → (old new : ShelfState) → Result V Stop → Type 0
+IsCalmRead old new (Err stop.ReadFault) = ⊤
+IsCalmRead old new result = ForSome old.files (λ files. new.faults ≡ old.faults)
+
 -- ---- checks of what was read
 
 -- this refusal, or want of memory

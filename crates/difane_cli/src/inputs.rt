@@ -5,7 +5,7 @@ ghost use Rattle.policy_file.specs.Ports.{names_port_of};
 ghost use Rattle.policy_rules.specs.Policy.{IsPolicy};
 ghost use Rattle.schedule.specs.Reading.{AreSoundEvents};
 ghost use Rattle.shelf.specs.Shelf.{IsAfterReads};
-ghost use Rattle.difane_cli.specs.Exports.{AreReadyToPlay, EndsRead, IsReplayOf, RefusesInput, StopsCheck, content_of, inputs_of, inputs_stated, most_reads, policy_reads, read_policies, read_policy, read_schedule, schedule_in};
+ghost use Rattle.difane_cli.specs.Exports.{AreReadyToPlay, EndsRead, IsCalmRead, IsReplayOf, RefusesInput, StopsCheck, content_of, inputs_of, inputs_stated, most_reads, policy_reads, read_policies, read_policy, read_schedule, schedule_in};
 ghost use Rattle.command_line.specs.Named.{HasPolicies, names_seen, replay_named};
 ghost use Rattle.command_line.specs.Commands.{Replay};
 
@@ -46,6 +46,7 @@ pub fn read_bytes<F: Shelf>(alloc: Global, shelf: &mut F, name: &str) -> Result<
     ensures read { EndsRead (F.state shelf.old).files (λ files. content_of files name.now)
         (λ bytes. bytes.items) (F.state shelf.old) (F.state shelf.new) result }
     ensures shelf { IsAfterReads 1 (F.state shelf.old) (F.state shelf.new) }
+    ensures calm { IsCalmRead (F.state shelf.old) (F.state shelf.new) result }
 {
     match shelf.read(name, MAX_BYTES) {
         Ok(bytes) => Ok(bytes),
@@ -91,6 +92,7 @@ fn read_schedule<F: Shelf>(
         (λ files. read_schedule net.now policies files name.now) (λ events. events.items)
         (F.state shelf.old) (F.state shelf.new) result }
     ensures shelf { IsAfterReads 1 (F.state shelf.old) (F.state shelf.new) }
+    ensures calm { IsCalmRead (F.state shelf.old) (F.state shelf.new) result }
     ensures sound { IfOk result (λ events. AreSoundEvents net.now policies events.items) }
 {
     let bytes = read_bytes(alloc, shelf, name)?;
@@ -107,6 +109,7 @@ pub fn read_policy<F: Shelf>(
     ensures read { EndsRead (F.state shelf.old).files (λ files. read_policy ports files name.now)
         (λ policy. policy) (F.state shelf.old) (F.state shelf.new) result }
     ensures shelf { IsAfterReads 1 (F.state shelf.old) (F.state shelf.new) }
+    ensures calm { IsCalmRead (F.state shelf.old) (F.state shelf.new) result }
     ensures own_ports { IfOk result (All (λ row. IsTrue (names_port_of ports row.action))) }
     ensures sound { IfOk result IsPolicy }
     ensures few { IfOk result (λ policy. length policy ≤ 2000) }
@@ -128,6 +131,7 @@ fn read_policies<F: Shelf>(
     ensures shelf { IsAfterReads
         (policy_reads ports (F.state shelf.old).files (names_seen names.now))
         (F.state shelf.old) (F.state shelf.new) }
+    ensures calm { IsCalmRead (F.state shelf.old) (F.state shelf.new) result }
     ensures many { IfOk result (λ policies. length policies.items ≡ length names.now) }
     ensures own_ports { IfOk result (λ policies.
         All (All (λ row. IsTrue (names_port_of ports row.action))) policies.items) }
@@ -166,6 +170,7 @@ pub fn read_inputs<F: Shelf>(
     ensures shelf { IsAfterReads
         (most_reads (F.state shelf.old).files (Some (Replay (replay_named args.now))))
         (F.state shelf.old) (F.state shelf.new) }
+    ensures calm { IsCalmRead (F.state shelf.old) (F.state shelf.new) result }
     ensures ready { IfOk result AreReadyToPlay }
     ensures asked { IfOk result (λ inputs.
         IsReplayOf (replay_named args.now) (inputs_stated inputs)) }

@@ -3,7 +3,7 @@ ghost use Rattle.std.specs.Prelude.{◌≡◌, IfOk, IfErr, Ok};
 ghost use Rattle.net_file.specs.Net.{IsNet};
 ghost use Rattle.shelf.specs.Shelf.{IsAfterReads};
 ghost use Rattle.command_line.specs.Named.{net_named};
-ghost use Rattle.difane_cli.specs.Exports.{EndsRead, IsNetOf, IsSwitchOf, StopsCheck, net_reads, net_stated, read_net, switch_on};
+ghost use Rattle.difane_cli.specs.Exports.{EndsRead, IsCalmRead, IsNetOf, IsSwitchOf, StopsCheck, net_reads, net_stated, read_net, switch_on};
 
 use crate::inputs::{read_bytes, refused};
 use crate::policies::NO_SWITCH;
@@ -43,6 +43,7 @@ pub fn take_network<F: Shelf>(alloc: Global, shelf: &mut F, name: Option<&str>) 
         (λ net. net) (F.state shelf.old) (F.state shelf.new) result }
     ensures shelf { IsAfterReads (net_reads (net_named name.entry))
         (F.state shelf.old) (F.state shelf.new) }
+    ensures calm { IsCalmRead (F.state shelf.old) (F.state shelf.new) result }
     ensures sound { IfOk result IsNet }
     ensures named { IfOk result (IsNetOf (net_named name.entry)) }
 {

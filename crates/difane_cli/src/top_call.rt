@@ -59,7 +59,11 @@ pub fn run<F: Shelf, K: Sink, E: Sink>(
     ensures write_fault { result.status ≡ status.WriteFault
         → Rose (K.state out.old).faults (K.state out.new).faults }
 
-    // Only there is a fault of the output counted: what failed is not tried again with success.
+    // Only there is a fault counted, of known files and of the output: what failed is not tried again
+    // with success.
+    ensures no_read_fault { result.status ≢ status.ReadFault
+        → ForSome (F.state shelf.old).files (λ files.
+        (F.state shelf.new).faults ≡ (F.state shelf.old).faults) }
     ensures no_write_fault { result.status ≢ status.WriteFault
         → (K.state out.new).faults ≡ (K.state out.old).faults }
 

@@ -9,6 +9,7 @@ use Rattle.std.specs.Option.{ForSome}
 use Rattle.command_line.specs.Named.{names_seen}
 use Rattle.difane_cli.specs.Ending.{EndsRead}
 use Rattle.difane_cli.specs.Inputs.{read_policy}
+use Rattle.difane_cli.proofs.CalmReads.{none_then}
 use Rattle.difane_cli.proofs.PolicyReads.{HasRead, at_next, name_there, one_read, reads_at, stops_at}
 use Rattle.difane_cli.proofs.inputs.read_policies.Goals as goal
 
@@ -71,4 +72,7 @@ loop-name-preserved g c =
           (All-push IsPolicy before rows c.loop-name.invariant.sound c.in_ok-policy.ensures.sound);
       few = subst (All IsShort) (sym pushed)
           (All-push IsShort before rows c.loop-name.invariant.few c.in_ok-policy.ensures.few);
+      calm = none_then (g.F.Shelf.state c.args.shelf.now) (g.F.Shelf.state c.loop-name.shelf)
+          (g.F.Shelf.state c.read_policy.new.shelf) so_far.after.same_files
+          c.loop-name.invariant.calm c.in_ok-policy.ensures.calm;
     }
