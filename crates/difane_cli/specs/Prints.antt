@@ -4,7 +4,7 @@ use Rattle.std.specs.Prelude.{ℕ, ◌≡◌, ◌⊎◌, Option, Some, None, is_
 use Rattle.std.specs.Option.{ForSome}
 use Rattle.net_file.specs.Owners.{switch_number}
 use Rattle.net_file.specs.declared.net.Net.{Net}
-use Rattle.partition.specs.Plan.{plan_of}
+use Rattle.partition.specs.Plan.{IsPlan, plan_of}
 use Rattle.policy_rules.specs.Policy.{IsPolicy}
 use Rattle.show_text.specs.Text.{compile_text, table_text}
 use Rattle.switch_table.specs.Tables.{tables_of}
@@ -13,6 +13,7 @@ use Rattle.shelf.specs.Sink.{GainedPart, SinkState, with_gained, Rose}
 use Rattle.shelf.specs.declared.output.SinkError.{SinkError}
 use Rattle.shelf.specs.declared.output.SinkError.TheVariants.{Failed, NoMemory}
 use Rattle.journal.specs.declared.item.Item.{Item}
+use Rattle.controller.specs.Leads.{LeadEveryHeader}
 use Rattle.difane_cli.specs.Inputs.{known_task}
 use Rattle.difane_cli.specs.Tasks.{Print, Printing, IsNetOf}
 use Rattle.difane_cli.specs.declared.status.Status.{Status}
@@ -27,12 +28,16 @@ IsSwitchOf None net switch = switch ≡ None
 IsSwitchOf (Some name) net switch =
     (switch ≡ switch_number net.switches name) × IsTrue (is_some switch)
 
--- a policy, its plan on the network that a command names, and the switch that it names
+-- a policy, its plan on the network that a command names, and the switch that it names; the plan's
+-- partitions are the leaves of the tree that is defined for the policy's rules, and their targets a
+-- placement; and at every switch it leads each header to the first match of the policy
 pub record IsPrintingOf (command : PrintCommand) (printing : Printing) : Type 0 where
   pub policy : IsPolicy printing.policy
   pub net : IsNetOf command.net printing.net
   pub switch : IsSwitchOf command.switch printing.net printing.switch
   pub plan : plan_of printing.policy printing.net ≡ Ok printing.hosted
+  pub parts : IsPlan printing.policy printing.net printing.hosted
+  pub leads : LeadEveryHeader printing.policy printing.hosted
 
 -- the plan, or the tables that it gives to the switch for version 1
 abbrev pub text_by : Option ℕ → Printing → List ℕ

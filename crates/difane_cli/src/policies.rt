@@ -4,12 +4,13 @@ ghost use Rattle.policy_file.specs.Reading.{policy_code, policy_of};
 ghost use Rattle.policy_file.specs.Ports.{names_port_of};
 ghost use Rattle.policy_rules.specs.Policy.{IsPolicy};
 ghost use Rattle.policy_rules.specs.declared.policy.Row.{Row};
+ghost use Rattle.controller.specs.Leads.{LeadEveryHeader};
 ghost use Rattle.controller.specs.Plan.{RefusesPlan};
 ghost use Rattle.difane_cli.specs.Ending.{StopsCheck};
 ghost use Rattle.difane_cli.specs.Inputs.{first_plan, plan_on, policy_stated, read_from};
 ghost use Rattle.net_file.specs.Exports.{IsNet, port_mask};
 ghost use Rattle.net_file.specs.declared.net.Net.{Net};
-ghost use Rattle.partition.specs.Plan.{plan_of};
+ghost use Rattle.partition.specs.Plan.{IsPlan, plan_of};
 ghost use Rattle.update_machine.specs.Setting.{setting_of, IsSetting};
 ghost use Rattle.command_line.specs.Named.{names_seen};
 ghost use Rattle.world.specs.State.{IsBegun, setting_at};
@@ -109,6 +110,8 @@ pub fn plan_policy(alloc: Global, name: &str, policy: &Policy, net: &Net) -> Res
     requires { IsNet net.now }
     ensures value { IfOk result (λ plan. plan_on name.now net.now policy.now ≡ Ok plan.hosted) }
     ensures planned { IfOk result (λ plan. plan_of policy.now net.now ≡ Ok plan.hosted) }
+    ensures parts { IfOk result (λ plan. IsPlan policy.now net.now plan.hosted) }
+    ensures leads { IfOk result (λ plan. LeadEveryHeader policy.now plan.hosted) }
     ensures policy { IfOk result (λ plan. plan.policy ≡ policy.now) }
     ensures stopped { IfErr result (StopsCheck (plan_on name.now net.now policy.now)) }
 {
