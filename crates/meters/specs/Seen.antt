@@ -1,5 +1,4 @@
--- First tier. A meter as contracts know it: its port, the leavings that it holds, and what its kind
--- says of every list: whether a meter that holds it is to leave, and which flow records it has.
+-- First tier. A meter: its port, what it holds, and of every list whether it leaves, and its records.
 use Rattle.std.specs.Prelude.{ℕ, Bool, List}
 use Rattle.policy_rules.specs.declared.packet.Leaving.{Leaving}
 use Rattle.meters.specs.declared.flows.FlowRecord.{FlowRecord}

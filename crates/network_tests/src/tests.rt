@@ -5,4 +5,5 @@ mod quiet_journals;
 mod replays;
 mod routes;
 mod sends;
+mod traces;
 mod worlds;
