@@ -1,4 +1,4 @@
--- First tier. A meter: its port, what it holds, and of every list whether it leaves, and its records.
+-- First tier. A meter: its port, its leavings, and of every list whether it ends, and its records.
 use Rattle.std.specs.Prelude.{ℕ, Bool, List}
 use Rattle.policy_rules.specs.declared.packet.Leaving.{Leaving}
 use Rattle.meters.specs.declared.flows.FlowRecord.{FlowRecord}
