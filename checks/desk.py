@@ -5,9 +5,10 @@
   `checks/desk.py --write` puts the present outputs there.
 - With --json the same values are printed.
 - Each form of a line that docs/FORMATS.md has is read as one.
-- The examples, and SEEDS random cases of `model/fuzz.py` (40 where no number is given): behind
-  each row, switches, caches, links and messages are those of `model/slow_replay.py`. Each answer is
-  what `checks/journal_text.py` finds in the text by patterns.
+- The examples, and SEEDS random cases of `model/fuzz.py` (40 where no number is given), with
+  changes of policies: behind each row, switches, caches, links, messages and the newest version's
+  policy are those of `model/slow_replay.py`. Each answer is what `checks/journal_text.py` finds in
+  the text by patterns, and each row of a policy stands where it is said to stand.
 - Matches, read bit by bit, are the words that they spell.
 - In each picture of examples/draw the numbers stand over the lines, and the key says what occurs.
 - Each wrong input is told in one line, with status 2; damaged journals raise nothing else.
@@ -40,6 +41,7 @@ from desk import journal, page, questions, words
 from desk.folder import case_of
 from desk.network import Network
 from desk.packets import Play
+from desk.row_mistakes import CHANGE_HEADING, POLICY_HEADING
 from desk.script import Mistake
 
 
@@ -194,9 +196,15 @@ def state_told(play):
     }
 
 
-def state_faults(world, rows):
-    """The rows behind which a state is another one than the model's."""
-    play = Play(Network(world.network.names, world.network.cache))
+def newest_told(case, play):
+    """The rows of the newest version's policy, as the modules of examples/desk have them."""
+    versions = play.network.versions
+    return [rule.fields for rule in case.policy(versions[len(versions)])]
+
+
+def state_faults(world, rows, folder):
+    """The rows behind which a state, or the newest policy, is another one than the model's."""
+    play, case = Play(Network(world.network.names, world.network.cache)), case_of(str(folder))
     wrong = []
 
     def lines():
@@ -204,6 +212,8 @@ def state_faults(world, rows):
             yield from told
             if state_told(play) != row_states.state_of(world):
                 wrong.append(f"behind row {row} the state is another one than the model's")
+            if newest_told(case, play) != world.newest:
+                wrong.append(f"behind row {row} the newest policy is another one than the model's")
 
     for item in journal.items_of(lines()):
         play.follow(item)
@@ -223,6 +233,7 @@ def answer_faults(folder):
         for by in ("authority", "cache")
     }
     yield "rules", nonzero(uses), journal_text.rules(text)
+    yield from place_answers(folder, case)
     shares = questions.caches(case)["switches"]
     shares = {one["switch"]: (one["decided"], one["cached"]) for one in shares if one["decided"]}
     yield "caches", shares, journal_text.caches(text)
@@ -232,6 +243,7 @@ def answer_faults(folder):
     for one in told:
         wanted = journal_text.update_messages(text, one["version"], one["retired"])
         yield f"messages of {one['version']}", sum(one["messages"].values()), wanted
+    yield from change_answers(folder, text, case)
     outcomes = journal_text.outcomes(text)
     lost = [str(one["packet"]) for one in questions.losses(case)["packets"]]
     wanted = [packet for packet, (_, end) in outcomes.items() if end not in ("out", "dropped")]
@@ -239,6 +251,44 @@ def answer_faults(folder):
     for packet in outcomes:
         lines = [line["line"] for line in questions.packet(case, int(packet))["lines"]]
         yield f"packet {packet}", lines, journal_text.packet_lines(text, packet)
+
+
+def place_answers(folder, case):
+    """The rows of each version's policy, against the lines of the files where they stand."""
+    for version in questions.rules(case)["versions"]:
+        for rule in version["rules"][:-1]:
+            said = f"{rule['file']} line {rule['line']}: {rule['rule']},{rule['says']}"
+            yield f"a row of version {version['version']}", said, line_there(folder, said)
+
+
+def line_there(folder, said):
+    """A row with its place, as the file has it there; one that a change adds is without its op."""
+    place = said.partition(": ")[0]
+    name, number = place.split(" line ")
+    line = (folder / name).read_text().splitlines()[int(number) - 1]
+    row = line.removeprefix("add,").replace('"', "")
+    return f"{place}: {row}"
+
+
+def change_answers(folder, text, case):
+    """What updates say of changes, against the texts of the files."""
+    files = {f"{number}": path.read_text() for number, path in enumerate(policies_in(folder), 1)}
+    told, made = questions.updates(case), {}
+    for one in told["updates"]:
+        for said in (*one["removed"], *one["added"]):
+            yield f"a row of version {one['version']}", said, line_there(folder, said)
+        if one["change of"] is not None:
+            removed, added = ([said.partition(": ")[2] for said in one[what]] for what in EDITED)
+            made[one["version"]] = {row.split(",")[0] for row in removed}, added
+    yield "changes", made, journal_text.changes(text, files)
+    wanted = journal_text.refusals(text)
+    said = [(f"{one['row']}", f"{one['file']}") for one in told["refused"]]
+    yield "refused updates", said, [(row, file) for row, file, _ in wanted]
+    for one, (row, file, code) in zip(told["refused"], wanted):
+        if code in OPS:
+            named, edits = one["why"].partition(": ")[2].split(), files[file]
+            stand = {*named} <= journal_text.priorities(edits, OPS[code])
+            yield f"priorities of row {row}", stand and named != [], True
 
 
 def nonzero(counts):
@@ -264,15 +314,23 @@ def example_faults():
     for path in sorted(EXAMPLES.glob("*/journal.txt")):
         folder = path.parent
         net = folder / "net.toml"
-        later = (folder / f"policy{number}.csv" for number in range(2, 65))
-        policies = [folder / "policy.csv", *takewhile(Path.is_file, later)]
-        world = row_states.world_of(net if net.is_file() else None, policies)
+        world = row_states.world_of(net if net.is_file() else None, policies_in(folder))
         rows = row_states.rows_of(folder / "schedule.csv")
-        yield from (f"{folder.name}: {why}" for why in state_faults(world, rows))
+        yield from (f"{folder.name}: {why}" for why in state_faults(world, rows, folder))
         yield from unequal(folder.name, answer_faults(folder))
 
 
+def policies_in(folder):
+    """The policy files of a folder, in their order."""
+    later = (folder / f"policy{number}.csv" for number in range(2, 65))
+    return [folder / "policy.csv", *takewhile(Path.is_file, later)]
+
+
 MARKS = ["submitted", "current", "retired"]
+EDITED = ["removed", "added"]
+OPS = {"24": "remove", "25": "add"}  # the rows of a change that a refusal names, by its code
+CHANGES = 0.5  # of the later policies of random cases
+KINDS = {**fuzz.KINDS, "update": 12}  # most changes are refused, so there are more updates
 FILES = {"n.toml": "net.toml", "p1.csv": "policy.csv", "p2.csv": "policy2.csv",
          "p3.csv": "policy3.csv", "s.csv": "schedule.csv"}
 
@@ -293,9 +351,15 @@ def write_journal(folder, first):
 
 
 def write_case(seed, folder):
-    fuzz.write_case(seed, folder, fuzz.KINDS)
+    fuzz.write_case(seed, folder, KINDS, CHANGES)
     for old, new in FILES.items():
         Path(folder, old).rename(Path(folder, new))
+
+
+def whole_policy(folder):
+    """The number of a policy that can stand first: of a later one, unless all are changes."""
+    texts = {number: (folder / f"policy{number}.csv").read_text() for number in (2, 3)}
+    return next((number for number, text in texts.items() if text.startswith("priority")), 1)
 
 
 def seed_faults(seed):
@@ -308,9 +372,9 @@ def seed_faults(seed):
         if world is None:
             return None
         rows = row_states.rows_of(folder / "schedule.csv")
-        faults = [f"seed {seed}: {why}" for why in state_faults(world, rows)]
+        faults = [f"seed {seed}: {why}" for why in state_faults(world, rows, folder)]
         faults += unequal(f"seed {seed}", answer_faults(folder))
-        if write_journal(other, 2) is not None:
+        if write_journal(other, whole_policy(other)) is not None:
             faults += unequal(f"seed {seed}", compare_faults(folder, other))
         return faults
 
@@ -389,6 +453,15 @@ WRONG_NETS = {
     "a link with three ends": "[[switch]]\nname = 'a'\n[[link]]\nends = ['a', 'a', 'a']\n",
     "a link of links": "[[switch]]\nname = 'a'\n[[link]]\nends = [['a'], ['a']]\n",
 }
+WHOLE, CHANGE = f"{POLICY_HEADING}\n7,any,any,any,any,any,drop\n", f"{CHANGE_HEADING}\n"
+WRONG_POLICIES = {
+    "a wrong policy": (WHOLE, "priority\n"),
+    "a change that is first": (CHANGE, CHANGE),
+    "a change of other rows": (WHOLE, f"{CHANGE}remove,8\n"),
+    "a row that is there": (WHOLE, f"{CHANGE}add,7,any,any,any,any,any,drop\n"),
+    "a row that neither adds nor removes": (WHOLE, f"{CHANGE}swap,7\n"),
+    "a row that removes too much": (WHOLE, f"{CHANGE}remove,7,any,any,any,any,any,drop\n"),
+}
 WRONG_ARGS = [
     ["ask", "nowhere", "ends"],
     ["ask", "campus"],
@@ -429,8 +502,12 @@ def wrong_input_faults():
             for script in (["ask", name, "ends"], ["view", name]):
                 yield from refusal_faults(what, *script)
         (folder / "net.toml").unlink()
-        (folder / "policy.csv").write_text("priority\n")
-        yield from refusal_faults("a wrong policy", "ask", name, "rules")
+        (folder / "journal.txt").write_text("row 1: update 2\n  submitted file 2 version 2\n")
+        for what, texts in WRONG_POLICIES.items():
+            for file, text in zip(("policy.csv", "policy2.csv"), texts):
+                (folder / file).write_text(text)
+            for script in (["ask", name, "rules"], ["ask", name, "updates"], ["view", name]):
+                yield from refusal_faults(what, *script)
 
 
 def damaged(rng, lines):

@@ -78,6 +78,32 @@ def update_messages(text, version, done):
     return count
 
 
+def changes(text, files):
+    """For each version that a change made the priorities that it removes and the rows that it adds;
+    `files` has the texts of the policy files by their numbers.
+    """
+    found = re.findall(r"^  submitted file (\d+) version (\d+)$", text, re.M)
+    return {
+        int(version): (priorities(files[file], "remove"), added_rows(files[file]))
+        for file, version in found
+        if files[file].startswith("op,")
+    }
+
+
+def priorities(text, op):
+    """The priorities of the rows of a change that remove, or of those that add."""
+    return {*re.findall(rf"^{op},(\d+)\b", text, re.M)}
+
+
+def added_rows(text):
+    return re.findall("^add,(.*)$", text, re.M)
+
+
+def refusals(text):
+    """The row, the file and the code of each update that was refused."""
+    return re.findall(r"^row (\d+): update .*\n  refused file (\d+) code (\d+)$", text, re.M)
+
+
 def packet_lines(text, packet):
     """The numbers of the lines that tell of a packet, of its row, or of its cache rule."""
     numbers, messages, before = [], set(), ""

@@ -149,6 +149,16 @@ def mistakes_are_explained(desk):
 
 
 @case
+def changes_are_played(desk):
+    own = desk.copy("amend", "own")
+    _, _, status = desk.by_program("own")
+    assert status == 0 and (own / "journal.txt").read_text() == text("amend/journal.txt")
+    shutil.copy(own / "policy2.csv", own / "policy.csv")
+    _, errors, status = desk.by_program("own")
+    assert status == 3 and "code 23 of a change" in errors, errors
+
+
+@case
 def a_mistake_needs_no_build(desk):
     own = desk.copy("campus", "own")
     (own / "net.toml").write_text('[[switch]]\nname = "a"\nport = [1]\nports = [\n')

@@ -4,10 +4,10 @@
 usage: model/fuzz.py BIN COUNT [START]
 
 BIN is the program (`rt run` leaves it in crates/difane/out/difane). Each seed from START on (0
-where it isn't given) makes a network of two to five switches, three policies and a schedule of 10
-to 60 rows of all kinds. Each difference is told by its seed and its first line; it stops at ten.
-At last it prints how many outputs were alike, and how many cases both refused, since the first
-policy had no plan. It ends with 1 where there was a difference.
+where it isn't given) makes a network of two to five switches, a policy, two more policies or
+changes, and a schedule of 10 to 60 rows of all kinds. Each difference is told by its seed and its
+first line; it stops at ten. At last it prints how many outputs were alike, and how many cases both
+refused, since the first policy had no plan. It ends with 1 where there was a difference.
 """
 import random
 import subprocess
@@ -38,6 +38,7 @@ KINDS = {
     "forget": 1,
     "expire": 2,
 }
+PRIORITIES = range(1, 11)
 NO_PLAN = 3
 MOST_DIFFERENCES = 10
 
@@ -66,12 +67,20 @@ def policy_text(rng, ports):
     """Rows over few prefixes, so that they overlap; two of three send packets out."""
     actions = ["drop"] + [f"out:{port}" for port in range(ports)] * 2
     lines = ["priority,src,dst,sport,dport,proto,action"]
-    for priority in rng.sample(range(1, 50), rng.randint(0, 4)):
+    for priority in rng.sample(PRIORITIES, rng.randint(0, 4)):
         src, dst = rng.choice(PREFIXES), rng.choice(PREFIXES)
         dport = rng.choice(["any", "80", "80-90", "443"])
         proto, action = rng.choice(["any", "tcp", "udp"]), rng.choice(actions)
         lines.append(f"{priority},{src},{dst},any,{dport},{proto},{action}")
     return lines
+
+
+def change_text(rng, ports):
+    """Edits of few priorities, so that many changes can be applied and others can't."""
+    lines = ["op,priority,src,dst,sport,dport,proto,action"]
+    removed = rng.sample(PRIORITIES, rng.choice([0, 0, 1, 1, 2]))
+    lines += [f"remove,{priority}" for priority in removed]
+    return lines + [f"add,{row}" for row in policy_text(rng, ports)[1:3]]
 
 
 def packet_of(rng, switch):
@@ -108,14 +117,16 @@ def schedule_text(rng, names, links, kinds):
     return lines
 
 
-def write_case(seed, folder, kinds):
+def write_case(seed, folder, kinds, change_share=0.0):
+    """The files of a case; of the policies behind the first this share are changes."""
     rng = random.Random(seed)
     names = "abcde"[: rng.randint(2, 5)]
     pairs = [(one, other) for one in names for other in names if one < other]
     links = some(rng, pairs, 0.6) or [("a", "b")]
     texts = {"n.toml": network_text(rng, names, links)}
     for file in range(1, POLICIES + 1):
-        texts[f"p{file}.csv"] = policy_text(rng, len(names))
+        is_change = file > 1 and rng.random() < change_share
+        texts[f"p{file}.csv"] = (change_text if is_change else policy_text)(rng, len(names))
     texts["s.csv"] = schedule_text(rng, names, links, kinds)
     for name, lines in texts.items():
         Path(folder, name).write_text("".join(line + "\n" for line in lines))
@@ -140,7 +151,7 @@ def tell(seed, model, program):
 def play(binary, seed):
     """What came of a case: "alike", "refused" or "different"."""
     with tempfile.TemporaryDirectory() as folder:
-        write_case(seed, folder, KINDS)
+        write_case(seed, folder, KINDS, change_share=0.5)
         model = run([sys.executable, str(MODEL)], folder)
         program = run([binary, "replay"], folder)
     if model[0] == program[0] == NO_PLAN:

@@ -4,9 +4,9 @@
 usage: model/fuzz_switches.py COUNT [START]
 
 The cases are those of `model/fuzz.py` without rows that make links or switches fail, and with more
-drains and flushes. Each is played by `examples/openvswitch --network`, whose lines are shown where
-anything differs. At last it prints how many packets were compared, and why others weren't. It ends
-with 1 where there was a difference.
+drains and flushes; half of the later policies are changes. Each is played by
+`examples/openvswitch --network`, whose lines are shown where anything differs. At last it prints
+how many packets were compared, and why others weren't. It ends with 1 where there was a difference.
 """
 import re
 import subprocess
@@ -28,7 +28,7 @@ NAMES |= {f"p{file}.csv": f"policy{file}.csv" for file in range(2, fuzz.POLICIES
 def play(seed):
     """The status, and what was printed of a case."""
     with tempfile.TemporaryDirectory() as folder:
-        fuzz.write_case(seed, folder, KINDS)
+        fuzz.write_case(seed, folder, KINDS, change_share=0.5)
         for given, wanted in NAMES.items():
             Path(folder, given).rename(Path(folder, wanted))
         command = [sys.executable, str(SCRIPT), "--network", folder]

@@ -42,14 +42,18 @@ def pack(src, dst, sport, dport, proto):
     return src << 72 | dst << 40 | sport << 24 | dport << 8 | proto
 
 
-def rules_of(path):
+def rows_of(path):
+    """The rows of a policy's file, each its fields, as tuples."""
+    with open(path, newline="", encoding="utf-8-sig") as file:
+        return tuple(tuple(row) for row in csv.reader(file) if row)[1:]
+
+
+def rules_of(rows):
     """The rules, each a word, a rank, the row's name and its action; and how many words the rows
     have."""
-    with open(path, newline="") as file:
-        rows = [row for row in list(csv.reader(file))[1:] if row]
-    rows.sort(key=lambda row: -int(row[0]))
     words = []
-    for priority, src, dst, sport, dport, proto, action in rows:
+    falling = sorted(rows, key=lambda row: -int(row[0]))
+    for priority, src, dst, sport, dport, proto, action in falling:
         protocol = PROTOCOLS[proto] if proto in PROTOCOLS else (int(proto), 255)
         for source in blocks(sport):
             for target in blocks(dport):
@@ -110,22 +114,24 @@ def targets_of(sizes, rooms, backups):
 
 
 @cache
-def plan_of(policy, network):
-    """The switches' names, how many words the rows have, the partitions, and where each is."""
+def plan_of(rows, network):
+    """The switches' names, how many words the rows have, the partitions, and where each is; the
+    rows are tuples.
+    """
     net = SOLO
     if network is not None:
         with open(network, "rb") as file:
             net = tomllib.loads(file.read().decode("utf-8-sig"))
     names = [row["name"] for row in net["switch"]]
-    rules, words = rules_of(policy)
+    rules, words = rules_of(rows)
     parts = leaves(rules, (0, 0), net.get("leaf_rules", 64))
     rooms = [row.get("authority", 0) for row in net["switch"]]
     hosted = targets_of([len(part[1]) for part in parts], rooms, net.get("backups", 0))
     return names, words, parts, hosted
 
 
-def text_of(policy, switch, network):
-    names, words, parts, hosted = plan_of(policy, network)
+def text_of(rows, switch, network):
+    names, words, parts, hosted = plan_of(rows, network)
 
     def word(pair):
         return f"{pair[0]:026x}/{pair[1]:026x}"
@@ -164,7 +170,8 @@ def main():
         del args[at : at + 2]
     if len(args) not in (1, 2):
         sys.exit(__doc__)
-    sys.stdout.write(text_of(args[0], args[1] if len(args) == 2 else None, network))
+    switch = args[1] if len(args) == 2 else None
+    sys.stdout.write(text_of(rows_of(args[0]), switch, network))
 
 
 if __name__ == "__main__":

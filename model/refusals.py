@@ -20,8 +20,10 @@ import slow_replay
 WORDS = "difane: words"
 MOST_BYTES, MOST_POLICIES, MOST_LOAD = 16_777_216, 64, 1000
 POLICY_HEADING = ["priority", "src", "dst", "sport", "dport", "proto", "action"]
+CHANGE_HEADING = ["op", *POLICY_HEADING]
 MOST_ROWS, MOST_EVENTS, MOST_NUMBER = 2000, 100_000, 999_999_999
 NO_SWITCH, TOO_LARGE = 21, 20
+NO_EDIT, FIRST_CHANGE = 22, 23
 # The fields behind each kind of a schedule's rows: a switch, a number, a file; a link is two.
 KINDS = {
     "packet": "SH", "hop": "N", "lose": "N", "deliver": "N", "forget": "N", "expire": "SN",
@@ -112,24 +114,51 @@ def records(found):
     return [record for record in csv.reader(io.StringIO(text, newline="")) if record]
 
 
+def check_fields(fields, row):
+    """The fields of a policy's row."""
+    for place, is_read in enumerate(POLICY_FIELDS):
+        if not is_read(fields[place]):
+            raise Refusal(3 + place, row)
+
+
+def check_policy_row(fields, row):
+    """A row of a policy; what no later row may say again, and the row's action."""
+    if len(fields) != len(POLICY_FIELDS):
+        raise Refusal(2, row)
+    check_fields(fields, row)
+    return fields[0], fields[6]
+
+
+def check_edit(fields, row):
+    """A row of a change; what no later row may say again, and the action of a row that is added."""
+    op, *left = fields
+    if op not in ("add", "remove"):
+        raise Refusal(NO_EDIT, row)
+    if len(left) != (len(POLICY_FIELDS) if op == "add" else 1):
+        raise Refusal(2, row)
+    if op == "add":
+        check_fields(left, row)
+    elif not POLICY_FIELDS[0](left[0]):
+        raise Refusal(3, row)
+    return (op, left[0]), left[-1] if op == "add" else "drop"
+
+
 def check_policy(rows, ports):
-    """Each row of a policy, and then the ports of the actions."""
-    if not rows or rows[0] != POLICY_HEADING:
+    """Each row of a policy or of a change, and then the ports of the actions."""
+    check = {tuple(POLICY_HEADING): check_policy_row, tuple(CHANGE_HEADING): check_edit}
+    if not rows or tuple(rows[0]) not in check:
         raise Refusal(1)
-    seen = set()
+    seen, actions = set(), []
     for row, fields in enumerate(rows[1:], 1):
         if row > MOST_ROWS:
             raise Refusal(11, row)
-        if len(fields) != len(POLICY_FIELDS):
-            raise Refusal(2, row)
-        for place, is_read in enumerate(POLICY_FIELDS):
-            if not is_read(fields[place]):
-                raise Refusal(3 + place, row)
-        if fields[0] in seen:
+        own, action = check[tuple(rows[0])](fields, row)
+        if own in seen:
             raise Refusal(10, row)
-        seen.add(fields[0])
-    for row, fields in enumerate(rows[1:], 1):
-        if fields[6] != "drop" and int(fields[6][4:]) not in ports:
+        seen.add(own)
+        actions.append(action)
+    for row, action in enumerate(actions, 1):
+        if action != "drop" and int(action[4:]) not in ports:
             raise Refusal(13, row)
 
 
@@ -281,10 +310,11 @@ def check_network(net):
         check_ends(link, names, seen, row)
 
 
-def check_plan(path, net):
-    """That the first policy has a plan; where a partition has no room, its number is the row."""
+def check_plan(rows, net):
+    """That a policy of these rows has a plan; where a partition has no room, its number is the
+    row."""
     try:
-        slow_replay.Plan(path, net)
+        slow_replay.Plan(rows, net)
     except slow_replay.Refused as refused:
         said = re.search(r"\d+", str(refused.__cause__ or ""))
         raise Refusal(refused.code, int(said[0]) if said else 0) from refused
@@ -347,12 +377,17 @@ class Files:
             check_network(net)
         return slow_replay.Network(net)
 
-    def policy(self, name, network):
-        check_policy(records(self.read(name)), network.owner.keys())
+    def policy(self, name, network, change):
+        """A file of a policy; of a change too, unless that is refused with the code `change`."""
+        rows = records(self.read(name))
+        if change is not None and rows and rows[0] == CHANGE_HEADING:
+            raise Refusal(change)
+        check_policy(rows, network.owner.keys())
+        return rows[1:]
 
-    def plan(self, name, network):
+    def plan(self, name, rows, network):
         self.name = name
-        check_plan(self.folder / name, network.net)
+        check_plan(rows, network.net)
 
     def check(self, command, line):
         """All that the command reads, in its order."""
@@ -364,9 +399,10 @@ class Files:
                 raise Refusal(NO_SWITCH)
         if command == "replay":
             check_schedule(records(self.read(line.names[0])), network, len(policies))
-        for name in policies:
-            self.policy(name, network)
-        self.plan(policies[0], network)
+        first = self.policy(policies[0], network, FIRST_CHANGE if command == "replay" else 1)
+        for name in policies[1:]:
+            self.policy(name, network, None)
+        self.plan(policies[0], first, network)
 
 
 def answer(args, folder=Path()):

@@ -3,6 +3,8 @@
 
 usage: model/slow_replay.py SCHEDULE POLICY.. [--net NET] [--quiet]
 
+A POLICY behind the first may be a change: rows to remove and to add.
+
 It shares nothing with the program: the plans are those of `model/plan_model.py`, and all that
 happens is written from the definitions in words, in sets and lists. `model/fuzz.py` compares it
 with the program. It reads accepted files alone, and ends with 3 where the first policy has no plan.
@@ -17,8 +19,10 @@ import plan_model
 
 SOLO = {**plan_model.SOLO, "switch": [{"name": "s0", "authority": 8192, "ports": range(64)}]}
 EXACT = 2**plan_model.BITS - 1
-MOST_WORDS, MOST_PARTS, MOST_LIVE, MOST_VERSIONS = 4096, 512, 8, 64
+MOST_ROWS, MOST_WORDS, MOST_PARTS, MOST_LIVE, MOST_VERSIONS = 2000, 4096, 512, 8, 64
 TOO_MANY_WORDS, TOO_MANY_PARTS, NO_ROOM, TOO_MANY_LIVE, TOO_MANY_VERSIONS = 12, 14, 15, 16, 17
+ABSENT, TAKEN, TOO_MANY_ROWS = 24, 25, 26
+CHANGE_HEADING = ["op", "priority", "src", "dst", "sport", "dport", "proto", "action"]
 
 
 # Words: a value and a mask; the bits that the mask leaves out are free.
@@ -59,11 +63,47 @@ class Refused(Exception):
         self.code = code
 
 
+class Change:
+    """Rows to remove from a policy, by their priorities, and rows to add."""
+
+    def __init__(self, edits):
+        self.removed = {priority for op, priority, *_ in edits if op == "remove"}
+        self.added = [row for op, *row in edits if op == "add"]
+
+    def of(self, rows):
+        """The rows that stay of these, and behind them those that are added."""
+        if not self.removed <= {row[0] for row in rows}:
+            raise Refused(ABSENT)
+        stay = [row for row in rows if row[0] not in self.removed]
+        if {row[0] for row in stay} & {row[0] for row in self.added}:
+            raise Refused(TAKEN)
+        if len(stay) + len(self.added) > MOST_ROWS:
+            raise Refused(TOO_MANY_ROWS)
+        return stay + self.added
+
+
+class Whole:
+    """A policy, whatever stood before."""
+
+    def __init__(self, rows):
+        self.rows = rows
+
+    def of(self, rows):
+        return self.rows
+
+
+def read_file(path):
+    """What a file states, by its heading: a policy or a change."""
+    with open(path, newline="", encoding="utf-8-sig") as file:
+        heading, *rows = [row for row in csv.reader(file) if row]
+    return Change(rows) if heading == CHANGE_HEADING else Whole(rows)
+
+
 class Plan:
     """The partitions of a policy, each a region with its rules, and the targets of each."""
 
-    def __init__(self, path, net):
-        rules, words = plan_model.rules_of(path)
+    def __init__(self, rows, net):
+        rules, words = plan_model.rules_of(rows)
         if words > MOST_WORDS:
             raise Refused(TOO_MANY_WORDS)
         self.parts = plan_model.leaves(rules, (0, 0), net.get("leaf_rules", 64))
@@ -447,8 +487,9 @@ class World:
 
     def __init__(self, net, policies):
         self.network = Network(net)
-        self.policies = policies
-        self.plans = {1: Plan(policies[0], net)}
+        self.files = [read_file(path) for path in policies]
+        self.newest = self.files[0].of([])
+        self.plans = {1: Plan(self.newest, net)}
         self.journal = Journal(self.network)
         self.say, self.send = self.journal.say, self.journal.send
         self.is_link_up = dict.fromkeys(self.network.links, True)
@@ -717,13 +758,14 @@ class World:
 
     def row_update(self, file):
         try:
-            plan = Plan(self.policies[int(file) - 1], self.network.net)
+            rows = self.files[int(file) - 1].of(self.newest)
+            plan = Plan(rows, self.network.net)
             self.controller.check_room()
         except Refused as refused:
             self.say(f"refused file {file} code {refused.code}")
             return
         version = self.controller.count + 1
-        self.plans[version] = plan
+        self.newest, self.plans[version] = rows, plan
         self.say(f"submitted file {file} version {version}")
         self.controller.submit()
 

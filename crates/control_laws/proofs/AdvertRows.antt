@@ -164,7 +164,7 @@ of_third are =
 -- ---- a network of one switch, which crashed and restarted
 
 abbrev pub solo : Setting
-solo = record { net = solo_net; policies = []; plan = open_net.plan }
+solo = record { net = solo_net; files = []; plan = open_net.plan }
 
 pub is_net : IsNet solo_net
 is_net = record {

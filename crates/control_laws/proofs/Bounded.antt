@@ -70,7 +70,7 @@ planned_on setting before next s installed numbered are =
       first = are.first;
       last = omega (arith, are.last, count_rises before next);
       planned = are.planned ∙ sym (ap (λ plan. tables_of plan are.version s)
-          (plan_stays setting before (next ∷ []) are.version numbered are.first are.last));
+          (plan_stays setting before (next ∷ []) are.version numbered are.last));
     }
 
 pub right_planned : (setting : Setting) (before : List Item) (s boot : ℕ) (installed : Tables)

@@ -3,23 +3,25 @@
 use Rattle.std.proofs.Common.{◌≡◌, [], ◌∷◌, refl, arith}
 use Rattle.std.specs.Prelude.{length}
 use Rattle.std.proofs.lemmas.List.Elements.{All-from_recursion}
+use Rattle.policy_rules.specs.declared.policy.Action.TheVariants.{Drop}
 use Rattle.steps.specs.Steps.{IsStep}
 use Rattle.steps.specs.declared.step.Step.TheVariants as step
 use Rattle.update_machine.specs.Answers.{StepOfRow}
 use Rattle.update_machine.specs.Marks.{retired_mark}
 use Rattle.update_machine.specs.Pieces.{piece}
-use Rattle.update_machine.specs.Versions.{next_plan, next_policy, version_count}
-use Rattle.update_machine.proofs.Examples.{at, open_net, versions}
+use Rattle.update_machine.specs.Versions.{next_policy, version_count}
+use Rattle.update_machine.proofs.Examples.{all_to, at, open_net, versions}
 use Rattle.control_laws.specs.Always.{HoldsAtEnds, HoldsBehindItems, HoldsReached}
 use Rattle.control_laws.specs.ItemCauses.{SubmitsRightly}
 
 -- ---- submissions
 
 pub second_file : SubmitsRightly open_net [] 2 2
-unfolding version_count retired_mark next_policy next_plan
+unfolding version_count retired_mark next_policy
 second_file = record {
   next = refl;
-  there = refl;
+  rows = all_to Drop ∷ [];
+  policy = refl;
   planned = refl;
   live = λ met. omega (arith, met);
   few = λ met. omega (arith, met);
@@ -27,7 +29,7 @@ second_file = record {
 
 pub no_third_file : SubmitsRightly open_net [] 3 2 → ⊥
 unfolding next_policy
-no_third_file submits = cc submits.there
+no_third_file submits = cc submits.policy
 
 pub no_version_3 : SubmitsRightly open_net [] 2 3 → ⊥
 unfolding version_count
@@ -50,7 +52,7 @@ not_all_are_empty holds =
     cc (holds.reached open_net _ (record {
       steps = one;
       own = All-from_recursion
-          (λ (next : StepOfRow). IsStep open_net.net (length open_net.policies) next.step) one
+          (λ (next : StepOfRow). IsStep open_net.net (length open_net.files) next.step) one
           (omega arith, tt);
       written = refl;
     }))

@@ -31,11 +31,12 @@ may_submit : (setting : Setting) (file : ℕ) (journal : List Item)
     → SubmitsRightly setting journal file (version_count journal + 1)
 may_submit setting file journal allowed =
     let next = allowed_next setting journal file allowed in
-    let free : marks_code journal ≡ None = next.2 in
+    let free : marks_code journal ≡ None = next.marks in
     record {
       next = refl;
-      there = next.0;
-      planned = next.1;
+      rows = next.rows;
+      policy = next.policy;
+      planned = next.planned;
       live = λ met. grind (arith, nat_tests);
       few = λ met. grind (arith, nat_tests);
     }

@@ -72,8 +72,7 @@ plans_kept : (setting : Setting) (before : List Item) (next : Item)
 plans_kept setting before (item.Submitted file version) cause are plans v above below =
     elim (cases_lt (version_count before) v) [
       | inl new ↦ newest (omega (arith, new, count_more before next, below, cause.next))
-      | inr old ↦ has_plan_stays setting before (next ∷ []) v are (omega (arith, above)) old
-          (plans v above old)
+      | inr old ↦ has_plan_stays setting before (next ∷ []) v are old (plans v above old)
     ]
   where
     next : Item
@@ -81,10 +80,11 @@ plans_kept setting before (item.Submitted file version) cause are plans v above 
 
     newest : version ≡ v → HasPlan setting (before ++ next ∷ []) v
     newest same = subst (HasPlan setting (before ++ next ∷ [])) same
-        (next_has_plan setting before file version are cause.next cause.planned)
+        (next_has_plan setting before file version cause.rows are cause.next cause.policy
+        cause.planned)
 plans_kept setting before next cause are plans v above below =
     let old : v ≤ version_count before = rw (count_more before next) at below in
-    has_plan_stays setting before (next ∷ []) v are (omega (arith, above)) old (plans v above old)
+    has_plan_stays setting before (next ∷ []) v are old (plans v above old)
 
 -- ---- tables
 
@@ -115,7 +115,7 @@ own_tables setting journal s installed are is = record {
   last = last;
   planned = planned;
   later = λ items. planned ∙ sym (ap (λ plan. tables_of plan installed.version s)
-      (plan_stays setting journal items installed.version are first last));
+      (plan_stays setting journal items installed.version are last));
 }
   where
     own : installed.version ≡ is.version

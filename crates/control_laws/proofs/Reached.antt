@@ -23,10 +23,10 @@ NamesOwn setting (Hop packet) = ⊤
 NamesOwn setting (Lose packet) = ⊤
 NamesOwn setting (Deliver message) = ⊤
 NamesOwn setting (Forget message) = ⊤
-NamesOwn setting step = IsStep setting.net (length setting.policies) step
+NamesOwn setting step = IsStep setting.net (length setting.files) step
 
 names_own : (setting : Setting) (step : Step)
-    → IsStep setting.net (length setting.policies) step → NamesOwn setting step
+    → IsStep setting.net (length setting.files) step → NamesOwn setting step
 names_own setting (Hop packet) is = tt
 names_own setting (Lose packet) is = tt
 names_own setting (Deliver message) is = tt
@@ -42,7 +42,7 @@ OwnPiecesHave cause setting = (journal : List Item) (row : ℕ) (step : Step)
     → NamesOwn setting step → HaveCauses cause journal (piece setting journal row step)
 
 pub own_steps : (setting : Setting) (steps : List StepOfRow)
-    → All (λ (next : StepOfRow). IsStep setting.net (length setting.policies) next.step) steps
+    → All (λ (next : StepOfRow). IsStep setting.net (length setting.files) next.step) steps
     → AreOf (NamesOwn setting) steps
 own_steps setting [] own = tt
 own_steps setting (next ∷ steps) own = (
@@ -51,7 +51,7 @@ own_steps setting (next ∷ steps) own = (
 )
 
 pub own_event : (setting : Setting) (event : Event)
-    → IsEvent setting.net (length setting.policies) event → IsEventOf (NamesOwn setting) event
+    → IsEvent setting.net (length setting.files) event → IsEventOf (NamesOwn setting) event
 own_event setting (One step) is = names_own setting step is
 own_event setting Flush is = tt
 own_event setting Drain is = tt
@@ -91,7 +91,7 @@ reached_carries setting Fact carried journal reached =
 
 pub so_far_carries : (setting : Setting) (Fact : List Item → Type 0) → IsCarried setting Fact
     → (events : List Event) (journal : List Item)
-    → All (IsEvent setting.net (length setting.policies)) events
+    → All (IsEvent setting.net (length setting.files)) events
     → AnswersSoFar setting events journal → Fact journal
 so_far_carries setting Fact carried events journal own answers =
     subst Fact (sym answers.written)
@@ -119,7 +119,7 @@ carried_reached Fact Holds carried firsts = record {
 }
   where
     begun : (setting : Setting) (events : List Event) (journal : List Item)
-        → All (IsEvent setting.net (length setting.policies)) events
+        → All (IsEvent setting.net (length setting.files)) events
         → BeginsAnswer setting events journal → Holds setting journal
     begun setting events journal own begins =
         let whole : Fact setting begins.whole =

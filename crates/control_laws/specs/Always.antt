@@ -36,7 +36,7 @@ pub record HoldsAlways (Holds : Setting → List Item → Type 0) : Type 0 where
 
 -- events of a schedule of the network, with the policies that are there
 abbrev pub AreEvents : Setting → List Event → Type 0
-AreEvents setting events = All (IsEvent setting.net (length setting.policies)) events
+AreEvents setting events = All (IsEvent setting.net (length setting.files)) events
 
 -- it holds behind any steps of the network, and behind any first items of what they wrote, which
 -- may end within a step; in each answer to events of it, and in each beginning of one

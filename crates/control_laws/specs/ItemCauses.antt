@@ -3,12 +3,13 @@
 -- the middle of a step too. The update in two phases is that of Reitblatt, Foster, Rexford,
 -- Schlesinger and Walker, "Abstractions for Network Update"; boots and acknowledgements are our
 -- own.
-use Rattle.std.specs.Prelude.{⊤, ℕ, ◌≡◌, ◌≢◌, ◌+◌, ◌-◌, ◌<◌, ◌≤◌, ◌⊎◌, Some, None, List, IsOk, IsSome, IsTrue, IsFalse}
+use Rattle.std.specs.Prelude.{⊤, ℕ, ◌≡◌, ◌≢◌, ◌+◌, ◌-◌, ◌<◌, ◌≤◌, ◌⊎◌, Some, None, Ok, List, IsOk, IsTrue, IsFalse}
 use Rattle.std.specs.List.{list_any}
 use Rattle.ctrl_msg.specs.declared.message.Body.{Body}
 use Rattle.ctrl_msg.specs.declared.message.Body.TheVariants.{Install, OpenAt, Stamp, Collect, CacheRule, Advertise, Hello, Installed, Stamped}
 use Rattle.ctrl_msg.specs.declared.message.Place.{Place}
 use Rattle.ctrl_msg.specs.declared.message.Place.TheVariants as receiver
+use Rattle.policy_rules.specs.declared.policy.Row.{Row}
 use Rattle.switch_table.specs.declared.tables.Tables.{Tables}
 use Rattle.journal.specs.declared.item.Item.{Item}
 use Rattle.journal.specs.declared.item.Item.TheVariants as item
@@ -16,7 +17,7 @@ use Rattle.update_machine.specs.Boots.{boot_of, heard, is_up}
 use Rattle.update_machine.specs.Marks.{MayRise, current_mark, has_acked, is_member, is_over, known_boot, most_live, most_versions, next_retired, opened_at, retired_mark}
 use Rattle.update_machine.specs.Setting.{Setting}
 use Rattle.update_machine.specs.Settling.{to_switch}
-use Rattle.update_machine.specs.Versions.{installs_version, next_plan, next_policy, stamp_of, tables_at, version_count}
+use Rattle.update_machine.specs.Versions.{installs_version, next_policy, stamp_of, tables_at, version_count}
 use Rattle.update_machine.specs.Links.{message_of}
 
 -- ---- what is sent to a switch
@@ -113,12 +114,13 @@ pub record OpensRightly (before : List Item) (s stamp : ℕ) : Type 0 where
   pub stamped : version ≤ stamp_of before s
   pub own : stamp ≡ stamp_of before s
 
--- the version is the next one: its policy is there and has a plan, and one more version may be live
--- and be there in all
+-- the version is the next one: its file makes a policy of the newest one, which has a plan, and one
+-- more version may be live and be there in all
 pub record SubmitsRightly (setting : Setting) (before : List Item) (file version : ℕ) : Type 0 where
   pub next : version ≡ version_count before + 1
-  pub there : IsSome (next_policy setting before file)
-  pub planned : IsOk (next_plan setting before file)
+  pub rows : List Row
+  pub policy : next_policy setting before file ≡ Ok rows
+  pub planned : IsOk (setting.plan rows)
   pub live : version_count before - retired_mark before ≢ most_live
   pub few : version_count before ≢ most_versions
 

@@ -4,3 +4,4 @@ mod Telling
 mod Versions
 mod Unheard
 mod KeptPlans
+mod Newest

@@ -1,6 +1,7 @@
 -- A controller: the marks of the versions, and the plans of those that a later call can name.
 use Rattle.std.specs.Prelude.{ℕ, ◌≡◌, ◌+◌, ◌-◌, ◌==◌, nat_le, Option, option_map, List, [], ◌∷◌, length, map, filter, find, All}
 use Rattle.std.specs.List.{range_with_len}
+use Rattle.policy_rules.specs.declared.policy.Row.{Row}
 use Rattle.switch_table.specs.Tables.{tables_of}
 use Rattle.switch_table.specs.declared.tables.Tables.{Tables}
 use Rattle.version_update.specs.Marks.{MarksValue, first_marks, AreMarksSettled}
@@ -28,6 +29,12 @@ abbrev pub kept_tables : ControllerValue → ℕ → ℕ → Option Tables
 kept_tables controller version s =
     option_map (λ (kept : KeptPlan). tables_of kept.plan.hosted kept.version s)
     (find (λ (kept : KeptPlan). kept.version == version) controller.plans)
+
+-- the policy of the newest version, whose plan is always kept
+abbrev pub newest_policy : ControllerValue → Option (List Row)
+newest_policy controller =
+    option_map (λ (kept : KeptPlan). kept.plan.policy)
+    (find (λ (kept : KeptPlan). kept.version == controller.marks.count) controller.plans)
 
 -- at the start every switch has version 1
 abbrev pub first_controller : ℕ → PlanValue → ControllerValue

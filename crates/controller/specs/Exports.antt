@@ -1,6 +1,6 @@
 -- The definitions by which clauses of this crate and of those above speak of the controller, passed
 -- on from the files that define them.
-pub use Rattle.controller.specs.Controller.{ControllerValue, IsController, SettlesWith, StaysController, first_controller, kept_tables, plans_from, tables_by_switch}
+pub use Rattle.controller.specs.Controller.{ControllerValue, IsController, SettlesWith, StaysController, first_controller, kept_tables, newest_policy, plans_from, tables_by_switch}
 pub use Rattle.controller.specs.News.{body_of, switches_named}
 pub use Rattle.controller.specs.Plan.{PlanValue}
 pub use Rattle.controller.specs.Replies.{after_reply}

@@ -8,7 +8,7 @@ ghost use Rattle.version_update.specs.Record.{is_member, is_over, after_over};
 ghost use Rattle.version_update.specs.Settling.{Settles};
 ghost use Rattle.version_update.specs.declared.marks.SubmitError.TheVariants.{TooManyLive, TooManyVersions};
 ghost use Rattle.version_update.specs.declared.record.Phase.TheVariants.{Joining, Member};
-ghost use Rattle.controller.specs.Exports.{IsController, IsLeft, NamesBoth, NamesThere, SettlesWith, StaysController, SubmitsPlan, after_reply, boot_recorded, first_controller, hear_acts, install_act, kept_tables, marks_after, plans_from, resend_acts, resend_acts_to, settling_acts, submit_acts, switches_where};
+ghost use Rattle.controller.specs.Exports.{IsController, IsLeft, NamesBoth, NamesThere, SettlesWith, StaysController, SubmitsPlan, after_reply, boot_recorded, first_controller, hear_acts, install_act, kept_tables, marks_after, newest_policy, plans_from, resend_acts, resend_acts_to, settling_acts, submit_acts, switches_where};
 ghost use Rattle.base.specs.declared.error.Failure.TheVariants.{Refused, NoMemory};
 
 use crate::plan::Plan;
@@ -111,6 +111,7 @@ impl Controller {
     /// where there are 64. Nothing changed then.
     pub fn submit(&mut self, alloc: Global, plan: Plan) -> Result<Sends, Failure<SubmitError>>
         ensures after { OnOk result (SubmitsPlan self.old plan self.new) }
+        ensures newest { OnOk result (newest_policy self.new ≡ Some plan.policy) }
         ensures sends { IfOk result (λ sends.
             sends ≡ submit_acts self.old.marks plan self.new.marks) }
         ensures live { (result ≡ Err (Refused TooManyLive))
@@ -137,6 +138,7 @@ impl Controller {
         requires { NamesThere body.now self.old.marks }
         ensures after { SettlesWith
             (marks_after body.now self.old.marks) self.old.plans self.new }
+        ensures newest { newest_policy self.new ≡ newest_policy self.old }
         ensures sends { IfOk result (λ sends. sends ≡ hear_acts body.now self.old.marks self.new) }
         ensures others { IsFalse (is_for_controller body.now) → self.new ≡ self.old }
         ensures silent { IsFalse (is_for_controller body.now)
@@ -167,6 +169,7 @@ impl Controller {
         requires { s < length self.old.marks.switches }
         ensures after { SettlesWith
             (at_switch s after_over self.old.marks) self.old.plans self.new }
+        ensures newest { newest_policy self.new ≡ newest_policy self.old }
         ensures sends { IfOk result (λ sends.
             sends ≡ settling_acts (at_switch s after_over self.old.marks) self.new.marks) }
         ensures rule { StaysController self.old self.new }
@@ -221,6 +224,7 @@ impl Controller {
         requires live { self.old.marks.count - self.old.marks.retired ≢ 8 }
         requires versions { self.old.marks.count ≢ 64 }
         ensures after { OnOk result (SubmitsPlan self.old plan self.new) }
+        ensures newest { OnOk result (newest_policy self.new ≡ Some plan.policy) }
         ensures sends { IfOk result (λ sends.
             sends ≡ submit_acts self.old.marks plan self.new.marks) }
         ensures left { OnErr result (IsLeft self.old plan self.new NoMemory) }

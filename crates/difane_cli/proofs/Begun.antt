@@ -1,6 +1,7 @@
 -- A network on which a policy begins to be in force, and the events that may happen on it.
-use Rattle.std.proofs.Common.{ℕ, ◌≡◌, ◌≤◌, false, Option, Result, Ok, Err, List, [], length, refl, sym, ap, subst, ◌∙◌, All}
-use Rattle.std.specs.Prelude.{IsOk, IsTrue, slice_index_or}
+use Rattle.std.proofs.Common.{ℕ, ◌≡◌, ◌<◌, ◌≤◌, true, false, Option, Result, Ok, Err, List, [], ◌∷◌, arith, length, map, refl, sym, ap, subst, ◌∙◌, All}
+use Rattle.std.specs.Prelude.{IsOk, IsSome, IsTrue, slice_index_or, unwrap_or}
+use Rattle.std.proofs.lemmas.List.{get_or-map, length-map}
 use Rattle.std.specs.Option.{ForSome}
 use Rattle.schedule.specs.Case.{IsPlayable, LoadCase, NamesPort}
 use Rattle.net_file.specs.Laws.{PortLaws}
@@ -8,20 +9,27 @@ use Rattle.net_file.specs.Net.{IsNet}
 use Rattle.net_file.specs.declared.net.Net.{Net}
 use Rattle.net_file.specs.Owners.{port_mask}
 use Rattle.partition.specs.Plan.{Hosted, plan_of}
+use Rattle.policy_file.specs.Changes.{file_length}
 use Rattle.policy_file.specs.Ports.{names_port_of}
 use Rattle.policy_rules.specs.declared.policy.Action.{Action}
 use Rattle.policy_rules.specs.declared.policy.Action.TheVariants as action
+use Rattle.policy_rules.specs.Policy.{IsPolicy}
+use Rattle.policy_rules.specs.PolicyFiles.{AddsOnly, GivesOnly, IsPolicyFile}
+use Rattle.policy_rules.specs.declared.amendment.Edit.{Edit}
+use Rattle.policy_rules.specs.declared.amendment.Edit.TheVariants.{Remove, Add}
+use Rattle.policy_rules.specs.declared.file.PolicyFile.{PolicyFile}
+use Rattle.policy_rules.specs.declared.file.PolicyFile.TheVariants.{Whole, Change}
 use Rattle.policy_rules.specs.declared.policy.Row.{Row}
 use Rattle.policy_rules.specs.Hosted.{NoPlan}
 use Rattle.steps.specs.Limits.{max_events}
 use Rattle.steps.specs.Steps.{IsEvent}
 use Rattle.steps.specs.declared.step.Event.{Event}
 use Rattle.update_machine.specs.Setting.{Setting, setting_of, IsSetting, NamesOwnPort}
-use Rattle.update_machine.proofs.CallerLemmas.{first_planned}
+use Rattle.world.specs.Files.{first_policy}
 use Rattle.world.specs.State.{RefinesJournal, WorldValue, setting_at}
 use Rattle.refinement.specs.Refinement.{RefineJournal}
 use Rattle.shelf.specs.Shelf.{Files}
-use Rattle.difane_cli.specs.Inputs.{and_then, first_plan, inputs_of, plan_from, read_net, read_policies, read_schedule}
+use Rattle.difane_cli.specs.Inputs.{and_then, case_files, first_plan, inputs_of, plan_from, read_files, read_net, read_schedule}
 use Rattle.difane_cli.specs.Run.{IsReplayOf}
 use Rattle.command_line.specs.Commands.{ReplayCommand}
 use Rattle.difane_cli.specs.declared.report.Report.TheVariants as report
@@ -30,35 +38,69 @@ use Rattle.difane_cli.specs.Tasks.{IsNetOf}
 
 -- ---- ports
 
-own_port : PortLaws → (net : Net) (policies : List (List Row)) → IsNet net → (a : Action)
-    → IsTrue (names_port_of (port_mask net.switches) a) → NamesOwnPort (setting_of net policies) a
-own_port laws net policies sound action.Drop has = tt
-own_port laws net policies sound (action.Out port) has = sym (laws.mask net port sound) ∙ has
+own_port : PortLaws → (net : Net) (files : List PolicyFile) → IsNet net → (a : Action)
+    → IsTrue (names_port_of (port_mask net.switches) a) → NamesOwnPort (setting_of net files) a
+own_port laws net files sound action.Drop has = tt
+own_port laws net files sound (action.Out port) has = sym (laws.mask net port sound) ∙ has
 
-pub own_ports : PortLaws → (net : Net) (policies : List (List Row)) → IsNet net
-    → All (All (λ row. IsTrue (names_port_of (port_mask net.switches) row.action))) policies
-    → All (All (λ row. NamesOwnPort (setting_of net policies) row.action)) policies
-own_ports laws net policies sound has = λ i d within j e inside.
-    own_port laws net policies sound _ (has i d within j e inside)
+-- what each row that a file gives is follows for each from what else it is
+adds_weaker : {P Q : Row → Type 0} → ((row : Row) → P row → Q row) → (edit : Edit)
+    → AddsOnly P edit → AddsOnly Q edit
+adds_weaker weaker (Remove priority) given = tt
+adds_weaker weaker (Add row) given = weaker row given
+
+gives_weaker : {P Q : Row → Type 0} → ((row : Row) → P row → Q row) → (file : PolicyFile)
+    → GivesOnly P file → GivesOnly Q file
+gives_weaker weaker (Whole rows) given = λ i d within. weaker _ (given i d within)
+gives_weaker weaker (Change edits) given = λ i d within. adds_weaker weaker _ (given i d within)
+
+pub own_ports : PortLaws → (net : Net) (files : List PolicyFile) → IsNet net
+    → All (GivesOnly (λ row. IsTrue (names_port_of (port_mask net.switches) row.action))) files
+    → All (GivesOnly (λ row. NamesOwnPort (setting_of net files) row.action)) files
+own_ports laws net files sound has = λ i d within.
+    gives_weaker (λ row. own_port laws net files sound row.action) _ (has i d within)
 
 drawn_port : PortLaws → (net : Net) → IsNet net → (a : Action) → NamesPort net a
     → IsTrue (names_port_of (port_mask net.switches) a)
 drawn_port laws net sound action.Drop names = refl
 drawn_port laws net sound (action.Out port) names = laws.mask net port sound ∙ names
 
--- a load case names ports of its network alone
-pub drawn_ports : PortLaws → (load : LoadCase) → IsPlayable load
-    → All (All (λ row. IsTrue (names_port_of (port_mask load.net.switches) row.action))) load.policies
-drawn_ports laws load may = λ i d within j e inside.
-    drawn_port laws load.net may.net _ (may.ports i d within j e inside)
+-- what holds of each policy holds of the files that have them
+all_whole : (P : PolicyFile → Type 0) (policies : List (List Row))
+    → All (λ rows. P (Whole rows)) policies → All P (map Whole policies)
+all_whole P policies given = λ i d within.
+    let there : i < length policies = omega (arith, within, length-map policies Whole) in
+    subst P (sym (get_or-map Whole policies i [] d there)) (given i [] there)
+
+-- the files of a load case begin with a policy, are sound, and name ports of its network alone
+pub record AreDrawn (load : LoadCase) (files : List PolicyFile) : Type 0 where
+  pub first : IsSome (first_policy files)
+  pub sound : All IsPolicyFile files
+  pub ports : All (GivesOnly (λ row.
+      IsTrue (names_port_of (port_mask load.net.switches) row.action))) files
+
+first_drawn : (policies : List (List Row)) → 1 ≤ length policies
+    → IsSome (first_policy (map Whole policies))
+first_drawn [] some = absurd (omega (arith, some))
+first_drawn (rows ∷ policies) some = refl
+
+pub are_drawn : PortLaws → (load : LoadCase) (files : List PolicyFile)
+    → 1 ≤ length load.policies → All IsPolicy load.policies → IsPlayable load
+    → files ≡ case_files load → AreDrawn load files
+are_drawn laws load files some sound may same = subst (AreDrawn load) (sym same) (record {
+  first = first_drawn load.policies some;
+  sound = all_whole IsPolicyFile load.policies sound;
+  ports = all_whole _ load.policies (λ i d within j e inside.
+      drawn_port laws load.net may.net _ (may.ports i d within j e inside));
+})
 
 -- ---- the first plan
 
 -- a policy that is in force has a plan
-pub has_plan : (names : List (List ℕ)) (net : Net) (policies : List (List Row))
-    → IsOk (plan_of (slice_index_or policies 0 []) net) → IsOk (first_plan names net policies)
-has_plan names net policies is =
-    by (slice_index_or names 0 []) (plan_of (slice_index_or policies 0 []) net) is
+pub has_plan : (names : List (List ℕ)) (net : Net) (files : List PolicyFile)
+    → IsOk (plan_of (unwrap_or (first_policy files) []) net) → IsOk (first_plan names net files)
+has_plan names net files is =
+    by (slice_index_or names 0 []) (plan_of (unwrap_or (first_policy files) []) net) is
   where
     by : (name : List ℕ) (plan : Result (List Hosted) NoPlan) → IsOk plan → IsOk (plan_from name plan)
     by name (Ok hosted) is = refl
@@ -69,36 +111,30 @@ pub sound_by_tie : (world : WorldValue) → world.is_spent ≡ false
 unfolding RefineJournal
 sound_by_tie world able refines = (refines able).sound
 
-pub planned_by : (net : Net) (policies : List (List Row)) (setting : Setting)
-    → setting ≡ setting_of net policies → IsSetting setting
-    → IsOk (plan_of (slice_index_or policies 0 []) net)
-planned_by net policies setting same sound =
-    first_planned net policies (subst IsSetting same sound)
-
 -- ---- events
 
-pub all_are_events : (net : Net) (policies : List (List Row)) (count : ℕ) (setting : Setting)
-    (events : List Event) → setting ≡ setting_of net policies → length policies ≡ count
-    → All (IsEvent net count) events → All (IsEvent setting.net (length setting.policies)) events
-all_are_events net policies count setting events same many may =
-    subst (λ (s : Setting). All (IsEvent s.net (length s.policies)) events) (sym same)
+pub all_are_events : (net : Net) (files : List PolicyFile) (count : ℕ) (setting : Setting)
+    (events : List Event) → setting ≡ setting_of net files → length files ≡ count
+    → All (IsEvent net count) events → All (IsEvent setting.net (length setting.files)) events
+all_are_events net files count setting events same many may =
+    subst (λ (s : Setting). All (IsEvent s.net (length s.files)) events) (sym same)
     (subst (λ n. All (IsEvent net n) events) (sym many) may)
 
 -- ---- the inputs of a replay
 
 -- they are as the command asks for them
-pub asked_for : (args : ReplayCommand) (net : Net) (policies : List (List Row))
+pub asked_for : (args : ReplayCommand) (net : Net) (read : List PolicyFile)
     (events : List Event) (setting : Setting) → IsNetOf args.net net
-    → setting ≡ setting_of net policies → length policies ≡ length args.policies
-    → length events ≤ max_events → All (λ rows. length rows ≤ 2000) policies → IsReplayOf args
+    → setting ≡ setting_of net read → length read ≡ length args.policies
+    → length events ≤ max_events → All (λ file. file_length file ≤ 2000) read → IsReplayOf args
     (record { setting = setting; events = events; report = report.Lines args.quiet })
-asked_for args net policies events setting named own many few short = record {
+asked_for args net read events setting named own many few short = record {
   net = subst (λ s. IsNetOf args.net s.net) (sym own) named;
-  policies = ap (λ s. length s.policies) own ∙ many;
+  policies = ap (λ s. length s.files) own ∙ many;
   report = refl;
   limits = record {
     events = few;
-    rows = subst (λ s. All (λ rows. length rows ≤ 2000) s.policies) (sym own) short;
+    rows = subst (λ s. All (λ file. file_length file ≤ 2000) s.files) (sym own) short;
   };
 }
 
@@ -108,39 +144,38 @@ and_then_ok : {X Y : Type 0} (read : Result X Refusal) (result : Result Y Refusa
 and_then_ok (Ok x) result is = refl
 and_then_ok (Err refusal) result is = cc is
 
-inputs_from : (files : Files) (args : ReplayCommand) (net : Net) (policies : List (List Row))
+inputs_from : (files : Files) (args : ReplayCommand) (net : Net) (read : List PolicyFile)
     (events : List Event) → read_net files args.net ≡ Ok net
     → read_schedule net (length args.policies) files args.schedule ≡ Ok events
-    → read_policies (port_mask net.switches) files args.policies ≡ Ok policies
-    → IsOk (first_plan args.policies net policies)
+    → read_files true (port_mask net.switches) files args.policies ≡ Ok read
+    → IsOk (first_plan args.policies net read)
     → inputs_of files args ≡ Ok (record {
-      setting = setting_of net policies;
+      setting = setting_of net read;
       events = events;
       report = report.Lines args.quiet;
     })
-inputs_from files args net policies events net_is events_are policies_are planned =
-    rw (net_is, events_are, policies_are)
-    (and_then_ok (first_plan args.policies net policies) _ planned)
+inputs_from files args net read events net_is events_are files_are planned =
+    rw (net_is, events_are, files_are) (and_then_ok (first_plan args.policies net read) _ planned)
 
 -- and they are what the files state, where these are known
 pub inputs_are : (known middle later : Option Files) (args : ReplayCommand) (net : Net)
-    (policies : List (List Row)) (events : List Event) (setting : Setting) (count ports : ℕ)
+    (read : List PolicyFile) (events : List Event) (setting : Setting) (count ports : ℕ)
     → middle ≡ known → later ≡ known → count ≡ length args.policies
     → ports ≡ port_mask net.switches
     → ForSome known (λ files. read_net files args.net ≡ Ok net)
     → ForSome middle (λ files. read_schedule net count files args.schedule ≡ Ok events)
-    → ForSome later (λ files. read_policies ports files args.policies ≡ Ok policies)
-    → IsOk (first_plan args.policies net policies) → setting ≡ setting_of net policies
+    → ForSome later (λ files. read_files true ports files args.policies ≡ Ok read)
+    → IsOk (first_plan args.policies net read) → setting ≡ setting_of net read
     → ForSome known (λ files. inputs_of files args
     ≡ Ok (record { setting = setting; events = events; report = report.Lines args.quiet }))
-inputs_are known middle later args net policies events setting count ports first second many mask
-    net_is events_are policies_are planned own = λ files is.
+inputs_are known middle later args net read events setting count ports first second many mask
+    net_is events_are files_are planned own = λ files is.
     let own_events =
     subst (λ (n : ℕ). read_schedule net n files args.schedule ≡ Ok events) many
     (events_are files (first ∙ is)) in
-    let own_policies =
-    subst (λ (p : ℕ). read_policies p files args.policies ≡ Ok policies) mask
-    (policies_are files (second ∙ is)) in
-    inputs_from files args net policies events (net_is files is) own_events own_policies planned
+    let own_files =
+    subst (λ (p : ℕ). read_files true p files args.policies ≡ Ok read) mask
+    (files_are files (second ∙ is)) in
+    inputs_from files args net read events (net_is files is) own_events own_files planned
     ∙ ap (λ s. Ok (record { setting = s; events = events; report = report.Lines args.quiet }))
     (sym own)

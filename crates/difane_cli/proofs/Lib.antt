@@ -5,7 +5,7 @@ mod Gains
 mod MeterLines
 mod OneSwitch
 mod Plays
-mod PolicyReads
+mod FileReads
 mod ShelfReads
 mod Stated
 mod Verdicts

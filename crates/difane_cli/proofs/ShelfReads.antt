@@ -7,7 +7,7 @@ use Rattle.steps.specs.declared.step.Event.{Event}
 use Rattle.shelf.specs.Sink.{next_count}
 use Rattle.shelf.specs.Shelf.{Files, ShelfState, IsAfterReads}
 use Rattle.shelf.specs.Scripts.{counted_up}
-use Rattle.difane_cli.specs.Inputs.{most_reads, net_reads, policy_reads, read_net, read_schedule, switch_on, up_to_refusal}
+use Rattle.difane_cli.specs.Inputs.{file_reads, most_reads, net_reads, read_net, read_schedule, switch_on, up_to_refusal}
 use Rattle.command_line.specs.Commands.{Print, PrintCommand, Replay, ReplayCommand}
 
 counted_up-counted_up : (n m x : ℕ) → counted_up n (counted_up m x) ≡ counted_up (n + m) x
@@ -49,7 +49,7 @@ pub policies_read : (known : Option Files) (command : ReplayCommand) (net : Net)
     (events : List Event) → ForSome known (λ files. read_net files command.net ≡ Ok net)
     → ForSome known (λ files.
     read_schedule net (length command.policies) files command.schedule ≡ Ok events)
-    → net_reads command.net + 1 + policy_reads (port_mask net.switches) known command.policies
+    → net_reads command.net + 1 + file_reads true (port_mask net.switches) known command.policies
     ≤ most_reads known (Some (Replay command))
 policies_read None command net events read accepted = omega arith
 policies_read (Some files) command net events read accepted =
@@ -62,7 +62,7 @@ pub all_reads : (command : ReplayCommand) (net : Net) (events : List Event) (cou
     → ForSome old.files (λ files. read_net files command.net ≡ Ok net)
     → ForSome one.files (λ files. read_schedule net count files command.schedule ≡ Ok events)
     → IsAfterReads (net_reads command.net) old one → IsAfterReads 1 one two
-    → IsAfterReads (policy_reads ports two.files command.policies) two new
+    → IsAfterReads (file_reads true ports two.files command.policies) two new
     → IsAfterReads (most_reads old.files (Some (Replay command))) old new
 all_reads command net events count ports old one two new many mask net_read events_read first second
     third =
@@ -71,9 +71,9 @@ all_reads command net events count ports old one two new many mask net_read even
     let accepted = subst (λ (n : ℕ). ForSome old.files (λ files.
     read_schedule net n files command.schedule ≡ Ok events)) many
     (λ files is. events_read files (first.same_files ∙ is)) in
-    let policies = subst (λ (p : ℕ). IsAfterReads (policy_reads p old.files command.policies) two
+    let policies = subst (λ (p : ℕ). IsAfterReads (file_reads true p old.files command.policies) two
     new) mask
-    (subst (λ (known : Option Files). IsAfterReads (policy_reads ports known command.policies) two
+    (subst (λ (known : Option Files). IsAfterReads (file_reads true ports known command.policies) two
     new) (second.same_files ∙ first.same_files) third) in
     reads_then most _ _ old two new
     (policies_read old.files command net events net_read accepted) both policies

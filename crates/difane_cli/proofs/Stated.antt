@@ -7,9 +7,12 @@ use Rattle.net_file.specs.Owners.{port_mask}
 use Rattle.net_file.specs.Reading.{net_of}
 use Rattle.net_file.specs.Refusals.{net_code}
 use Rattle.net_file.specs.declared.net.Net.{Net}
-use Rattle.policy_file.specs.Ports.{first_without_port}
+use Rattle.policy_file.specs.Changes.{change_of, is_change_text, on_ok, policy_file_of}
+use Rattle.policy_file.specs.Ports.{first_in_file, first_without_port}
 use Rattle.policy_file.specs.Reading.{policy_code, policy_of}
 use Rattle.policy_file.specs.declared.ports.NoPort.{NoPort}
+use Rattle.policy_rules.specs.declared.file.PolicyFile.{PolicyFile}
+use Rattle.policy_rules.specs.declared.file.PolicyFile.TheVariants.{Whole, Change}
 use Rattle.policy_rules.specs.declared.policy.Row.{Row}
 use Rattle.base.specs.declared.row.InRow.{InRow}
 use Rattle.schedule.specs.Reading.{schedule_of}
@@ -18,8 +21,8 @@ use Rattle.shelf.specs.Shelf.{Files, file_named}
 use Rattle.steps.specs.declared.step.Event.{Event}
 use Rattle.command_line.specs.Commands.{Command, ReplayCommand}
 use Rattle.command_line.specs.Commands as asked
-use Rattle.difane_cli.specs.Codes.{most_bytes, too_long}
-use Rattle.difane_cli.specs.Inputs.{and_then, content_from, content_of, first_plan, inputs_of, known_task, net_stated, play_task, policy_stated, read_from, read_net, read_policies, read_policy, read_schedule, refused_whole, schedule_in, task_of, with_ports}
+use Rattle.difane_cli.specs.Codes.{first_change, most_bytes, too_long}
+use Rattle.difane_cli.specs.Inputs.{and_then, content_from, content_of, file_stated, first_plan, first_stated, inputs_of, known_task, net_stated, play_task, policy_stated, read_file, read_files, read_from, read_net, read_schedule, refused_whole, schedule_in, stated_as, task_of, with_ports}
 use Rattle.difane_cli.specs.Run.{AreStatedBy, AreStated, States}
 use Rattle.difane_cli.specs.Tasks.{Inputs, Play}
 use Rattle.difane_cli.specs.declared.status.Refusal.{Refusal}
@@ -74,10 +77,10 @@ schedule_states net count files name events is =
     states files name (schedule_of net count) (schedule_in net count name) events
     (λ bytes. read_is schedule_code name (schedule_of net count bytes) events) is
 
-with_ports_is : (name : List ℕ) (rows own : List Row) (lack : Option NoPort)
-    → with_ports name rows lack ≡ Ok own → rows ≡ own
-with_ports_is name rows own None is = same_value (Ok rows) rows own refl is
-with_ports_is name rows own (Some lack) is = absurd (cc is)
+with_ports_is : {X : Type 0} (name : List ℕ) (value own : X) (lack : Option NoPort)
+    → with_ports name value lack ≡ Ok own → value ≡ own
+with_ports_is name value own None is = same_value (Ok value) value own refl is
+with_ports_is name value own (Some lack) is = absurd (cc is)
 
 policy_is : (ports : ℕ) (name bytes : List ℕ) (rows : List Row)
     → policy_stated ports name bytes ≡ Ok rows → policy_of bytes ≡ Ok rows
@@ -87,25 +90,53 @@ policy_is ports name bytes rows is =
     read_is policy_code name (policy_of bytes) rows
     (on.1 ∙ ap Ok (with_ports_is name on.0 rows (first_without_port ports on.0) on.2))
 
-policy_states : (ports : ℕ) (files : Files) (name : List ℕ) (rows : List Row)
-    → read_policy ports files name ≡ Ok rows → States files policy_of name rows
-policy_states ports files name rows is =
-    states files name policy_of (policy_stated ports name) rows
-    (λ bytes. policy_is ports name bytes rows) is
+file_is : (ports : ℕ) (name bytes : List ℕ) (file : PolicyFile)
+    → file_stated ports name bytes ≡ Ok file → policy_file_of bytes ≡ Ok file
+file_is ports name bytes file is =
+    let on = went_on (read_from policy_code name (policy_file_of bytes))
+    (λ read. with_ports name read (first_in_file ports read)) file is in
+    read_is policy_code name (policy_file_of bytes) file
+    (on.1 ∙ ap Ok (with_ports_is name on.0 file (first_in_file ports on.0) on.2))
 
-policies_state : (ports : ℕ) (files : Files) (names : List (List ℕ)) (policies : List (List Row))
-    → read_policies ports files names ≡ Ok policies
-    → AllZip (States files policy_of) names policies
-policies_state ports files [] policies is =
-    subst (AllZip (States files policy_of) []) (same_value (Ok []) [] policies refl is) tt
-policies_state ports files (name ∷ names) policies is =
-    let first = went_on (read_policy ports files name) _ policies is in
-    let others = went_on (read_policies ports files names) (λ more. Ok (first.0 ∷ more)) policies
+-- a first file states its policy
+first_is : (ports : ℕ) (name bytes : List ℕ) (file : PolicyFile)
+    → first_stated ports name bytes ≡ Ok file → policy_file_of bytes ≡ Ok file
+unfolding policy_file_of
+first_is ports name bytes file is = by_heading (is_change_text bytes) is
+  where
+    by_heading : (changes : Bool) → (if changes then Err (refused_whole name first_change)
+        else and_then (policy_stated ports name bytes) (λ rows. Ok (Whole rows))) ≡ Ok file
+        → (if changes then on_ok Change (change_of bytes) else on_ok Whole (policy_of bytes))
+        ≡ Ok file
+    by_heading true is = absurd (cc is)
+    by_heading false is =
+        let on = went_on (policy_stated ports name bytes) (λ rows. Ok (Whole rows)) file is in
+        ap (on_ok Whole) (policy_is ports name bytes on.0 on.1) ∙ on.2
+
+stated_is : (is_first : Bool) (ports : ℕ) (name bytes : List ℕ) (file : PolicyFile)
+    → stated_as is_first ports name bytes ≡ Ok file → policy_file_of bytes ≡ Ok file
+stated_is true ports name bytes file is = first_is ports name bytes file is
+stated_is false ports name bytes file is = file_is ports name bytes file is
+
+file_states : (is_first : Bool) (ports : ℕ) (files : Files) (name : List ℕ) (file : PolicyFile)
+    → read_file is_first ports files name ≡ Ok file → States files policy_file_of name file
+file_states is_first ports files name file is =
+    states files name policy_file_of (stated_as is_first ports name) file
+    (λ bytes. stated_is is_first ports name bytes file) is
+
+files_state : (is_first : Bool) (ports : ℕ) (files : Files) (names : List (List ℕ))
+    (read : List PolicyFile) → read_files is_first ports files names ≡ Ok read
+    → AllZip (States files policy_file_of) names read
+files_state is_first ports files [] read is =
+    subst (AllZip (States files policy_file_of) []) (same_value (Ok []) [] read refl is) tt
+files_state is_first ports files (name ∷ names) read is =
+    let first = went_on (read_file is_first ports files name) _ read is in
+    let others = went_on (read_files false ports files names) (λ more. Ok (first.0 ∷ more)) read
     first.2 in
-    subst (AllZip (States files policy_of) (name ∷ names))
-    (same_value (Ok (first.0 ∷ others.0)) _ policies refl others.2) (
-      policy_states ports files name first.0 first.1,
-      policies_state ports files names others.0 others.1,
+    subst (AllZip (States files policy_file_of) (name ∷ names))
+    (same_value (Ok (first.0 ∷ others.0)) _ read refl others.2) (
+      file_states is_first ports files name first.0 first.1,
+      files_state false ports files names others.0 others.1,
     )
 
 -- ---- all files of a replay
@@ -117,14 +148,14 @@ inputs_state files command inputs is =
     let count = length command.policies in
     let events = went_on (read_schedule net.0 count files command.schedule) _ inputs net.2 in
     let ports = port_mask net.0.switches in
-    let policies = went_on (read_policies ports files command.policies) _ inputs events.2 in
+    let policies = went_on (read_files true ports files command.policies) _ inputs events.2 in
     let planned = went_on (first_plan command.policies net.0 policies.0) _ inputs policies.2 in
     subst (AreStated files command) (same_value _ _ inputs refl planned.2)
     (record {
       net = λ name named. net_states files name net.0
           (subst (λ given. read_net files given ≡ Ok net.0) named net.1);
       events = schedule_states net.0 count files command.schedule events.0 events.1;
-      policies = policies_state ports files command.policies policies.0 policies.1;
+      policies = files_state true ports files command.policies policies.0 policies.1;
     })
 
 play_is : (read : Result Inputs Refusal) (inputs : Inputs)

@@ -19,6 +19,10 @@ too_long = 20
 abbrev pub no_port : ℕ
 no_port = 13
 
+-- the first file of a command is a change
+abbrev pub first_change : ℕ
+first_change = 23
+
 -- the network lacks the switch
 abbrev pub no_such_switch : ℕ
 no_such_switch = 21

@@ -1,6 +1,6 @@
 -- The task of a command: what its files are read to, or its load case, or the first refusal in the
 -- order of work.
-use Rattle.std.specs.Prelude.{⊤, ℕ, ◌+◌, Bool, true, false, nat_le, if◌then◌else◌, Option, Some, None, option_map, Result, Ok, Err, is_ok, List, [], ◌∷◌, length, map, slice_index_or, codes}
+use Rattle.std.specs.Prelude.{⊤, ℕ, ◌+◌, Bool, true, false, nat_le, if◌then◌else◌, Option, Some, None, option_map, Result, Ok, Err, is_ok, unwrap_or, List, [], ◌∷◌, length, map, slice_index_or, codes}
 use Rattle.std.specs.Option.{option_map_or}
 use Rattle.schedule.specs.Case.{LoadCase, load_case}
 use Rattle.net_file.specs.Net.{solo_net}
@@ -10,9 +10,12 @@ use Rattle.net_file.specs.declared.net.Net.{Net}
 use Rattle.net_file.specs.Owners.{port_mask, switch_number}
 use Rattle.partition.specs.Plan.{Hosted, plan_of}
 use Rattle.policy_rules.specs.Hosted as no_plan
+use Rattle.policy_rules.specs.declared.file.PolicyFile.{PolicyFile}
+use Rattle.policy_rules.specs.declared.file.PolicyFile.TheVariants.{Whole}
 use Rattle.policy_rules.specs.declared.policy.Row.{Row}
 use Rattle.policy_rules.specs.Hosted.{NoPlan}
-use Rattle.policy_file.specs.Ports.{first_without_port}
+use Rattle.policy_file.specs.Changes.{is_change_text, policy_file_of}
+use Rattle.policy_file.specs.Ports.{first_in_file, first_without_port}
 use Rattle.policy_file.specs.Reading.{policy_code, policy_of}
 use Rattle.policy_file.specs.declared.ports.NoPort.{NoPort}
 use Rattle.base.specs.declared.row.InRow.{InRow}
@@ -22,9 +25,10 @@ use Rattle.steps.specs.declared.step.Event.{Event}
 use Rattle.shelf.specs.Shelf.{Files, file_named}
 use Rattle.update_machine.specs.Pieces.{plan_code}
 use Rattle.update_machine.specs.Setting.{setting_of}
+use Rattle.world.specs.Files.{first_policy}
 use Rattle.command_line.specs.Commands.{Command, PrintCommand, ReplayCommand}
 use Rattle.command_line.specs.Commands as asked
-use Rattle.difane_cli.specs.Codes.{missing_file, most_bytes, no_port, no_such_switch, too_long}
+use Rattle.difane_cli.specs.Codes.{first_change, missing_file, most_bytes, no_port, no_such_switch, too_long}
 use Rattle.difane_cli.specs.declared.report.Report.TheVariants as report
 use Rattle.difane_cli.specs.declared.status.Refusal.{Refusal}
 use Rattle.difane_cli.specs.Tasks.{Inputs, Printing, Task, Play, Print}
@@ -61,15 +65,32 @@ abbrev pub schedule_in : Net → ℕ → List ℕ → List ℕ → Result (List 
 schedule_in net policies name bytes =
     read_from schedule_code name (schedule_of net policies bytes)
 
-abbrev pub with_ports : List ℕ → List Row → Option NoPort → Result (List Row) Refusal
-with_ports name rows None = Ok rows
-with_ports name rows (Some lack) = Err (record { file = name; code = no_port; row = lack.row })
+abbrev pub with_ports : {X : Type 0} → List ℕ → X → Option NoPort → Result X Refusal
+with_ports name value None = Ok value
+with_ports name value (Some lack) = Err (record { file = name; code = no_port; row = lack.row })
 
 -- the rows that the bytes of this file state, unless one names a port outside this mask
 abbrev pub policy_stated : ℕ → List ℕ → List ℕ → Result (List Row) Refusal
 policy_stated ports name bytes =
     and_then (read_from policy_code name (policy_of bytes)) (λ rows.
     with_ports name rows (first_without_port ports rows))
+
+-- what the bytes of this file state, a policy or a change, unless a row that it gives names a port
+-- outside this mask
+abbrev pub file_stated : ℕ → List ℕ → List ℕ → Result PolicyFile Refusal
+file_stated ports name bytes =
+    and_then (read_from policy_code name (policy_file_of bytes)) (λ file.
+    with_ports name file (first_in_file ports file))
+
+-- the same of a first file, unless it is a change
+abbrev pub first_stated : ℕ → List ℕ → List ℕ → Result PolicyFile Refusal
+first_stated ports name bytes =
+    if is_change_text bytes then Err (refused_whole name first_change)
+    else and_then (policy_stated ports name bytes) (λ rows. Ok (Whole rows))
+
+abbrev pub stated_as : Bool → ℕ → List ℕ → List ℕ → Result PolicyFile Refusal
+stated_as true ports name bytes = first_stated ports name bytes
+stated_as false ports name bytes = file_stated ports name bytes
 
 abbrev pub read_schedule : Net → ℕ → Files → List ℕ → Result (List Event) Refusal
 read_schedule net policies files name =
@@ -78,13 +99,19 @@ read_schedule net policies files name =
 abbrev pub read_policy : ℕ → Files → List ℕ → Result (List Row) Refusal
 read_policy ports files name = and_then (content_of files name) (policy_stated ports name)
 
--- the policies of these files in their order, or the first refusal
-abbrev pub read_policies : ℕ → Files → List (List ℕ) → Result (List (List Row)) Refusal
-read_policies ports files [] = Ok []
-read_policies ports files (name ∷ names) =
-    and_then (read_policy ports files name) (λ rows.
-    and_then (read_policies ports files names) (λ policies.
-    Ok (rows ∷ policies)))
+-- the policy or the change of this file, which may be the first one
+abbrev pub read_file : Bool → ℕ → Files → List ℕ → Result PolicyFile Refusal
+read_file is_first ports files name =
+    and_then (content_of files name) (stated_as is_first ports name)
+
+-- the policies and changes of these files in their order, of which the next may be the first one,
+-- or the first refusal
+abbrev pub read_files : Bool → ℕ → Files → List (List ℕ) → Result (List PolicyFile) Refusal
+read_files is_first ports files [] = Ok []
+read_files is_first ports files (name ∷ names) =
+    and_then (read_file is_first ports files name) (λ file.
+    and_then (read_files false ports files names) (λ more.
+    Ok (file ∷ more)))
 
 -- the network that the bytes of this file state
 abbrev pub net_stated : List ℕ → List ℕ → Result Net Refusal
@@ -107,31 +134,35 @@ plan_from name (Err why) = Err (refused_whole name (plan_code why))
 abbrev pub plan_on : List ℕ → Net → List Row → Result (List Hosted) Refusal
 plan_on name net rows = plan_from name (plan_of rows net)
 
--- the plan of the first of these policies, which stand in files of these names
-abbrev pub first_plan : List (List ℕ) → Net → List (List Row) → Result (List Hosted) Refusal
-first_plan names net policies =
-    plan_on (slice_index_or names 0 []) net (slice_index_or policies 0 [])
+-- the plan of the policy of the first of these files, which have these names
+abbrev pub first_plan : List (List ℕ) → Net → List PolicyFile → Result (List Hosted) Refusal
+first_plan names net files =
+    plan_on (slice_index_or names 0 []) net (unwrap_or (first_policy files) [])
 
 -- ---- what is played
 
--- the files of a replay: the network is read and checked, then the schedule, then the policies in
--- their order, and then the first policy is planned
+-- the files of a replay: the network is read and checked, then the schedule, then the policies
+-- and changes in their order, and then the first policy is planned
 abbrev pub inputs_of : Files → ReplayCommand → Result Inputs Refusal
 inputs_of files command =
     and_then (read_net files command.net) (λ net.
     and_then (read_schedule net (length command.policies) files command.schedule) (λ events.
-    and_then (read_policies (port_mask net.switches) files command.policies) (λ policies.
-    and_then (first_plan command.policies net policies) (λ hosted.
+    and_then (read_files true (port_mask net.switches) files command.policies) (λ read.
+    and_then (first_plan command.policies net read) (λ hosted.
     Ok (record {
-      setting = setting_of net policies;
+      setting = setting_of net read;
       events = events;
       report = report.Lines command.quiet;
     })))))
 
+-- the policies of a load case, each in a file of its own
+abbrev pub case_files : LoadCase → List PolicyFile
+case_files load = map Whole load.policies
+
 -- a load case, of which the summary is to be told
 abbrev pub case_inputs : LoadCase → Inputs
 case_inputs load = record {
-  setting = setting_of load.net load.policies;
+  setting = setting_of load.net (case_files load);
   events = load.events;
   report = report.Summary;
 }
@@ -144,7 +175,7 @@ load_name = codes "load"
 abbrev pub load_inputs : ℕ → Result Inputs Refusal
 load_inputs n =
     let load = load_case n in
-    and_then (first_plan (load_name ∷ []) load.net load.policies) (λ hosted.
+    and_then (first_plan (load_name ∷ []) load.net (case_files load)) (λ hosted.
     Ok (case_inputs load))
 
 -- ---- all files of a plan
@@ -208,21 +239,24 @@ abbrev pub net_reads : Option (List ℕ) → ℕ
 net_reads None = 0
 net_reads (Some name) = 1
 
--- which of the policies of these files are accepted
-abbrev pub are_accepted : ℕ → Files → List (List ℕ) → List Bool
-are_accepted ports files names = map (λ name. is_ok (read_policy ports files name)) names
+-- which of these files are accepted, of which the next may be the first one
+abbrev pub are_accepted : Bool → ℕ → Files → List (List ℕ) → List Bool
+are_accepted is_first ports files [] = []
+are_accepted is_first ports files (name ∷ names) =
+    is_ok (read_file is_first ports files name) ∷ are_accepted false ports files names
 
 -- how many reads they take at most
-abbrev pub policy_reads : ℕ → Option Files → List (List ℕ) → ℕ
-policy_reads ports None names = length names
-policy_reads ports (Some files) names = up_to_refusal (are_accepted ports files names)
+abbrev pub file_reads : Bool → ℕ → Option Files → List (List ℕ) → ℕ
+file_reads is_first ports None names = length names
+file_reads is_first ports (Some files) names =
+    up_to_refusal (are_accepted is_first ports files names)
 
 -- how many reads a replay makes at most behind that of its network
 abbrev pub replay_reads : Files → ReplayCommand → Result Net Refusal → ℕ
 replay_reads files args (Err refusal) = 0
 replay_reads files args (Ok net) =
     up_to_refusal (is_ok (read_schedule net (length args.policies) files args.schedule)
-    ∷ are_accepted (port_mask net.switches) files args.policies)
+    ∷ are_accepted true (port_mask net.switches) files args.policies)
 
 -- how many reads a command makes at most
 abbrev pub most_reads : Option Files → Option Command → ℕ

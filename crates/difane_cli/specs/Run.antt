@@ -3,7 +3,7 @@ use Rattle.std.specs.Prelude.{⊤, ℕ, ◌≡◌, ◌⊎◌, Bool, Option, Some
 use Rattle.std.specs.List.{AllZip}
 use Rattle.std.specs.Option.{ForSome}
 use Rattle.net_file.specs.Reading.{net_of}
-use Rattle.policy_file.specs.Reading.{policy_of}
+use Rattle.policy_file.specs.Changes.{policy_file_of}
 use Rattle.schedule.specs.Reading.{schedule_of}
 use Rattle.shelf.specs.Shelf.{Files, file_named}
 use Rattle.shelf.specs.Sink.{GainedPart, SinkState}
@@ -38,7 +38,7 @@ use Rattle.difane_cli.specs.declared.status.Status.TheVariants as status
 -- the inputs have the network and the policies that the command names, and are within the limits
 pub record IsReplayOf (command : ReplayCommand) (inputs : Inputs) : Type 0 where
   pub net : IsNetOf command.net inputs.setting.net
-  pub policies : length inputs.setting.policies ≡ length command.policies
+  pub policies : length inputs.setting.files ≡ length command.policies
   pub report : inputs.report ≡ report.Lines command.quiet
   pub limits : AreWithinLimits inputs
 
@@ -54,23 +54,23 @@ States files read name value =
     (bytes : List ℕ) × (file_named files name ≡ Some bytes) × (read bytes ≡ Ok value)
 
 -- the inputs are what the files state that a replay names: the network, where it names one; the
--- events, on this network and with so many policies; and the policies, in their order
+-- events, on this network and with so many files; and the policies and changes, in their order
 pub record AreStated (files : Files) (command : ReplayCommand) (inputs : Inputs) : Type 0 where
   pub net : ForSome command.net (λ name. States files net_of name inputs.setting.net)
   pub events : States files (schedule_of inputs.setting.net (length command.policies))
       command.schedule inputs.events
-  pub policies : AllZip (States files policy_of) command.policies inputs.setting.policies
+  pub policies : AllZip (States files policy_file_of) command.policies inputs.setting.files
 
 -- those of a replay are what its files state, where these are known
 abbrev pub AreStatedBy : Option Files → Command → Inputs → Type 0
 AreStatedBy files (asked.Replay args) inputs = ForSome files (λ all. AreStated all args inputs)
 AreStatedBy files _ inputs = ⊤
 
--- the first policy has a plan on the network, all name its ports alone, and the events name its
--- switches and these policies alone
+-- the first file has a policy, with a plan on the network, all name its ports alone, and the events
+-- name its switches and these files alone
 pub record MayBePlayed (inputs : Inputs) : Type 0 where
   pub setting : IsSetting inputs.setting
-  pub events : All (IsEvent inputs.setting.net (length inputs.setting.policies)) inputs.events
+  pub events : All (IsEvent inputs.setting.net (length inputs.setting.files)) inputs.events
 
 -- the journal is that of the play of these inputs, which are those of the files and of the task,
 -- where these are known, to its end or to a row at which it stopped full; so it is a run of the

@@ -1,21 +1,23 @@
 //! The files of a command, read and checked one after another.
-ghost use Rattle.std.specs.Prelude.{◌≡◌, ◌≤◌, All, IsTrue, IfOk, IfErr, Ok, Some, length};
+ghost use Rattle.std.specs.Prelude.{◌≡◌, ◌<◌, ◌≤◌, All, IsSome, IsTrue, IfOk, IfErr, OnOk, Ok, Some, length, true};
 ghost use Rattle.net_file.specs.Net.{IsNet};
 ghost use Rattle.policy_file.specs.Ports.{names_port_of};
-ghost use Rattle.policy_rules.specs.Policy.{IsPolicy};
+ghost use Rattle.policy_rules.specs.Exports.{GivesOnly, IsPolicy, IsPolicyFile};
 ghost use Rattle.schedule.specs.Reading.{AreSoundEvents};
 ghost use Rattle.shelf.specs.Shelf.{IsAfterReads};
-ghost use Rattle.difane_cli.specs.Exports.{AreReadyToPlay, EndsRead, IsCalmRead, IsReplayOf, RefusesInput, StopsCheck, content_of, inputs_of, inputs_stated, most_reads, policy_reads, read_policies, read_policy, read_schedule, schedule_in};
+ghost use Rattle.policy_file.specs.Changes.{file_length};
+ghost use Rattle.world.specs.Files.{first_policy, own_policy};
+ghost use Rattle.difane_cli.specs.Exports.{AreReadyToPlay, EndsRead, IsCalmRead, IsReplayOf, RefusesInput, StopsCheck, content_of, file_reads, inputs_of, inputs_stated, most_reads, read_file, read_files, read_policy, read_schedule, schedule_in};
 ghost use Rattle.command_line.specs.Named.{HasPolicies, names_seen, replay_named};
 ghost use Rattle.command_line.specs.Commands.{Replay};
 
 use crate::networks::take_network;
-use crate::policies::{begin_world, check_policy};
+use crate::policies::{begin_world, check_file, check_first, check_policy};
 use crate::report::Report;
 use crate::status::{FileName, Refusal, Stop};
 use command_line::ReplayArgs;
 use net_file::Net;
-use policy_rules::Policy;
+use policy_rules::{Policy, PolicyFile};
 use schedule::ScheduleError;
 use shelf::{Shelf, ShelfError};
 use std::alloc::Global;
@@ -118,32 +120,61 @@ pub fn read_policy<F: Shelf>(
     check_policy(alloc, name, &bytes, ports)
 }
 
-/// The policies of these names, each of which is read and checked before the next one is read.
-fn read_policies<F: Shelf>(
+/// The policy or the change of this name, the rows of which name only ports of the mask. The first
+/// of a command's files is no change.
+fn read_file<F: Shelf>(
+    alloc: Global,
+    shelf: &mut F,
+    name: &str,
+    ports: u64,
+    is_first: bool,
+) -> Result<PolicyFile, Stop>
+    ensures read { EndsRead (F.state shelf.old).files
+        (λ files. read_file is_first ports files name.now) (λ file. file)
+        (F.state shelf.old) (F.state shelf.new) result }
+    ensures shelf { IsAfterReads 1 (F.state shelf.old) (F.state shelf.new) }
+    ensures calm { IsCalmRead (F.state shelf.old) (F.state shelf.new) result }
+    ensures own_ports { IfOk result (GivesOnly (λ row. IsTrue (names_port_of ports row.action))) }
+    ensures sound { IfOk result IsPolicyFile }
+    ensures few { IfOk result (λ file. file_length file ≤ 2000) }
+    ensures whole { is_first ≡ true → IfOk result (λ file. IsSome (own_policy file)) }
+{
+    let bytes = read_bytes(alloc, shelf, name)?;
+    if is_first {
+        return check_first(alloc, name, &bytes, ports);
+    }
+    check_file(alloc, name, &bytes, ports)
+}
+
+/// The policies and changes of these names, each of which is read and checked before the next one
+/// is read. The first is a policy.
+fn read_files<F: Shelf>(
     alloc: Global,
     shelf: &mut F,
     names: &[&str],
     ports: u64,
-) -> Result<Vec<Policy>, Stop>
+) -> Result<Vec<PolicyFile>, Stop>
+    requires { 0 < length names.now }
     ensures read { EndsRead (F.state shelf.old).files
-        (λ files. read_policies ports files (names_seen names.now)) (λ policies. policies.items)
+        (λ files. read_files true ports files (names_seen names.now)) (λ read. read.items)
         (F.state shelf.old) (F.state shelf.new) result }
     ensures shelf { IsAfterReads
-        (policy_reads ports (F.state shelf.old).files (names_seen names.now))
+        (file_reads true ports (F.state shelf.old).files (names_seen names.now))
         (F.state shelf.old) (F.state shelf.new) }
     ensures calm { IsCalmRead (F.state shelf.old) (F.state shelf.new) result }
-    ensures many { IfOk result (λ policies. length policies.items ≡ length names.now) }
-    ensures own_ports { IfOk result (λ policies.
-        All (All (λ row. IsTrue (names_port_of ports row.action))) policies.items) }
-    ensures sound { IfOk result (λ policies. All IsPolicy policies.items) }
-    ensures few { IfOk result (λ policies. All (λ rows. length rows ≤ 2000) policies.items) }
+    ensures many { IfOk result (λ read. length read.items ≡ length names.now) }
+    ensures first { IfOk result (λ read. IsSome (first_policy read.items)) }
+    ensures own_ports { IfOk result (λ read.
+        All (GivesOnly (λ row. IsTrue (names_port_of ports row.action))) read.items) }
+    ensures sound { IfOk result (λ read. All IsPolicyFile read.items) }
+    ensures few { IfOk result (λ read. All (λ file. file_length file ≤ 2000) read.items) }
 {
-    let mut policies = Vec::new(alloc);
+    let mut read = Vec::new(alloc);
     for name in names {
-        let policy = read_policy(alloc, shelf, name, ports)?;
-        policies.push(policy)?;
+        let file = read_file(alloc, shelf, name, ports, read.is_empty())?;
+        read.push(file)?;
     }
-    Ok(policies)
+    Ok(read)
 }
 
 /// What is played, and what the play is to tell.
@@ -156,8 +187,8 @@ pub struct PlayInputs {
     pub report: Report,
 }
 
-/// The inputs of a replay: the network is read and checked, then the schedule, then the policies in
-/// their order, and last the first policy is planned.
+/// The inputs of a replay: the network is read and checked, then the schedule, then the policies and
+/// changes in their order, and last the first policy is planned.
 pub fn read_inputs<F: Shelf>(
     alloc: Global,
     shelf: &mut F,
@@ -179,8 +210,8 @@ pub fn read_inputs<F: Shelf>(
     let names: &[&str] = &args.policies;
     let count = names.len() as u32;
     let events = read_schedule(alloc, shelf, args.schedule, &net, count)?;
-    let policies = read_policies(alloc, shelf, names, net.port_mask())?;
-    let world = begin_world(alloc, names, policies, &net)?;
+    let files = read_files(alloc, shelf, names, net.port_mask())?;
+    let world = begin_world(alloc, names, files, &net)?;
     Ok(PlayInputs {
         events,
         net,

@@ -4,7 +4,7 @@ ghost use Rattle.difane_cli.specs.Exports.{AreReadyToPlay, StopsCheck, case_inpu
 ghost use Rattle.schedule.specs.Case.{load_case};
 
 use crate::inputs::PlayInputs;
-use crate::policies::begin_world;
+use crate::policies::{as_files, begin_world};
 use crate::report::Report;
 use crate::status::Stop;
 use net_file::port_laws;
@@ -26,7 +26,8 @@ pub fn draw_inputs(alloc: Global, n: u32) -> Result<PlayInputs, Stop>
     let Ok(case) = load_case(alloc, n) else {
         return Err(Stop::NoMemory);
     };
-    let world = begin_world(alloc, &[LOAD_NAME], case.policies, &case.net)?;
+    let files = as_files(alloc, case.policies)?;
+    let world = begin_world(alloc, &[LOAD_NAME], files, &case.net)?;
     Ok(PlayInputs {
         events: case.events,
         net: case.net,

@@ -1,32 +1,40 @@
-//! Policies as a command takes them: read from bytes, and checked against the network.
-ghost use Rattle.std.specs.Prelude.{◌≡◌, ◌≤◌, All, List, IfOk, IfErr, IsOk, IsTrue, Ok, OnOk, length};
+//! Policies and changes as a command takes them: read from bytes, and checked against the network.
+ghost use Rattle.std.specs.Prelude.{◌≡◌, ◌≤◌, All, List, IfOk, IfErr, IsOk, IsSome, IsTrue, Ok, OnOk, length, map};
+ghost use Rattle.policy_file.specs.Changes.{file_length, policy_file_of};
 ghost use Rattle.policy_file.specs.Reading.{policy_code, policy_of};
 ghost use Rattle.policy_file.specs.Ports.{names_port_of};
-ghost use Rattle.policy_rules.specs.Policy.{IsPolicy};
+ghost use Rattle.policy_rules.specs.Exports.{GivesOnly, IsPolicy, IsPolicyFile};
+ghost use Rattle.policy_rules.specs.declared.file.PolicyFile.TheVariants.{Whole};
 ghost use Rattle.policy_rules.specs.declared.policy.Row.{Row};
 ghost use Rattle.controller.specs.Leads.{LeadEveryHeader};
 ghost use Rattle.controller.specs.Plan.{RefusesPlan};
 ghost use Rattle.difane_cli.specs.Ending.{StopsCheck};
-ghost use Rattle.difane_cli.specs.Inputs.{first_plan, plan_on, policy_stated, read_from};
+ghost use Rattle.difane_cli.specs.Inputs.{file_stated, first_plan, first_stated, plan_on, policy_stated, read_from};
 ghost use Rattle.net_file.specs.Exports.{IsNet, port_mask};
 ghost use Rattle.net_file.specs.declared.net.Net.{Net};
 ghost use Rattle.partition.specs.Plan.{IsPlan, plan_of};
 ghost use Rattle.update_machine.specs.Setting.{setting_of, IsSetting};
 ghost use Rattle.command_line.specs.Named.{names_seen};
+ghost use Rattle.world.specs.Files.{first_policy, own_policy};
 ghost use Rattle.world.specs.State.{IsBegun, setting_at};
 
 use crate::inputs::refused;
 use crate::status::Stop;
 use controller::{Plan, PlanError, compile};
 use net_file::{Net, port_laws};
-use policy_file::{NoPort, PolicyError, check_ports, read_policy};
-use policy_rules::Policy;
-use std::alloc::Global;
+use policy_file::{
+    NoPort, PolicyError, check_file_ports, check_ports, is_change, read_file, read_policy,
+};
+use policy_rules::{Policy, PolicyFile};
+use std::alloc::{AllocError, Global};
 use world::World;
 use world::codes::{NO_ROOM, TOO_MANY_LEAVES, TOO_MANY_WORDS};
 
 /// The code of a row that names a port that the network lacks.
 pub const NO_PORT: u32 = 13;
+
+/// The code of a first file that is a change.
+pub const FIRST_CHANGE: u32 = 23;
 
 /// The code of a switch that the network lacks.
 pub const NO_SWITCH: u32 = 21;
@@ -61,6 +69,60 @@ pub fn check_policy(alloc: Global, name: &str, bytes: &[u8], ports: u64) -> Resu
     }
 }
 
+/// The policy or the change that the bytes of this file state.
+fn state_file(alloc: Global, name: &str, bytes: &[u8]) -> Result<PolicyFile, Stop>
+    ensures value { IfOk result (λ file. policy_file_of bytes.now ≡ Ok file) }
+    ensures stopped { IfErr result
+        (StopsCheck (read_from policy_code name.now (policy_file_of bytes.now))) }
+    ensures sound { IfOk result IsPolicyFile }
+    ensures few { IfOk result (λ file. file_length file ≤ 2000) }
+{
+    match read_file(alloc, bytes) {
+        Ok(file) => Ok(file),
+        Err(PolicyError::Refused(why)) => Err(refused(alloc, name, why.refusal.code(), why.row)),
+        Err(PolicyError::NoMemory) => Err(Stop::NoMemory),
+    }
+}
+
+/// The policy or the change that the bytes of this file state, the rows of which name only ports
+/// of the mask.
+pub fn check_file(alloc: Global, name: &str, bytes: &[u8], ports: u64) -> Result<PolicyFile, Stop>
+    ensures value { IfOk result (λ file. file_stated ports name.now bytes.now ≡ Ok file) }
+    ensures stopped { IfErr result (StopsCheck (file_stated ports name.now bytes.now)) }
+    ensures own_ports { IfOk result (GivesOnly (λ row. IsTrue (names_port_of ports row.action))) }
+    ensures sound { IfOk result IsPolicyFile }
+    ensures few { IfOk result (λ file. file_length file ≤ 2000) }
+{
+    let file = state_file(alloc, name, bytes)?;
+    match check_file_ports(&file, ports) {
+        Ok(()) => Ok(file),
+        Err(NoPort { row }) => Err(refused(alloc, name, NO_PORT, row)),
+    }
+}
+
+/// The same of a first file, which is no change: one is refused before its rows are read.
+pub fn check_first(alloc: Global, name: &str, bytes: &[u8], ports: u64) -> Result<PolicyFile, Stop>
+    ensures value { IfOk result (λ file. first_stated ports name.now bytes.now ≡ Ok file) }
+    ensures stopped { IfErr result (StopsCheck (first_stated ports name.now bytes.now)) }
+    ensures own_ports { IfOk result (GivesOnly (λ row. IsTrue (names_port_of ports row.action))) }
+    ensures sound { IfOk result IsPolicyFile }
+    ensures few { IfOk result (λ file. file_length file ≤ 2000) }
+    ensures whole { IfOk result (λ file. IsSome (own_policy file)) }
+{
+    if is_change(alloc, bytes)? {
+        return Err(refused(alloc, name, FIRST_CHANGE, 0));
+    }
+    let policy = check_policy(alloc, name, bytes, ports)?;
+    Ok(PolicyFile::Whole(policy))
+}
+
+/// Each of these policies as a file that has it.
+pub fn as_files(alloc: Global, policies: Vec<Policy>) -> Result<Vec<PolicyFile>, AllocError>
+    ensures { IfOk result (λ files. files.items ≡ map Whole policies.items) }
+{
+    policies.into_iter().map(PolicyFile::Whole).collect(alloc)
+}
+
 /// The stop at a policy of this file that has no plan.
 fn no_plan(alloc: Global, name: &str, error: PlanError) -> Stop
     ensures { (rows : List Row) (net : Net) → RefusesPlan rows net error
@@ -74,29 +136,29 @@ fn no_plan(alloc: Global, name: &str, error: PlanError) -> Stop
     }
 }
 
-/// The network with the first of these policies in force as version 1. It stands in the file of the
-/// first of these names.
+/// The network with the policy of the first of these files in force as version 1. The first of
+/// these names is its own.
 pub fn begin_world(
     alloc: Global,
     names: &[&str],
-    policies: Vec<Policy>,
+    files: Vec<PolicyFile>,
     net: &Net,
 ) -> Result<World, Stop>
     requires net { IsNet net.now }
-    requires some { 1 ≤ length policies.items }
+    requires first { IsSome (first_policy files.items) }
     requires named { 1 ≤ length names.now }
-    requires sound { All IsPolicy policies.items }
-    requires ports { All (All (λ row. IsTrue (names_port_of (port_mask net.now.switches) row.action)))
-        policies.items }
+    requires sound { All IsPolicyFile files.items }
+    requires ports { All (GivesOnly (λ row.
+        IsTrue (names_port_of (port_mask net.now.switches) row.action))) files.items }
     ensures planned { OnOk result
-        (IsOk (first_plan (names_seen names.now) net.now policies.items)) }
-    ensures begun { IfOk result (IsBegun (setting_of net.now policies.items)) }
+        (IsOk (first_plan (names_seen names.now) net.now files.items)) }
+    ensures begun { IfOk result (IsBegun (setting_of net.now files.items)) }
     ensures sound { IfOk result (λ world. IsSetting (setting_at world)) }
     ensures stopped { IfErr result
-        (StopsCheck (first_plan (names_seen names.now) net.now policies.items)) }
+        (StopsCheck (first_plan (names_seen names.now) net.now files.items)) }
 {
     port_laws();
-    match World::begin(alloc, net, policies) {
+    match World::begin(alloc, net, files) {
         Ok(world) => {
             world.refines();
             Ok(world)

@@ -73,6 +73,14 @@ impl<T: Drop> From<AllocFailed<T>> for Stop {
     }
 }
 
+impl From<AllocError> for Stop {
+    ghost from_gives = { λ _ stop. stop ≡ NoMemory };
+
+    fn from(_: AllocError) -> Self {
+        Stop::NoMemory
+    }
+}
+
 /// How a command ended.
 #[derive(Drop)]
 pub enum Status {

@@ -8,7 +8,8 @@ use Rattle.std.proofs.lemmas.Nat.Bits.{bit_at-trailing_zeros}
 use lib.Count.{count_trailing_zeros}
 use Rattle.five_tuple.specs.Cover.{Block, IsBlock, IsLargestBlock, IsCover, fits_at, largest_up_to, blocks_from, cover_of}
 use Rattle.five_tuple.specs.Laws.{IsCoverOf}
-use Rattle.five_tuple.specs.Header.{PortRangeValue, IsPortRange}
+use Rattle.five_tuple.specs.Header.{PortRangeValue}
+use Rattle.five_tuple.specs.SoundFields.{IsPortRange}
 use Rattle.five_tuple.proofs.Covers.{exponent_small, aligned_down, exact, disjoint, ascending, masked, few, same_cover}
 
 -- ---- the function and the relation

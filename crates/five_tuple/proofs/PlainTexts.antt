@@ -9,7 +9,8 @@ use Rattle.std.proofs.lemmas.List.Elements.{All-append, All-cons, All-weaker}
 use Rattle.std.proofs.lemmas.List.Sums.{AllPass-from_list_all}
 use Rattle.five_tuple.specs.declared.matching.Proto.{Proto}
 use Rattle.five_tuple.specs.declared.matching.Proto.TheVariants.{Any, Is}
-use Rattle.five_tuple.specs.Header.{AddressBlock, IsAddressBlock, PortRangeValue, IsPortRange, IsProtocol}
+use Rattle.five_tuple.specs.Header.{AddressBlock, PortRangeValue}
+use Rattle.five_tuple.specs.SoundFields.{IsAddressBlock, IsPortRange, IsProtocol}
 use Rattle.five_tuple.specs.Printing.{address_text, proto_number_text}
 use Rattle.five_tuple.specs.RowPrinting.{is_plain_char, prefix_text, range_text, proto_text}
 use Rattle.five_tuple.proofs.RoundTrip.{decimal_is_digits}

@@ -17,7 +17,8 @@ use Rattle.std.proofs.lemmas.Slice.Eq.{bytes_eq-Decides}
 use Rattle.std.proofs.lemmas.Str.Parse.{IsNumeralModel, numerals_by_value}
 use Rattle.five_tuple.specs.declared.matching.Proto.{Proto}
 use Rattle.five_tuple.specs.declared.matching.Proto.TheVariants.{Any, Is}
-use Rattle.five_tuple.specs.Header.{AddressBlock, IsAddressBlock, PortRangeValue, IsPortRange, IsProtocol}
+use Rattle.five_tuple.specs.Header.{AddressBlock, PortRangeValue}
+use Rattle.five_tuple.specs.SoundFields.{IsAddressBlock, IsPortRange, IsProtocol}
 use Rattle.five_tuple.specs.Printing.{address_text, proto_number_text}
 use Rattle.five_tuple.specs.Texts.{has_leading_zero, number_up_to, address_of, prefix_of, range_of, proto_number_of, proto_of, parts_round, block_round}
 use Rattle.five_tuple.specs.RowPrinting.{prefix_text, range_text, proto_text}

@@ -1,9 +1,10 @@
 -- The definitions by which clauses of this crate and of those above speak of headers, of the fields
 -- that match them and of their texts, passed on from the files that define them.
 pub use Rattle.five_tuple.specs.Cover.{IsLargestBlock, IsPortBlock, cover_of}
-pub use Rattle.five_tuple.specs.Header.{AddressBlock, IsAddressBlock, IsHeader, IsPortRange, IsProtocol, PortRangeValue, fields_of, number_of, prefix_matches, proto_matches, range_matches}
+pub use Rattle.five_tuple.specs.Header.{AddressBlock, IsHeader, PortRangeValue, fields_of, number_of, prefix_matches, proto_matches, range_matches}
 pub use Rattle.five_tuple.specs.HeaderNumbers.{header_numbered, header_of}
 pub use Rattle.five_tuple.specs.Laws.{CoverLaws, HeaderLaws, IsCoverOf, PlainTextLaws}
 pub use Rattle.five_tuple.specs.Printing.{address_text, fields_text, proto_number_text}
 pub use Rattle.five_tuple.specs.RowPrinting.{prefix_text, proto_text, range_text}
+pub use Rattle.five_tuple.specs.SoundFields.{IsAddressBlock, IsPortRange, IsProtocol}
 pub use Rattle.five_tuple.specs.Texts.{IsByteBefore, LacksByte, address_of, block_round, fields_from, has_leading_zero, number_up_to, packet_fields_of, parts_round, prefix_of, proto_number_of, proto_of, range_from, range_of}

@@ -5,7 +5,8 @@ use Rattle.std.specs.List.{AllPass, list_any}
 use Rattle.five_tuple.specs.declared.header.Header.{Header}
 use Rattle.five_tuple.specs.declared.matching.Proto.{Proto}
 use Rattle.five_tuple.specs.Cover.{Block, IsPortBlock, block_holds, AreBlocksApart, cover_of, IsCover}
-use Rattle.five_tuple.specs.Header.{IsHeader, number_of, AddressBlock, IsAddressBlock, PortRangeValue, IsPortRange, range_matches, IsProtocol}
+use Rattle.five_tuple.specs.Header.{IsHeader, number_of, AddressBlock, PortRangeValue, range_matches}
+use Rattle.five_tuple.specs.SoundFields.{IsAddressBlock, IsPortRange, IsProtocol}
 use Rattle.five_tuple.specs.Printing.{address_text, proto_number_text}
 use Rattle.five_tuple.specs.HeaderNumbers.{header_numbered, header_eq}
 use Rattle.five_tuple.specs.RowPrinting.{is_plain_char, prefix_text, range_text, proto_text}

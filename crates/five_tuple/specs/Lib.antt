@@ -1,4 +1,5 @@
 pub mod Header
+pub mod SoundFields
 pub mod HeaderNumbers
 pub mod Texts
 pub mod Printing

@@ -13,7 +13,8 @@ pub struct Prefix {
 }
 
 impl Model for Prefix {
-    ghost use Rattle.five_tuple.specs.Header.{AddressBlock, IsAddressBlock};
+    ghost use Rattle.five_tuple.specs.Header.{AddressBlock};
+    ghost use Rattle.five_tuple.specs.SoundFields.{IsAddressBlock};
 
     ghost Value = { AddressBlock };
 
@@ -58,7 +59,8 @@ pub struct PortRange {
 }
 
 impl Model for PortRange {
-    ghost use Rattle.five_tuple.specs.Header.{PortRangeValue, IsPortRange};
+    ghost use Rattle.five_tuple.specs.Header.{PortRangeValue};
+    ghost use Rattle.five_tuple.specs.SoundFields.{IsPortRange};
 
     ghost Value = { PortRangeValue };
 

@@ -169,7 +169,7 @@ not_stuck_where_a_way_is_known : HasCause open_net entered (seeking 1) → ⊥
 unfolding is_link_up serves claim_of message_of
 not_stuck_where_a_way_is_known cause =
     let own = cause.own_leg in
-    let plan : own.3 ≡ plan_p = first_alone entered own.3 (refl, (refl, tt)) own.4 in
+    let plan : own.3 ≡ plan_p = first_alone entered own.3 own.4 in
     let there : Contains plan_p own.5 = subst (λ all. Contains all own.5) plan own.6 in
     let targets : cause.targets ≡ 1 ∷ [] =
     sym own.9 ∙ its_part there.0 own.5 there.1 there.2 in
@@ -320,7 +320,7 @@ not_lost_without_a_crash cause = by_how cause.0.how
 not_submitted_without_a_file : StrongCause open_net (item.Row 1 (Update 7) ∷ [])
     (item.Submitted 7 2) → ⊥
 unfolding next_policy
-not_submitted_without_a_file cause = let there : false ≡ true = cause.1.there in absurd cc
+not_submitted_without_a_file cause = cc cause.1.policy
 
 -- a mark that isn't below the stamp that each member acknowledged
 not_retired_while_stamped : StrongCause open_net

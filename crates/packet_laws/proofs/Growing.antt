@@ -40,8 +40,8 @@ pub grows : (setting : Setting) (before : List Item) (next : Item)
 grows setting before next have cause = record {
   retired = retired_rises setting before next cause;
   current = current_rises setting before next cause;
-  policy = λ v above below. policy_stays setting before (next ∷ []) v numbers above (there v below);
-  plan = λ v above below. plan_stays setting before (next ∷ []) v numbers above (there v below);
+  policy = λ v above below. policy_stays setting before (next ∷ []) v numbers (there v below);
+  plan = λ v above below. plan_stays setting before (next ∷ []) v numbers (there v below);
 }
   where
     numbers : VersionsAreNumbered before

@@ -4,7 +4,6 @@ use Rattle.std.proofs.Common.{ℕ, ◌≤◌, ◌∙◌, Option, List, [], ◌++
 use Rattle.std.proofs.Math.Seq.{take-append_seam}
 use Rattle.journal.specs.declared.item.Item.{Item}
 use Rattle.steps.specs.declared.step.Event.{Event}
-use Rattle.update_machine.specs.Answers.{after_steps}
 use Rattle.update_machine.specs.Causes.{HasCause, HaveCauses}
 use Rattle.update_machine.specs.Full.{IsPlay}
 use Rattle.update_machine.specs.Machine.{IsRun}

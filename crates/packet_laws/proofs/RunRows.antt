@@ -13,9 +13,9 @@ use Rattle.packet_laws.proofs.Here.{some_same}
 -- ---- policies and the mark
 
 -- a version has the next number, and a file that is there
-not_past_the_next : (old new : Machine) (named : Option (List Row)) → length old.policies ≡ 1
-    → Submits old 3 named new → ⊥
-not_past_the_next old new named first submits = omega (arith, first, submits.newest)
+not_past_the_next : (old new : Machine) (made : Option (List Row)) → length old.policies ≡ 1
+    → Submits old 3 made new → ⊥
+not_past_the_next old new made first submits = omega (arith, first, submits.newest)
 
 not_of_no_file : (old new : Machine) (version : ℕ) → Submits old version None new → ⊥
 not_of_no_file old new version submits = cc submits.there

@@ -377,11 +377,11 @@ goes_submitted : (setting : Setting) (machine : Machine) (journal : List Item)
     → Goes setting machine journal (item.Submitted file version)
 goes_submitted setting machine journal file version have matches submits =
     let next : Item = item.Submitted file version in
-    let gained : TakesVersion setting machine journal file version =
-    takes_version setting machine journal file version (caused_numbered setting journal have)
-    matches.policies submits.next submits.there in
+    let gained : TakesVersion setting machine journal file version submits.rows =
+    takes_version setting machine journal file version submits.rows
+    (caused_numbered setting journal have) matches.policies submits.next submits.policy in
     record {
-      new = record machine { policies = machine.policies ++ gained.rows ∷ [] };
+      new = record machine { policies = machine.policies ++ submits.rows ∷ [] };
       takes = gained.takes;
       matches = record {
         policies = gained.own;

@@ -134,7 +134,7 @@ pub fn flushes_end()
 /// would begin behind a full journal.
 pub fn plays_exist()
     ensures { (setting : Setting) (events : List Event) → IsSetting setting
-        → All (IsEvent setting.net (length setting.policies)) events → HasPlay setting events }
+        → All (IsEvent setting.net (length setting.files)) events → HasPlay setting events }
 {}
 
 /// The rows of a play's journal are those of its events that were played, in order, but for hops

@@ -1,7 +1,7 @@
 -- What a change adds, by a test of its edits.
 use Rattle.std.proofs.Common.{ℕ, IsTrue, All, List}
 use Rattle.std.proofs.lemmas.List.Elements.{All-weaker}
-use Rattle.policy_rules.specs.Edits.{AddsOnly}
+use Rattle.policy_rules.specs.PolicyFiles.{AddsOnly}
 use Rattle.policy_rules.specs.declared.amendment.Edit.{Edit}
 use Rattle.policy_rules.specs.declared.amendment.Edit.TheVariants.{Remove, Add}
 use Rattle.policy_rules.specs.declared.policy.Row.{Row}

@@ -14,7 +14,8 @@ use Rattle.csv_records.specs.Texts.{is_heading}
 use Rattle.five_tuple.specs.Laws.{PlainTextLaws}
 use Rattle.five_tuple.specs.RowPrinting.{prefix_text, range_text, proto_text}
 use Rattle.five_tuple.specs.Texts.{number_up_to, prefix_of, range_of, proto_of}
-use Rattle.policy_rules.specs.Edits.{AddsOnly, IsAmendment, IsSoundEdit}
+use Rattle.policy_rules.specs.Applied.{IsAmendment, IsSoundEdit}
+use Rattle.policy_rules.specs.PolicyFiles.{AddsOnly}
 use Rattle.policy_rules.specs.Policy.{IsPolicy, IsSoundRow, action_text}
 use Rattle.policy_rules.specs.Read.{HasSmallPort, action_of}
 use Rattle.policy_rules.specs.declared.amendment.Edit.{Edit}

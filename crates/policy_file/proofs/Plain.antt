@@ -12,7 +12,8 @@ use Rattle.policy_rules.specs.Read.{HasSmallPort}
 use Rattle.policy_rules.specs.declared.policy.Action.{Action}
 use Rattle.policy_rules.specs.declared.policy.Action.TheVariants.{Drop, Out}
 use Rattle.policy_rules.specs.declared.policy.Row.{Row}
-use Rattle.policy_rules.specs.Edits.{AddsOnly, IsSoundEdit}
+use Rattle.policy_rules.specs.Applied.{IsSoundEdit}
+use Rattle.policy_rules.specs.PolicyFiles.{AddsOnly}
 use Rattle.policy_rules.specs.declared.amendment.Edit.{Edit}
 use Rattle.policy_rules.specs.declared.amendment.Edit.TheVariants.{Remove, Add}
 use Rattle.policy_file.specs.Printing.{edit_fields, row_fields}

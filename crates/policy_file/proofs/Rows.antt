@@ -10,7 +10,7 @@ use Rattle.std.proofs.lemmas.List.Folds.{list_any_none}
 use Rattle.csv_records.specs.Texts.{TakesRecord, is_heading}
 use Rattle.policy_rules.specs.Policy.{HaveDistinctPriorities}
 use Rattle.policy_rules.specs.declared.policy.Row.{Row}
-use Rattle.policy_rules.specs.Edits.{AreDistinctEdits}
+use Rattle.policy_rules.specs.Applied.{AreDistinctEdits}
 use Rattle.policy_rules.specs.declared.amendment.Edit.{Edit}
 use Rattle.policy_rules.proofs.CallerLemmas.{fresh_edits}
 use Rattle.policy_file.specs.declared.error.PolicyRefusal.{PolicyRefusal}

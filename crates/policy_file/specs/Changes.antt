@@ -1,6 +1,6 @@
 -- The change of a policy that a text states, as CSV records, and what a policy file states: a policy
 -- or a change of one.
-use Rattle.std.specs.Prelude.{ℕ, Bool, false, if◌then◌else◌, Result, Ok, Err, List, [], ◌∷◌, codes, bytes_eq}
+use Rattle.std.specs.Prelude.{ℕ, Bool, false, if◌then◌else◌, Result, Ok, Err, List, [], ◌∷◌, length, codes, bytes_eq}
 use Rattle.std.specs.Result.{result_map_both}
 use Rattle.csv_records.specs.Texts.{is_heading, records_of}
 use Rattle.five_tuple.specs.Texts.{number_up_to}
@@ -56,3 +56,8 @@ is_change_text bytes = has_change_heading (records_of bytes)
 unfoldable pub policy_file_of : List ℕ → Result PolicyFile (InRow PolicyRefusal)
 policy_file_of bytes =
     if is_change_text bytes then on_ok Change (change_of bytes) else on_ok Whole (policy_of bytes)
+
+-- how many rows the file has under its heading
+abbrev pub file_length : PolicyFile → ℕ
+file_length (Whole rows) = length rows
+file_length (Change edits) = length edits

@@ -5,7 +5,7 @@ use Rattle.std.specs.Result.{result_ok}
 use Rattle.csv_records.specs.Texts.{is_heading, records_of}
 use Rattle.five_tuple.specs.Texts.{number_up_to, prefix_of, range_of, proto_of}
 use Rattle.policy_rules.specs.Read.{action_of}
-use Rattle.policy_rules.specs.Repeats.{has_priority}
+use Rattle.policy_rules.specs.Applied.{has_priority}
 use Rattle.policy_rules.specs.declared.policy.Row.{Row}
 use Rattle.base.specs.declared.row.InRow.{InRow}
 use Rattle.policy_file.specs.declared.error.PolicyRefusal.{PolicyRefusal}

@@ -1,6 +1,6 @@
 ghost use Rattle.std.specs.Prelude.{◌≡◌, ◌≤◌, Ok, IfOk, IfErr, All, length};
-ghost use Rattle.policy_rules.specs.Exports.{AddsOnly, GivesOnly, HasSmallPort, IsAmendment, IsPolicyFile, file_length};
-ghost use Rattle.policy_file.specs.Changes.{change_of, is_change_text, policy_file_of};
+ghost use Rattle.policy_rules.specs.Exports.{AddsOnly, GivesOnly, HasSmallPort, IsAmendment, IsPolicyFile};
+ghost use Rattle.policy_file.specs.Changes.{change_of, file_length, is_change_text, policy_file_of};
 ghost use Rattle.base.specs.Refusals.{IsRefusal};
 
 use crate::edit::is_change_heading;

@@ -6,7 +6,8 @@ use Rattle.std.proofs.lemmas.Iterator.Consumers.{YieldsList-from_first, YieldsLi
 use Rattle.five_tuple.proofs.CallerLemmas.{is_cover_of}
 use Rattle.five_tuple.specs.Blocks.{blocks_left}
 use Rattle.five_tuple.specs.Cover.{Block, IsPortBlock, cover_of}
-use Rattle.five_tuple.specs.Header.{PortRangeValue, IsPortRange}
+use Rattle.five_tuple.specs.Header.{PortRangeValue}
+use Rattle.five_tuple.specs.SoundFields.{IsPortRange}
 use Rattle.five_tuple.specs.declared.port_blocks.Blocks.{Blocks}
 
 module _ (range : PortRangeValue) {start from : Blocks} (same : from ≡ start)

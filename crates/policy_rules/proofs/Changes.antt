@@ -8,13 +8,12 @@ use Rattle.std.proofs.lemmas.Map.Views.{any-filter_same, exact_unsigned_eq}
 use Rattle.std.proofs.lemmas.List.Kept.{AllPairs-cons, AllPairs-filter}
 use Rattle.policy_rules.specs.declared.policy.Row.{Row}
 use Rattle.policy_rules.specs.Policy.{IsPolicy, IsSoundRow}
-use Rattle.policy_rules.specs.Repeats.{has_priority}
 use Rattle.policy_rules.specs.declared.amendment.Edit.{Edit}
 use Rattle.policy_rules.specs.declared.amendment.Edit.TheVariants.{Remove, Add}
-use Rattle.policy_rules.specs.Edits.{AddsOnly, IsAmendment, IsSoundEdit, additions, removals, removes}
+use Rattle.policy_rules.specs.PolicyFiles.{AddsOnly}
 use Rattle.policy_rules.specs.declared.applying.Inapplicable.{Inapplicable}
 use Rattle.policy_rules.specs.declared.applying.Inapplicable.TheVariants.{Absent, Taken, TooManyRows}
-use Rattle.policy_rules.specs.Applied.{adds_taken, amended_rows, applied, removes_absent, staying_rows}
+use Rattle.policy_rules.specs.Applied.{IsAmendment, IsSoundEdit, additions, adds_taken, amended_rows, applied, has_priority, removals, removes, removes_absent, staying_rows}
 
 -- ---- the cases
 

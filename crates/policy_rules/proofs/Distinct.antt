@@ -6,7 +6,7 @@ use Rattle.std.proofs.lemmas.List.Folds.{list_any-from_Any, list_any_more}
 use Rattle.std.proofs.lemmas.List.Quantifiers.{all_pairs_push}
 use Rattle.policy_rules.specs.declared.policy.Row.{Row}
 use Rattle.policy_rules.specs.Policy.{HaveDistinctPriorities}
-use Rattle.policy_rules.specs.Repeats.{has_priority}
+use Rattle.policy_rules.specs.Applied.{has_priority}
 
 or_from_cond : (a b : Bool) → cond a true b ≡ (b || a)
 or_from_cond true true = refl

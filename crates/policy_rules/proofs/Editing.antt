@@ -8,11 +8,11 @@ use Rattle.std.proofs.lemmas.List.Folds.{list_any-append, list_any_at, list_any_
 use Rattle.std.proofs.lemmas.List.Quantifiers.{all_pairs_push}
 use Rattle.policy_rules.specs.declared.policy.Row.{Row}
 use Rattle.policy_rules.specs.Policy.{HaveDistinctPriorities}
-use Rattle.policy_rules.specs.Repeats.{has_priority}
 use Rattle.policy_rules.proofs.Distinct.{distinct_push}
 use Rattle.policy_rules.specs.declared.amendment.Edit.{Edit}
 use Rattle.policy_rules.specs.declared.amendment.Edit.TheVariants.{Remove, Add}
-use Rattle.policy_rules.specs.Edits.{AreDistinctEdits, AreSeen, addition, additions, edits_of, removal, removals, removes, repeats}
+use Rattle.policy_rules.specs.Applied.{AreDistinctEdits, addition, additions, has_priority, removal, removals, removes}
+use Rattle.policy_rules.specs.Edits.{AreSeen, edits_of, repeats}
 
 -- ---- what edits remove and add
 

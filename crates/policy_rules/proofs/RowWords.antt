@@ -6,7 +6,8 @@ use Rattle.std.proofs.lemmas.Bool.Decides.{Decides-eqb, Decides-like, same_from_
 use Rattle.std.proofs.lemmas.Nat.{shr_split, pow_pos}
 use Rattle.std.specs.Int.Bits.{and_zero_r}
 use Rattle.std.proofs.lemmas.Nat.Bits.{and_high_mask}
-use Rattle.five_tuple.specs.Header.{IsHeader, fields_of, number_of, AddressBlock, IsAddressBlock, IsProtocol, prefix_matches, proto_matches}
+use Rattle.five_tuple.specs.Header.{IsHeader, fields_of, number_of, AddressBlock, prefix_matches, proto_matches}
+use Rattle.five_tuple.specs.SoundFields.{IsAddressBlock, IsProtocol}
 use Rattle.five_tuple.specs.Cover.{Block, IsPortBlock, block_holds}
 use Rattle.five_tuple.specs.declared.header.Header.{Header}
 use Rattle.five_tuple.specs.declared.matching.Proto.{Proto}

@@ -10,8 +10,7 @@ use Rattle.five_tuple.specs.declared.header.Header.{Header}
 use Rattle.ternary.specs.Meets.{meets}
 use Rattle.ternary.specs.Word.{WordValue, holds}
 use Rattle.ternary.proofs.CallerLemmas.{held_meets}
-use Rattle.policy_rules.specs.Applied.{amended_rows, applied, staying_rows}
-use Rattle.policy_rules.specs.Edits.{IsAmendment, additions, removals, removes}
+use Rattle.policy_rules.specs.Applied.{IsAmendment, additions, amended_rows, applied, removals, removes, staying_rows}
 use Rattle.policy_rules.specs.Policy.{HaveDistinctPriorities, IsFirstMatch, IsPolicy, IsSoundRow, row_matches}
 use Rattle.policy_rules.specs.Scan.{highest_row, hit_of, scan}
 use Rattle.policy_rules.specs.Touched.{removed_rows, touched_rows, touched_words}

@@ -1,12 +1,55 @@
--- What a change makes of a policy.
-use Rattle.std.specs.Prelude.{Bool, not, nat_lt, if◌then◌else◌, Result, Ok, Err, List, ◌++◌, length, filter}
+-- Changes of policies, as operators give them: edits, each of which removes a row or adds one; and
+-- what they make of a policy.
+use Rattle.std.specs.Prelude.{ℕ, ◌≢◌, ◌^◌, ◌<◌, Bool, not, ◌==◌, nat_lt, if◌then◌else◌, Option, Some, None, Result, Ok, Err, List, ◌++◌, length, filter, filter_map, All, AllPairs}
 use Rattle.std.specs.List.{list_all, list_any}
-use Rattle.policy_rules.specs.Repeats.{has_priority}
+use Rattle.policy_rules.specs.SoundPolicies.{HaveDistinctPriorities, IsSoundRow}
 use Rattle.policy_rules.specs.declared.policy.Row.{Row}
-use Rattle.policy_rules.specs.Edits.{additions, removals, removes}
 use Rattle.policy_rules.specs.declared.amendment.Edit.{Edit}
+use Rattle.policy_rules.specs.declared.amendment.Edit.TheVariants.{Remove, Add}
 use Rattle.policy_rules.specs.declared.applying.Inapplicable.{Inapplicable}
 use Rattle.policy_rules.specs.declared.applying.Inapplicable.TheVariants.{Absent, Taken, TooManyRows}
+
+-- one of the rows has this priority
+abbrev pub has_priority : List Row → ℕ → Bool
+has_priority rows priority = list_any (λ row. row.priority == priority) rows
+
+-- the priority of the row that the edit removes, if it removes one
+abbrev pub removal : Edit → Option ℕ
+removal (Remove priority) = Some priority
+removal (Add row) = None
+
+-- the row that it adds, if it adds one
+abbrev pub addition : Edit → Option Row
+addition (Remove priority) = None
+addition (Add row) = Some row
+
+-- the priorities of the rows that edits remove, in order
+abbrev pub removals : List Edit → List ℕ
+removals edits = filter_map removal edits
+
+-- the rows that they add, in order
+abbrev pub additions : List Edit → List Row
+additions edits = filter_map addition edits
+
+-- no priority is removed twice, and none is added twice
+pub record AreDistinctEdits (edits : List Edit) : Type 0 where
+  pub removed_once : AllPairs (λ priority later. priority ≢ later) (removals edits)
+  pub added_once : HaveDistinctPriorities (additions edits)
+
+-- each field of the edit is as its type has it
+abbrev pub IsSoundEdit : Edit → Type 0
+IsSoundEdit (Remove priority) = priority < 2 ^ 32
+IsSoundEdit (Add row) = IsSoundRow row
+
+-- what holds of the edits of each amendment
+pub record IsAmendment (edits : List Edit) : Type 0 where
+  pub sound : All IsSoundEdit edits
+  pub distinct : AreDistinctEdits edits
+  pub few : length edits < 2 ^ 32
+
+-- one of the edits removes the row of this priority
+abbrev pub removes : List Edit → ℕ → Bool
+removes edits priority = list_any (λ removed. removed == priority) (removals edits)
 
 -- the rows that stay: those whose priorities the change doesn't remove
 abbrev pub staying_rows : List Row → List Edit → List Row

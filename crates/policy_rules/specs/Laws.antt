@@ -8,12 +8,12 @@ use Rattle.five_tuple.specs.declared.header.Header.{Header}
 use Rattle.ternary.specs.Meets.{meets}
 use Rattle.ternary.specs.Word.{WordValue, holds}
 use Rattle.ternary.specs.WordBits.{IsWord}
-use Rattle.policy_rules.specs.Policy.{IsFirstMatch, IsPolicy, IsSoundRow, row_matches}
+use Rattle.policy_rules.specs.Policy.{IsFirstMatch, row_matches}
+use Rattle.policy_rules.specs.SoundPolicies.{IsPolicy, IsSoundRow}
 use Rattle.policy_rules.specs.Rules.{first_rule}
 use Rattle.policy_rules.specs.RuleList.{IsRuleList, by_falling_priority, hit_of_rule, rules_of, word_count, word_total}
 use Rattle.policy_rules.specs.Words.{words_of_row}
-use Rattle.policy_rules.specs.Applied.{applied, staying_rows}
-use Rattle.policy_rules.specs.Edits.{IsAmendment, additions}
+use Rattle.policy_rules.specs.Applied.{IsAmendment, additions, applied, staying_rows}
 use Rattle.policy_rules.specs.declared.amendment.Edit.{Edit}
 use Rattle.policy_rules.specs.declared.policy.Hit.{Hit}
 use Rattle.policy_rules.specs.declared.policy.Row.{Row}

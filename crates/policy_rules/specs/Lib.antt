@@ -1,4 +1,7 @@
 pub mod Policy
+pub mod SoundPolicies
+pub mod Applied
+pub mod PolicyFiles
 pub mod Repeats
 pub mod Scan
 pub mod Read
@@ -10,7 +13,5 @@ pub mod Laws
 pub mod Partitions
 pub mod Hosted
 pub mod Edits
-pub mod Applied
-pub mod PolicyFiles
 pub mod Touched
 pub mod Exports

@@ -1,12 +1,13 @@
 -- First tier. Policies: when a row matches, the first match of a header, and how rules are printed.
-use Rattle.std.specs.Prelude.{◌≡◌, ◌≢◌, ◌^◌, ◌<◌, ◌≤◌, Bool, ◌&&◌, MatchOption, List, [], length, filter, All, AllPairs, Contains, ℕ, Option, Some, None, ◌++◌, codes, decimal}
-use Rattle.five_tuple.specs.Header.{fields_of, IsAddressBlock, IsPortRange, IsProtocol, prefix_matches, range_matches, proto_matches}
+use Rattle.std.specs.Prelude.{◌≡◌, ◌≤◌, Bool, ◌&&◌, MatchOption, List, [], filter, All, Contains, ℕ, Option, Some, None, ◌++◌, codes, decimal}
+use Rattle.five_tuple.specs.Header.{fields_of, prefix_matches, range_matches, proto_matches}
 use Rattle.five_tuple.specs.declared.header.Fields.{Fields}
 use Rattle.five_tuple.specs.declared.header.Header.{Header}
 use Rattle.policy_rules.specs.declared.policy.Row.{Row}
 use Rattle.policy_rules.specs.declared.policy.Hit.{Hit}
 use Rattle.policy_rules.specs.declared.policy.Action.TheVariants.{Drop, Out}
 use Rattle.policy_rules.specs.declared.policy.Action.{Action}
+pub use Rattle.policy_rules.specs.SoundPolicies.{HaveDistinctPriorities, IsPolicy, IsSoundRow}
 
 -- a row matches where each of its five fields does
 abbrev pub row_matches : Row → Fields → Bool
@@ -29,25 +30,6 @@ IsFirstMatch rows header hit =
     ((matching ≡ []) × (hit.action ≡ Drop))
     (λ priority. (row : Row) × IsHighestIn matching row × (row.priority ≡ priority)
     × (row.action ≡ hit.action))
-
--- no two rows have one priority
-abbrev pub HaveDistinctPriorities : List Row → Type 0
-HaveDistinctPriorities rows = AllPairs (λ row later. row.priority ≢ later.priority) rows
-
--- each field of the row is as its type has it
-pub record IsSoundRow (row : Row) : Type 0 where
-  pub priority : row.priority < 2 ^ 32
-  pub src : IsAddressBlock row.src
-  pub dst : IsAddressBlock row.dst
-  pub sport : IsPortRange row.sport
-  pub dport : IsPortRange row.dport
-  pub proto : IsProtocol row.proto
-
--- what holds of the rows of each policy
-pub record IsPolicy (rows : List Row) : Type 0 where
-  pub sound : All IsSoundRow rows
-  pub distinct : HaveDistinctPriorities rows
-  pub few : length rows < 2 ^ 32
 
 abbrev pub action_text : Action → List ℕ
 action_text Drop = codes "drop"

@@ -1,13 +1,9 @@
 -- Rows in the order of their priorities, and why rows are no policy.
-use Rattle.std.specs.Prelude.{ℕ, ◌≡◌, ◌+◌, ◌<◌, ◌≤◌, Bool, ◌==◌, IsTrue, List, length, take, AllPairs, slice_index_or}
-use Rattle.std.specs.List.{list_any}
+use Rattle.std.specs.Prelude.{ℕ, ◌≡◌, ◌+◌, ◌<◌, ◌≤◌, IsTrue, List, length, take, AllPairs, slice_index_or}
+use Rattle.policy_rules.specs.Applied.{has_priority}
 use Rattle.policy_rules.specs.declared.policy.Row.{Row}
 use Rattle.policy_rules.specs.declared.policy.SamePriority.{SamePriority}
-use Rattle.policy_rules.specs.Policy.{HaveDistinctPriorities}
-
--- one of the rows has this priority
-abbrev pub has_priority : List Row → ℕ → Bool
-has_priority rows priority = list_any (λ row. row.priority == priority) rows
+use Rattle.policy_rules.specs.SoundPolicies.{HaveDistinctPriorities}
 
 -- no row exceeds an earlier one in priority
 abbrev pub IsFalling : List Row → Type 0

@@ -1,6 +1,6 @@
 ghost use Rattle.std.specs.Prelude.{◌≡◌, ◌<◌, ◌^◌, nat_lt, true, IfOk, IfErr, OnOk, vec_len, length, Some};
 ghost use Rattle.std.specs.Option.{option_map_or};
-ghost use Rattle.five_tuple.specs.Header.{IsPortRange, IsProtocol};
+ghost use Rattle.five_tuple.specs.SoundFields.{IsPortRange, IsProtocol};
 ghost use Rattle.policy_rules.specs.Exports.{IsFirstMatch, IsHighestMatch, IsPolicy, IsSoundRow, RefusesRows, hit_of, row_matches, scan};
 ghost use Rattle.base.specs.Refusals.{IfRefused};
 
@@ -58,7 +58,7 @@ pub struct Policy {
 impl Model for Policy {
     ghost use Rattle.std.specs.Prelude.{List};
     ghost use Rattle.policy_rules.specs.declared.policy.Row.{Row};
-    ghost use Rattle.policy_rules.specs.Policy.{IsPolicy};
+    ghost use Rattle.policy_rules.specs.SoundPolicies.{IsPolicy};
 
     ghost Value = { List Row };
 

@@ -62,7 +62,7 @@ same_filter now before (link ∷ links) same =
 module _ (control : Control) (setting : Setting) (journal : List Item)
     (switches : List SwitchValue) (before : Flights) (count row s : ℕ) (own : SwitchValue)
     (refines : RefineJournal setting journal switches before count control)
-    (may : IsStep setting.net (length setting.policies) (Restart s)) (own_at : own ≡ get_or switches s own) where
+    (may : IsStep setting.net (length setting.files) (Restart s)) (own_at : own ≡ get_or switches s own) where
   boot_there : s < length switches
   boot_there = switch_there control setting journal switches before count s refines may
 

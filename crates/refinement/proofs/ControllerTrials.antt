@@ -2,6 +2,8 @@
 -- not.
 use Rattle.std.proofs.Common.{ℕ, ◌≡◌, Bool, true, false, Some, None, List, [], ◌∷◌, ◌++◌, map, refl, ap, sym, ◌∙◌}
 use Rattle.std.specs.Option.{option_map_or}
+use Rattle.std.specs.Prelude.{Result}
+use Rattle.std.specs.Result.{result_ok}
 use Rattle.ctrl_msg.specs.declared.message.Body.TheVariants.{Hello, Install, Stamp}
 use Rattle.ctrl_msg.specs.Kinds.{to_controller}
 use Rattle.partition.specs.Plan.{Hosted}
@@ -9,6 +11,7 @@ use Rattle.switch_table.specs.Tables.{tables_of}
 use Rattle.journal.specs.declared.item.Item.{Item}
 use Rattle.journal.specs.declared.item.Item.TheVariants as item
 use Rattle.policy_rules.specs.declared.policy.Row.{Row}
+use Rattle.policy_rules.specs.declared.applying.Inapplicable.{Inapplicable}
 use Rattle.policy_rules.specs.declared.policy.Action.TheVariants.{Drop, Out}
 use Rattle.update_machine.specs.Deliveries.{after_hello}
 use Rattle.update_machine.specs.Marks as machine
@@ -16,7 +19,7 @@ use Rattle.update_machine.specs.Marks.{controller_heard, current_mark, known_boo
 use Rattle.update_machine.specs.Messages.{next_message, sent_from}
 use Rattle.update_machine.specs.Pieces.{update_code}
 use Rattle.update_machine.specs.Settling.{installs_to_all, versions_from_current}
-use Rattle.update_machine.specs.Versions.{next_plan, next_policy, policy_at, version_count}
+use Rattle.update_machine.specs.Versions.{next_policy, policy_at, version_count}
 use Rattle.update_machine.specs.Links.{message_of}
 use Rattle.update_machine.proofs.ExampleVersions.{first_plan, first_policy, second_plan, second_policy}
 use Rattle.update_machine.proofs.Examples.{all_to, open_net, plan_p, plan_q, to, versions}
@@ -76,7 +79,10 @@ lets_out (row ∷ rows) = elim row.action [ Drop ↦ false | Out port ↦ true ]
 not_next_of_first : IsPlanOfNext open_net [] 1 drops → ⊥
 unfolding lets_out next_policy
 not_next_of_first of =
-    let no : true ≡ false = ap (λ o. option_map_or lets_out o false) of.policy in absurd cc
+    let no : true ≡ false =
+    ap (λ (made : Result (List Row) Inapplicable). option_map_or lets_out (result_ok made) false)
+    of.policy in
+    absurd cc
 
 not_next_of_third : IsPlanOfNext open_net [] 3 outs → ⊥
 unfolding next_policy
@@ -169,24 +175,24 @@ not_to_both : written_items later
 unfolding next_message
 not_to_both same = let alone = same ∙ to_other_alone in cc alone
 
--- ---- refusals: of a file without a plan first, then of too many live versions, then of too many
+-- ---- refusals: of a file without a policy first, then of too many live versions, then of too many
 
-no_plan_first : update_code open_net (versions 8 0) 7 ≡ Some 14
-unfolding next_plan
-no_plan_first = refl
+no_policy_first : update_code open_net (versions 8 0) 7 ≡ Some 24
+unfolding next_policy
+no_policy_first = refl
 
 too_many_live : update_code open_net (versions 8 0) 2 ≡ Some 16
-unfolding version_count retired_mark next_plan
+unfolding version_count retired_mark next_policy
 too_many_live = refl
 
 live_first : update_code open_net (versions 64 56) 2 ≡ Some 16
-unfolding version_count retired_mark next_plan
+unfolding version_count retired_mark next_policy
 live_first = refl
 
 too_many_versions : update_code open_net (versions 64 57) 2 ≡ Some 17
-unfolding version_count retired_mark next_plan
+unfolding version_count retired_mark next_policy
 too_many_versions = refl
 
 seven_live : update_code open_net (versions 7 0) 2 ≡ None
-unfolding version_count retired_mark next_plan
+unfolding version_count retired_mark next_policy
 seven_live = refl

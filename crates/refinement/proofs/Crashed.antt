@@ -101,7 +101,7 @@ same_switch switches s one other within one_at other_at =
 pub stays_down : (control : Control) (setting : Setting) (journal : List Item)
     (switches : List SwitchValue) (before : Flights) (count row s : ℕ) (own : SwitchValue)
     → RefineJournal setting journal switches before count control
-    → IsStep setting.net (length setting.policies) (Crash s)
+    → IsStep setting.net (length setting.files) (Crash s)
     → own ≡ get_or switches s own → own.is_up ≡ false
     → (piece setting journal row (Crash s) ≡ item.Row row (Crash s) ∷ item.Nothing ∷ [])
     × RefineJournal setting (grown journal row (Crash s) item.Nothing) switches before count control
@@ -123,7 +123,7 @@ module _ (control : Control) (setting : Setting) (journal : List Item)
     (switches : List SwitchValue) (before : Flights) (count row s : ℕ)
     (own changed : SwitchValue)
     (refines : RefineJournal setting journal switches before count control)
-    (may : IsStep setting.net (length setting.policies) (Crash s)) (within : s < length switches)
+    (may : IsStep setting.net (length setting.files) (Crash s)) (within : s < length switches)
     (own_at : own ≡ get_or switches s own) (changed_is : changed ≡ crashed_switch own)
     (up : own.is_up ≡ true) where
   abbrev packets : List ℕ

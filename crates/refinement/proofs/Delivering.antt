@@ -89,7 +89,7 @@ forget_piece setting journal row n =
 pub nothing_happens : (control : Control) (setting : Setting) (journal : List Item)
     (switches : List SwitchValue) (before : Flights) (count row : ℕ) (step : Step)
     → RefineJournal setting journal switches before count control
-    → IsStep setting.net (length setting.policies) step
+    → IsStep setting.net (length setting.files) step
     → ((q : ℕ) → IsFalse (concerns_calls q journal (item.Row row step)))
     → piece setting journal row step ≡ item.Row row step ∷ nothing
     → (piece setting journal row step ≡ item.Row row step ∷ nothing)
@@ -106,7 +106,7 @@ nothing_happens control setting journal switches before count row step refines m
 module _ (control : Control) (setting : Setting) (journal : List Item)
     (switches : List SwitchValue) (before : Flights) (count row n : ℕ)
     (refines : RefineJournal setting journal switches before count control)
-    (may : IsStep setting.net (length setting.policies) (Forget n)) where
+    (may : IsStep setting.net (length setting.files) (Forget n)) where
   abbrev first : Item
   first = item.Row row (Forget n)
 

@@ -112,7 +112,7 @@ expired_other setting journal row s q place (Some message) other =
 -- the item concerns no packet, no message and no call
 expired_writes : (control : Control) (setting : Setting) (journal : List Item)
     (switches : List SwitchValue) (row s place : ℕ) (changed : SwitchValue) (found : Option ℕ)
-    → IsStep setting.net (length setting.policies) (Expire s place) → IsBagOf journal control.posts
+    → IsStep setting.net (length setting.files) (Expire s place) → IsBagOf journal control.posts
     → piece setting journal row (Expire s place)
     ≡ item.Row row (Expire s place) ∷ expired_item s place found ∷ []
     → ((q : ℕ) (d : SwitchValue) → q < length switches → get_or (set switches s changed) q d
@@ -128,7 +128,7 @@ pub expired_refines : (control : Control) (setting : Setting) (journal : List It
     (switches : List SwitchValue) (before : Flights) (count row s place : ℕ)
     (own changed : SwitchValue) (found : Option ℕ)
     → RefineJournal setting journal switches before count control
-    → IsStep setting.net (length setting.policies) (Expire s place)
+    → IsStep setting.net (length setting.files) (Expire s place)
     → own ≡ get_or switches s own → changed ≡ entry_expired own place
     → found ≡ option_map (λ entry. entry.message) (slice_get own.cache.entries place)
     → (piece setting journal row (Expire s place)

@@ -43,7 +43,7 @@ up_as setting journal s = refl
 module _ (control : Control) (setting : Setting) (journal : List Item)
     (switches : List SwitchValue) (before : Flights) (count row s : ℕ) (own : SwitchValue)
     (refines : RefineJournal setting journal switches before count control)
-    (may : IsStep setting.net (length setting.policies) (Confirm s)) (own_at : own ≡ get_or switches s own) where
+    (may : IsStep setting.net (length setting.files) (Confirm s)) (own_at : own ≡ get_or switches s own) where
   own_up : is_up journal s ≡ own.is_up
   own_up = sym (up_as setting journal s) ∙ ap (λ (w : SwitchValue). w.is_up)
       (sym (switch_is control setting journal switches before count s own refines may own_at))

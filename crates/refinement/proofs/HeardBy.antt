@@ -81,7 +81,7 @@ none_piece setting journal row n may = ap (delivered_if setting journal row n) m
 pub undelivered : (control : Control) (setting : Setting) (journal : List Item)
     (switches : List SwitchValue) (before : Flights) (count row n : ℕ)
     → RefineJournal setting journal switches before count control
-    → IsStep setting.net (length setting.policies) (Deliver n)
+    → IsStep setting.net (length setting.files) (Deliver n)
     → is_post_deliverable control.posts n ≡ false
     → (piece setting journal row (Deliver n) ≡ item.Row row (Deliver n) ∷ nothing)
     × RefineJournal setting (grown journal row (Deliver n) item.Nothing) switches before count
@@ -169,7 +169,7 @@ names_known control setting journal switches before count n message refines ther
 module _ (control : Control) (setting : Setting) (journal : List Item)
     (switches : List SwitchValue) (before : Flights) (count row n : ℕ) (message : Message)
     (new : ControllerValue) (refines : RefineJournal setting journal switches before count control)
-    (may : IsStep setting.net (length setting.policies) (Deliver n)) (there : IsMessageOf control.posts n message)
+    (may : IsStep setting.net (length setting.files) (Deliver n)) (there : IsMessageOf control.posts n message)
     (to : message.to ≡ receiver.Controller)
     (settles : SettlesWith (marks_after message.body control.controller.marks)
     control.controller.plans new) where
@@ -238,7 +238,7 @@ module _ (control : Control) (setting : Setting) (journal : List Item)
     (switches : List SwitchValue) (before : Flights) (count row n s : ℕ) (message : Message)
     (own changed : SwitchValue) (mask : ℕ)
     (refines : RefineJournal setting journal switches before count control)
-    (may : IsStep setting.net (length setting.policies) (Deliver n)) (there : IsMessageOf control.posts n message)
+    (may : IsStep setting.net (length setting.files) (Deliver n)) (there : IsMessageOf control.posts n message)
     (to : message.to ≡ receiver.Switch s) (within : s < length switches)
     (own_at : own ≡ get_or switches s own) (near_is : mask ≡ near setting journal s)
     (changed_is : changed ≡ with_message own n message.body)

@@ -36,7 +36,7 @@ module _ (control : Control) (setting : Setting) (journal : List Item)
     (switches : List SwitchValue) (before : Flights) (count row i : ℕ) (t : Flight)
     (s near : ℕ) (w : SwitchValue) (ports : Ports)
     (refines : RefineJournal setting journal switches before count control)
-    (may : IsStep setting.net (length setting.policies) (Hop i)) (can : CanAsk setting journal i t s near w ports) where
+    (may : IsStep setting.net (length setting.files) (Hop i)) (can : CanAsk setting journal i t s near w ports) where
   abbrev items : List Item
   items = hop_written (next_message journal) w near ports t
 
@@ -130,7 +130,7 @@ module _ (control : Control) (setting : Setting) (journal : List Item)
 pub hop_left : (control : Control) (setting : Setting) (journal : List Item)
     (switches : List SwitchValue) (before : Flights) (count row i : ℕ)
     → RefineJournal setting journal switches before count control
-    → IsStep setting.net (length setting.policies) (Hop i)
+    → IsStep setting.net (length setting.files) (Hop i)
     → is_some (flight before i) ≡ false
     → (piece setting journal row (Hop i) ≡ item.Row row (Hop i) ∷ item.Nothing ∷ [])
     × RefineJournal setting (journal ++ item.Row row (Hop i) ∷ item.Nothing ∷ []) switches before

@@ -56,7 +56,7 @@ module _ (control : Control) (setting : Setting) (journal : List Item)
     (switches : List SwitchValue) (before : Flights) (count row s : ℕ) (header : Header)
     (ports : Ports) (own : SwitchValue)
     (refines : RefineJournal setting journal switches before count control)
-    (may : IsStep setting.net (length setting.policies) (PacketStep s header)) (owners : AreOwners setting.net.switches ports)
+    (may : IsStep setting.net (length setting.files) (PacketStep s header)) (owners : AreOwners setting.net.switches ports)
     (its : own ≡ get_or switches s own) where
   abbrev i : ℕ
   i = count + 1

@@ -79,11 +79,11 @@ after_more setting before (next ∷ steps) last =
     after_more setting (before ++ piece setting before next.row next.step) steps last
 
 pub reached_more : (setting : Setting) (journal : List Item) (row : ℕ) (step : Step)
-    → IsReached setting journal → IsStep setting.net (length setting.policies) step
+    → IsReached setting journal → IsStep setting.net (length setting.files) step
     → IsReached setting (journal ++ piece setting journal row step)
 reached_more setting journal row step reached own = record {
   steps = reached.steps ++ record { row = row; step = step } ∷ [];
-  own = All-push (λ next. IsStep setting.net (length setting.policies) next.step) reached.steps
+  own = All-push (λ next. IsStep setting.net (length setting.files) next.step) reached.steps
       (record { row = row; step = step }) reached.own own;
   written = ap (λ js. js ++ piece setting js row step) reached.written
       ∙ sym (after_more setting [] reached.steps (record { row = row; step = step }));
@@ -120,7 +120,6 @@ leg_targets : (setting : Setting) (journal items : List Item) (facts : PacketFac
 leg_targets setting journal items facts (Seek version partition) knows on leg =
     ap (λ plan. targets_in plan partition)
     (plan_stays setting journal items version (caused_numbered setting journal knows.caused)
-    (omega (arith, leg.not_retired))
     (omega (arith, leg.current, (bounded setting journal knows.caused).there)))
 leg_targets setting journal items facts (Exit port) knows on leg = refl
 

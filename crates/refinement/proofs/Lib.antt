@@ -56,6 +56,7 @@ pub mod Told
 pub mod HeardBy
 pub mod HearReady
 pub mod Sendable
+pub mod Newest
 pub mod Submitting
 pub mod GoneSwitches
 pub mod Booting

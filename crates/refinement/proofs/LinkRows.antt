@@ -186,12 +186,12 @@ other_items setting before journal one two up other =
 module _ (control : Control) (setting : Setting) (journal : List Item)
     (switches : List SwitchValue) (before : Flights) (count row one two : ℕ) (up : Bool)
     (refines : RefineJournal setting journal switches before count control)
-    (may : IsStep setting.net (length setting.policies) (link_step up one two)) where
+    (may : IsStep setting.net (length setting.files) (link_step up one two)) where
   abbrev step : Step
   step = link_step up one two
 
   linked : HasLink setting.net one two
-  linked = row_link setting.net (length setting.policies) one two up may
+  linked = row_link setting.net (length setting.files) one two up may
 
   -- its ends are switches
   pub ends_below : (one < 64) × (two < 64)

@@ -60,7 +60,7 @@ use Rattle.refinement.proofs.Sendable.{may_note, may_send}
 pub caused_first : (control : Control) (setting : Setting) (journal : List Item)
     (switches : List SwitchValue) (before : Flights) (count row : ℕ) (step : Step)
     (first rest : List Item) → RefineJournal setting journal switches before count control
-    → IsStep setting.net (length setting.policies) step
+    → IsStep setting.net (length setting.files) step
     → piece setting journal row step ≡ item.Row row step ∷ first ++ rest
     → HaveCauses (HasItemCause setting) [] (journal ++ item.Row row step ∷ first)
 unfolding RefineJournal
@@ -177,7 +177,7 @@ module _ (control : Control) (setting : Setting) (journal : List Item)
 pub record LinksChange (setting : Setting) (journal : List Item) (row : ℕ) (step : Step)
     (first : List Item) (switches others : List SwitchValue) (control : Control)
     (links : List ℕ) (posts : List Post) : Type 0 where
-  pub may : IsStep setting.net (length setting.policies) step
+  pub may : IsStep setting.net (length setting.files) step
   pub piece_is : piece setting journal row step ≡ item.Row row step
       ∷ first ++ link_changes setting journal (journal ++ item.Row row step ∷ first)
   pub not_told : IsFalse (asks_controller journal step)

@@ -86,7 +86,7 @@ module _ (control : Control) (setting : Setting) (journal : List Item)
       (travels_there ∙ travelling)
 
   -- without it the table is as the journal says then
-  pub lost : (after : Flights) → IsStep setting.net (length setting.policies) (Lose i)
+  pub lost : (after : Flights) → IsStep setting.net (length setting.files) (Lose i)
       → is_some (flight before i) ≡ true → WithOne before i None after
       → RefineJournal setting (journal ++ item.Row row (Lose i) ∷ item.Lost i ∷ []) switches after
       count control
@@ -109,7 +109,7 @@ module _ (control : Control) (setting : Setting) (journal : List Item)
       }) (omega arith) refl
 
   -- and of a packet that doesn't travel nothing happens
-  pub not_lost : IsStep setting.net (length setting.policies) (Lose i)
+  pub not_lost : IsStep setting.net (length setting.files) (Lose i)
       → is_some (flight before i) ≡ false
       → (piece setting journal row (Lose i) ≡ item.Row row (Lose i) ∷ nothing)
       × RefineJournal setting (grown journal row (Lose i) item.Nothing) switches before count control

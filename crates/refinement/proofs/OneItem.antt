@@ -27,7 +27,7 @@ grown journal row step one = journal ++ item.Row row step ∷ one ∷ []
 -- what the step writes, and what the switches and the messages are behind it
 pub record WritesOne (setting : Setting) (journal : List Item) (row : ℕ) (step : Step) (one : Item)
     (switches others : List SwitchValue) (posts : List Post) : Type 0 where
-  pub may : IsStep setting.net (length setting.policies) step
+  pub may : IsStep setting.net (length setting.files) step
   pub piece_is : piece setting journal row step ≡ item.Row row step ∷ one ∷ []
   -- the controller isn't told of it
   pub not_told : NoneConcern concerns_controller journal (item.Row row step ∷ one ∷ [])

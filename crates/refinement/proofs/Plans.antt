@@ -88,9 +88,9 @@ planned_on : (setting : Setting) (before items : List Item) (v : ℕ) → AreCau
     → plan_to_keep setting before v ≡ plan_to_keep setting (before ++ items) v
 planned_on setting before items v have above below =
     ap (λ policy. of policy (plan_at setting before v))
-    (sym (policy_stays setting before items v numbers first last))
+    (sym (policy_stays setting before items v numbers last))
     ∙ ap (of (policy_at setting (before ++ items) v))
-    (sym (plan_stays setting before items v numbers first last))
+    (sym (plan_stays setting before items v numbers last))
   where
     of : List Row → List Hosted → KeptPlan
     of policy hosted =
@@ -98,9 +98,6 @@ planned_on setting before items v have above below =
 
     numbers : VersionsAreNumbered before
     numbers = caused_numbered setting before have
-
-    first : 1 ≤ v
-    first = let marks = bounded setting before have in omega (arith, above, marks.first)
 
     last : v ≤ version_count before
     last = let marks = bounded setting before have in omega (arith, above, below, marks.there)

@@ -109,7 +109,7 @@ module _ (control : Control) (setting : Setting) (journal : List Item)
 pub record IsTaken (setting : Setting) (journal : List Item) (row : ℕ) (step : Step)
     (items : List Item) (switches others : List SwitchValue) (after : Flights)
     (later : Control) : Type 0 where
-  pub may : IsStep setting.net (length setting.policies) step
+  pub may : IsStep setting.net (length setting.files) step
   pub piece_is : piece setting journal row step ≡ item.Row row step ∷ items
   pub as_many : length others ≡ length switches
   pub each : (s : ℕ) (d : SwitchValue) → s < length switches
@@ -124,7 +124,7 @@ pub record IsTaken (setting : Setting) (journal : List Item) (row : ℕ) (step :
 -- what a step of packets writes, and what it makes of the switches and of the packets on their way
 pub record Steps (setting : Setting) (journal : List Item) (row : ℕ) (step : Step)
     (items : List Item) (switches others : List SwitchValue) (after : Flights) : Type 0 where
-  pub may : IsStep setting.net (length setting.policies) step
+  pub may : IsStep setting.net (length setting.files) step
   pub piece_is : piece setting journal row step ≡ item.Row row step ∷ items
   pub not_told : IsFalse (asks_controller journal step)
   -- the messages that it sends have the next numbers
@@ -136,7 +136,7 @@ pub record Steps (setting : Setting) (journal : List Item) (row : ℕ) (step : S
       ≡ flight_in setting (stepped journal row step items) i
 
 reached_on : (setting : Setting) (journal : List Item) (row : ℕ) (step : Step) (items : List Item)
-    → IsReached setting journal → IsStep setting.net (length setting.policies) step
+    → IsReached setting journal → IsStep setting.net (length setting.files) step
     → piece setting journal row step ≡ item.Row row step ∷ items
     → IsReached setting (journal ++ item.Row row step ∷ items)
 reached_on setting journal row step items reached may is =

@@ -82,7 +82,7 @@ pub may_note : (control : Control) (setting : Setting) (journal : List Item)
     (switches : List SwitchValue) (before : Flights) (count row : ℕ) (step : Step)
     (first : List Item) (posts : List Post) (acts : List Act)
     → RefineJournal setting journal switches before count control
-    → IsStep setting.net (length setting.policies) step
+    → IsStep setting.net (length setting.files) step
     → piece setting journal row step
     ≡ item.Row row step ∷ first ++ act_items (length control.posts + 1) acts
     → length posts ≡ length control.posts → length control.posts < 990_000

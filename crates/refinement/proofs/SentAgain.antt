@@ -106,7 +106,7 @@ sent_refines setting journal switches before after count control posts bag same 
 module _ (control : Control) (setting : Setting) (journal : List Item)
     (switches : List SwitchValue) (before : Flights) (count row s : ℕ) (own : SwitchValue)
     (refines : RefineJournal setting journal switches before count control)
-    (may : IsStep setting.net (length setting.policies) (Resend s)) (own_at : own ≡ get_or switches s own) where
+    (may : IsStep setting.net (length setting.files) (Resend s)) (own_at : own ≡ get_or switches s own) where
   abbrev rowed : List Item
   rowed = journal ++ item.Row row (Resend s) ∷ []
 

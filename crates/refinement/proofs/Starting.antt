@@ -1,6 +1,6 @@
 -- A world in which nothing happened yet is as its journal says.
 use Rattle.std.proofs.Common.{ℕ, ◌≡◌, ◌<◌, ◌≤◌, List, [], ◌∷◌, refl, ap, sym, subst, ◌∙◌, length, cond, filter, map, get_or, arith, All}
-use Rattle.std.specs.Prelude.{Ok}
+use Rattle.std.specs.Prelude.{Ok, Some, slice_get}
 use Rattle.std.specs.List.{range_with_len}
 use Rattle.std.proofs.lemmas.List.Elements.{All-nil}
 use Rattle.std.proofs.lemmas.List.FromFn.{get_or-map-range_with_len, length-map-range_with_len}
@@ -13,7 +13,9 @@ use Rattle.net_file.specs.declared.net.LinkRow.{LinkRow}
 use Rattle.net_file.specs.declared.net.Net.{Net}
 use Rattle.net_file.specs.Owners.{links_of}
 use Rattle.partition.specs.Plan.{Hosted, plan_of}
-use Rattle.policy_rules.specs.Policy.{IsPolicy}
+use Rattle.policy_rules.specs.PolicyFiles.{GivesOnly, IsPolicyFile}
+use Rattle.policy_rules.specs.declared.file.PolicyFile.{PolicyFile}
+use Rattle.policy_rules.specs.declared.file.PolicyFile.TheVariants.{Whole}
 use Rattle.policy_rules.specs.declared.policy.Row.{Row}
 use Rattle.steps.specs.Steps.{IsStep}
 use Rattle.switch_core.specs.State.{SwitchValue}
@@ -49,13 +51,13 @@ switch_first setting s there few =
     ) refl
 
 -- the controller's plan is that of the first version
-of_first : (net : Net) (policies : List (List Row)) (plan : PlanValue) → 1 ≤ length policies
-    → plan.policy ≡ get_or policies 0 [] → plan_of (get_or policies 0 []) net ≡ Ok plan.hosted
-    → plan ≡ (plan_to_keep (setting_of net policies) [] 1).plan
-of_first net policies plan some own is =
-    let first = first_version_is net policies plan.hosted some is in
-    ap (λ policy. of policy plan.hosted) (own ∙ sym first.0)
-    ∙ ap (of (policy_at (setting_of net policies) [] 1)) (sym first.1)
+of_first : (net : Net) (files : List PolicyFile) (plan : PlanValue)
+    → slice_get files 0 ≡ Some (Whole plan.policy) → plan_of plan.policy net ≡ Ok plan.hosted
+    → plan ≡ (plan_to_keep (setting_of net files) [] 1).plan
+of_first net files plan whole is =
+    let first = first_version_is net files plan.policy plan.hosted whole is in
+    ap (λ policy. of policy plan.hosted) (sym first.0)
+    ∙ ap (of (policy_at (setting_of net files) [] 1)) (sym first.1)
   where
     of : List Row → List Hosted → PlanValue
     of policy hosted = record { policy = policy; hosted = hosted }
@@ -68,22 +70,23 @@ all_up (link ∷ links) =
     (start_laws.links link.one link.two)
     ∙ ap (λ rest. link ∷ rest) (all_up links)
 
-pub begun_refines : (net : Net) (policies : List (List Row)) (plan : PlanValue)
+pub begun_refines : (net : Net) (files : List PolicyFile) (plan : PlanValue)
     (switches : List SwitchValue) (controller : ControllerValue) (near : List ℕ) → IsNet net
-    → 1 ≤ length policies → All IsPolicy policies
-    → All (All (λ row. NamesOwnPort (setting_of net policies) row.action)) policies
-    → plan.policy ≡ get_or policies 0 [] → plan_of (get_or policies 0 []) net ≡ Ok plan.hosted
+    → slice_get files 0 ≡ Some (Whole plan.policy) → All IsPolicyFile files
+    → All (GivesOnly (λ row. NamesOwnPort (setting_of net files) row.action)) files
+    → plan_of plan.policy net ≡ Ok plan.hosted
     → switches ≡ map (switch_begun net plan.hosted) (range_with_len 0 (length net.switches))
     → controller ≡ first_controller (length net.switches) plan → AreNear net near
-    → RefineJournal (setting_of net policies) [] switches [] 0
+    → RefineJournal (setting_of net files) [] switches [] 0
     (record { controller = controller; posts = []; links = near; near = near })
 unfolding RefineJournal flight_in travels next_packet
-begun_refines net policies plan switches controller near sound some rows ports of_policy is made
-    first_is masks =
-    let setting : Setting = setting_of net policies in
-    let own : IsSetting setting = setting_begun net policies plan.hosted sound some rows ports is in
+begun_refines net files plan switches controller near sound whole given ports is made first_is
+    masks =
+    let setting : Setting = setting_of net files in
+    let own : IsSetting setting =
+    setting_begun net files plan.policy plan.hosted sound whole given ports is in
     let first : plan_at setting [] 1 ≡ plan.hosted =
-    (first_version_is net policies plan.hosted some is).1 in
+    (first_version_is net files plan.policy plan.hosted whole is).1 in
     let many : length switches ≡ length net.switches =
     ap length made
     ∙ length-map-range_with_len (switch_begun net plan.hosted) 0 (length net.switches) in
@@ -91,7 +94,7 @@ begun_refines net policies plan switches controller near sound some rows ports o
       sound = own;
       reached = record {
         steps = [];
-        own = All-nil (λ next. IsStep setting.net (length setting.policies) next.step);
+        own = All-nil (λ next. IsStep setting.net (length setting.files) next.step);
         written =
             refl;
       };
@@ -106,7 +109,7 @@ begun_refines net policies plan switches controller near sound some rows ports o
       packet = λ i. refl;
       counted = refl;
       controller = subst (IsControllerOf setting []) (sym first_is)
-          (begins setting plan (of_first net policies plan some of_policy is));
+          (begins setting plan (of_first net files plan whole is));
       bag = bag_begun;
       up = λ s below. masks s below ∙ ap (λ rows. links_of rows s) (sym (all_up net.links));
       usable = λ s below. masks s below ∙ sym (start_laws.near setting s);

@@ -1,6 +1,6 @@
 -- What the submission of a plan writes, and its refusals.
 use Rattle.std.proofs.Common.{ℕ, ◌≡◌, ◌≢◌, ◌+◌, ◌-◌, ◌==◌, not, if◌then◌else◌, Option, Some, None, List, [], ◌∷◌, ◌++◌, map, refl, ap, sym, subst, ◌∙◌, arith}
-use Rattle.std.specs.Prelude.{IsOk, IsSome, filter}
+use Rattle.std.specs.Prelude.{IsOk, filter}
 use Rattle.std.proofs.lemmas.Bool.{eq-eqb, ne_eqb}
 use Rattle.journal.specs.declared.item.Item.{Item}
 use Rattle.journal.specs.declared.item.Item.TheVariants as item
@@ -16,7 +16,7 @@ use Rattle.update_machine.specs.Setting.{Setting}
 use Rattle.update_machine.specs.SwitchNumbers.{switches_of}
 use Rattle.update_machine.specs.Settling.{install_for, installs_to_all, settling, submitted_items, versions_from_current}
 use Rattle.update_machine.specs.Versions.{policy_at, version_count, hosted_in, plan_at}
-use Rattle.update_machine.proofs.CallerLemmas.{controller_keeps, have_append, next_is, next_plan_is, planned_code, policies_keep}
+use Rattle.update_machine.proofs.CallerLemmas.{controller_keeps, have_append, next_is, planned_code, policies_keep}
 use Rattle.control_laws.specs.ItemCauses.{HasItemCause, SubmitsRightly}
 use Rattle.control_laws.proofs.ControllerBlocks.{submitted_have}
 use Rattle.control_laws.proofs.Facts.{have_front}
@@ -154,9 +154,9 @@ module _ (setting : Setting) (before : List Item) (row file : ℕ) (old new : Co
       let retired = here_is.marks.retired in
       record {
         next = number;
-        there = subst IsSome (sym here_of.policy) refl;
-        planned = subst IsOk (sym (next_plan_is setting here file plan.policy here_of.policy
-            ∙ here_of.hosted)) refl;
+        rows = plan.policy;
+        policy = here_of.policy;
+        planned = subst IsOk (sym here_of.hosted) refl;
         live = λ e. live (omega (arith, e, count, retired));
         few = λ e. few (omega (arith, e, count));
       }

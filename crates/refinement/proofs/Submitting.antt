@@ -1,11 +1,11 @@
 -- A policy is submitted or refused: what is written then, and what the parts are behind it.
-use Rattle.std.proofs.Common.{ℕ, ◌≡◌, ◌≢◌, ◌+◌, ◌-◌, ◌<◌, ◌≤◌, Some, None, List, [], ◌∷◌, ◌++◌, refl, ap, sym, subst, ◌∙◌, length, get_or, append-nil, rules}
-use Rattle.std.specs.Prelude.{Err, Ok}
+use Rattle.std.proofs.Common.{ℕ, ◌≡◌, ◌≢◌, ◌+◌, ◌-◌, ◌<◌, ◌≤◌, Some, None, List, [], ◌∷◌, ◌++◌, refl, ap, sym, subst, ◌∙◌, length, append-nil, rules}
+use Rattle.std.specs.Prelude.{Err, Ok, slice_get}
 use Rattle.refinement.specs.Controller.{IsControllerOf, IsPlanOfNext}
 use Rattle.refinement.specs.Written.{AreWritten}
 use Rattle.refinement.proofs.Steps.{items_leave}
 use Rattle.refinement.proofs.Submits.{submits, too_many_live, too_many_versions}
-use Rattle.controller.specs.Controller.{ControllerValue}
+use Rattle.controller.specs.Controller.{ControllerValue, newest_policy}
 use Rattle.controller.specs.Plan.{PlanValue}
 use Rattle.controller.specs.Sends.{submit_acts}
 use Rattle.controller.specs.Submit.{SubmitsPlan}
@@ -14,23 +14,28 @@ use Rattle.journal.specs.declared.item.Item.{Item}
 use Rattle.journal.specs.declared.item.Item.TheVariants as item
 use Rattle.net_file.specs.declared.net.Net.{Net}
 use Rattle.partition.specs.Plan.{plan_of}
+use Rattle.policy_rules.specs.declared.applying.Inapplicable.{Inapplicable}
+use Rattle.policy_rules.specs.declared.file.PolicyFile.{PolicyFile}
 use Rattle.policy_rules.specs.declared.policy.Row.{Row}
 use Rattle.policy_rules.specs.Hosted.{NoPlan}
+use Rattle.steps.specs.declared.step.Step.{Step}
 use Rattle.steps.specs.declared.step.Step.TheVariants.{Update}
 use Rattle.switch_core.specs.State.{SwitchValue}
+use Rattle.update_machine.specs.Laws.{PoliciesKeep}
 use Rattle.update_machine.specs.Moves.{items_then}
-use Rattle.update_machine.specs.Pieces.{piece, plan_code, update_code, update_items}
+use Rattle.update_machine.specs.Pieces.{apply_code, piece, plan_code, update_code, update_items}
 use Rattle.steps.specs.Steps.{IsStep}
-use Rattle.update_machine.specs.Setting.{Setting, setting_of}
+use Rattle.update_machine.specs.Setting.{Setting, made_by, policy_in, setting_of}
 use Rattle.update_machine.specs.Settling.{submitted_items}
 use Rattle.update_machine.specs.Versions.{version_count}
-use Rattle.update_machine.proofs.CallerLemmas.{next_there, unplanned_code}
+use Rattle.update_machine.proofs.CallerLemmas.{next_by, policies_keep, unapplied_code, unplanned_code}
 use Rattle.world_log.specs.Sending.{MayNote, act_items, act_posts}
 use Rattle.refinement.specs.Refinement.{RefineJournal, Control}
 use Rattle.refinement.specs.Bags.{IsBagOf}
 use Rattle.travelling.specs.Travelling.{Flights}
 use Rattle.refinement.proofs.ActItems.{written_is}
 use Rattle.refinement.proofs.Known.{reached_known}
+use Rattle.refinement.proofs.Newest.{newest_in}
 use Rattle.refinement.proofs.OneItem.{grown}
 use Rattle.refinement.proofs.Posting.{bag_on}
 use Rattle.refinement.proofs.Told.{refines_told}
@@ -39,25 +44,56 @@ use Rattle.refinement.proofs.Sendable.{may_note}
 
 -- ---- the file of an update
 
--- its plan is that of the next version
-pub planned_next : (net : Net) (policies : List (List Row)) (journal : List Item) (file : ℕ)
-    (plan : PlanValue) → 1 ≤ file → file ≤ length policies
-    → plan.policy ≡ get_or policies (file - 1) []
-    → plan_of (get_or policies (file - 1) []) net ≡ Ok plan.hosted
-    → IsPlanOfNext (setting_of net policies) journal file plan
-planned_next net policies journal file plan first last own is = record {
-  policy = next_there net policies journal file first last ∙ ap Some (sym own);
-  hosted = ap (λ rows. plan_of rows net) own ∙ is;
+-- the policy of the newest version is the one that the controller keeps, and a row leaves it
+pub newest_refines : (control : Control) (setting : Setting) (journal : List Item)
+    (switches : List SwitchValue) (before : Flights) (count row : ℕ) (step : Step)
+    (newest : List Row) → RefineJournal setting journal switches before count control
+    → newest_policy control.controller ≡ Some newest
+    → (policy_in setting journal (version_count journal) ≡ Some newest)
+    × (policy_in setting (journal ++ item.Row row step ∷ [])
+    (version_count (journal ++ item.Row row step ∷ [])) ≡ Some newest)
+unfolding RefineJournal
+newest_refines control setting journal switches before count row step newest refines is =
+    let here : List Item = journal ++ item.Row row step ∷ [] in
+    let keep : PoliciesKeep journal here =
+    policies_keep journal (item.Row row step ∷ []) (refl, tt) in
+    let own : policy_in setting journal (version_count journal) ≡ Some newest =
+    sym (newest_in setting journal control.controller refines.sound
+    (reached_known setting journal refines.sound refines.reached).caused refines.controller) ∙ is in (
+      own,
+      ap (policy_in setting here) keep.count ∙ keep.rows setting (version_count journal) ∙ own,
+    )
+
+-- a plan of what the file makes of it is that of the next version
+pub planned_next : (net : Net) (files : List PolicyFile) (journal : List Item) (file : ℕ)
+    (newest : List Row) (plan : PlanValue) → 1 ≤ file
+    → policy_in (setting_of net files) journal (version_count journal) ≡ Some newest
+    → made_by (slice_get files (file - 1)) (Some newest) ≡ Ok plan.policy
+    → plan_of plan.policy net ≡ Ok plan.hosted
+    → IsPlanOfNext (setting_of net files) journal file plan
+planned_next net files journal file newest plan first is made planned = record {
+  policy = next_by (setting_of net files) journal file newest first is ∙ made;
+  hosted = planned;
 }
 
--- where its policy has no plan it is refused with the code of the cause
-pub unplanned_next : (net : Net) (policies : List (List Row)) (journal : List Item)
-    (file code : ℕ) (why : NoPlan) → 1 ≤ file → file ≤ length policies
-    → plan_of (get_or policies (file - 1) []) net ≡ Err why → plan_code why ≡ code
-    → update_code (setting_of net policies) journal file ≡ Some code
-unplanned_next net policies journal file code why first last none is =
-    unplanned_code (setting_of net policies) journal file (get_or policies (file - 1) []) why
-    (next_there net policies journal file first last) none ∙ ap Some is
+-- where it makes none, or one without a plan, the update is refused with the code of the cause
+pub unapplied_next : (net : Net) (files : List PolicyFile) (journal : List Item) (file : ℕ)
+    (newest : List Row) (why : Inapplicable) → 1 ≤ file
+    → policy_in (setting_of net files) journal (version_count journal) ≡ Some newest
+    → made_by (slice_get files (file - 1)) (Some newest) ≡ Err why
+    → update_code (setting_of net files) journal file ≡ Some (apply_code why)
+unapplied_next net files journal file newest why first is made =
+    unapplied_code (setting_of net files) journal file why
+    (next_by (setting_of net files) journal file newest first is ∙ made)
+
+pub unplanned_next : (net : Net) (files : List PolicyFile) (journal : List Item) (file : ℕ)
+    (newest rows : List Row) (why : NoPlan) → 1 ≤ file
+    → policy_in (setting_of net files) journal (version_count journal) ≡ Some newest
+    → made_by (slice_get files (file - 1)) (Some newest) ≡ Ok rows → plan_of rows net ≡ Err why
+    → update_code (setting_of net files) journal file ≡ Some (plan_code why)
+unplanned_next net files journal file newest rows why first is made none =
+    unplanned_code (setting_of net files) journal file rows why
+    (next_by (setting_of net files) journal file newest first is ∙ made) none
 
 pub refused_piece : (setting : Setting) (journal : List Item) (row file code : ℕ)
     → update_code setting (journal ++ item.Row row (Update file) ∷ []) file ≡ Some code
@@ -78,7 +114,7 @@ refused_piece setting journal row file code is =
 module _ (control : Control) (setting : Setting) (journal : List Item)
     (switches : List SwitchValue) (before : Flights) (count row file : ℕ)
     (refines : RefineJournal setting journal switches before count control)
-    (may : IsStep setting.net (length setting.policies) (Update file)) where
+    (may : IsStep setting.net (length setting.files) (Update file)) where
   abbrev first : Item → List Item
   first one = item.Row row (Update file) ∷ one ∷ []
 

@@ -34,7 +34,7 @@ use Rattle.refinement.proofs.Refining.{up_stays}
 pub record IsTold (setting : Setting) (journal : List Item) (row : ℕ) (step : Step)
     (first : List Item) (acts : List Act) (switches others : List SwitchValue)
     (control later : Control) : Type 0 where
-  pub may : IsStep setting.net (length setting.policies) step
+  pub may : IsStep setting.net (length setting.files) step
   pub piece_is : piece setting journal row step
       ≡ item.Row row step ∷ first ++ act_items (length control.posts + 1) acts
   pub packet : (i : ℕ) → NoneName i (item.Row row step ∷ first)

@@ -1,7 +1,7 @@
 -- The controller, as a journal says it: its marks, and the plans of the versions that it may still
 -- install, in the two-phase update of Reitblatt, Foster, Rexford, Schlesinger and Walker,
 -- "Abstractions for Network Update", SIGCOMM 2012.
-use Rattle.std.specs.Prelude.{ℕ, ◌≡◌, Some, Ok, List, map}
+use Rattle.std.specs.Prelude.{ℕ, ◌≡◌, Ok, List, map}
 use Rattle.controller.specs.Controller.{ControllerValue, KeptPlan}
 use Rattle.controller.specs.Plan.{PlanValue}
 use Rattle.journal.specs.declared.item.Item.{Item}
@@ -30,5 +30,5 @@ pub record IsControllerOf (setting : Setting) (journal : List Item)
 -- the plan is that of the next version, if it is submitted with this file
 pub record IsPlanOfNext (setting : Setting) (journal : List Item) (file : ℕ) (plan : PlanValue)
     : Type 0 where
-  pub policy : next_policy setting journal file ≡ Some plan.policy
+  pub policy : next_policy setting journal file ≡ Ok plan.policy
   pub hosted : setting.plan plan.policy ≡ Ok plan.hosted

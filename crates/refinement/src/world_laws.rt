@@ -5,12 +5,12 @@ ghost use Rattle.version_update.specs.Record.{after_over};
 ghost use Rattle.ctrl_msg.specs.Kinds.{to_controller};
 ghost use Rattle.ctrl_msg.specs.declared.message.Body.{Body};
 ghost use Rattle.ctrl_msg.specs.declared.message.Message.{Message};
-ghost use Rattle.controller.specs.Exports.{ControllerValue, NamesThere, PlanValue, SettlesWith, SubmitsPlan, first_controller, hear_acts, marks_after, resend_acts, settling_acts, submit_acts};
+ghost use Rattle.controller.specs.Exports.{ControllerValue, NamesThere, PlanValue, SettlesWith, SubmitsPlan, first_controller, hear_acts, marks_after, newest_policy, resend_acts, settling_acts, submit_acts};
 ghost use Rattle.controller.specs.declared.sends.Act.{Act};
 ghost use Rattle.controller.specs.declared.sends.Act.TheVariants.{Post};
 ghost use Rattle.steps.specs.declared.step.Step.TheVariants.{Confirm, Deliver, Resend, Update};
 ghost use Rattle.journal.specs.declared.item.Item.TheVariants.{Row, Delivered, Nothing, OverNow, Refused, Submitted};
-ghost use Rattle.update_machine.specs.Exports.{HaveCauses, IsReached, IsSetting, Item, NoneConcern, Setting, Step, concerns_controller, is_deliverable, is_up, message_of, piece, resent_by_controller, send_items};
+ghost use Rattle.update_machine.specs.Exports.{HaveCauses, IsReached, IsSetting, Item, NoneConcern, Setting, Step, concerns_controller, is_deliverable, is_up, message_of, piece, policy_in, resent_by_controller, send_items, version_count};
 ghost use Rattle.control_laws.specs.Exports.{BodiesNameThere, HasItemCause, asks_controller};
 ghost use Rattle.refinement.specs.Exports.{AreMarksOf, AreSpelled, AreWritten, BagsRefine, EntriesRefine, HopsRefine, IsControllerOf, IsPlanOfNext, plan_to_keep, acts_of_resend, written_items};
 
@@ -21,7 +21,8 @@ pub fn controllers_begin()
 {}
 
 /// The submission of the next version's plan writes what an update writes; where the marks refuse
-/// it, the code that the journal has of that refusal.
+/// it, the code that the journal has of that refusal. The newest policy, to which a change is
+/// applied, is that of the journal's newest version.
 pub fn controllers_submit()
     ensures taken { (setting : Setting) (before : List Item) (row file : ℕ)
         (old new : ControllerValue) (plan : PlanValue)
@@ -44,6 +45,10 @@ pub fn controllers_submit()
         → old.marks.count ≡ 64
         → AreWritten setting before (Row row (Update file) ∷ Refused file 17 ∷ []) [] old
         (piece setting before row (Update file)) }
+    ensures newest { (setting : Setting) (before : List Item) (controller : ControllerValue)
+        → IsSetting setting → HaveCauses (HasItemCause setting) [] before
+        → IsControllerOf setting before controller
+        → newest_policy controller ≡ policy_in setting before (version_count before) }
 {}
 
 /// A message that is delivered to the controller writes what its delivery writes, whatever it says.

@@ -44,9 +44,9 @@ steps_left Drain is_begun journal = drain_left journal
 
 pub record Asked (setting : Setting) (row : ℕ) (event : Event) (is_begun : Bool)
     (journal : List Item) (step : Step) : Type 0 where
-  pub may : IsEvent setting.net (length setting.policies) event
+  pub may : IsEvent setting.net (length setting.files) event
       → next_packet journal ≤ max_events + 1 → HasRoom journal
-      → IsStep setting.net (length setting.policies) step
+      → IsStep setting.net (length setting.files) step
   -- it is the first that may bring one in
   pub none : brought_so_far event is_begun ≡ 0
   pub brought : comes_in step ≡ brought_so_far event true

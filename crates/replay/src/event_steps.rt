@@ -32,7 +32,7 @@ pub fn take_steps<M: Meter>(
 ) -> Result<(), StepError>
     requires able { world.old.is_spent ≡ false }
     requires few { world.old.packets ≤ max_events }
-    requires may { IsEvent world.old.net (length world.old.policies) event.now }
+    requires may { IsEvent world.old.net (length world.old.files) event.now }
     ensures setting { setting_at world.new ≡ setting_at world.old }
     ensures able { OnOk result (world.new.is_spent ≡ false) }
     ensures able_full { IsErrOf result no_step → world.new.is_spent ≡ false }

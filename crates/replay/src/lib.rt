@@ -10,7 +10,7 @@
 //! those that leave are its gone records.
 //!
 //! ```text
-//! let played = replay(alloc, &net, policies, &events, meters)?; // Plan(why): no first plan
+//! let played = replay(alloc, &net, files, &events, meters)?; // Plan(why): no first plan
 //! let text = text(alloc, &played.journal, &net)?; // its lines, by `journal_text`
 //! let row = played.full; // the row at which there was no room, if the play stopped there
 //! let meters = played.meters; // those that stayed
@@ -31,6 +31,6 @@ pub use journal_text::{text, write_text};
 pub use meters::{Board, Flows, Meter};
 pub use net_file::Net;
 pub use playing::{Played, play, replay};
-pub use policy_rules::Policy;
+pub use policy_rules::{Policy, PolicyFile};
 pub use steps::{Event, Step};
 pub use world::{Full, PlanError, StepError, World};

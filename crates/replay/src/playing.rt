@@ -1,13 +1,14 @@
-ghost use Rattle.std.specs.Prelude.{◌≡◌, ◌≤◌, ◌+◌, All, IfErr, IfOk, IsOk, OnOk, length, map, slice_index_or, []};
+ghost use Rattle.std.specs.Prelude.{◌≡◌, ◌≤◌, ◌+◌, All, IfErr, IfOk, IsOk, IsSome, OnOk, length, map, unwrap_or, []};
 ghost use Rattle.meters.specs.Gone.{gone_records};
 ghost use Rattle.meters.specs.Meters.{kept_meters};
 ghost use Rattle.net_file.specs.Exports.{IsNet, port_mask};
 ghost use Rattle.packet_laws.specs.Exports.{HeldOnTheWay};
 ghost use Rattle.partition.specs.Plan.{plan_of};
-ghost use Rattle.policy_rules.specs.Policy.{IsPolicy};
+ghost use Rattle.policy_rules.specs.Exports.{GivesOnly, IsPolicyFile};
 ghost use Rattle.steps.specs.Steps.{IsEvent};
 ghost use Rattle.steps.specs.Limits.{max_events};
 ghost use Rattle.update_machine.specs.Exports.{IsPlay, NamesOwnPort, setting_of};
+ghost use Rattle.world.specs.Files.{first_policy};
 ghost use Rattle.world.specs.State.{IsBegun, setting_at};
 ghost use Rattle.replay.specs.Leavings.{left_in};
 ghost use Rattle.replay.specs.Playing.{IsPlanRefusal};
@@ -19,7 +20,7 @@ use journal::Journal;
 use meters::{Board, Flows, Meter};
 use net_file::Net;
 use packet_laws::plays_held_on_the_way;
-use policy_rules::Policy;
+use policy_rules::PolicyFile;
 use std::alloc::{AllocError, Global};
 use steps::Event;
 use world::{Full, World};
@@ -36,8 +37,9 @@ pub struct Played<M> {
     pub full: Option<u32>,
 }
 
-/// Plays the events on the network, on which the first policy is in force as version 1: event k,
-/// from 1, is row k of the schedule. A drain is a hop of the least packet that travels, until none
+/// Plays the events on the network, on which the policy of the first file is in force as version 1;
+/// a file behind it has a policy too, or a change of the newest one. Event k, from 1, is row k of
+/// the schedule. A drain is a hop of the least packet that travels, until none
 /// does; a flush is a delivery of the least message that waits, until none does. Where a step would
 /// begin behind a full journal, the play ends before it. Behind each step the meters note the
 /// packets that left; those of no port of the network are dropped, and those that leave.
@@ -47,20 +49,20 @@ pub struct Played<M> {
 pub fn replay<M: Meter>(
     alloc: Global,
     net: &Net,
-    policies: Vec<Policy>,
+    files: Vec<PolicyFile>,
     events: &[Event],
     meters: Vec<M>,
 ) -> Result<Played<M>, ReplayError>
     requires net { IsNet net.now }
-    requires some { 1 ≤ length policies.items }
-    requires sound { All IsPolicy policies.items }
-    requires ports { All (All (λ row. NamesOwnPort (setting_of net.now policies.items)
-        row.action)) policies.items }
-    requires events { All (IsEvent net.now (length policies.items)) events.now }
+    requires first { IsSome (first_policy files.items) }
+    requires sound { All IsPolicyFile files.items }
+    requires ports { All (GivesOnly (λ row. NamesOwnPort (setting_of net.now files.items)
+        row.action)) files.items }
+    requires events { All (IsEvent net.now (length files.items)) events.now }
     requires few { length events.now ≤ max_events }
     ensures play { IfOk result (λ played.
-        IsPlay (setting_of net.now policies.items) events.now played.journal played.full) }
-    ensures held { IfOk result (λ played. HeldOnTheWay (setting_of net.now policies.items)
+        IsPlay (setting_of net.now files.items) events.now played.journal played.full) }
+    ensures held { IfOk result (λ played. HeldOnTheWay (setting_of net.now files.items)
         events.now played.journal played.full) }
     ensures kept { IfOk result (λ played. map M.seen played.meters.items
         ≡ kept_meters (port_mask net.now.switches) (left_in played.journal)
@@ -69,11 +71,11 @@ pub fn replay<M: Meter>(
         ≡ gone_records (port_mask net.now.switches) (left_in played.journal)
         (map M.seen meters.items)) }
     ensures planned { OnOk result
-        (IsOk (plan_of (slice_index_or policies.items 0 []) net.now)) }
+        (IsOk (plan_of (unwrap_or (first_policy files.items) []) net.now)) }
     ensures refused { IfErr result
-        (IsPlanRefusal (plan_of (slice_index_or policies.items 0 []) net.now)) }
+        (IsPlanRefusal (plan_of (unwrap_or (first_policy files.items) []) net.now)) }
 {
-    let world = World::begin(alloc, net, policies)?;
+    let world = World::begin(alloc, net, files)?;
     world.refines();
     let played = play(alloc, world, events, meters, net.port_mask())?;
     Ok(played)
@@ -92,7 +94,7 @@ pub fn play<M: Meter>(
     ports: u64,
 ) -> Result<Played<M>, AllocError>
     requires begun { IsBegun (setting_at world) world }
-    requires events { All (IsEvent world.net (length world.policies)) events.now }
+    requires events { All (IsEvent world.net (length world.files)) events.now }
     requires few { length events.now ≤ max_events }
     ensures play { IfOk result (λ played.
         IsPlay (setting_at world) events.now played.journal played.full) }

@@ -1,4 +1,5 @@
 mod campus;
+mod changes;
 mod days;
 mod full;
 mod grammar;

@@ -8,7 +8,8 @@ use Rattle.std.proofs.Math.Seq.{get_or-append_seam}
 use Rattle.std.proofs.lemmas.List.Elements.{All-append, All-cons, All-nil}
 use Rattle.std.proofs.lemmas.List.Folds.{list_any-append}
 use Rattle.five_tuple.specs.Header.{IsHeader}
-use Rattle.policy_rules.specs.Repeats.{IsFirstRepeat, has_priority}
+use Rattle.policy_rules.specs.Applied.{has_priority}
+use Rattle.policy_rules.specs.Repeats.{IsFirstRepeat}
 use Rattle.policy_rules.specs.declared.policy.Action.TheVariants.{Drop, Out}
 use Rattle.steps.specs.Steps.{IsEvent}
 use Rattle.schedule.specs.Case.{IsPlayable, NamesPort, action_at, address_at, state_after, draw_below, change_events, drop_draw, group_at, groups_from, header_drawn, packet_drawn, load_case, load_net, next_drawn, row_at, row_ends, rows_drawn}

@@ -4,13 +4,14 @@ use Rattle.std.proofs.Common.{◌≡◌, ℕ, ◌≤◌, ◌<◌, ◌+◌, ◌-�
 use Rattle.std.proofs.lemmas.Bool.{eq-eqb, eqb-true, eqb-false}
 use Rattle.std.proofs.lemmas.List.Elements.{All-cons, All-contains, All-nil, All-push, All-tail, All-weaker, Contains-append_left, Contains-append_right, Contains-push}
 use Rattle.five_tuple.specs.declared.header.Header.{Header}
+use Rattle.policy_rules.specs.declared.file.PolicyFile.{PolicyFile}
 use Rattle.policy_rules.specs.declared.policy.Action.{Action}
 use Rattle.policy_rules.specs.declared.policy.Action.TheVariants as action
 use Rattle.policy_rules.specs.declared.policy.Hit.{Hit}
 use Rattle.policy_rules.specs.declared.policy.Row.{Row}
 use Rattle.update_machine.specs.Machine.{End, Ends, Dropped, LeftBy, Lost, Stuck, Machine, Packet}
 use Rattle.trace_audit.specs.Decided.{AreJustified, DecidesOther, EntersOther, HasDecision, HasEntered, IsBetween, IsDecidedOnce, IsJustified, IsMark, IsWaiting, RetiresUpTo, all_told, policies_from, policies_told, policies_with, with_told}
-use Rattle.trace_audit.specs.Reading.{AreGood, Follows, Line, Open, Reads, State, Whole, first_state, made_by, newest_policy}
+use Rattle.trace_audit.specs.Reading.{AreGood, Follows, Line, Open, Reads, State, Whole, first_state, newest_policy, policy_by}
 use Rattle.trace_audit.specs.Told.{Told}
 use Rattle.trace_audit.specs.Told as told
 use Rattle.trace_audit.specs.Verdicts.{IsVerdict}
@@ -42,7 +43,7 @@ entered_on ts t i header mark other e = record {
   own_mark = e.own_mark;
 }
 
-decided_on : (files : List (List Row)) (ts : List Told) (t : Told) (i : ℕ) (action : Action)
+decided_on : (files : List PolicyFile) (ts : List Told) (t : Told) (i : ℕ) (action : Action)
     → DecidesOther i t → HasDecision files ts i action → HasDecision files (ts ++ t ∷ []) i action
 decided_on files ts t i action other d = record {
   before = d.before;
@@ -82,16 +83,16 @@ abbrev pub IsWaitingIf : List Told → Option Header → Type 0
 IsWaitingIf ts None = ⊤
 IsWaitingIf ts (Some header) = IsWaiting ts header
 
-abbrev pub IsDecidedIf : List (List Row) → List Told → ℕ → Option Hit → Type 0
+abbrev pub IsDecidedIf : List PolicyFile → List Told → ℕ → Option Hit → Type 0
 IsDecidedIf files ts i None = All (DecidesOther i) ts
 IsDecidedIf files ts i (Some hit) = HasDecision files ts i hit.action
 
-abbrev pub IsPacketIf : List (List Row) → List Told → ℕ → Option Packet → Type 0
+abbrev pub IsPacketIf : List PolicyFile → List Told → ℕ → Option Packet → Type 0
 IsPacketIf files ts i None = All (EntersOther i) ts × All (DecidesOther i) ts
 IsPacketIf files ts i (Some packet) = HasEntered ts i packet.header packet.entry_mark
     × IsDecidedIf files ts i packet.decision
 
-pub record IsKnown (files : List (List Row)) (ts : List Told) (state : State) : Type 0 where
+pub record IsKnown (files : List PolicyFile) (ts : List Told) (state : State) : Type 0 where
   pub policies : state.machine.policies ≡ policies_told files ts
   pub mark : IsMark ts state.machine.mark
   pub waits : IsWaitingIf ts state.pending
@@ -102,7 +103,7 @@ waits_on_if : (ts : List Told) (t : Told) (pending : Option Header) → IsBetwee
 waits_on_if ts t None between w = tt
 waits_on_if ts t (Some header) between w = waits_on ts t header between w
 
-decided_on_if : (files : List (List Row)) (ts : List Told) (t : Told) (i : ℕ) (o : Option Hit)
+decided_on_if : (files : List PolicyFile) (ts : List Told) (t : Told) (i : ℕ) (o : Option Hit)
     → DecidesOther i t → IsDecidedIf files ts i o → IsDecidedIf files (ts ++ t ∷ []) i o
 decided_on_if files ts t i None other d = All-push (DecidesOther i) ts t d other
 decided_on_if files ts t i (Some hit) other d = decided_on files ts t i hit.action other d
@@ -111,7 +112,7 @@ decided_on_if files ts t i (Some hit) other d = decided_on files ts t i hit.acti
 abbrev IsOfOther : ℕ → Told → Type 0
 IsOfOther i t = EntersOther i t × DecidesOther i t
 
-packet_on : (files : List (List Row)) (ts : List Told) (t : Told) (i : ℕ) (o : Option Packet)
+packet_on : (files : List PolicyFile) (ts : List Told) (t : Told) (i : ℕ) (o : Option Packet)
     → IsOfOther i t → IsPacketIf files ts i o → IsPacketIf files (ts ++ t ∷ []) i o
 packet_on files ts t i None other k =
     (All-push (EntersOther i) ts t k.0 other.0, All-push (DecidesOther i) ts t k.1 other.1)
@@ -143,32 +144,33 @@ up_to m n (told.Decided packet version rule action) le r = tt
 up_to m n (told.Ended packet end) le r = tt
 up_to m n told.Nothing le r = tt
 
-policies_more : (files policies : List (List Row)) (ts : List Told) (t : Told)
+policies_more : (files : List PolicyFile) (policies : List (List Row)) (ts : List Told) (t : Told)
     → policies_from files policies (ts ++ t ∷ [])
     ≡ policies_with files (policies_from files policies ts) t
 policies_more files policies [] t = refl
 policies_more files policies (first ∷ ts) t =
     policies_more files (policies_with files policies first) ts t
 
-policies_on : (files : List (List Row)) (ts : List Told) (t : Told) (old new : List (List Row))
+policies_on : (files : List PolicyFile) (ts : List Told) (t : Told) (old new : List (List Row))
     → old ≡ policies_told files ts → new ≡ policies_with files old t
     → new ≡ policies_told files (ts ++ t ∷ [])
 policies_on files ts t old new known e = e ∙ ap (λ x. policies_with files x t) known
-    ∙ sym (policies_more files (option_to_list (made_by files 1 None)) ts t)
+    ∙ sym (policies_more files (option_to_list (policy_by files 1 None)) ts t)
 
 -- the next version's policy is added
-submits_next : (files policies : List (List Row)) (file version : ℕ) (policy : List Row)
-    → version ≡ length policies + 1 → made_by files file (newest_policy policies) ≡ Some policy
+submits_next : (files : List PolicyFile) (policies : List (List Row)) (file version : ℕ)
+    (policy : List Row) → version ≡ length policies + 1
+    → policy_by files file (newest_policy policies) ≡ Some policy
     → policies ++ policy ∷ [] ≡ policies_with files policies (told.Submitted file version)
 submits_next files policies file version policy newest there =
     ap (λ (o : Option (List Row)). policies ++ option_to_list o) (sym there)
     ∙ ap (λ (b : Bool). cond b
-    (policies ++ option_to_list (made_by files file (newest_policy policies))) policies)
+    (policies ++ option_to_list (policy_by files file (newest_policy policies))) policies)
     (sym (eq-eqb version (length policies + 1) newest))
 
 -- ---- a step that leaves the packets as they are, or puts one
 
-keeps_packets : (files : List (List Row)) (ts : List Told) (t : Told)
+keeps_packets : (files : List PolicyFile) (ts : List Told) (t : Told)
     (old new : ℕ → Option Packet) → new ≡ old → ((i : ℕ) → IsOfOther i t)
     → ((i : ℕ) → IsPacketIf files ts i (old i))
     → (i : ℕ) → IsPacketIf files (ts ++ t ∷ []) i (new i)
@@ -176,7 +178,7 @@ keeps_packets files ts t old new e other known i =
     subst (λ (x : ℕ → Option Packet). IsPacketIf files (ts ++ t ∷ []) i (x i)) (sym e)
     (packet_on files ts t i (old i) (other i) (known i))
 
-puts_packet : (files : List (List Row)) (ts : List Told) (t : Told)
+puts_packet : (files : List PolicyFile) (ts : List Told) (t : Told)
     (old new : ℕ → Option Packet) (i : ℕ) (p : Packet)
     → new ≡ (λ j. cond (j == i) (Some p) (old j))
     → ((j : ℕ) → (j ≡ i → ⊥) → IsOfOther j t)
@@ -196,12 +198,12 @@ row_waits ts None = tt
 row_waits ts (Some header) =
     record { before = ts; after = []; row = refl; last = All-nil IsBetween }
 
-known_at : (files : List (List Row)) (ts : List Told) (packets : ℕ → Option Packet) (i : ℕ)
+known_at : (files : List PolicyFile) (ts : List Told) (packets : ℕ → Option Packet) (i : ℕ)
     (o : Option Packet) → packets i ≡ o → ((j : ℕ) → IsPacketIf files ts j (packets j))
     → IsPacketIf files ts i o
 known_at files ts packets i o e known = subst (IsPacketIf files ts i) e (known i)
 
-module _ (files : List (List Row)) (ts : List Told) (old new : State) (known : IsKnown files ts old)
+module _ (files : List PolicyFile) (ts : List Told) (old new : State) (known : IsKnown files ts old)
   where
     after_row : (header : Option Header) → Follows files old (told.Row header) new
         → IsKnown files (ts ++ told.Row header ∷ []) new
@@ -366,12 +368,12 @@ module _ (files : List (List Row)) (ts : List Told) (old new : State) (known : I
 -- ---- all that is told
 
 -- what was told leads from one state to another, one thing after another
-abbrev pub FollowsAll : List (List Row) → State → List Told → State → Type 0
+abbrev pub FollowsAll : List PolicyFile → State → List Told → State → Type 0
 FollowsAll files old [] new = new ≡ old
 FollowsAll files old (t ∷ ts) new =
     (middle : State) × Follows files old t middle × FollowsAll files middle ts new
 
-pub reads_told : (files : List (List Row)) (old : State) (lines : List Line) (new : State)
+pub reads_told : (files : List PolicyFile) (old : State) (lines : List Line) (new : State)
     → Reads files old lines new → FollowsAll files old (all_told lines) new
 reads_told files old [] new r = r
 reads_told files old (Whole text ∷ lines) new r =
@@ -379,14 +381,14 @@ reads_told files old (Whole text ∷ lines) new r =
     (sym r.1.1) (r.0, r.1.2, reads_told files r.0 lines new r.2)
 reads_told files old (Open text ∷ lines) new r = absurd r.1
 
-follows_split : (files : List (List Row)) (old new : State) (ts more : List Told)
+follows_split : (files : List PolicyFile) (old new : State) (ts more : List Told)
     → FollowsAll files old (ts ++ more) new
     → (middle : State) × FollowsAll files old ts middle × FollowsAll files middle more new
 follows_split files old new [] more r = (old, refl, r)
 follows_split files old new (t ∷ ts) more r =
     let w = follows_split files r.0 new ts more r.2 in (w.0, (r.0, r.1, w.1), w.2)
 
-known_all : (files : List (List Row)) (ts : List Told) (old : State) (more : List Told) (new : State)
+known_all : (files : List PolicyFile) (ts : List Told) (old : State) (more : List Told) (new : State)
     → FollowsAll files old more new → IsKnown files ts old → IsKnown files (ts ++ more) new
 known_all files ts old [] new r known =
     subst (λ (xs : List Told). IsKnown files xs new) (sym (append-nil ts))
@@ -395,7 +397,7 @@ known_all files ts old (t ∷ more) new r known =
     subst (λ (xs : List Told). IsKnown files xs new) (append_assoc ts (t ∷ []) more)
     (known_all files (ts ++ t ∷ []) r.0 more new r.2 (after_told files ts old r.0 known t r.1))
 
-pub known_first : (files : List (List Row)) → IsKnown files [] (first_state files)
+pub known_first : (files : List PolicyFile) → IsKnown files [] (first_state files)
 known_first files = record {
   policies = refl;
   mark = record { greatest = All-nil (RetiresUpTo 0); retired = inl refl };
@@ -406,7 +408,7 @@ known_first files = record {
 -- ---- a second decision
 
 -- what has a decision of the packet isn't free of them
-not_undecided : (files : List (List Row)) (ts : List Told) (i : ℕ) (a : Action)
+not_undecided : (files : List PolicyFile) (ts : List Told) (i : ℕ) (a : Action)
     → HasDecision files ts i a → All (DecidesOther i) ts → ⊥
 not_undecided files ts i a d none =
     let t = told.Decided i d.version d.rule_text d.action_text in
@@ -415,7 +417,7 @@ not_undecided files ts i a d none =
     (subst (λ (xs : List Told). Contains xs t) (sym d.decision)
     (Contains-append_right d.before (t ∷ d.after) t there)) refl
 
-decides_other : (files : List (List Row)) (ts : List Told) (old : State) (t : Told) (new : State)
+decides_other : (files : List PolicyFile) (ts : List Told) (old : State) (t : Told) (new : State)
     (i : ℕ) (a : Action) → IsKnown files ts old → HasDecision files ts i a → Follows files old t new
     → DecidesOther i t
 decides_other files ts old (told.Decided j version rule action) new i a known d f = λ same.
@@ -430,7 +432,7 @@ decides_other files ts old (told.Retired version) new i a known d f = tt
 decides_other files ts old (told.Ended packet end) new i a known d f = tt
 decides_other files ts old told.Nothing new i a known d f = tt
 
-none_later : (files : List (List Row)) (ts : List Told) (old : State) (more : List Told)
+none_later : (files : List PolicyFile) (ts : List Told) (old : State) (more : List Told)
     (new : State) (i : ℕ) (a : Action) → IsKnown files ts old → HasDecision files ts i a
     → FollowsAll files old more new → All (DecidesOther i) more
 none_later files ts old [] new i a known d r = All-nil (DecidesOther i)
@@ -442,14 +444,14 @@ none_later files ts old (t ∷ more) new i a known d r =
 
 -- ---- ends
 
-decided_as : (files : List (List Row)) (ts : List Told) (i : ℕ) (o : Option Hit) (a : Action)
+decided_as : (files : List PolicyFile) (ts : List Told) (i : ℕ) (o : Option Hit) (a : Action)
     → IsDecidedIf files ts i o → option_map (λ (hit : Hit). hit.action) o ≡ Some a
     → HasDecision files ts i a
 decided_as files ts i None a d e = absurd cc
 decided_as files ts i (Some hit) a d e =
     let same : hit.action ≡ a = cc in subst (HasDecision files ts i) same d
 
-module _ (files : List (List Row)) (before : List Told) (state : State)
+module _ (files : List PolicyFile) (before : List Told) (state : State)
     (known : IsKnown files before state) (after : List Told) (new : State) (i : ℕ) where
   decided_once : (end : End) (a : Action) (e : Ends state.machine i end new.machine)
       → option_map (λ (hit : Hit). hit.action) e.packet.decision ≡ Some a
@@ -473,7 +475,7 @@ module _ (files : List (List Row)) (before : List Told) (state : State)
   ends_justified Lost e last r = tt
   ends_justified Stuck e last r = tt
 
-good_justified : (files : List (List Row)) (lines : List Line) → AreGood files lines
+good_justified : (files : List PolicyFile) (lines : List Line) → AreGood files lines
     → AreJustified files lines
 good_justified files lines good = λ before after i end order.
     let all : FollowsAll files (first_state files) (before ++ told.Ended i end ∷ after) good.0 =
@@ -484,7 +486,7 @@ good_justified files lines good = λ before after i end order.
     (known_all files [] (first_state files) before w.0 w.1 (known_first files)) after w.2.0 i end
     w.2.1.0 good.0 w.2
 
-pub verdict_justified : (files : List (List Row)) (lines : List Line) (verdict : Verdict)
+pub verdict_justified : (files : List PolicyFile) (lines : List Line) (verdict : Verdict)
     → IsVerdict files lines verdict → verdict ≡ Yes → AreJustified files lines
 verdict_justified files lines Yes v e = good_justified files lines v
 verdict_justified files lines (No line) v e = absurd cc

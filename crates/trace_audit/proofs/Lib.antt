@@ -1,4 +1,5 @@
 mod Readings
+mod Made
 mod Lines
 mod Verdicts
 mod Moves

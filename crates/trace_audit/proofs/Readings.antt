@@ -1,28 +1,35 @@
 -- Readings of lines: those of some lines and of more, and that there is only one.
-use Rattle.std.proofs.Common.{◌≡◌, ℕ, ◌-◌, ◌==◌, Bool, true, false, cond, Option, Some, None, List, [], ◌∷◌, ◌++◌, ◌∙◌, refl, sym, ap, subst}
+use Rattle.std.proofs.Common.{◌≡◌, ℕ, ◌-◌, ◌==◌, Bool, true, false, cond, Option, Some, None, List, [], ◌∷◌, ◌++◌, ◌∙◌, length, refl, sym, ap, subst}
 use Rattle.std.specs.List.{All, slice_get}
-use Rattle.std.proofs.lemmas.List.Elements.{All-cons, All-head, All-nil, All-push}
+use Rattle.std.specs.Prelude.{IfSome, Ok, Err, Result, option_to_list}
+use Rattle.std.specs.Result.{result_ok}
+use Rattle.std.proofs.lemmas.List.Elements.{All-cons, All-nil, All-push}
 use Rattle.std.proofs.lemmas.Option.{slice_get_within, get_or_from_slice_get}
 use Rattle.five_tuple.specs.declared.header.Header.{Header}
 use Rattle.policy_rules.specs.Policy.{IsPolicy}
+use Rattle.policy_rules.specs.PolicyFiles.{IsPolicyFile}
+use Rattle.policy_rules.specs.declared.applying.Inapplicable.{Inapplicable}
+use Rattle.policy_rules.specs.declared.file.PolicyFile.{PolicyFile}
+use Rattle.policy_rules.specs.declared.file.PolicyFile.TheVariants as file_of
 use Rattle.policy_rules.specs.declared.policy.Hit.{Hit}
 use Rattle.policy_rules.specs.declared.policy.Row.{Row}
-use Rattle.policy_rules.proofs.CallerLemmas.{first_match-only}
+use Rattle.policy_rules.proofs.CallerLemmas.{IsPolicy-applied, first_match-only}
 use Rattle.update_machine.specs.Machine.{End, Machine, Packet, Decides, Ends, Enters, Submits, with_packet}
-use Rattle.trace_audit.specs.Reading.{Follows, Line, Whole, Open, ReadsLine, Reads, State, first_state, made_by, newest_policy}
+use Rattle.update_machine.specs.Setting.{made_by}
+use Rattle.trace_audit.specs.Reading.{Follows, Line, Whole, Open, ReadsLine, Reads, State, file_in, first_state, newest_policy, policy_by}
 use Rattle.trace_audit.specs.Told.{Told}
 use Rattle.trace_audit.specs.Told as told
 
 -- ---- some lines and more
 
-pub reads_join : (files : List (List Row)) (old middle new : State) (lines more : List Line)
+pub reads_join : (files : List PolicyFile) (old middle new : State) (lines more : List Line)
     → Reads files old lines middle → Reads files middle more new
     → Reads files old (lines ++ more) new
 reads_join files old middle new [] more r s = subst (λ state. Reads files state more new) r s
 reads_join files old middle new (line ∷ lines) more r s =
     (r.0, r.1, reads_join files r.0 middle new lines more r.2 s)
 
-pub reads_split : (files : List (List Row)) (old new : State) (lines more : List Line)
+pub reads_split : (files : List PolicyFile) (old new : State) (lines more : List Line)
     → Reads files old (lines ++ more) new
     → (middle : State) × Reads files old lines middle × Reads files middle more new
 reads_split files old new [] more r = (old, refl, r)
@@ -37,14 +44,47 @@ policy_in policies place rows sound e =
     subst IsPolicy (get_or_from_slice_get policies place rows rows e)
     (sound place rows (slice_get_within policies place rows e))
 
-made_there : {A : Type 0} (b : Bool) (x : Option A) (v : A) → cond b None x ≡ Some v → x ≡ Some v
-made_there true x v e = absurd cc
-made_there false x v e = e
+-- what a file makes of a policy, or of none, is one
+sound_by : (file : Option PolicyFile) (newest : Option (List Row)) (rows : List Row)
+    → IfSome file IsPolicyFile → IfSome newest IsPolicy → made_by file newest ≡ Ok rows
+    → IsPolicy rows
+sound_by None newest rows own sound made = absurd cc
+sound_by (Some (file_of.Whole given)) newest rows own sound made =
+    let same : given ≡ rows = cc made in subst IsPolicy same own
+sound_by (Some (file_of.Change edits)) None rows own sound made = absurd cc
+sound_by (Some (file_of.Change edits)) (Some old) rows own sound made =
+    IsPolicy-applied old rows edits sound own made
 
-made_in : (files : List (List Row)) (file : ℕ) (newest : Option (List Row)) (rows : List Row)
-    → All IsPolicy files → made_by files file newest ≡ Some rows → IsPolicy rows
-made_in files file newest rows sound e = policy_in files (file - 1) rows sound
-    (made_there (file == 0) (slice_get files (file - 1)) rows e)
+-- the item at a place, if there is one
+at_place : {A : Type 0} (P : A → Type 0) (xs : List A) (place : ℕ) (o : Option A) → All P xs
+    → slice_get xs place ≡ o → IfSome o P
+at_place P xs place None sound e = tt
+at_place P xs place (Some x) sound e = subst P (get_or_from_slice_get xs place x x e)
+    (sound place x (slice_get_within xs place x e))
+
+file_by : (files : List PolicyFile) (file : ℕ) (zero : Bool) → All IsPolicyFile files
+    → IfSome (cond zero None (slice_get files (file - 1))) IsPolicyFile
+file_by files file true own = tt
+file_by files file false own =
+    at_place IsPolicyFile files (file - 1) (slice_get files (file - 1)) own refl
+
+ok_of : (made : Result (List Row) Inapplicable) (rows : List Row) → result_ok made ≡ Some rows
+    → made ≡ Ok rows
+ok_of (Ok given) rows e = let same : given ≡ rows = cc in ap Ok same
+ok_of (Err why) rows e = absurd cc
+
+made_in : (files : List PolicyFile) (file : ℕ) (newest : Option (List Row)) (rows : List Row)
+    → All IsPolicyFile files → IfSome newest IsPolicy → policy_by files file newest ≡ Some rows
+    → IsPolicy rows
+made_in files file newest rows own sound e =
+    sound_by (file_in files file) newest rows (file_by files file (file == 0) own) sound
+    (ok_of (made_by (file_in files file) newest) rows e)
+
+-- the last of policies, if there is one
+newest_sound : (policies : List (List Row)) → All IsPolicy policies
+    → IfSome (newest_policy policies) IsPolicy
+newest_sound policies sound =
+    at_place IsPolicy policies (length policies - 1) (newest_policy policies) sound refl
 
 abbrev pub ArePolicies : State → Type 0
 ArePolicies state = All IsPolicy state.machine.policies
@@ -53,15 +93,17 @@ policies_stay : (old new : State) → new.machine.policies ≡ old.machine.polic
     → ArePolicies new
 policies_stay old new e sound = subst (All IsPolicy) (sym e) sound
 
-follows_sound : (files : List (List Row)) (old : State) (t : Told) (new : State)
-    → All IsPolicy files → ArePolicies old → Follows files old t new → ArePolicies new
+follows_sound : (files : List PolicyFile) (old : State) (t : Told) (new : State)
+    → All IsPolicyFile files → ArePolicies old → Follows files old t new → ArePolicies new
 follows_sound files old (told.Row header) new own sound f =
     policies_stay old new (ap (λ s. s.machine.policies) f) sound
 follows_sound files old (told.Entered packet) new own sound f =
     policies_stay old new (ap (λ m. m.policies) f.2.after) sound
 follows_sound files old (told.Submitted file version) new own sound f =
     subst (All IsPolicy) (sym (ap (λ m. m.policies) f.0.after))
-    (All-push IsPolicy old.machine.policies f.0.policy sound (made_in files file (newest_policy old.machine.policies) f.0.policy own f.0.there))
+    (All-push IsPolicy old.machine.policies f.0.policy sound
+    (made_in files file (newest_policy old.machine.policies) f.0.policy own
+    (newest_sound old.machine.policies sound) f.0.there))
 follows_sound files old (told.Retired version) new own sound f =
     policies_stay old new (ap (λ m. m.policies) f.0.after) sound
 follows_sound files old (told.Decided packet version rule action) new own sound f =
@@ -122,7 +164,7 @@ ends_one old number end a b r s = r.after
     (some_same r.packet s.packet _ r.entered s.entered)
     ∙ sym s.after
 
-follows_one : (files : List (List Row)) (old : State) (t : Told) (a b : State) → ArePolicies old
+follows_one : (files : List PolicyFile) (old : State) (t : Told) (a b : State) → ArePolicies old
     → Follows files old t a → Follows files old t b → a ≡ b
 follows_one files old (told.Row header) a b sound r s = r ∙ sym s
 follows_one files old (told.Entered packet) a b sound r s =
@@ -141,25 +183,29 @@ follows_one files old (told.Ended packet end) a b sound r s =
     state_same a b (ends_one old.machine packet end a.machine b.machine r.0 s.0) (r.1 ∙ sym s.1)
 follows_one files old told.Nothing a b sound r s = r ∙ sym s
 
-pub line_one : (files : List (List Row)) (old : State) (line : Line) (a b : State) → ArePolicies old
+pub line_one : (files : List PolicyFile) (old : State) (line : Line) (a b : State) → ArePolicies old
     → ReadsLine files old line a → ReadsLine files old line b → a ≡ b
 line_one files old (Whole text) a b sound r s =
     follows_one files old r.0 a b sound r.2
     (subst (λ t. Follows files old t b) (some_same s.0 r.0 _ s.1 r.1) s.2)
 line_one files old (Open text) a b sound r s = absurd r
 
-line_sound : (files : List (List Row)) (old : State) (line : Line) (new : State)
-    → All IsPolicy files → ArePolicies old → ReadsLine files old line new → ArePolicies new
+line_sound : (files : List PolicyFile) (old : State) (line : Line) (new : State)
+    → All IsPolicyFile files → ArePolicies old → ReadsLine files old line new → ArePolicies new
 line_sound files old (Whole text) new own sound r = follows_sound files old r.0 new own sound r.2
 line_sound files old (Open text) new own sound r = absurd r
 
-pub first_sound : (files : List (List Row)) → All IsPolicy files → ArePolicies (first_state files)
-first_sound [] own = All-nil IsPolicy
-first_sound (rows ∷ files) own =
-    All-cons IsPolicy rows [] (All-head IsPolicy rows files own) (All-nil IsPolicy)
+pub first_sound : (files : List PolicyFile) → All IsPolicyFile files → ArePolicies (first_state files)
+first_sound files own = by (policy_by files 1 None) refl
+  where
+    by : (made : Option (List Row)) → policy_by files 1 None ≡ made
+        → All IsPolicy (option_to_list made)
+    by None e = All-nil IsPolicy
+    by (Some rows) e =
+        All-cons IsPolicy rows [] (made_in files 1 None rows own tt e) (All-nil IsPolicy)
 
-pub reads_one : (files : List (List Row)) (old : State) (lines : List Line) (a b : State)
-    → All IsPolicy files → ArePolicies old → Reads files old lines a → Reads files old lines b
+pub reads_one : (files : List PolicyFile) (old : State) (lines : List Line) (a b : State)
+    → All IsPolicyFile files → ArePolicies old → Reads files old lines a → Reads files old lines b
     → a ≡ b
 reads_one files old [] a b own sound r s = r ∙ sym s
 reads_one files old (line ∷ lines) a b own sound r s =

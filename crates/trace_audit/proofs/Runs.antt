@@ -1,17 +1,17 @@
 -- A good trace is a run: each good line is a move of the machine, or none.
 use Rattle.std.proofs.Common.{◌≡◌, None, List, [], ◌∷◌, ◌++◌, refl, sym, ap, subst}
 use Rattle.five_tuple.specs.HeaderNumbers.{header_of}
+use Rattle.policy_rules.specs.declared.file.PolicyFile.{PolicyFile}
 use Rattle.policy_rules.specs.declared.packet.Cause.TheVariants.{NoRoute}
 use Rattle.policy_rules.specs.declared.packet.How.TheVariants.{Cached}
 use Rattle.policy_rules.specs.declared.packet.Leaving.{Leaving}
 use Rattle.policy_rules.specs.declared.packet.Leg.TheVariants.{Exit}
-use Rattle.policy_rules.specs.declared.policy.Row.{Row}
 use Rattle.journal.specs.declared.item.Item.{Item}
 use Rattle.journal.specs.declared.item.Item.TheVariants as item
 use Rattle.update_machine.specs.Machine.{Dropped, LeftBy, Lost, Machine, Runs, Stuck, Submits}
 use Rattle.update_machine.specs.Setting.{Setting}
 use Rattle.trace_audit.specs.Decided.{all_told}
-use Rattle.trace_audit.specs.Reading.{AreGood, Follows, Line, State, first_state, made_by, newest_policy}
+use Rattle.trace_audit.specs.Reading.{AreGood, Follows, Line, State, first_state, newest_policy, policy_by}
 use Rattle.trace_audit.specs.Run.{AreItems, AreItemsOf, AreRun}
 use Rattle.trace_audit.specs.Told.{Told}
 use Rattle.trace_audit.specs.Told as told
@@ -37,11 +37,11 @@ any_leaving = record {
 }
 
 -- from one machine to another, on whatever network
-abbrev RunsAnywhere : List (List Row) → Machine → List Item → Machine → Type 0
+abbrev RunsAnywhere : List PolicyFile → Machine → List Item → Machine → Type 0
 RunsAnywhere files old items new =
-    (setting : Setting) → setting.policies ≡ files → Runs setting old items new
+    (setting : Setting) → setting.files ≡ files → Runs setting old items new
 
-module _ (files : List (List Row)) where
+module _ (files : List PolicyFile) where
   -- what was told is the items of a run
   follows_run : (ts : List Told) (old : State) (t : Told) (new : State) → IsKnown files ts old
       → Follows files old t new
@@ -57,8 +57,8 @@ module _ (files : List (List Row)) where
     refl,
     λ setting same. (
       new.machine,
-      subst (λ (policies : List (List Row)). Submits old.machine version
-          (made_by policies file (newest_policy old.machine.policies)) new.machine) (sym same) f.0,
+      subst (λ (all : List PolicyFile). Submits old.machine version
+          (policy_by all file (newest_policy old.machine.policies)) new.machine) (sym same) f.0,
       refl,
     ),
   )
@@ -98,7 +98,7 @@ module _ (files : List (List Row)) where
             (first.2 setting same) (others.2 setting same),
       )
 
-good_run : (files : List (List Row)) (lines : List Line) → AreGood files lines → AreRun files lines
+good_run : (files : List PolicyFile) (lines : List Line) → AreGood files lines → AreRun files lines
 good_run files lines good =
     let w = told_run files [] (first_state files) (all_told lines) good.0 (known_first files)
     (reads_told files (first_state files) lines good.0 good.1) in
@@ -107,12 +107,12 @@ good_run files lines good =
       told = w.1;
       run = λ setting same. (
         good.0.machine,
-        subst (λ (policies : List (List Row)). Runs setting (first_state policies).machine w.0
+        subst (λ (all : List PolicyFile). Runs setting (first_state all).machine w.0
             good.0.machine) (sym same) (w.2 setting same),
       );
     }
 
-pub verdict_run : (files : List (List Row)) (lines : List Line) (verdict : Verdict)
+pub verdict_run : (files : List PolicyFile) (lines : List Line) (verdict : Verdict)
     → IsVerdict files lines verdict → verdict ≡ Yes → AreRun files lines
 verdict_run files lines Yes v e = good_run files lines v
 verdict_run files lines (No line) v e = absurd cc

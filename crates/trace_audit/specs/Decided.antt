@@ -2,12 +2,13 @@
 use Rattle.std.specs.Prelude.{⊤, ℕ, ◌≡◌, ◌≢◌, ◌⊎◌, ◌+◌, ◌-◌, ◌<◌, ◌≤◌, ◌==◌, if◌then◌else◌, Option, Some, None, option_to_list, List, [], ◌∷◌, ◌++◌, All, Contains, length, slice_get}
 use Rattle.five_tuple.specs.declared.header.Header.{Header}
 use Rattle.policy_rules.specs.Policy.{IsFirstMatch}
+use Rattle.policy_rules.specs.declared.file.PolicyFile.{PolicyFile}
 use Rattle.policy_rules.specs.declared.policy.Action.{Action}
 use Rattle.policy_rules.specs.declared.policy.Action.TheVariants as action
 use Rattle.policy_rules.specs.declared.policy.Hit.{Hit}
 use Rattle.policy_rules.specs.declared.policy.Row.{Row}
 use Rattle.update_machine.specs.Machine.{End, Dropped, LeftBy}
-use Rattle.trace_audit.specs.Reading.{IsPrinted, Line, Open, Whole, made_by, newest_policy}
+use Rattle.trace_audit.specs.Reading.{IsPrinted, Line, Open, Whole, newest_policy, policy_by}
 use Rattle.trace_audit.specs.Told.{Told, told_of}
 use Rattle.trace_audit.specs.Told as told
 
@@ -27,19 +28,19 @@ all_told (Open text ∷ lines) = all_told lines
 
 -- the policies of the versions behind what is told: a line that submits the next version adds the
 -- policy that its file makes
-abbrev pub policies_with : List (List Row) → List (List Row) → Told → List (List Row)
+abbrev pub policies_with : List PolicyFile → List (List Row) → Told → List (List Row)
 policies_with files policies (told.Submitted file version) = if version == length policies + 1
-    then policies ++ option_to_list (made_by files file (newest_policy policies)) else policies
+    then policies ++ option_to_list (policy_by files file (newest_policy policies)) else policies
 policies_with files policies _ = policies
 
-abbrev pub policies_from : List (List Row) → List (List Row) → List Told → List (List Row)
+abbrev pub policies_from : List PolicyFile → List (List Row) → List Told → List (List Row)
 policies_from files policies [] = policies
 policies_from files policies (first ∷ more) =
     policies_from files (policies_with files policies first) more
 
 -- of the first file, and those that were submitted; the first version's first
-abbrev pub policies_told : List (List Row) → List Told → List (List Row)
-policies_told files ts = policies_from files (option_to_list (made_by files 1 None)) ts
+abbrev pub policies_told : List PolicyFile → List Told → List (List Row)
+policies_told files ts = policies_from files (option_to_list (policy_by files 1 None)) ts
 
 -- no version above this one is retired by it
 abbrev pub RetiresUpTo : ℕ → Told → Type 0
@@ -88,7 +89,7 @@ pub record HasEntered (ts : List Told) (packet : ℕ) (header : Header) (mark : 
 
 -- the packet got one decision, with this action: the first match of its header under one version
 -- that was submitted before, and is above the mark at its entry
-pub record HasDecision (files : List (List Row)) (ts : List Told) (packet : ℕ) (action : Action)
+pub record HasDecision (files : List PolicyFile) (ts : List Told) (packet : ℕ) (action : Action)
     : Type 0 where
   pub before : List Told
   pub after : List Told
@@ -110,20 +111,20 @@ pub record HasDecision (files : List (List Row)) (ts : List Told) (packet : ℕ)
   pub acts : hit.action ≡ action
 
 -- the packet got its one decision before it ended, and none behind its end
-pub record IsDecidedOnce (files : List (List Row)) (before after : List Told) (packet : ℕ)
+pub record IsDecidedOnce (files : List PolicyFile) (before after : List Told) (packet : ℕ)
     (action : Action) : Type 0 where
   pub decided : HasDecision files before packet action
   pub none_later : All (DecidesOther packet) after
 
 -- a packet that is told to be dropped, or out by a port, was decided so
-abbrev pub IsJustified : List (List Row) → List Told → List Told → ℕ → End → Type 0
+abbrev pub IsJustified : List PolicyFile → List Told → List Told → ℕ → End → Type 0
 IsJustified files before after packet Dropped =
     IsDecidedOnce files before after packet action.Drop
 IsJustified files before after packet (LeftBy port) =
     IsDecidedOnce files before after packet (action.Out port)
 IsJustified files before after packet _ = ⊤
 
-abbrev pub AreJustified : List (List Row) → List Line → Type 0
+abbrev pub AreJustified : List PolicyFile → List Line → Type 0
 AreJustified files lines = (before after : List Told) (packet : ℕ) (end : End)
     → all_told lines ≡ before ++ told.Ended packet end ∷ after
     → IsJustified files before after packet end

@@ -1,20 +1,27 @@
 -- How a trace is read: each line may be a move of the abstract machine, and is good where
 -- the machine may take that move.
 use Rattle.std.specs.Prelude.{ℕ, ◌≡◌, ◌-◌, ◌≤◌, ◌==◌, if◌then◌else◌, Option, Some, None, option_to_list, List, [], ◌∷◌, length, slice_get}
+use Rattle.std.specs.Result.{result_ok}
 use Rattle.five_tuple.specs.Texts.{parts_round}
 use Rattle.five_tuple.specs.declared.header.Header.{Header}
 use Rattle.policy_rules.specs.Policy.{action_text, rule_text}
+use Rattle.policy_rules.specs.declared.file.PolicyFile.{PolicyFile}
 use Rattle.policy_rules.specs.declared.policy.Hit.{Hit}
 use Rattle.policy_rules.specs.declared.policy.Row.{Row}
 use Rattle.update_machine.specs.Machine.{Machine, Decides, Ends, Enters, Retires, Submits}
+use Rattle.update_machine.specs.Setting.{made_by}
 use Rattle.trace_audit.specs.Told.{Told, told_of}
 use Rattle.trace_audit.specs.Told as told
 
 -- ---- policies
 
--- the policy that a file makes of the newest one, if it makes one; files are numbered from 1
-abbrev pub made_by : List (List Row) → ℕ → Option (List Row) → Option (List Row)
-made_by files file newest = if file == 0 then None else slice_get files (file - 1)
+-- the file of a number, from 1, if it is there
+abbrev pub file_in : List PolicyFile → ℕ → Option PolicyFile
+file_in files file = if file == 0 then None else slice_get files (file - 1)
+
+-- the policy that it has, or makes of the newest one, if there is one
+abbrev pub policy_by : List PolicyFile → ℕ → Option (List Row) → Option (List Row)
+policy_by files file newest = result_ok (made_by (file_in files file) newest)
 
 abbrev pub newest_policy : List (List Row) → Option (List Row)
 newest_policy policies = slice_get policies (length policies - 1)
@@ -27,10 +34,10 @@ pub record State : Type 0 where
   pub pending : Option Header
 
 -- the policy of the first file, the mark 0, no packets, and no header that waits
-abbrev pub first_state : List (List Row) → State
+abbrev pub first_state : List PolicyFile → State
 first_state files = record {
   machine = record {
-    policies = option_to_list (made_by files 1 None);
+    policies = option_to_list (policy_by files 1 None);
     mark = 0;
     packets = λ _. None;
   };
@@ -47,12 +54,13 @@ pub record IsPrinted (rule action : List ℕ) (hit : Hit) : Type 0 where
   pub of_action : action ≡ action_text hit.action
 
 -- what is told leads from one state to another
-abbrev pub Follows : List (List Row) → State → Told → State → Type 0
+abbrev pub Follows : List PolicyFile → State → Told → State → Type 0
 Follows files old (told.Row header) new = new ≡ record old { pending = header }
 Follows files old (told.Entered packet) new = (header : Header) × (old.pending ≡ Some header)
     × Enters old.machine packet header new.machine × (new.pending ≡ None)
 Follows files old (told.Submitted file version) new =
-    Submits old.machine version (made_by files file (newest_policy old.machine.policies)) new.machine
+    Submits old.machine version (policy_by files file (newest_policy old.machine.policies))
+    new.machine
     × (version ≤ most_versions) × (new.pending ≡ old.pending)
 Follows files old (told.Retired version) new =
     Retires old.machine version new.machine × (new.pending ≡ old.pending)
@@ -84,20 +92,20 @@ unfoldable pub lines_of : List ℕ → List Line
 lines_of trace = lines_of_parts (parts_round 10 trace)
 
 -- a good line leads from one state to another; one without its line feed is bad
-abbrev pub ReadsLine : List (List Row) → State → Line → State → Type 0
+abbrev pub ReadsLine : List PolicyFile → State → Line → State → Type 0
 ReadsLine files old (Whole text) new =
     (told : Told) × (told_of text ≡ Some told) × Follows files old told new
 ReadsLine files old (Open text) new = ⊥
 
-abbrev pub IsGoodLine : List (List Row) → State → Line → Type 0
+abbrev pub IsGoodLine : List PolicyFile → State → Line → Type 0
 IsGoodLine files old line = (new : State) × ReadsLine files old line new
 
 -- good lines, one after another
-abbrev pub Reads : List (List Row) → State → List Line → State → Type 0
+abbrev pub Reads : List PolicyFile → State → List Line → State → Type 0
 Reads files old [] new = new ≡ old
 Reads files old (line ∷ lines) new =
     (middle : State) × ReadsLine files old line middle × Reads files middle lines new
 
 -- all these lines are good, from the beginning on
-abbrev pub AreGood : List (List Row) → List Line → Type 0
+abbrev pub AreGood : List PolicyFile → List Line → Type 0
 AreGood files lines = (new : State) × Reads files (first_state files) lines new

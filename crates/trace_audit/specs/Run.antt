@@ -1,12 +1,12 @@
 -- The moves that the lines of a trace tell, as items of a journal.
 use Rattle.std.specs.Prelude.{ℕ, ◌≡◌, List, [], ◌∷◌, ◌++◌}
 use Rattle.five_tuple.specs.declared.header.Header.{Header}
+use Rattle.policy_rules.specs.declared.file.PolicyFile.{PolicyFile}
 use Rattle.policy_rules.specs.declared.packet.Cause.{Cause}
 use Rattle.policy_rules.specs.declared.packet.How.{How}
 use Rattle.policy_rules.specs.declared.packet.Leaving.{Leaving}
 use Rattle.policy_rules.specs.declared.packet.Leg.{Leg}
 use Rattle.policy_rules.specs.declared.policy.Hit.{Hit}
-use Rattle.policy_rules.specs.declared.policy.Row.{Row}
 use Rattle.journal.specs.declared.item.Item.{Item}
 use Rattle.journal.specs.declared.item.Item.TheVariants as item
 use Rattle.update_machine.specs.Machine.{Dropped, IsRun, LeftBy, Lost, Stuck}
@@ -41,9 +41,9 @@ AreItems before [] items = items ≡ []
 AreItems before (first ∷ more) items = (front rest : List Item) × (items ≡ front ++ rest)
     × AreItemsOf before first front × AreItems (before ++ first ∷ []) more rest
 
--- the moves that the lines tell are a run of the machine that has the policies of these files, on
--- whatever network
-pub record AreRun (files : List (List Row)) (lines : List Line) : Type 0 where
+-- the moves that the lines tell are a run of the machine that has these files of policies and
+-- changes, on whatever network
+pub record AreRun (files : List PolicyFile) (lines : List Line) : Type 0 where
   pub moves : List Item
   pub told : AreItems [] (all_told lines) moves
-  pub run : (setting : Setting) → setting.policies ≡ files → IsRun setting moves
+  pub run : (setting : Setting) → setting.files ≡ files → IsRun setting moves

@@ -2,7 +2,7 @@
 use Rattle.std.specs.Prelude.{ℕ, ◌==◌, if◌then◌else◌, Bool, MatchBool, Option, Some, option_map, List}
 use Rattle.std.specs.Prelude.{nat_eq}
 use Rattle.std.specs.HashMap.{get}
-use Rattle.policy_rules.specs.declared.policy.Row.{Row}
+use Rattle.policy_rules.specs.declared.file.PolicyFile.{PolicyFile}
 use Rattle.update_machine.specs.Machine.{End, Dropped, LeftBy, Lost, Stuck, Packet}
 use Rattle.trace_audit.specs.Reading.{Follows, Line, ReadsLine, State}
 use Rattle.trace_audit.specs.Told.{Told}
@@ -59,11 +59,11 @@ abbrev pub with_one : (ℕ → Option Packet) → ℕ → Packet → ℕ → Opt
 with_one packets number packet = λ other. if other == number then Some packet else packets other
 
 -- what was told led from one state to another; or it leads to none
-abbrev pub IsTaken : List (List Row) → State → Told → State → Bool → Type 0
+abbrev pub IsTaken : List PolicyFile → State → Told → State → Bool → Type 0
 IsTaken files old told new good = MatchBool good
     (Follows files old told new) ((other : State) → Follows files old told other → ⊥)
 
 -- the same of a line
-abbrev pub IsRead : List (List Row) → State → Line → State → Bool → Type 0
+abbrev pub IsRead : List PolicyFile → State → Line → State → Bool → Type 0
 IsRead files old line new good = MatchBool good
     (ReadsLine files old line new) ((other : State) → ReadsLine files old line other → ⊥)

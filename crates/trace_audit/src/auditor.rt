@@ -1,16 +1,21 @@
-ghost use Rattle.std.specs.Prelude.{◌≡◌, ◌↔◌, IfOk, IsTrue, List, option_copied};
+ghost use Rattle.std.specs.Prelude.{◌≡◌, ◌↔◌, IfOk, IsTrue, List, Some, option_copied};
+ghost use Rattle.std.specs.Result.{result_ok};
+ghost use Rattle.policy_rules.specs.Applied.{applied};
 ghost use Rattle.policy_rules.specs.Policy.{IsFirstMatch};
+ghost use Rattle.policy_rules.specs.declared.file.PolicyFile.{PolicyFile};
 ghost use Rattle.policy_rules.specs.declared.policy.Hit.{Hit};
-ghost use Rattle.policy_rules.specs.declared.policy.Row.{Row};
 ghost use Rattle.update_machine.specs.Machine.{MayEnd};
-ghost use Rattle.trace_audit.specs.Reading.{first_state, made_by};
+ghost use Rattle.trace_audit.specs.Reading.{file_in, first_state, policy_by};
+ghost use Rattle.update_machine.specs.Setting.{made_by};
 ghost use Rattle.trace_audit.specs.Seen.{IsTaken, end_seen, packet_seen, state_seen, told_seen};
 ghost use Rattle.trace_audit.specs.Told as told;
 
 use crate::packets::{Packet, Packets};
 use crate::printed::is_printed;
 use crate::told::{End, Told};
-use policy_rules::{Action, Header, Hit, Policy, policy_laws};
+use policy_rules::{
+    Action, Amendment, ApplyError, Header, Hit, Policy, PolicyFile, apply, policy_laws,
+};
 use std::alloc::{AllocError, Global};
 
 /// At most so many versions are submitted.
@@ -26,21 +31,59 @@ pub(crate) struct Auditor {
     pending: Option<Header>,
 }
 
-/// The policy that a file makes of the newest one, if it makes one.
+/// The policy that a file has, or makes of the newest one, if there is one.
+#[tactic(auto, using(crate::proofs::Made::policy_of, crate::proofs::Made::no_policy))]
 fn policy_by(
     alloc: Global,
-    files: &[Policy],
+    files: &[PolicyFile],
     file: u32,
     newest: Option<&Policy>,
 ) -> Result<Option<Policy>, AllocError>
-    ensures { IfOk result (λ made. made ≡ made_by files.now file (option_copied newest.entry)) }
+    ensures { IfOk result (λ made. made ≡ policy_by files.now file (option_copied newest.entry)) }
+{
+    match file_in(files, file) {
+        Some(file) => made_by(alloc, file, newest),
+        None => Ok(None),
+    }
+}
+
+// The file of this number, from 1, if it is there.
+fn file_in(files: &[PolicyFile], file: u32) -> Option<&PolicyFile>
+    ensures { option_copied result ≡ file_in files.now file }
 {
     if file == 0 {
-        return Ok(None);
+        return None;
     }
-    match files.get(file as usize - 1) {
-        Some(policy) => Ok(Some(policy.clone()?)),
-        None => Ok(None),
+    files.get(file as usize - 1)
+}
+
+// What the file makes of the newest policy, if there is one.
+fn made_by(
+    alloc: Global,
+    file: &PolicyFile,
+    newest: Option<&Policy>,
+) -> Result<Option<Policy>, AllocError>
+    ensures { IfOk result (λ made. made
+        ≡ result_ok (made_by (Some file.now) (option_copied newest.entry))) }
+{
+    match file {
+        PolicyFile::Whole(policy) => Ok(Some(policy.clone()?)),
+        PolicyFile::Change(change) => match newest {
+            Some(policy) => changed(alloc, policy, change),
+            None => Ok(None),
+        },
+    }
+}
+
+// The policy with the change applied to it, if it can be.
+#[tactic(auto, using(crate::proofs::Made::some_made, crate::proofs::Made::none_made))]
+fn changed(alloc: Global, policy: &Policy, change: &Amendment) -> Result<Option<Policy>, AllocError>
+    ensures { IfOk result (λ made. made ≡ result_ok (applied policy.now change.now)) }
+{
+    match apply(alloc, policy, change) {
+        Ok(amended) => Ok(Some(amended)),
+        Err(ApplyError::Refused(_)) => Ok(None),
+        Err(ApplyError::NoMemory) => Err(AllocError),
     }
 }
 
@@ -59,7 +102,7 @@ impl Auditor {
     ///
     /// # Errors
     /// Want of memory alone.
-    pub fn new(alloc: Global, files: &[Policy]) -> Result<Auditor, AllocError>
+    pub fn new(alloc: Global, files: &[PolicyFile]) -> Result<Auditor, AllocError>
         ensures { IfOk result (λ auditor. state_seen auditor ≡ first_state files.now) }
     {
         let mut policies = Vec::new(alloc);
@@ -75,7 +118,7 @@ impl Auditor {
     }
 
     fn enter(&mut self, number: u32) -> Result<bool, AllocError>
-        ensures { (files : List (List Row)) → IfOk result
+        ensures { (files : List PolicyFile) → IfOk result
             (IsTaken files (state_seen self.old) (told.Entered number) (state_seen self.new)) }
     {
         let Some(header) = self.pending else {
@@ -100,7 +143,7 @@ impl Auditor {
     fn submit(
         &mut self,
         alloc: Global,
-        files: &[Policy],
+        files: &[PolicyFile],
         file: u32,
         version: u32,
     ) -> Result<bool, AllocError>
@@ -119,7 +162,7 @@ impl Auditor {
     }
 
     fn retire(&mut self, version: u32) -> bool
-        ensures { (files : List (List Row)) →
+        ensures { (files : List PolicyFile) →
             IsTaken files (state_seen self.old) (told.Retired version) (state_seen self.new) result }
     {
         if version <= self.mark || version as usize >= self.policies.len() {
@@ -136,7 +179,7 @@ impl Auditor {
         rule: &[u8],
         action: &[u8],
     ) -> Result<bool, AllocError>
-        ensures { (files : List (List Row)) → IfOk result
+        ensures { (files : List PolicyFile) → IfOk result
             (IsTaken files (state_seen self.old) (told.Decided number version rule.now action.now) (state_seen self.new)) }
     {
         let Some(packet) = self.packets.get(number) else {
@@ -163,7 +206,7 @@ impl Auditor {
     }
 
     fn end(&mut self, number: u32, end: End) -> Result<bool, AllocError>
-        ensures { (files : List (List Row)) → IfOk result
+        ensures { (files : List PolicyFile) → IfOk result
             (IsTaken files (state_seen self.old) (told.Ended number (end_seen end)) (state_seen self.new)) }
     {
         let Some(packet) = self.packets.get(number) else {
@@ -186,7 +229,12 @@ impl Auditor {
     ///
     /// # Errors
     /// Want of memory alone.
-    pub fn take(&mut self, alloc: Global, files: &[Policy], told: &Told) -> Result<bool, AllocError>
+    pub fn take(
+        &mut self,
+        alloc: Global,
+        files: &[PolicyFile],
+        told: &Told,
+    ) -> Result<bool, AllocError>
         ensures { IfOk result (IsTaken files.now (state_seen self.old) (told_seen told.now) (state_seen self.new)) }
     {
         match *told {

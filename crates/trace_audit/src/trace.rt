@@ -1,5 +1,5 @@
 ghost use Rattle.std.specs.Prelude.{◌≡◌, ◌↔◌, All, IfOk};
-ghost use Rattle.policy_rules.specs.Policy.{IsPolicy};
+ghost use Rattle.policy_rules.specs.PolicyFiles.{IsPolicyFile};
 ghost use Rattle.trace_audit.specs.Decided.{AreJustified};
 ghost use Rattle.trace_audit.specs.Reading.{AreGood, Whole, lines_of};
 ghost use Rattle.trace_audit.specs.Run.{AreRun};
@@ -10,7 +10,7 @@ ghost use Rattle.trace_audit.specs.declared.trace.Verdict.TheVariants.{Yes};
 use crate::auditor::Auditor;
 use crate::told::read_line;
 use crate::words::cut;
-use policy_rules::Policy;
+use policy_rules::PolicyFile;
 use std::alloc::{AllocError, Global};
 
 /// What is said of a trace.
@@ -23,13 +23,14 @@ pub enum Verdict {
     No { line: u32 },
 }
 
-/// Whether the trace is the printed run of an abstract machine that has the policies of these files,
-/// and begins with the first one: each line that tells a move tells one that the machine may take
-/// then, and no line is of another form than those of a journal.
+/// Whether the trace is the printed run of an abstract machine that has these files of policies and
+/// changes, and begins with the policy of the first one: each line that tells a move tells one that
+/// the machine may take then, and no line is of another form than those of a journal. Where the
+/// first file is a change, the machine begins with no policy.
 ///
 /// # Errors
 /// Want of memory alone.
-pub fn audit(alloc: Global, trace: &[u8], files: &[Policy]) -> Result<Verdict, AllocError>
+pub fn audit(alloc: Global, trace: &[u8], files: &[PolicyFile]) -> Result<Verdict, AllocError>
     ensures verdict { IfOk result (IsVerdict files.now (lines_of trace.now)) }
     ensures exactly { IfOk result
         (λ verdict. (verdict ≡ Yes) ↔ AreGood files.now (lines_of trace.now)) }
@@ -57,12 +58,25 @@ pub fn audit(alloc: Global, trace: &[u8], files: &[Policy]) -> Result<Verdict, A
     Ok(Verdict::Yes)
 }
 
-// Each file's rows are a policy, which is known where they are read.
-fn files_are_sound(files: &[Policy])
-    ensures { All IsPolicy files.now }
+// What holds of each file is known where it is read.
+fn files_are_sound(files: &[PolicyFile])
+    ensures { All IsPolicyFile files.now }
 {
-    for policy in files {
-        let _rows = policy.rows();
+    for file in files {
+        file_is_sound(file);
+    }
+}
+
+fn file_is_sound(file: &PolicyFile)
+    ensures { IsPolicyFile file.now }
+{
+    match file {
+        PolicyFile::Whole(policy) => {
+            let _rows = policy.rows();
+        }
+        PolicyFile::Change(change) => {
+            let _edits = change.edits();
+        }
     }
 }
 
@@ -71,7 +85,7 @@ fn files_are_sound(files: &[Policy])
 fn take_line(
     auditor: &mut Auditor,
     alloc: Global,
-    files: &[Policy],
+    files: &[PolicyFile],
     line: &[u8],
 ) -> Result<bool, AllocError>
     ensures { IfOk result

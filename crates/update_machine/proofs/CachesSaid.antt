@@ -11,8 +11,8 @@ use Rattle.journal.specs.declared.item.Item.{Item}
 use Rattle.journal.specs.declared.item.Item.TheVariants as item
 use Rattle.update_machine.specs.Boots.{boot_of, heard, is_up}
 use Rattle.update_machine.specs.Caches.{cache_of, lookup_at, raised_from}
-use Rattle.update_machine.specs.Setting.{Setting}
-use Rattle.update_machine.specs.Versions.{stamp_of, file_of, plan_at}
+use Rattle.update_machine.specs.Setting.{Setting, file_of, policy_in}
+use Rattle.update_machine.specs.Versions.{stamp_of, plan_at}
 use Rattle.update_machine.specs.Links.{message_of}
 use Rattle.update_machine.proofs.Examples.{all_dropped, any_word, by_action, denied, on, one, out_or_drop, plan_p, to, two_switches, web}
 
@@ -20,7 +20,7 @@ use Rattle.update_machine.proofs.Examples.{all_dropped, any_word, by_action, den
 abbrev moved : Setting
 moved = record {
   net = two_switches;
-  policies = out_or_drop;
+  files = out_or_drop;
   plan = by_action (Ok plan_p) (Ok (on (0 ∷ []) all_dropped));
 }
 
@@ -100,32 +100,32 @@ empty_at_b = refl
 
 -- a version that was submitted says nothing before its stamp
 pub by_the_stamp : lookup_at moved (item.Submitted 2 2 ∷ []) 0 one ≡ Redirect 0 (1 ∷ [])
-unfolding lookup_at plan_at cache_of stamp_of heard is_up boot_of message_of file_of holds
+unfolding lookup_at plan_at cache_of stamp_of heard is_up boot_of message_of file_of policy_in holds
 by_the_stamp = refl
 
 pub by_the_next_stamp :
     lookup_at moved (item.Submitted 2 2 ∷ stamped 1 2) 0 one ≡ Authority 0 0
-unfolding lookup_at plan_at cache_of stamp_of heard is_up boot_of message_of file_of holds
+unfolding lookup_at plan_at cache_of stamp_of heard is_up boot_of message_of file_of policy_in holds
 by_the_next_stamp = refl
 
 -- nor do entries of another version than the stamp
 pub no_entry_of_the_stamp :
     lookup_at moved (item.Submitted 2 2 ∷ cached 1 2 any_word) 0 one ≡ Redirect 0 (1 ∷ [])
-unfolding lookup_at plan_at cache_of stamp_of heard is_up boot_of message_of file_of holds same_key
+unfolding lookup_at plan_at cache_of stamp_of heard is_up boot_of message_of file_of policy_in holds same_key
 no_entry_of_the_stamp = refl
 
 pub entry_of_the_stamp :
     lookup_at moved (item.Submitted 2 2 ∷ cached 1 2 any_word ++ stamped 2 2) 0 one
     ≡ Cached (entry 1 2 any_word)
-unfolding lookup_at plan_at cache_of stamp_of heard is_up boot_of message_of file_of holds same_key
+unfolding lookup_at plan_at cache_of stamp_of heard is_up boot_of message_of file_of policy_in holds same_key
 entry_of_the_stamp = refl
 
 -- of two entries that hold a header the first one, and none where none holds it
 pub first_entry_first :
     lookup_at moved (cached 1 1 web ++ cached 2 1 any_word) 0 denied ≡ Cached (entry 1 1 web)
-unfolding lookup_at plan_at cache_of stamp_of heard is_up boot_of message_of file_of holds same_key
+unfolding lookup_at plan_at cache_of stamp_of heard is_up boot_of message_of file_of policy_in holds same_key
 first_entry_first = refl
 
 pub entry_without_it : lookup_at moved (cached 1 1 web) 0 one ≡ Redirect 0 (1 ∷ [])
-unfolding lookup_at plan_at cache_of stamp_of heard is_up boot_of message_of file_of holds same_key
+unfolding lookup_at plan_at cache_of stamp_of heard is_up boot_of message_of file_of policy_in holds same_key
 entry_without_it = refl

@@ -81,7 +81,7 @@ campus_net = record {
 abbrev campus : Setting
 campus = record {
   net = campus_net;
-  policies = out_or_drop;
+  files = out_or_drop;
   plan = by_action (Ok plan_1) (Ok plan_2);
 }
 

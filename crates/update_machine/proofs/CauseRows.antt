@@ -12,9 +12,10 @@ use Rattle.journal.specs.declared.item.Item.{Item}
 use Rattle.journal.specs.declared.item.Item.TheVariants as item
 use Rattle.update_machine.specs.Causes.{AreTargets, HasCause, HaveCauses, Leads, is_open, present_step}
 use Rattle.update_machine.proofs.Enclosed.{ends_within}
-use Rattle.update_machine.proofs.Examples.{all_dropped, any_word, leaving, on, one, open_net, ring, shielded}
+use Rattle.update_machine.proofs.Examples.{all_dropped, all_to, any_word, leaving, on, one, open_net, ring, shielded}
 use Rattle.update_machine.proofs.LinkRows.{round}
 use Rattle.update_machine.specs.Links.{claim_of, is_link_up, serves, message_of}
+use Rattle.update_machine.specs.Setting.{file_of, policy_in}
 use Rattle.update_machine.specs.Packets.{header_in, standing, decision_of}
 use Rattle.ternary.specs.Word.{holds}
 
@@ -76,13 +77,13 @@ no_path_left path leads =
     in absurd cc
 
 own_leg_there : AreTargets ring behind 1 (leg.Seek 1 0) (3 ∷ [])
-unfolding header_in holds decision_of
+unfolding header_in holds decision_of policy_in file_of
 own_leg_there = (
   refl,
   one,
   refl,
   on (3 ∷ []) all_dropped,
-  (1, inl (refl, refl), refl),
+  (all_to (Out 2) ∷ [], refl, refl),
   (record { number = 0; region = any_word; rules = all_dropped }, 3 ∷ []),
   (0, omega arith, refl),
   refl,

@@ -1,7 +1,7 @@
 -- What switches can use and know of links, what packets found down, and the plans of versions, as
 -- items say it: against the masks, sets and functions that compute them.
-use Rattle.std.proofs.Common.{ℕ, suc, ◌≡◌, ◌^◌, ◌<◌, ◌⊎◌, min, max, Bool, true, false, ◌&&◌, ◌||◌, ◌==◌, Option, Some, None, List, [], ◌∷◌, ◌++◌, length, get_or, set, refl, ap, sym, ◌∙◌, arith, inl, inr, get_or-set_other, get_or-set_same}
-use Rattle.std.specs.Prelude.{Contains, IsFalse, IsTrue, Result, Ok, Err, bit_or, filter, option_and_then, unwrap_or}
+use Rattle.std.proofs.Common.{ℕ, ◌≡◌, ◌^◌, ◌<◌, ◌⊎◌, min, max, Bool, true, false, ◌&&◌, ◌||◌, ◌==◌, Option, Some, None, List, [], ◌∷◌, ◌++◌, length, get_or, set, refl, ap, sym, ◌∙◌, arith, inl, inr, get_or-set_other, get_or-set_same}
+use Rattle.std.specs.Prelude.{Contains, IsFalse, IsTrue, Result, Ok, Err, bit_or, filter}
 use Rattle.std.specs.List.{list_any}
 use Rattle.std.specs.Option.{option_map_or}
 use Rattle.std.proofs.lemmas.Bool.{cases_eq, cases_lt, false_from_ne_true, or_left, or_right}
@@ -20,10 +20,10 @@ use Rattle.journal.specs.declared.item.Item.{Item}
 use Rattle.journal.specs.declared.item.Item.TheVariants as item
 use Rattle.update_machine.specs.Causes.{finds_down}
 use Rattle.update_machine.specs.Folds.{folded_from}
-use Rattle.update_machine.specs.Versions.{first_given, file_of, hosted_in, plan_at, gives_file}
+use Rattle.update_machine.specs.Versions.{hosted_in, plan_at}
 use Rattle.update_machine.specs.LinkMasks.{near, usable_links}
 use Rattle.update_machine.specs.Links.{can_use, is_usable}
-use Rattle.update_machine.specs.Setting.{IsFileOf, IsPlanOf, Setting, plan_of_file, policy_of_file}
+use Rattle.update_machine.specs.Setting.{IsPlanOf, Setting, policy_in}
 use Rattle.update_machine.specs.Ways.{changes_found, found_down}
 
 -- ---- links that switches can use
@@ -158,73 +158,26 @@ link_not_found journal i one two none =
 
 -- ---- plans of versions
 
--- what stands behind the first item
-contains_later : (next : Item) (items : List Item) (x : Item) → Contains items x
-    → Contains (next ∷ items) x
-contains_later next items x there = (suc there.0, omega (arith, there.1), there.2)
-
-file_told : (version file : ℕ) (journal : List Item)
-    → first_given (gives_file version) journal ≡ Some file
-    → Contains journal (item.Submitted file version)
-file_told version file [] is = absurd cc
-file_told version file (item.Submitted other of ∷ items) is =
-    by_version (of == version) refl (file_told version file items) is
-  where
-    by_version : (b : Bool) → (of == version) ≡ b
-        → (first_given (gives_file version) items ≡ Some file
-        → Contains items (item.Submitted file version))
-        → first_given (gives_file version) (item.Submitted other of ∷ items) ≡ Some file
-        → Contains (item.Submitted other of ∷ items) (item.Submitted file version)
-    by_version true e rest is =
-        let same : of ≡ version = grind (arith, nat_tests) in
-        let told : Some other ≡ Some file = rw e at is in (
-          0,
-          omega arith,
-          ap (λ o. item.Submitted (unwrap_or o other) of) told
-              ∙ ap (item.Submitted file) same,
-        )
-    by_version false e rest is = contains_later (item.Submitted other of) items
-        (item.Submitted file version) (rest (rw e at is))
-file_told version file (next ∷ items) is =
-    contains_later next items (item.Submitted file version) (file_told version file items is)
-
-file_is : (journal : List Item) (version file : ℕ) → file_of journal version ≡ Some file
-    → IsFileOf journal version file
-unfolding file_of
-file_is journal version file is = elim (cases_eq version 1) [
-  | inl first ↦ inl (first, grind (arith, nat_tests))
-  | inr apart ↦ inr (file_told version file journal (grind (arith, nat_tests)))
-]
-
--- a plan that has a partition is that of the file of its version
+-- a plan that has a partition is that of its version's policy
 pub plan_is : (setting : Setting) (journal : List Item) (version : ℕ) (hosted : Hosted)
     → Contains (plan_at setting journal version) hosted
     → IsPlanOf setting journal version (plan_at setting journal version)
 unfolding plan_at
 plan_is setting journal version hosted there =
-    by_file (file_of journal version) refl there
+    by_policy (policy_in setting journal version) refl there
   where
     plan_by : Option (List Row) → List Hosted
     plan_by policy = option_map_or (λ rows. hosted_in (setting.plan rows)) policy []
 
-    by_plan : (file : ℕ) (rows : List Row) (plan : Result (List Hosted) NoPlan)
-        → IsFileOf journal version file → policy_of_file setting file ≡ Some rows
-        → setting.plan rows ≡ plan → Contains (hosted_in plan) hosted
+    by_plan : (rows : List Row) (plan : Result (List Hosted) NoPlan)
+        → policy_in setting journal version ≡ Some rows → setting.plan rows ≡ plan
+        → Contains (hosted_in plan) hosted
         → IsPlanOf setting journal version (hosted_in plan)
-    by_plan file rows (Err why) of policy is there = absurd (omega (arith, there.1))
-    by_plan file rows (Ok plan) of policy is there = (file, of, rw (policy, plan_of_file) is)
+    by_plan rows (Err why) policy is there = absurd (omega (arith, there.1))
+    by_plan rows (Ok plan) policy is there = (rows, policy, is)
 
-    by_policy : (file : ℕ) (policy : Option (List Row)) → IsFileOf journal version file
-        → policy_of_file setting file ≡ policy → Contains (plan_by policy) hosted
+    by_policy : (policy : Option (List Row)) → policy_in setting journal version ≡ policy
+        → Contains (plan_by policy) hosted
         → IsPlanOf setting journal version (plan_by policy)
-    by_policy file None of is there = absurd (omega (arith, there.1))
-    by_policy file (Some rows) of is there =
-        by_plan file rows (setting.plan rows) of is refl there
-
-    by_file : (file : Option ℕ) → file_of journal version ≡ file
-        → Contains (plan_by (option_and_then (policy_of_file setting) file)) hosted
-        → IsPlanOf setting journal version
-        (plan_by (option_and_then (policy_of_file setting) file))
-    by_file None is there = absurd (omega (arith, there.1))
-    by_file (Some file) is there =
-        by_policy file (policy_of_file setting file) (file_is journal version file is) refl there
+    by_policy None is there = absurd (omega (arith, there.1))
+    by_policy (Some rows) is there = by_plan rows (setting.plan rows) is refl there

@@ -2,8 +2,9 @@
 use Rattle.std.proofs.Common.{List, []}
 use Rattle.journal.specs.declared.item.Item.{Item}
 use Rattle.update_machine.specs.Answers.{StepOfRow, after_steps}
-use Rattle.update_machine.specs.Setting.{Setting}
+use Rattle.update_machine.specs.Setting.{Setting, file_of, policy_in}
 -- ---- names that compute
+use Rattle.policy_rules.specs.Applied.{applied}
 use Rattle.update_machine.specs.Adverts.{own_seq, own_advert, adverts_known, held_adverts, route_from, is_cut_off}
 use Rattle.update_machine.specs.Boots.{boot_of, is_up, heard}
 use Rattle.update_machine.specs.Caches.{cache_of, lookup_at}
@@ -18,7 +19,7 @@ use Rattle.update_machine.specs.Pieces.{packet_items, hop_items, lose_items, del
 use Rattle.update_machine.specs.Quiet.{sendings}
 use Rattle.update_machine.specs.Settling.{current_items, open_items, retired_items, settling, installs_to, installs_to_all, resent_by_controller}
 use Rattle.update_machine.specs.Steps.{steps_in}
-use Rattle.update_machine.specs.Versions.{version_count, stamp_of, holds_version, file_of, next_plan, plan_at}
+use Rattle.update_machine.specs.Versions.{version_count, stamp_of, holds_version, next_policy, plan_at}
 use Rattle.update_machine.specs.Causes.{present_step}
 use Rattle.update_machine.specs.Travels.{ingress_of, travels, next_travelling, leg_of}
 use Rattle.update_machine.specs.Ways.{route_in, route_place, next_switch, found_down}
@@ -46,7 +47,7 @@ unfolding own_seq own_advert adverts_known held_adverts route_from is_cut_off bo
     route_place next_switch found_down packet_items hop_items lose_items deliver_items
     forget_items expire_items update_items link_items crash_items restart_items confirm_items
     resend_items piece sendings current_items open_items retired_items settling installs_to
-    installs_to_all resent_by_controller steps_in present_step version_count file_of next_plan plan_at
+    installs_to_all resent_by_controller steps_in present_step version_count file_of policy_in next_policy applied plan_at
     stamp_of holds_version has mask_where mask_of switches least_in is_news after_hearing first_adverts
     names_neighbour named_links is_link known_links is_isolated grown_ball ball least_neighbour_in
     path_after links_away route_to

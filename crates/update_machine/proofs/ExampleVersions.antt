@@ -1,59 +1,54 @@
 -- The versions of the open network, where the second one is submitted with the second file: what
 -- trials cite, here and above.
-use Rattle.std.proofs.Common.{ℕ, zero, suc, ◌≡◌, ◌<◌, Some, List, [], ◌∷◌, ◌++◌, get_or, length, refl, ap, sym, subst, ◌∙◌, arith, inl, inr}
-use Rattle.std.specs.Prelude.{Contains, IsFalse, Ok, Result, option_and_then, unwrap_or}
+use Rattle.std.proofs.Common.{◌≡◌, Option, Some, List, [], ◌∷◌, ◌++◌, refl, ap, sym, subst, ◌∙◌}
+use Rattle.std.specs.Prelude.{Ok, Result, option_and_then, unwrap_or}
+use Rattle.std.specs.Result.{result_ok}
 use Rattle.std.specs.Option.{option_map_or, option_or}
 use Rattle.partition.specs.Plan.{Hosted}
 use Rattle.policy_rules.specs.Hosted.{NoPlan}
+use Rattle.policy_rules.specs.declared.policy.Row.{Row}
 use Rattle.policy_rules.specs.declared.policy.Action.TheVariants.{Drop, Out}
 use Rattle.journal.specs.declared.item.Item.{Item}
 use Rattle.journal.specs.declared.item.Item.TheVariants as item
 use Rattle.update_machine.specs.Concerns.{NoneConcern, concerns_policies}
-use Rattle.update_machine.specs.Setting.{IsPlanOf, plan_of_file, policy_of_file}
-use Rattle.update_machine.specs.Versions.{HasPlan, file_of, hosted_in, plan_at, policy_at}
-use Rattle.update_machine.proofs.Claims.{plan_is}
-use Rattle.update_machine.proofs.Examples.{all_dropped, all_to, any_word, open_net, plan_p, plan_q}
+use Rattle.update_machine.specs.Setting.{IsPlanOf, file_of, policy_by, policy_in}
+use Rattle.update_machine.specs.Versions.{HasPlan, hosted_in, plan_at, policy_at}
+use Rattle.update_machine.proofs.Examples.{all_to, open_net, plan_p, plan_q}
 use Rattle.update_machine.proofs.Policies.{file_append}
 use Rattle.update_machine.proofs.SilentLinks.{policies_keep}
 
 -- ---- the first version
 
+first_rows : (journal : List Item) → policy_in open_net journal 1 ≡ Some (all_to (Out 2) ∷ [])
+unfolding policy_in file_of
+first_rows journal = refl
+
 pub first_policy : (journal : List Item) → policy_at open_net journal 1 ≡ all_to (Out 2) ∷ []
-unfolding policy_at file_of
-first_policy journal = refl
+unfolding policy_at
+first_policy journal = ap (λ o. unwrap_or o []) (first_rows journal)
 
 pub first_plan : (journal : List Item) → plan_at open_net journal 1 ≡ plan_p
-unfolding plan_at file_of
-first_plan journal = refl
+unfolding plan_at
+first_plan journal =
+    ap (λ o. option_map_or (λ rows. hosted_in (open_net.plan rows)) o []) (first_rows journal)
 
 pub first_planned : (journal : List Item) → HasPlan open_net journal 1
-unfolding policy_at plan_at file_of
+unfolding policy_at plan_at policy_in file_of
 first_planned journal = record { policy = refl; plan = refl }
 
 pub of_first : (journal : List Item) → IsPlanOf open_net journal 1 plan_p
-of_first journal = (1, inl (refl, refl), refl)
+of_first journal = (all_to (Out 2) ∷ [], first_rows journal, refl)
 
--- where nothing was submitted it has no other plan
-pub first_alone : (journal : List Item) (plan : List Hosted)
-    → NoneConcern concerns_policies [] journal → IsPlanOf open_net journal 1 plan
+-- it has no other plan
+pub first_alone : (journal : List Item) (plan : List Hosted) → IsPlanOf open_net journal 1 plan
     → plan ≡ plan_p
-first_alone journal plan none (file, inl first, planned) =
-    let own : ◌≡◌ {A = Result (List Hosted) NoPlan} (Ok plan_p) (Ok plan) =
-    subst (λ f. plan_of_file open_net f ≡ Ok plan) first.1 planned in
-    cc
-first_alone journal plan none (file, inr there, planned) =
-    absurd (not_there [] journal file 1 there.0 none there.1 there.2)
-  where
-    not_there : (before items : List Item) (file version k : ℕ)
-        → NoneConcern concerns_policies before items → k < length items
-        → get_or items k (item.Submitted file version) ≡ item.Submitted file version → ⊥
-    not_there before [] file version k none within is = absurd (omega (arith, within))
-    not_there before (next ∷ items) file version zero none within is =
-        let submits : IsFalse (concerns_policies before (item.Submitted file version)) =
-        subst (λ one. IsFalse (concerns_policies before one)) is none.0 in
-        absurd cc
-    not_there before (next ∷ items) file version (suc k) none within is =
-        not_there (before ++ next ∷ []) items file version k none.1 (omega (arith, within)) is
+first_alone journal plan (rows, policy, planned) =
+    let same : ◌≡◌ {A = Option (List Row)} (Some rows) (Some (all_to (Out 2) ∷ [])) =
+    sym policy ∙ first_rows journal in
+    let own : rows ≡ all_to (Out 2) ∷ [] = cc same in
+    let plans : ◌≡◌ {A = Result (List Hosted) NoPlan} (Ok plan_p) (Ok plan) =
+    subst (λ these. open_net.plan these ≡ Ok plan) own planned in
+    cc plans
 
 -- ---- the second one, behind items that submit nothing
 
@@ -64,20 +59,26 @@ second_file before items none =
     file_append before (item.Submitted 2 2 ∷ items) 2
     ∙ ap (λ o. option_or o (Some 2)) ((policies_keep [] before none).file 2)
 
+second_rows : (before items : List Item) → NoneConcern concerns_policies [] before
+    → policy_in open_net (before ++ item.Submitted 2 2 ∷ items) 2 ≡ Some (all_to Drop ∷ [])
+unfolding policy_in
+second_rows before items none =
+    let journal : List Item = before ++ item.Submitted 2 2 ∷ items in
+    ap (option_and_then
+    (λ file. result_ok (policy_by open_net (policy_in open_net journal 1) file)))
+    (second_file before items none)
+
 pub second_policy : (before items : List Item) → NoneConcern concerns_policies [] before
     → policy_at open_net (before ++ item.Submitted 2 2 ∷ items) 2 ≡ all_to Drop ∷ []
 unfolding policy_at
-second_policy before items none =
-    ap (λ o. unwrap_or (option_and_then (policy_of_file open_net) o) [])
-    (second_file before items none)
+second_policy before items none = ap (λ o. unwrap_or o []) (second_rows before items none)
 
 pub second_plan : (before items : List Item) → NoneConcern concerns_policies [] before
     → plan_at open_net (before ++ item.Submitted 2 2 ∷ items) 2 ≡ plan_q
 unfolding plan_at
 second_plan before items none =
-    ap (λ o. option_map_or (λ rows. hosted_in (open_net.plan rows))
-    (option_and_then (policy_of_file open_net) o) [])
-    (second_file before items none)
+    ap (λ o. option_map_or (λ rows. hosted_in (open_net.plan rows)) o [])
+    (second_rows before items none)
 
 pub second_planned : (before items : List Item) → NoneConcern concerns_policies [] before
     → HasPlan open_net (before ++ item.Submitted 2 2 ∷ items) 2
@@ -85,24 +86,15 @@ second_planned before items none =
     let policy = second_policy before items none in
     let plan = second_plan before items none in
     record {
-      policy = ap (option_and_then (policy_of_file open_net)) (second_file before items none)
-          ∙ ap Some (sym policy);
+      policy = second_rows before items none ∙ ap Some (sym policy);
       plan = ap open_net.plan policy ∙ ap Ok (sym plan);
     }
 
 pub of_second : (before items : List Item) → NoneConcern concerns_policies [] before
     → IsPlanOf open_net (before ++ item.Submitted 2 2 ∷ items) 2 plan_q
-of_second before items none =
-    let journal : List Item = before ++ item.Submitted 2 2 ∷ items in
-    let own : plan_at open_net journal 2 ≡ plan_q = second_plan before items none in
-    subst (IsPlanOf open_net journal 2) own
-    (plan_is open_net journal 2 part
-    (subst (λ plan. Contains plan part) (sym own) (0, omega arith, refl)))
-  where
-    part : Hosted
-    part = (record { number = 0; region = any_word; rules = all_dropped }, 1 ∷ [])
+of_second before items none = (all_to Drop ∷ [], second_rows before items none, refl)
 
 -- a version of a file that isn't there has no plan
 pub none_of_7 : (items : List Item) → HasPlan open_net (item.Submitted 7 2 ∷ items) 2 → ⊥
-unfolding policy_at file_of
+unfolding policy_at policy_in file_of
 none_of_7 items has = cc has.policy

@@ -11,6 +11,8 @@ use Rattle.net_file.specs.declared.net.SwitchRow.{SwitchRow}
 use Rattle.partition.specs.Plan.{Hosted}
 use Rattle.policy_rules.specs.declared.rules.Rule.{Rule}
 use Rattle.policy_rules.specs.declared.packet.Leaving.{Leaving}
+use Rattle.policy_rules.specs.declared.file.PolicyFile.{PolicyFile}
+use Rattle.policy_rules.specs.declared.file.PolicyFile.TheVariants.{Whole}
 use Rattle.policy_rules.specs.declared.policy.Action.{Action}
 use Rattle.policy_rules.specs.declared.policy.Action.TheVariants.{Drop, Out}
 use Rattle.policy_rules.specs.declared.policy.Row.{Row}
@@ -84,8 +86,8 @@ all_to action = record {
 }
 
 -- the first file lets all out by port 2, the second one drops all
-abbrev pub out_or_drop : List (List Row)
-out_or_drop = (all_to (Out 2) ∷ []) ∷ (all_to Drop ∷ []) ∷ []
+abbrev pub out_or_drop : List PolicyFile
+out_or_drop = Whole (all_to (Out 2) ∷ []) ∷ Whole (all_to Drop ∷ []) ∷ []
 
 -- the plan of the policy that lets out, and of the one that drops
 abbrev pub by_action : Result (List Hosted) NoPlan → Result (List Hosted) NoPlan → List Row
@@ -161,12 +163,12 @@ two_switches =
 
 abbrev pub shielded : Setting
 shielded =
-    record { net = two_switches; policies = out_or_drop; plan = λ rows. Ok shield_plan }
+    record { net = two_switches; files = out_or_drop; plan = λ rows. Ok shield_plan }
 
 abbrev pub open_net : Setting
 open_net = record {
   net = two_switches;
-  policies = out_or_drop;
+  files = out_or_drop;
   plan = by_action (Ok plan_p) (Ok plan_q);
 }
 
@@ -181,7 +183,7 @@ ring_net =
 abbrev pub ring : Setting
 ring = record {
   net = ring_net;
-  policies = out_or_drop;
+  files = out_or_drop;
   plan = λ rows. Ok (on (3 ∷ []) all_dropped);
 }
 
@@ -191,7 +193,7 @@ line_of_three = record {
   net = network
       (switch (codes "a") 0 0 ∷ switch (codes "b") 0 10 ∷ switch (codes "c") 4 10 ∷ [])
       (link 0 1 ∷ link 1 2 ∷ []);
-  policies = out_or_drop;
+  files = out_or_drop;
   plan = λ rows. Ok (on (2 ∷ 1 ∷ []) all_dropped);
 }
 
@@ -199,7 +201,7 @@ line_of_three = record {
 abbrev pub solo : Setting
 solo = record {
   net = network (switch (codes "s0") (2 ^ 64 - 1) 8192 ∷ []) [];
-  policies = out_or_drop;
+  files = out_or_drop;
   plan = λ rows. Ok plan_s;
 }
 

@@ -18,6 +18,7 @@ mod MarkRows
 mod MarksSaid
 mod SwitchesSaid
 mod VersionsSaid
+mod ChangesSaid
 mod CachesSaid
 mod FoldLemmas
 mod Policies

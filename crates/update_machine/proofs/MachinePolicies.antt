@@ -1,17 +1,17 @@
 -- The policies of the machine are those of the versions.
 use Rattle.std.proofs.Common.{ℕ, ◌≡◌, ◌≢◌, zero, suc, ◌+◌, ◌-◌, ◌<◌, ◌≤◌, Option, Some, None, List, [], ◌∷◌, ◌++◌, length, length-append, refl, ap, sym, subst, ◌∙◌, arith, inl, inr, ◌⊎◌}
-use Rattle.std.specs.Prelude.{Err, IsOk, IsSome, option_and_then, option_to_list, slice_get, unwrap_or}
+use Rattle.std.specs.Prelude.{Ok, option_to_list, slice_get, unwrap_or}
+use Rattle.std.specs.Result.{result_ok}
 use Rattle.std.proofs.lemmas.Bool.{cases_eq}
-use Rattle.policy_rules.specs.Hosted.{TooManyLeaves}
 use Rattle.policy_rules.specs.declared.policy.Row.{Row}
 use Rattle.journal.specs.declared.item.Item.{Item}
 use Rattle.journal.specs.declared.item.Item.TheVariants as item
 use Rattle.update_machine.specs.Laws.{PoliciesKeep}
-use Rattle.update_machine.specs.Machine.{Machine, Takes, first_machine}
+use Rattle.update_machine.specs.Machine.{Machine, Takes, first_machine, submitted_policy}
 use Rattle.update_machine.specs.Numbers.{VersionsAreNumbered}
-use Rattle.update_machine.specs.Setting.{IsSetting, Setting, policy_of_file}
-use Rattle.update_machine.specs.Versions.{file_of, next_policy, policy_at, policy_in, version_count}
-use Rattle.update_machine.proofs.Policies.{count_submitted, next_policy_in, policy_in_stays}
+use Rattle.update_machine.specs.Setting.{IsSetting, Setting, made_by, policy_by, policy_in}
+use Rattle.update_machine.specs.Versions.{next_policy, policy_at, version_count}
+use Rattle.update_machine.proofs.Policies.{count_above, count_submitted, first_in, next_policy_in, policy_in_stays}
 
 -- as many as there are versions, and of each its own
 pub record ArePolicies (setting : Setting) (policies : List (List Row)) (journal : List Item)
@@ -23,23 +23,17 @@ pub record ArePolicies (setting : Setting) (policies : List (List Row)) (journal
 -- the machine begins with the first one
 pub policies_begin : (setting : Setting) → IsSetting setting
     → ArePolicies setting (first_machine setting).policies []
-unfolding version_count file_of
-policies_begin setting is = by_rows (policy_of_file setting 1) refl is.planned
+unfolding version_count
+policies_begin setting is = subst (λ policies. ArePolicies setting policies []) (sym begun) (record {
+  count = refl;
+  each = λ v above below.
+      let first : v ≡ 1 = omega (arith, above, below) in
+      ap (λ k. slice_get (is.first ∷ []) (k - 1)) first
+      ∙ sym (first_in setting [] is.first is.whole) ∙ ap (policy_in setting []) (sym first);
+})
   where
-    first_alone : (o : Option (List Row)) → policy_of_file setting 1 ≡ o → IsSome o → (v : ℕ)
-        → v ≡ 1 → slice_get (option_to_list o) (v - 1) ≡ policy_in setting [] v
-    first_alone None e some v at = absurd cc
-    first_alone (Some rows) e some v at =
-        ap (λ k. slice_get (rows ∷ []) (k - 1)) at ∙ sym e ∙ ap (policy_in setting []) (sym at)
-
-    by_rows : (o : Option (List Row)) → policy_of_file setting 1 ≡ o
-        → IsOk (elim o [ None ↦ Err TooManyLeaves | Some rows ↦ setting.plan rows ])
-        → ArePolicies setting (option_to_list o) []
-    by_rows None e planned = absurd cc
-    by_rows (Some rows) e planned = record {
-      count = refl;
-      each = λ v above below. first_alone (Some rows) e refl v (omega (arith, above, below));
-    }
+    begun : (first_machine setting).policies ≡ is.first ∷ []
+    begun = ap (λ file. option_to_list (result_ok (made_by file None))) is.whole
 
 pub policies_stay : (setting : Setting) (policies : List (List Row)) (before after : List Item)
     → PoliciesKeep before after → ArePolicies setting policies before
@@ -47,8 +41,7 @@ pub policies_stay : (setting : Setting) (policies : List (List Row)) (before aft
 policies_stay setting policies before after keep are = record {
   count = are.count ∙ sym keep.count;
   each = λ v above below.
-      are.each v above (subst (λ n. v ≤ n) keep.count below)
-      ∙ ap (option_and_then (policy_of_file setting)) (sym (keep.file v));
+      are.each v above (subst (λ n. v ≤ n) keep.count below) ∙ sym (keep.rows setting v);
 }
 
 -- each version has its policy there
@@ -79,57 +72,57 @@ snoc_new : (xs : List (List Row)) (x : List Row) → slice_get (xs ++ x ∷ []) 
 snoc_new [] x = refl
 snoc_new (y ∷ xs) x = snoc_new xs x
 
+-- the newest one is that of the newest version
+newest_is : (setting : Setting) (machine : Machine) (journal : List Item)
+    → ArePolicies setting machine.policies journal → 1 ≤ version_count journal
+    → submitted_policy machine (length machine.policies)
+    ≡ policy_in setting journal (version_count journal)
+newest_is setting machine journal are some =
+    ap (λ n. slice_get machine.policies (n - 1)) are.count
+    ∙ are.each (version_count journal) some (omega arith)
+
 -- the machine takes a submission, and gains the policy of the next version
 pub record TakesVersion (setting : Setting) (machine : Machine) (journal : List Item)
-    (file version : ℕ) : Type 0 where
-  pub rows : List Row
+    (file version : ℕ) (rows : List Row) : Type 0 where
   pub takes : Takes setting machine (item.Submitted file version)
       (record machine { policies = machine.policies ++ rows ∷ [] })
   pub own : ArePolicies setting (machine.policies ++ rows ∷ [])
       (journal ++ item.Submitted file version ∷ [])
 
 pub takes_version : (setting : Setting) (machine : Machine) (journal : List Item)
-    (file version : ℕ) → VersionsAreNumbered journal
+    (file version : ℕ) (rows : List Row) → VersionsAreNumbered journal
     → ArePolicies setting machine.policies journal → version ≡ version_count journal + 1
-    → IsSome (next_policy setting journal file)
-    → TakesVersion setting machine journal file version
+    → next_policy setting journal file ≡ Ok rows
+    → TakesVersion setting machine journal file version rows
 unfolding next_policy
-takes_version setting machine journal file version numbers are next there =
-    by_rows (next_policy setting journal file) refl there
+takes_version setting machine journal file version rows numbers are next made = record {
+  takes = record {
+    policy = rows;
+    there = ap (λ o. result_ok (policy_by setting o file))
+        (newest_is setting machine journal are (count_above journal numbers)) ∙ ap result_ok made;
+    newest = next ∙ omega (arith, are.count);
+    after = refl;
+  };
+  own = record {
+    count = length-append machine.policies (rows ∷ [])
+        ∙ omega (arith, are.count, count_submitted journal file version);
+    each = λ v above below. by_version v above below (cases_eq v version);
+  };
+}
   where
     after : List Item
     after = journal ++ item.Submitted file version ∷ []
 
-    by_version : (rows : List Row) → next_policy setting journal file ≡ Some rows → (v : ℕ)
-        → 1 ≤ v → v ≤ version_count after → (v ≡ version) ⊎ (v ≢ version)
+    by_version : (v : ℕ) → 1 ≤ v → v ≤ version_count after → (v ≡ version) ⊎ (v ≢ version)
         → slice_get (machine.policies ++ rows ∷ []) (v - 1) ≡ policy_in setting after v
-    by_version rows e v above below (inl same) =
+    by_version v above below (inl same) =
         let place : v - 1 ≡ length machine.policies = omega (arith, same, next, are.count) in
         ap (slice_get (machine.policies ++ rows ∷ [])) place ∙ snoc_new machine.policies rows
-        ∙ sym (next_policy_in setting journal file version rows numbers next e)
+        ∙ sym (next_policy_in setting journal file version rows numbers next made)
         ∙ ap (λ n. policy_in setting after n) (sym same)
-    by_version rows e v above below (inr apart) =
+    by_version v above below (inr apart) =
         let old : v ≤ version_count journal =
         omega (arith, below, count_submitted journal file version, next, apart) in
         snoc_old machine.policies rows (v - 1) (omega (arith, above, old, are.count))
         ∙ are.each v above old
-        ∙ sym (policy_in_stays setting journal (item.Submitted file version ∷ []) v numbers above
-        old)
-
-    by_rows : (o : Option (List Row)) → next_policy setting journal file ≡ o → IsSome o
-        → TakesVersion setting machine journal file version
-    by_rows None e some = absurd cc
-    by_rows (Some rows) e some = record {
-      rows = rows;
-      takes = record {
-        policy = rows;
-        there = e;
-        newest = next ∙ omega (arith, are.count);
-        after = refl;
-      };
-      own = record {
-        count = length-append machine.policies (rows ∷ [])
-            ∙ omega (arith, are.count, count_submitted journal file version);
-        each = λ v above below. by_version rows e v above below (cases_eq v version);
-      };
-    }
+        ∙ sym (policy_in_stays setting journal (item.Submitted file version ∷ []) v numbers old)

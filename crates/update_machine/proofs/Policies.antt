@@ -1,20 +1,22 @@
 -- The files, the policies and the plans of versions: what more items make of them, and how they are
 -- numbered.
-use Rattle.std.proofs.Common.{ℕ, ◌≡◌, ◌+◌, ◌≤◌, ◌==◌, if◌then◌else◌, Bool, true, false, Option, Some, None, List, [], ◌∷◌, ◌++◌, refl, ap, sym, ◌∙◌, arith}
+use Rattle.std.proofs.Common.{ℕ, zero, suc, ◌≡◌, ◌+◌, ◌≤◌, ◌==◌, if◌then◌else◌, Bool, true, false, Option, Some, None, List, [], ◌∷◌, ◌++◌, refl, ap, sym, ◌∙◌, arith}
 use Rattle.std.specs.Prelude.{◌↔◌, is_some, option_and_then, slice_get, unwrap_or, Result, Ok, Err, IsFalse, IsOk, IsTrue}
+use Rattle.std.specs.Result.{result_ok}
 use Rattle.std.specs.Option.{option_map_or, option_or}
 use Rattle.std.proofs.lemmas.Bool.{eq-eqb}
 use Rattle.std.proofs.lemmas.Bool.Decides.{nat_tests}
 use Rattle.partition.specs.Plan.{Hosted}
-use Rattle.policy_rules.specs.Hosted.{NoPlan, TooManyLeaves}
+use Rattle.policy_rules.specs.Hosted.{NoPlan}
+use Rattle.policy_rules.specs.declared.file.PolicyFile.TheVariants.{Whole}
 use Rattle.policy_rules.specs.declared.policy.Row.{Row}
 use Rattle.journal.specs.declared.item.Item.{Item}
 use Rattle.journal.specs.declared.item.Item.TheVariants as item
-use Rattle.update_machine.specs.Versions.{HasPlan, first_given, is_submission, is_version, next_plan, next_policy, policy_at, policy_in, version_count, hosted_in, file_of, plan_at, gives_file}
+use Rattle.update_machine.specs.Versions.{HasPlan, is_submission, is_version, next_policy, policy_at, version_count, hosted_in, plan_at}
 use Rattle.update_machine.specs.Numbers.{VersionsAreNumbered}
-use Rattle.update_machine.specs.Setting.{Setting, policy_of_file}
+use Rattle.update_machine.specs.Setting.{IsSetting, Setting, file_at, file_of, first_given, gives_file, made_by, policy_by, policy_in}
 use Rattle.update_machine.proofs.FoldLemmas.{count_of_append, first_given_append}
-use Rattle.update_machine.proofs.SilentLinks.{policies_keep}
+use Rattle.update_machine.proofs.SilentLinks.{policies_keep, policy_by_files}
 
 -- ---- files
 
@@ -45,30 +47,38 @@ version_kept before items v there = ap is_some (file_kept before items v there) 
 
 -- ---- policies and plans
 
-pub policy_kept : (setting : Setting) (before items : List Item) (v : ℕ)
-    → IsTrue (is_version before v)
+-- the versions up to the count keep their policies, where all of them are there
+pub policy_in_stays : (setting : Setting) (before items : List Item) (v : ℕ)
+    → VersionsAreNumbered before → v ≤ version_count before
+    → policy_in setting (before ++ items) v ≡ policy_in setting before v
+policy_in_stays setting before items v are below =
+    policy_by_files setting (before ++ items) before v
+    (λ k first last. file_kept before items k ((are k).1 (first, omega (arith, last, below))))
+
+pub policy_stays : (setting : Setting) (before items : List Item) (v : ℕ)
+    → VersionsAreNumbered before → v ≤ version_count before
     → policy_at setting (before ++ items) v ≡ policy_at setting before v
 unfolding policy_at
-policy_kept setting before items v there =
-    ap (λ file. unwrap_or (option_and_then (policy_of_file setting) file) [])
-    (file_kept before items v there)
+policy_stays setting before items v are below =
+    ap (λ o. unwrap_or o []) (policy_in_stays setting before items v are below)
 
-pub plan_kept : (setting : Setting) (before items : List Item) (v : ℕ)
-    → IsTrue (is_version before v)
+pub plan_stays : (setting : Setting) (before items : List Item) (v : ℕ)
+    → VersionsAreNumbered before → v ≤ version_count before
     → plan_at setting (before ++ items) v ≡ plan_at setting before v
 unfolding plan_at
-plan_kept setting before items v there =
-    ap (λ file. option_map_or (λ rows. hosted_in (setting.plan rows))
-    (option_and_then (policy_of_file setting) file) [])
-    (file_kept before items v there)
+plan_stays setting before items v are below =
+    ap (λ o. option_map_or (λ rows. hosted_in (setting.plan rows)) o [])
+    (policy_in_stays setting before items v are below)
 
-pub of_its_file : (setting : Setting) (journal : List Item) (v file : ℕ) (rows : List Row)
-    → file_of journal v ≡ Some file → policy_of_file setting file ≡ Some rows
+pub of_its_policy : (setting : Setting) (journal : List Item) (v : ℕ) (rows : List Row)
+    → policy_in setting journal v ≡ Some rows
     → (policy_at setting journal v ≡ rows)
     × (plan_at setting journal v ≡ hosted_in (setting.plan rows))
 unfolding policy_at plan_at
-of_its_file setting journal v file rows of_file there =
-    (rw (of_file, there) refl, rw (of_file, there) refl)
+of_its_policy setting journal v rows is = (
+  ap (λ o. unwrap_or o []) is,
+  ap (λ o. option_map_or (λ these. hosted_in (setting.plan these)) o []) is,
+)
 
 -- ---- numbers
 
@@ -117,54 +127,30 @@ numbered_at_first v = grind (arith, nat_tests)
 has_plan : (setting : Setting) (journal : List Item) (v : ℕ) (rows : List Row)
     (plan : List Hosted) → policy_in setting journal v ≡ Some rows → setting.plan rows ≡ Ok plan
     → HasPlan setting journal v
-unfolding policy_at plan_at
 has_plan setting journal v rows plan policy planned =
-    let own : policy_at setting journal v ≡ rows = ap (λ o. unwrap_or o []) policy in
-    let of_plan : plan_at setting journal v ≡ plan =
-    ap (λ o. option_map_or (λ these. hosted_in (setting.plan these)) o []) policy
-    ∙ ap hosted_in planned in
+    let own = of_its_policy setting journal v rows policy in
     record {
-      policy = policy ∙ ap Some (sym own);
-      plan = ap setting.plan own ∙ planned ∙ ap Ok (sym of_plan);
+      policy = policy ∙ ap Some (sym own.0);
+      plan = ap setting.plan own.0 ∙ planned ∙ ap Ok (sym (own.1 ∙ ap hosted_in planned));
     }
 
--- ---- numbered versions stay
-
-there_by_number : (before : List Item) (v : ℕ) → VersionsAreNumbered before → 1 ≤ v
-    → v ≤ version_count before → IsTrue (is_version before v)
-there_by_number before v are above below = (are v).1 (above, below)
-
-pub policy_stays : (setting : Setting) (before items : List Item) (v : ℕ)
-    → VersionsAreNumbered before → 1 ≤ v → v ≤ version_count before
-    → policy_at setting (before ++ items) v ≡ policy_at setting before v
-policy_stays setting before items v are above below =
-    policy_kept setting before items v (there_by_number before v are above below)
-
-pub plan_stays : (setting : Setting) (before items : List Item) (v : ℕ)
-    → VersionsAreNumbered before → 1 ≤ v → v ≤ version_count before
-    → plan_at setting (before ++ items) v ≡ plan_at setting before v
-plan_stays setting before items v are above below =
-    plan_kept setting before items v (there_by_number before v are above below)
-
--- whether it has a policy or not
-pub policy_in_stays : (setting : Setting) (before items : List Item) (v : ℕ)
-    → VersionsAreNumbered before → 1 ≤ v → v ≤ version_count before
-    → policy_in setting (before ++ items) v ≡ policy_in setting before v
-policy_in_stays setting before items v are above below =
-    ap (option_and_then (policy_of_file setting))
-    (file_kept before items v (there_by_number before v are above below))
+-- a policy that has some plan
+planned_of : (setting : Setting) (journal : List Item) (v : ℕ) (rows : List Row)
+    → policy_in setting journal v ≡ Some rows → IsOk (setting.plan rows)
+    → HasPlan setting journal v
+planned_of setting journal v rows policy = by_plan (setting.plan rows) refl
+  where
+    by_plan : (plan : Result (List Hosted) NoPlan) → setting.plan rows ≡ plan → IsOk plan
+        → HasPlan setting journal v
+    by_plan (Err why) is ok = absurd cc
+    by_plan (Ok plan) is ok = has_plan setting journal v rows plan policy is
 
 pub has_plan_stays : (setting : Setting) (before items : List Item) (v : ℕ)
-    → VersionsAreNumbered before → 1 ≤ v → v ≤ version_count before
+    → VersionsAreNumbered before → v ≤ version_count before
     → HasPlan setting before v → HasPlan setting (before ++ items) v
-has_plan_stays setting before items v are above below has =
-    let policy = policy_stays setting before items v are above below in
-    let plan = plan_stays setting before items v are above below in
-    record {
-      policy = policy_in_stays setting before items v are above below ∙ has.policy
-          ∙ ap Some (sym policy);
-      plan = ap setting.plan policy ∙ has.plan ∙ ap Ok (sym plan);
-    }
+has_plan_stays setting before items v are below has =
+    has_plan setting (before ++ items) v (policy_at setting before v) (plan_at setting before v)
+    (policy_in_stays setting before items v are below ∙ has.policy) has.plan
 
 -- ---- the first version
 
@@ -176,30 +162,34 @@ first_counted = omega arith
 pub first_policy_stays : (setting : Setting) (journal : List Item)
     → policy_at setting journal 1 ≡ policy_at setting [] 1
 first_policy_stays setting journal =
-    policy_stays setting [] journal 1 numbered_at_first (omega arith) first_counted
+    policy_stays setting [] journal 1 numbered_at_first first_counted
 
 pub first_plan_stays : (setting : Setting) (journal : List Item)
     → plan_at setting journal 1 ≡ plan_at setting [] 1
 first_plan_stays setting journal =
-    plan_stays setting [] journal 1 numbered_at_first (omega arith) first_counted
+    plan_stays setting [] journal 1 numbered_at_first first_counted
 
 pub first_has_plan : (setting : Setting) (journal : List Item) → HasPlan setting [] 1
     → HasPlan setting journal 1
 first_has_plan setting journal has =
-    has_plan_stays setting [] journal 1 numbered_at_first (omega arith) first_counted has
+    has_plan_stays setting [] journal 1 numbered_at_first first_counted has
 
 -- its policy is that of the first file
+pub first_in : (setting : Setting) (journal : List Item) (rows : List Row)
+    → file_at setting 1 ≡ Some (Whole rows) → policy_in setting journal 1 ≡ Some rows
+unfolding policy_in file_of
+first_in setting journal rows whole = ap (λ file. result_ok (made_by file None)) whole
+
 pub first_is : (setting : Setting) (journal : List Item) (rows : List Row)
-    → policy_of_file setting 1 ≡ Some rows
+    → file_at setting 1 ≡ Some (Whole rows)
     → (policy_at setting journal 1 ≡ rows)
     × (plan_at setting journal 1 ≡ hosted_in (setting.plan rows))
-unfolding file_of
-first_is setting journal rows there = of_its_file setting journal 1 1 rows refl there
+first_is setting journal rows whole =
+    of_its_policy setting journal 1 rows (first_in setting journal rows whole)
 
-pub first_in : (setting : Setting) (rows : List Row) (plan : List Hosted)
-    → policy_of_file setting 1 ≡ Some rows → setting.plan rows ≡ Ok plan → HasPlan setting [] 1
-unfolding file_of
-first_in setting rows plan there planned = has_plan setting [] 1 rows plan there planned
+pub begins_planned : (setting : Setting) → IsSetting setting → HasPlan setting [] 1
+begins_planned setting is =
+    planned_of setting [] 1 is.first (first_in setting [] is.first is.whole) is.planned
 
 -- ---- the version that is submitted
 
@@ -214,6 +204,10 @@ first_there : (journal : List Item) → IsTrue (is_version journal 1)
 unfolding file_of
 first_there journal = refl
 
+pub count_above : (journal : List Item) → VersionsAreNumbered journal
+    → 1 ≤ version_count journal
+count_above journal are = ((are 1).0 (first_there journal)).1
+
 next_file : (journal : List Item) (file version : ℕ) → VersionsAreNumbered journal
     → version ≡ version_count journal + 1
     → file_of (journal ++ item.Submitted file version ∷ []) version ≡ Some file
@@ -221,11 +215,8 @@ next_file journal file version are next =
     file_append journal (item.Submitted file version ∷ []) version
     ∙ by_old (file_of journal version) refl
   where
-    many : 1 ≤ version_count journal
-    many = ((are 1).0 (first_there journal)).1
-
     own : file_of (item.Submitted file version ∷ []) version ≡ Some file
-    own = alone file version (omega (arith, next, many))
+    own = alone file version (omega (arith, next, count_above journal are))
 
     by_old : (o : Option ℕ) → file_of journal version ≡ o
         → option_or o (file_of (item.Submitted file version ∷ []) version) ≡ Some file
@@ -234,54 +225,48 @@ next_file journal file version are next =
         let there : IsTrue (is_version journal version) = rw e refl in
         absurd (omega (arith, ((are version).0 there).1, next))
 
+-- what its file makes of the policy of the newest version
+pub next_made : (setting : Setting) (journal : List Item) (file version : ℕ)
+    → VersionsAreNumbered journal → version ≡ version_count journal + 1
+    → policy_in setting (journal ++ item.Submitted file version ∷ []) version
+    ≡ result_ok (next_policy setting journal file)
+unfolding policy_in next_policy
+next_made setting journal file zero are next = absurd (omega (arith, next))
+next_made setting journal file (suc newest) are next =
+    let after : List Item = journal ++ item.Submitted file (suc newest) ∷ [] in
+    let same : newest ≡ version_count journal = omega (arith, next) in
+    ap (option_and_then (λ f. result_ok (policy_by setting (policy_in setting after newest) f)))
+    (next_file journal file (suc newest) are next)
+    ∙ ap (λ o. result_ok (policy_by setting o file))
+    (policy_in_stays setting journal (item.Submitted file (suc newest) ∷ []) newest are
+    (omega (arith, same))
+    ∙ ap (policy_in setting journal) same)
+
 pub next_policy_in : (setting : Setting) (journal : List Item) (file version : ℕ)
     (rows : List Row) → VersionsAreNumbered journal → version ≡ version_count journal + 1
-    → next_policy setting journal file ≡ Some rows
+    → next_policy setting journal file ≡ Ok rows
     → policy_in setting (journal ++ item.Submitted file version ∷ []) version ≡ Some rows
-unfolding next_policy
 next_policy_in setting journal file version rows are next policy =
-    ap (option_and_then (policy_of_file setting)) (next_file journal file version are next)
-    ∙ policy
+    next_made setting journal file version are next ∙ ap result_ok policy
 
 -- it has the next policy, and its plan
 pub next_is : (setting : Setting) (journal : List Item) (file version : ℕ) (rows : List Row)
     → VersionsAreNumbered journal → version ≡ version_count journal + 1
-    → next_policy setting journal file ≡ Some rows
+    → next_policy setting journal file ≡ Ok rows
     → (policy_at setting (journal ++ item.Submitted file version ∷ []) version ≡ rows)
     × (plan_at setting (journal ++ item.Submitted file version ∷ []) version
     ≡ hosted_in (setting.plan rows))
-unfolding next_policy
 next_is setting journal file version rows are next policy =
-    of_its_file setting (journal ++ item.Submitted file version ∷ []) version file rows
-    (next_file journal file version are next) policy
+    of_its_policy setting (journal ++ item.Submitted file version ∷ []) version rows
+    (next_policy_in setting journal file version rows are next policy)
 
-pub next_has_plan : (setting : Setting) (journal : List Item) (file version : ℕ)
+pub next_has_plan : (setting : Setting) (journal : List Item) (file version : ℕ) (rows : List Row)
     → VersionsAreNumbered journal → version ≡ version_count journal + 1
-    → IsOk (next_plan setting journal file)
+    → next_policy setting journal file ≡ Ok rows → IsOk (setting.plan rows)
     → HasPlan setting (journal ++ item.Submitted file version ∷ []) version
-unfolding next_plan
-next_has_plan setting journal file version are next planned =
-    by_rows (policy_of_file setting file) refl planned
-  where
-    of_file : (rows : List Row) → policy_of_file setting file ≡ Some rows
-        → policy_in setting (journal ++ item.Submitted file version ∷ []) version ≡ Some rows
-    of_file rows there =
-        ap (option_and_then (policy_of_file setting)) (next_file journal file version are next)
-        ∙ there
-
-    by_plan : (rows : List Row) (plan : Result (List Hosted) NoPlan)
-        → policy_of_file setting file ≡ Some rows → setting.plan rows ≡ plan → IsOk plan
-        → HasPlan setting (journal ++ item.Submitted file version ∷ []) version
-    by_plan rows (Err why) there is ok = absurd cc
-    by_plan rows (Ok plan) there is ok =
-        has_plan setting (journal ++ item.Submitted file version ∷ []) version rows plan
-        (of_file rows there) is
-
-    by_rows : (o : Option (List Row)) → policy_of_file setting file ≡ o
-        → IsOk (elim o [ None ↦ Err TooManyLeaves | Some rows ↦ setting.plan rows ])
-        → HasPlan setting (journal ++ item.Submitted file version ∷ []) version
-    by_rows None there ok = absurd cc
-    by_rows (Some rows) there ok = by_plan rows (setting.plan rows) there refl ok
+next_has_plan setting journal file version rows are next policy planned =
+    planned_of setting (journal ++ item.Submitted file version ∷ []) version rows
+    (next_policy_in setting journal file version rows are next policy) planned
 
 -- ---- partitions
 
@@ -289,11 +274,15 @@ next_has_plan setting journal file version are next planned =
 pub part_there : (setting : Setting) (journal : List Item) (version partition : ℕ)
     (hosted : Hosted) → slice_get (plan_at setting journal version) partition ≡ Some hosted
     → IsTrue (is_version journal version)
-unfolding plan_at
-part_there setting journal version partition hosted is = by_file (file_of journal version) is
+unfolding plan_at policy_in
+part_there setting journal zero partition hosted is = absurd cc
+part_there setting journal (suc version) partition hosted is =
+    by_file (file_of journal (suc version)) is
   where
     by_file : (o : Option ℕ) → slice_get (option_map_or (λ rows. hosted_in (setting.plan rows))
-        (option_and_then (policy_of_file setting) o) []) partition ≡ Some hosted
+        (option_and_then
+        (λ file. result_ok (policy_by setting (policy_in setting journal version) file)) o) [])
+        partition ≡ Some hosted
         → IsTrue (is_some o)
     by_file None is = absurd cc
     by_file (Some file) is = refl

@@ -1,80 +1,66 @@
 -- Settings of policies on a network: when they are sound, what their first version and the next one
 -- have, and which code an update has.
-use Rattle.std.proofs.Common.{ℕ, ◌≡◌, ◌-◌, ◌≤◌, ◌==◌, if◌then◌else◌, Bool, true, false, Option, Some, None, List, [], ◌∷◌, length, get_or, refl, ap, sym, subst, ◌∙◌, arith}
-use Rattle.std.specs.Prelude.{All, IsOk, IsSome, Result, Ok, Err, option_and_then, slice_get, slice_index_or, unwrap_or}
+use Rattle.std.proofs.Common.{ℕ, zero, suc, ◌≡◌, ◌≤◌, ◌-◌, ◌==◌, if◌then◌else◌, Bool, true, false, Option, Some, None, List, [], refl, ap, sym, subst, ◌∙◌, arith}
+use Rattle.std.specs.Prelude.{All, IfSome, IsOk, Result, Ok, Err, option_and_then, slice_get, unwrap_or}
+use Rattle.std.specs.Result.{result_ok}
 use Rattle.std.proofs.lemmas.Bool.{ne_eqb}
 use Rattle.std.proofs.lemmas.List.Elements.{All-nil}
-use Rattle.std.proofs.lemmas.Option.{get_or_from_slice_get, slice_get-get_or, slice_get_within}
+use Rattle.std.proofs.lemmas.Option.{get_or_from_slice_get, slice_get_within}
 use Rattle.net_file.specs.Net.{IsNet}
 use Rattle.net_file.specs.declared.net.Net.{Net}
 use Rattle.partition.specs.Plan.{Hosted, IsPlan, plan_of}
 use Rattle.partition.proofs.CallerLemmas.{plan_holds}
-use Rattle.policy_rules.specs.Hosted.{NoPlan, TooManyLeaves}
+use Rattle.policy_rules.specs.Hosted.{NoPlan}
 use Rattle.policy_rules.specs.Policy.{IsPolicy}
+use Rattle.policy_rules.specs.PolicyFiles.{GivesOnly, IsPolicyFile}
+use Rattle.policy_rules.proofs.CallerLemmas.{All-additions, All-applied, IsPolicy-applied}
+use Rattle.policy_rules.specs.declared.applying.Inapplicable.{Inapplicable}
+use Rattle.policy_rules.specs.declared.file.PolicyFile.{PolicyFile}
+use Rattle.policy_rules.specs.declared.file.PolicyFile.TheVariants.{Whole, Change}
 use Rattle.policy_rules.specs.declared.policy.Row.{Row}
 use Rattle.journal.specs.declared.item.Item.{Item}
-use Rattle.update_machine.specs.Pieces.{marks_code, plan_code, update_code}
-use Rattle.update_machine.specs.Setting.{IsSetting, NamesOwnPort, Setting, plan_of_file, policy_of_file, setting_of}
-use Rattle.update_machine.specs.Versions.{HasPlan, file_of, hosted_in, next_plan, next_policy, plan_at, policy_at}
-use Rattle.update_machine.proofs.Policies.{first_in, first_is}
-
--- the plan of a policy that is there
-abbrev planned_by : Setting → Option (List Row) → Result (List Hosted) NoPlan
-planned_by setting o = elim o [ None ↦ Err TooManyLeaves | Some rows ↦ setting.plan rows ]
+use Rattle.update_machine.specs.Pieces.{apply_code, marks_code, plan_code, policy_code, update_code}
+use Rattle.update_machine.specs.Setting.{IsSetting, NamesOwnPort, Setting, file_at, file_of, made_by, policy_by, policy_in, setting_of}
+use Rattle.update_machine.specs.Versions.{HasPlan, hosted_in, next_policy, plan_at, policy_at, version_count}
+use Rattle.update_machine.proofs.Policies.{first_is}
 
 -- ---- the first policy
 
-first_of : (net : Net) (policies : List (List Row)) → 1 ≤ length policies
-    → policy_of_file (setting_of net policies) 1 ≡ Some (get_or policies 0 [])
-first_of net [] some = absurd (omega arith)
-first_of net (rows ∷ policies) some = refl
-
-pub setting_begun : (net : Net) (policies : List (List Row)) (plan : List Hosted) → IsNet net
-    → 1 ≤ length policies → All IsPolicy policies
-    → All (All (λ row. NamesOwnPort (setting_of net policies) row.action)) policies
-    → plan_of (get_or policies 0 []) net ≡ Ok plan → IsSetting (setting_of net policies)
-setting_begun net policies plan sound some rows ports is = record {
+pub setting_begun : (net : Net) (files : List PolicyFile) (first : List Row) (plan : List Hosted)
+    → IsNet net → slice_get files 0 ≡ Some (Whole first) → All IsPolicyFile files
+    → All (GivesOnly (λ row. NamesOwnPort (setting_of net files) row.action)) files
+    → plan_of first net ≡ Ok plan → IsSetting (setting_of net files)
+setting_begun net files first plan sound whole given ports is = record {
   net = sound;
   made = refl;
-  sound = rows;
+  sound = given;
   ports = ports;
-  planned = subst IsOk (sym (own_plan net policies some ∙ is)) refl;
+  first = first;
+  whole = whole;
+  planned = subst IsOk (sym is) refl;
 }
-  where
-    own_plan : (net : Net) (policies : List (List Row)) → 1 ≤ length policies
-        → plan_of_file (setting_of net policies) 1 ≡ plan_of (get_or policies 0 []) net
-    own_plan net [] some = absurd (omega arith)
-    own_plan net (rows ∷ policies) some = refl
 
 -- the first version has the first policy and its plan
-pub first_version_is : (net : Net) (policies : List (List Row)) (plan : List Hosted)
-    → 1 ≤ length policies → plan_of (get_or policies 0 []) net ≡ Ok plan
-    → (policy_at (setting_of net policies) [] 1 ≡ get_or policies 0 [])
-    × (plan_at (setting_of net policies) [] 1 ≡ plan)
-first_version_is net policies plan some is =
-    let own = first_is (setting_of net policies) [] (get_or policies 0 [])
-    (first_of net policies some) in
+pub first_version_is : (net : Net) (files : List PolicyFile) (first : List Row)
+    (plan : List Hosted) → slice_get files 0 ≡ Some (Whole first) → plan_of first net ≡ Ok plan
+    → (policy_at (setting_of net files) [] 1 ≡ first)
+    × (plan_at (setting_of net files) [] 1 ≡ plan)
+first_version_is net files first plan whole is =
+    let own = first_is (setting_of net files) [] first whole in
     (own.0, own.1 ∙ ap hosted_in is)
 
 -- in a sound setting it has a plan
-pub first_planned : (net : Net) (policies : List (List Row)) → IsSetting (setting_of net policies)
-    → IsOk (plan_of (slice_index_or policies 0 []) net)
-first_planned net [] is = let refused : IsOk (plan_of_file (setting_of net []) 1) = is.planned in absurd cc
-first_planned net (rows ∷ policies) is = is.planned
-
-pub begins_planned : (setting : Setting) → IsSetting setting → HasPlan setting [] 1
-begins_planned setting is = by_rows (policy_of_file setting 1) refl is.planned
+pub first_planned : (net : Net) (files : List PolicyFile) (first : List Row)
+    → IsSetting (setting_of net files) → slice_get files 0 ≡ Some (Whole first)
+    → IsOk (plan_of first net)
+first_planned net files first is whole = subst (λ rows. IsOk (plan_of rows net)) same is.planned
   where
-    by_plan : (rows : List Row) (planned : Result (List Hosted) NoPlan)
-        → policy_of_file setting 1 ≡ Some rows → setting.plan rows ≡ planned → IsOk planned
-        → HasPlan setting [] 1
-    by_plan rows (Err why) there planned ok = absurd cc
-    by_plan rows (Ok plan) there planned ok = first_in setting rows plan there planned
+    rows_of : Option PolicyFile → List Row
+    rows_of (Some (Whole rows)) = rows
+    rows_of _ = []
 
-    by_rows : (o : Option (List Row)) → policy_of_file setting 1 ≡ o
-        → IsOk (planned_by setting o) → HasPlan setting [] 1
-    by_rows None there ok = absurd cc
-    by_rows (Some rows) there ok = by_plan rows (setting.plan rows) there refl ok
+    same : is.first ≡ first
+    same = ap rows_of (sym is.whole ∙ whole)
 
 -- ---- policies
 
@@ -87,34 +73,81 @@ no_rows_own setting = (
   All-nil _,
 )
 
+-- what a file makes of such a policy, or of none, is one too
+own_by : (setting : Setting) (file : Option PolicyFile) (earlier : Option (List Row))
+    (rows : List Row) → IfSome file IsPolicyFile
+    → IfSome file (GivesOnly (λ row. NamesOwnPort setting row.action))
+    → IfSome earlier (IsOwn setting) → made_by file earlier ≡ Ok rows → IsOwn setting rows
+own_by setting None earlier rows sound ports own made = absurd cc
+own_by setting (Some (Whole given)) earlier rows sound ports own made =
+    let same : given ≡ rows = cc made in
+    subst (IsOwn setting) same (sound, ports)
+own_by setting (Some (Change edits)) None rows sound ports own made = absurd cc
+own_by setting (Some (Change edits)) (Some old) rows sound ports own made = (
+  IsPolicy-applied old rows edits own.0 sound made,
+  All-applied (λ row. NamesOwnPort setting row.action) old rows edits own.1
+      (All-additions (λ row. NamesOwnPort setting row.action) edits ports) made,
+)
+
+-- a file of a sound setting
+file_is_sound : (setting : Setting) → IsSetting setting → (file : ℕ)
+    → IfSome (file_at setting file) IsPolicyFile
+    × IfSome (file_at setting file) (GivesOnly (λ row. NamesOwnPort setting row.action))
+file_is_sound setting is file = by_number (file == 0)
+  where
+    at_place : (k : ℕ) (o : Option PolicyFile) → slice_get setting.files k ≡ o
+        → IfSome o IsPolicyFile × IfSome o (GivesOnly (λ row. NamesOwnPort setting row.action))
+    at_place k None there = (tt, tt)
+    at_place k (Some given) there =
+        let within = slice_get_within setting.files k given there in
+        let at = get_or_from_slice_get setting.files k given given there in (
+          subst IsPolicyFile at (is.sound k given within),
+          subst (GivesOnly (λ row. NamesOwnPort setting row.action)) at (is.ports k given within),
+        )
+
+    by_number : (zero : Bool)
+        → IfSome (if zero then None else slice_get setting.files (file - 1)) IsPolicyFile
+        × IfSome (if zero then None else slice_get setting.files (file - 1))
+        (GivesOnly (λ row. NamesOwnPort setting row.action))
+    by_number true = (tt, tt)
+    by_number false = at_place (file - 1) (slice_get setting.files (file - 1)) refl
+
 -- each version's policy is one, and names ports of the network alone
+own_in : (setting : Setting) (journal : List Item) → IsSetting setting → (version : ℕ)
+    → IfSome (policy_in setting journal version) (IsOwn setting)
+unfolding policy_in
+own_in setting journal is zero = tt
+own_in setting journal is (suc version) =
+    by_file (own_in setting journal is version) (file_of journal (suc version))
+  where
+    by_rows : IfSome (policy_in setting journal version) (IsOwn setting) → (file : ℕ)
+        (made : Result (List Row) Inapplicable)
+        → policy_by setting (policy_in setting journal version) file ≡ made
+        → IfSome (result_ok made) (IsOwn setting)
+    by_rows earlier file (Err why) e = tt
+    by_rows earlier file (Ok rows) e =
+        let given = file_is_sound setting is file in
+        own_by setting (file_at setting file) (policy_in setting journal version) rows given.0
+        given.1 earlier e
+
+    by_file : IfSome (policy_in setting journal version) (IsOwn setting) → (o : Option ℕ)
+        → IfSome (option_and_then
+        (λ file. result_ok (policy_by setting (policy_in setting journal version) file)) o)
+        (IsOwn setting)
+    by_file earlier None = tt
+    by_file earlier (Some file) =
+        by_rows earlier file (policy_by setting (policy_in setting journal version) file) refl
+
 pub versions_own : (setting : Setting) (journal : List Item) (version : ℕ) → IsSetting setting
     → IsPolicy (policy_at setting journal version)
     × All (λ row. NamesOwnPort setting row.action) (policy_at setting journal version)
 unfolding policy_at
-versions_own setting journal version is = by_file (file_of journal version)
+versions_own setting journal version is =
+    by_rows (policy_in setting journal version) (own_in setting journal is version)
   where
-    none : IsOwn setting []
-    none = no_rows_own setting
-
-    at_place : (k : ℕ) (o : Option (List Row)) → slice_get setting.policies k ≡ o
-        → IsOwn setting (unwrap_or o [])
-    at_place k None there = none
-    at_place k (Some rows) there =
-        let within = slice_get_within setting.policies k rows there in
-        let at = get_or_from_slice_get setting.policies k rows [] there in (
-          subst IsPolicy at (is.sound k [] within),
-          subst (All (λ row. NamesOwnPort setting row.action)) at (is.ports k [] within),
-        )
-
-    by_number : (file : ℕ) (zero : Bool)
-        → IsOwn setting (unwrap_or (if zero then None else slice_get setting.policies (file - 1)) [])
-    by_number file true = none
-    by_number file false = at_place (file - 1) (slice_get setting.policies (file - 1)) refl
-
-    by_file : (o : Option ℕ) → IsOwn setting (unwrap_or (option_and_then (policy_of_file setting) o) [])
-    by_file None = none
-    by_file (Some file) = by_number file (file == 0)
+    by_rows : (o : Option (List Row)) → IfSome o (IsOwn setting) → IsOwn setting (unwrap_or o [])
+    by_rows None own = no_rows_own setting
+    by_rows (Some rows) own = own
 
 -- and its plan is one
 pub version_is_planned : (setting : Setting) (journal : List Item) (version : ℕ)
@@ -127,68 +160,70 @@ version_is_planned setting journal version is has =
 
 -- ---- updates
 
--- the policy of a file that is there
-pub next_there : (net : Net) (policies : List (List Row)) (journal : List Item) (file : ℕ)
-    → 1 ≤ file → file ≤ length policies
-    → next_policy (setting_of net policies) journal file ≡ Some (get_or policies (file - 1) [])
+-- the next policy is what the file makes of that of the newest version
+pub next_by : (setting : Setting) (journal : List Item) (file : ℕ) (newest : List Row)
+    → 1 ≤ file → policy_in setting journal (version_count journal) ≡ Some newest
+    → next_policy setting journal file
+    ≡ made_by (slice_get setting.files (file - 1)) (Some newest)
 unfolding next_policy
-next_there net policies journal file first last =
-    ap (λ b. if b then None else slice_get policies (file - 1))
-    (ne_eqb file 0 (λ none. absurd (omega (arith, none, first))))
-    ∙ slice_get-get_or policies (file - 1) [] (omega (arith, first, last))
+next_by setting journal file newest first is =
+    ap (λ o. policy_by setting o file) is
+    ∙ ap (λ b. made_by (if b then None else slice_get setting.files (file - 1)) (Some newest))
+    (ne_eqb file 0 (λ none. omega (arith, none, first)))
 
--- the code of an update whose plan this is
-abbrev coded : List Item → Result (List Hosted) NoPlan → Option ℕ
-coded journal planned = elim planned [
+-- the code of an update whose next policy, or whose plan, this is
+abbrev made_code : Setting → List Item → Result (List Row) Inapplicable → Option ℕ
+made_code setting journal made = elim made [
+  | Err why ↦ Some (apply_code why)
+  | Ok rows ↦ policy_code setting journal rows
+]
+
+abbrev plan_coded : List Item → Result (List Hosted) NoPlan → Option ℕ
+plan_coded journal plan = elim plan [
   | Err why ↦ Some (plan_code why)
   | Ok plan ↦ marks_code journal
 ]
 
--- the next plan is that of the next policy
-pub next_plan_is : (setting : Setting) (journal : List Item) (file : ℕ) (rows : List Row)
-    → next_policy setting journal file ≡ Some rows
-    → next_plan setting journal file ≡ setting.plan rows
-unfolding next_policy next_plan
-next_plan_is setting journal file rows policy =
-    ap (planned_by setting) policy
-
-code_by : (setting : Setting) (journal : List Item) (file : ℕ) (rows : List Row)
-    (planned : Result (List Hosted) NoPlan) → next_policy setting journal file ≡ Some rows
-    → setting.plan rows ≡ planned
-    → update_code setting journal file ≡ coded journal planned
-code_by setting journal file rows planned policy is =
-    ap (coded journal) (next_plan_is setting journal file rows policy ∙ is)
-
--- an update whose policy has a plan has the code of the marks, if they refuse it
-pub planned_code : (setting : Setting) (journal : List Item) (file : ℕ) (rows : List Row)
-    (plan : List Hosted) → next_policy setting journal file ≡ Some rows
-    → setting.plan rows ≡ Ok plan → update_code setting journal file ≡ marks_code journal
-planned_code setting journal file rows plan policy is =
-    code_by setting journal file rows (Ok plan) policy is
+-- an update whose file makes no policy of the newest one has the code of the cause
+pub unapplied_code : (setting : Setting) (journal : List Item) (file : ℕ) (why : Inapplicable)
+    → next_policy setting journal file ≡ Err why
+    → update_code setting journal file ≡ Some (apply_code why)
+unapplied_code setting journal file why made = ap (made_code setting journal) made
 
 -- and one without a plan that of the cause
 pub unplanned_code : (setting : Setting) (journal : List Item) (file : ℕ) (rows : List Row)
-    (why : NoPlan) → next_policy setting journal file ≡ Some rows → setting.plan rows ≡ Err why
+    (why : NoPlan) → next_policy setting journal file ≡ Ok rows → setting.plan rows ≡ Err why
     → update_code setting journal file ≡ Some (plan_code why)
-unplanned_code setting journal file rows why policy is =
-    code_by setting journal file rows (Err why) policy is
+unplanned_code setting journal file rows why made is =
+    ap (made_code setting journal) made ∙ ap (plan_coded journal) is
+
+-- an update whose policy has a plan has the code of the marks, if they refuse it
+pub planned_code : (setting : Setting) (journal : List Item) (file : ℕ) (rows : List Row)
+    (plan : List Hosted) → next_policy setting journal file ≡ Ok rows
+    → setting.plan rows ≡ Ok plan → update_code setting journal file ≡ marks_code journal
+planned_code setting journal file rows plan made is =
+    ap (made_code setting journal) made ∙ ap (plan_coded journal) is
 
 -- an update that isn't refused has a policy and a plan, and the marks allow it
+pub record IsAllowed (setting : Setting) (journal : List Item) (file : ℕ) : Type 0 where
+  pub rows : List Row
+  pub policy : next_policy setting journal file ≡ Ok rows
+  pub planned : IsOk (setting.plan rows)
+  pub marks : marks_code journal ≡ None
+
 pub allowed_next : (setting : Setting) (journal : List Item) (file : ℕ)
-    → update_code setting journal file ≡ None
-    → IsSome (next_policy setting journal file) × IsOk (next_plan setting journal file)
-    × (marks_code journal ≡ None)
-unfolding next_policy next_plan
-allowed_next setting journal file allowed = by_rows (policy_of_file setting file) allowed
+    → update_code setting journal file ≡ None → IsAllowed setting journal file
+allowed_next setting journal file allowed =
+    by_rows (next_policy setting journal file) refl allowed
   where
-    by_plan : (planned : Result (List Hosted) NoPlan) → coded journal planned ≡ None
-        → IsOk planned × (marks_code journal ≡ None)
+    by_plan : (plan : Result (List Hosted) NoPlan) → plan_coded journal plan ≡ None
+        → IsOk plan × (marks_code journal ≡ None)
     by_plan (Err why) none = absurd cc
     by_plan (Ok plan) none = (refl, none)
 
-    by_rows : (o : Option (List Row)) → coded journal (planned_by setting o) ≡ None
-        → IsSome o × IsOk (planned_by setting o) × (marks_code journal ≡ None)
-    by_rows None none = absurd cc
-    by_rows (Some rows) none =
-        let planned = by_plan (setting.plan rows) none in
-        (refl, planned.0, planned.1)
+    by_rows : (made : Result (List Row) Inapplicable) → next_policy setting journal file ≡ made
+        → made_code setting journal made ≡ None → IsAllowed setting journal file
+    by_rows (Err why) made none = absurd cc
+    by_rows (Ok rows) made none =
+        let of_plan = by_plan (setting.plan rows) none in
+        record { rows = rows; policy = made; planned = of_plan.0; marks = of_plan.1 }

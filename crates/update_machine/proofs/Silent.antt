@@ -5,7 +5,7 @@ use Rattle.std.specs.Option.{option_or}
 use Rattle.journal.specs.declared.item.Item.{Item}
 use Rattle.update_machine.specs.Concerns.{NoneConcern}
 use Rattle.update_machine.specs.Folds.{all_given, count_of, folded_value, last_given}
-use Rattle.update_machine.specs.Versions.{first_given}
+use Rattle.update_machine.specs.Setting.{first_given}
 use Rattle.update_machine.proofs.FoldLemmas.{all_given_append, count_of_append, first_given_append, folded_append, last_given_append, or_none}
 
 -- of items that don't concern it nothing is said, and its value stays as it is

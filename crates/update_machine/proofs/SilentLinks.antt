@@ -1,7 +1,8 @@
 -- Items that don't concern the links leave as they are the adverts that switches tell, and those
 -- that don't concern a switch either, what it knows of the network.
-use Rattle.std.proofs.Common.{arith, ℕ, ◌≡◌, Bool, true, false, List, [], ◌∷◌, ◌++◌, refl, ap, ◌∙◌, sym, None, append_assoc}
+use Rattle.std.proofs.Common.{arith, ℕ, zero, suc, ◌≡◌, ◌≤◌, Bool, true, false, List, [], ◌∷◌, ◌++◌, refl, ap, ◌∙◌, sym, None, append_assoc}
 use Rattle.std.specs.Prelude.{◌==◌, ◌&&◌, not, IsFalse, Some, option_and_then, unwrap_or, if◌then◌else◌, count_by}
+use Rattle.std.specs.Result.{result_ok}
 use Rattle.std.specs.Option.{option_map_or}
 use Rattle.std.proofs.lemmas.Bool.{eq-eqb}
 use Rattle.five_tuple.specs.declared.header.Header.{Header}
@@ -12,10 +13,10 @@ use Rattle.update_machine.specs.Boots.{boot_of, heard, is_up, gives_boot, gives_
 use Rattle.update_machine.specs.Caches.{cache_of, lookup_at}
 use Rattle.update_machine.specs.Concerns.{NoneConcern, concerns_known, concerns_links, concerns_lookups, concerns_policies, concerns_switch, concerns_waiting}
 use Rattle.update_machine.specs.Laws.{KnownKeeps, LinksKeep, PoliciesKeep, SwitchKeeps}
-use Rattle.update_machine.specs.Versions.{first_given, is_submission, policy_at, stamp_of, version_count, hosted_in, file_of, next_policy, plan_at, gives_file}
+use Rattle.update_machine.specs.Versions.{is_submission, policy_at, stamp_of, version_count, hosted_in, next_policy, plan_at}
 use Rattle.update_machine.specs.LinkMasks.{near}
 use Rattle.update_machine.specs.Quiet.{is_waited_for, gives_waited_for}
-use Rattle.update_machine.specs.Setting.{Setting, policy_of_file}
+use Rattle.update_machine.specs.Setting.{Setting, file_of, first_given, gives_file, policy_by, policy_in}
 use Rattle.update_machine.specs.Steps.{StepItems, steps_in}
 use Rattle.update_machine.proofs.Silent.{Silent, Stays, count_stays, fewer, first_stays, last_or_stays, neither_left, neither_right, stays}
 use Rattle.update_machine.proofs.SilentSteps.{weight_stays}
@@ -178,11 +179,32 @@ file_stays before items none v = by_test (v == 1)
     by_test false =
         first_stays (gives_file v) concerns_policies (file_silent v) before items none
 
+-- where the versions up to this one have the same files, it has the same policy
+pub policy_by_files : (setting : Setting) (one other : List Item) (v : ℕ)
+    → ((k : ℕ) → 1 ≤ k → k ≤ v → file_of one k ≡ file_of other k)
+    → policy_in setting one v ≡ policy_in setting other v
+unfolding policy_in
+policy_by_files setting one other zero same = refl
+policy_by_files setting one other (suc v) same =
+    let earlier : policy_in setting one v ≡ policy_in setting other v =
+    policy_by_files setting one other v (λ k first last. same k first (omega (arith, last))) in
+    ap (λ o. option_and_then (λ file. result_ok (policy_by setting o file)) (file_of one (suc v)))
+    earlier
+    ∙ ap (option_and_then (λ file. result_ok (policy_by setting (policy_in setting other v) file)))
+    (same (suc v) (omega arith) (omega arith))
+
 policy_count_stays : Stays concerns_policies version_count
 unfolding version_count
 policy_count_stays before items none =
     let count = count_stays is_submission concerns_policies count_silent before items none in
     rw count refl
+
+policy_in_keeps : (setting : Setting) (before items : List Item)
+    → NoneConcern concerns_policies before items → (v : ℕ)
+    → policy_in setting (before ++ items) v ≡ policy_in setting before v
+policy_in_keeps setting before items none v =
+    policy_by_files setting (before ++ items) before v
+    (λ k first last. file_stays before items none k)
 
 pub policies_keep : (before items : List Item) → NoneConcern concerns_policies before items
     → PoliciesKeep before (before ++ items)
@@ -190,12 +212,16 @@ unfolding policy_at plan_at next_policy
 policies_keep before items none = record {
   count = policy_count_stays before items none;
   file = file_stays before items none;
-  policy = λ setting v. ap (λ o. unwrap_or (option_and_then (policy_of_file setting) o) [])
-      (file_stays before items none v);
-  plan = λ setting v. ap (λ o. option_map_or (λ rows. hosted_in (setting.plan rows))
-      (option_and_then (policy_of_file setting) o) [])
-      (file_stays before items none v);
-  next = λ setting file. refl;
+  rows = λ setting v. policy_in_keeps setting before items none v;
+  policy = λ setting v.
+      ap (λ o. unwrap_or o []) (policy_in_keeps setting before items none v);
+  plan = λ setting v. ap (λ o. option_map_or (λ rows. hosted_in (setting.plan rows)) o [])
+      (policy_in_keeps setting before items none v);
+  next = λ setting file.
+      ap (λ v. policy_by setting (policy_in setting (before ++ items) v) file)
+      (policy_count_stays before items none)
+      ∙ ap (λ o. policy_by setting o file)
+      (policy_in_keeps setting before items none (version_count before));
 }
 
 pub lookup_stays : (setting : Setting) (s : ℕ) (header : Header)
@@ -206,15 +232,14 @@ lookup_stays setting s header before items none =
     switch_keeps setting s before items (fewer (concerns_switch s) (concerns_lookups s)
     (λ js item apart. neither_left (concerns_switch s js item) (concerns_policies js item) apart)
     before items none) in
-    let files : (v : ℕ) → file_of (before ++ items) v ≡ file_of before v =
-    file_stays before items (fewer concerns_policies (concerns_lookups s)
-    (λ js item apart. neither_right (concerns_switch s js item) (concerns_policies js item) apart)
-    before items none) in
     let stamp : stamp_of (before ++ items) s ≡ stamp_of before s = switch.stamp in
     let cache : cache_of setting (before ++ items) s ≡ cache_of setting before s = switch.cache in
-    let file : file_of (before ++ items) (stamp_of before s) ≡ file_of before (stamp_of before s) =
-    files (stamp_of before s) in
-    rw (stamp, cache, file) refl
+    let policy : policy_in setting (before ++ items) (stamp_of before s)
+    ≡ policy_in setting before (stamp_of before s) =
+    policy_in_keeps setting before items (fewer concerns_policies (concerns_lookups s)
+    (λ js item apart. neither_right (concerns_switch s js item) (concerns_policies js item) apart)
+    before items none) (stamp_of before s) in
+    rw (stamp, cache, policy) refl
 
 -- ---- switches that are waited for
 

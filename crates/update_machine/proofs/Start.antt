@@ -21,10 +21,10 @@ use Rattle.update_machine.specs.Marks.{acked_stamp, controller_heard, current_ma
 use Rattle.update_machine.specs.Messages.{is_deliverable, is_forgotten, next_message, next_waiting, was_delivered}
 use Rattle.update_machine.specs.Packets.{decision_of, header_in, next_packet, standing}
 use Rattle.update_machine.specs.Quiet.{sendings}
-use Rattle.update_machine.specs.Setting.{Setting}
+use Rattle.update_machine.specs.Setting.{Setting, file_of}
 use Rattle.update_machine.specs.SwitchNumbers.{switches_of}
 use Rattle.update_machine.specs.Steps.{steps_in}
-use Rattle.update_machine.specs.Versions.{holds_version, stamp_of, tables_at, version_count, file_of}
+use Rattle.update_machine.specs.Versions.{holds_version, stamp_of, tables_at, version_count}
 use Rattle.update_machine.specs.Causes.{present_step}
 use Rattle.update_machine.specs.Travels.{ingress_of, leg_of, next_travelling, travels}
 use Rattle.update_machine.specs.Ways.{found_down, next_switch, route_in, route_place}

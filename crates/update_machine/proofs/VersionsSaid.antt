@@ -1,21 +1,23 @@
 -- What versions, their policies and their plans are said to be, on journals of few items.
 use Rattle.std.proofs.Common.{◌≡◌, true, Some, None, List, [], ◌∷◌, refl, arith}
 use Rattle.std.specs.Prelude.{Ok, Err, length}
+use Rattle.std.specs.Result.{result_ok}
 use Rattle.std.proofs.lemmas.List.Elements.{All-from_recursion}
 use Rattle.policy_rules.specs.Hosted.{NoRoom}
+use Rattle.policy_rules.specs.declared.applying.Inapplicable.TheVariants.{Absent}
 use Rattle.policy_rules.specs.declared.policy.Action.TheVariants.{Drop, Out}
 use Rattle.steps.specs.Steps.{IsStep}
 use Rattle.steps.specs.declared.step.Step.TheVariants as step
 use Rattle.journal.specs.declared.item.Item.{Item}
 use Rattle.journal.specs.declared.item.Item.TheVariants as item
 use Rattle.update_machine.specs.Answers.{IsReached, StepOfRow}
-use Rattle.update_machine.specs.Machine.{Machine, Submits}
+use Rattle.update_machine.specs.Machine.{Machine, Submits, submitted_policy}
 use Rattle.update_machine.specs.Marks.{retired_mark}
 use Rattle.update_machine.specs.Messages.{is_deliverable}
 use Rattle.update_machine.specs.Numbers.{VersionsAreNumbered}
 use Rattle.update_machine.specs.Pieces.{forget_items, piece, update_code}
-use Rattle.update_machine.specs.Setting.{Setting, policy_of_file}
-use Rattle.update_machine.specs.Versions.{HasPlan, is_version, next_plan, next_policy, policy_at, version_count, file_of, plan_at}
+use Rattle.update_machine.specs.Setting.{Setting, file_at, file_of, policy_by, policy_in}
+use Rattle.update_machine.specs.Versions.{HasPlan, is_version, next_policy, policy_at, version_count, plan_at}
 use Rattle.update_machine.specs.Links.{message_of}
 use Rattle.update_machine.proofs.Examples.{all_to, at, by_action, open_net, out_or_drop, plan_p, two_switches, versions}
 
@@ -42,28 +44,28 @@ unfolding file_of
 no_file_of_0 = refl
 
 -- nor are there a file 0 and a third one
-pub policy_of_file_0 : policy_of_file open_net 0 ≡ None
-policy_of_file_0 = refl
+pub file_at_0 : file_at open_net 0 ≡ None
+file_at_0 = refl
 
-pub policy_of_file_3 : policy_of_file open_net 3 ≡ None
-policy_of_file_3 = refl
+pub file_at_3 : file_at open_net 3 ≡ None
+file_at_3 = refl
 
 -- a version has the policy of its file and its plan
 pub policy_of_3 : policy_at open_net submitted 3 ≡ all_to (Out 2) ∷ []
-unfolding policy_at file_of
+unfolding policy_at policy_in file_of
 policy_of_3 = refl
 
 pub plan_of_3 : plan_at open_net submitted 3 ≡ plan_p
-unfolding plan_at file_of
+unfolding plan_at policy_in file_of
 plan_of_3 = refl
 
 -- and none where its file isn't there, or the version
 pub no_policy_of_2 : policy_at open_net submitted 2 ≡ []
-unfolding policy_at file_of
+unfolding policy_at policy_in file_of
 no_policy_of_2 = refl
 
 pub no_plan_of_4 : plan_at open_net submitted 4 ≡ []
-unfolding plan_at file_of
+unfolding plan_at policy_in file_of
 no_plan_of_4 = refl
 
 -- of two items of one version the first gives the file
@@ -82,24 +84,26 @@ not_numbered are = cc ((are 2).1 (omega arith, omega arith))
 
 -- of them those have a plan that are there, and whose file is
 pub planned_3 : HasPlan open_net submitted 3
-unfolding policy_at plan_at file_of
+unfolding policy_at plan_at policy_in file_of
 planned_3 = record { policy = refl; plan = refl }
 
 pub not_planned_4 : HasPlan open_net submitted 4 → ⊥
-unfolding policy_at file_of
+unfolding policy_at policy_in file_of
 not_planned_4 has = cc has.policy
 
--- the next version has the policy of the file that it is submitted with, if there is one
-pub next_of_2 : next_policy open_net submitted 2 ≡ Some (all_to Drop ∷ [])
+-- the next version has the policy that its file has, or makes of the newest one's
+pub next_of_2 : next_policy open_net submitted 2 ≡ Ok (all_to Drop ∷ [])
 unfolding next_policy
 next_of_2 = refl
 
-pub next_of_3 : next_policy open_net submitted 3 ≡ None
+pub next_of_3 : next_policy open_net submitted 3 ≡ Err Absent
 unfolding next_policy
 next_of_3 = refl
 
 -- the machine takes no policy of a file that isn't there
-pub nothing_submitted : (old new : Machine) → Submits old 2 (policy_of_file open_net 3) new → ⊥
+pub nothing_submitted : (old new : Machine)
+    → Submits old 2
+    (result_ok (policy_by open_net (submitted_policy old (length old.policies)) 3)) new → ⊥
 nothing_submitted old new submits = cc submits.there
 
 -- ---- refusals
@@ -108,33 +112,33 @@ nothing_submitted old new submits = cc submits.there
 abbrev too_large : Setting
 too_large = record {
   net = two_switches;
-  policies = out_or_drop;
+  files = out_or_drop;
   plan = by_action (Ok plan_p) (Err (NoRoom 0));
 }
 
 pub taken_in : update_code too_large [] 1 ≡ None
-unfolding version_count retired_mark next_plan
+unfolding version_count retired_mark next_policy
 taken_in = refl
 
 pub without_plan : update_code too_large [] 2 ≡ Some 15
-unfolding version_count retired_mark next_plan
+unfolding version_count retired_mark next_policy
 without_plan = refl
 
 pub without_file :
-    (update_code too_large [] 3 ≡ Some 14) × (update_code too_large [] 0 ≡ Some 14)
-unfolding version_count retired_mark next_plan
+    (update_code too_large [] 3 ≡ Some 24) × (update_code too_large [] 0 ≡ Some 24)
+unfolding version_count retired_mark next_policy
 without_file = (refl, refl)
 
 pub eight_live : update_code open_net (versions 8 0) 1 ≡ Some 16
-unfolding version_count retired_mark next_plan
+unfolding version_count retired_mark next_policy
 eight_live = refl
 
 pub seven_live : update_code open_net (versions 8 1) 1 ≡ None
-unfolding version_count retired_mark next_plan
+unfolding version_count retired_mark next_policy
 seven_live = refl
 
 pub all_there : update_code open_net (versions 64 60) 1 ≡ Some 17
-unfolding version_count retired_mark next_plan
+unfolding version_count retired_mark next_policy
 all_there = refl
 
 -- ---- steps of the network
@@ -144,15 +148,15 @@ unfolding piece forget_items is_deliverable message_of
 reached = record {
   steps = at 1 (step.Forget 1) ∷ [];
   own = All-from_recursion
-      (λ (next : StepOfRow). IsStep open_net.net (length open_net.policies) next.step)
+      (λ (next : StepOfRow). IsStep open_net.net (length open_net.files) next.step)
       (at 1 (step.Forget 1) ∷ [])
       (omega arith, tt);
   written = refl;
 }
 
 -- it has no switch 2 and no file 3
-pub no_switch_2 : IsStep open_net.net (length open_net.policies) (step.Crash 2) → ⊥
+pub no_switch_2 : IsStep open_net.net (length open_net.files) (step.Crash 2) → ⊥
 no_switch_2 own = omega (arith, own)
 
-pub no_file_3 : IsStep open_net.net (length open_net.policies) (step.Update 3) → ⊥
+pub no_file_3 : IsStep open_net.net (length open_net.files) (step.Update 3) → ⊥
 no_file_3 own = omega (arith, own)

@@ -26,7 +26,7 @@ after_steps setting before (next ∷ steps) =
 -- the journal is the pieces of steps of the network, whatever steps, one after another
 pub record IsReached (setting : Setting) (journal : List Item) : Type 0 where
   pub steps : List StepOfRow
-  pub own : All (λ next. IsStep setting.net (length setting.policies) next.step) steps
+  pub own : All (λ next. IsStep setting.net (length setting.files) next.step) steps
   pub written : journal ≡ after_steps setting [] steps
 
 -- ---- flush and drain

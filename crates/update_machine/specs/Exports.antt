@@ -15,10 +15,10 @@ pub use Rattle.update_machine.specs.Numbers.{AreNumbered, VersionsAreNumbered}
 pub use Rattle.update_machine.specs.Packets.{next_packet}
 pub use Rattle.update_machine.specs.Pieces.{piece}
 pub use Rattle.update_machine.specs.Quiet.{IsQuiet}
-pub use Rattle.update_machine.specs.Setting.{IsSetting, NamesOwnPort, Setting, policy_of_file, setting_of}
+pub use Rattle.update_machine.specs.Setting.{IsSetting, NamesOwnPort, Setting, file_at, file_of, made_by, policy_by, policy_in, setting_of}
 pub use Rattle.update_machine.specs.Settling.{resent_by_controller}
 pub use Rattle.update_machine.specs.Travels.{next_travelling, travels}
-pub use Rattle.update_machine.specs.Versions.{file_of, is_version, hosted_in, next_policy, plan_at, policy_at, version_count}
+pub use Rattle.update_machine.specs.Versions.{is_version, hosted_in, next_policy, plan_at, policy_at, version_count}
 pub use Rattle.journal.specs.declared.item.Item.{Item}
 pub use Rattle.steps.specs.declared.step.Event.{Event}
 pub use Rattle.steps.specs.declared.step.Step.{Step}

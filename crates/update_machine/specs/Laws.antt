@@ -22,10 +22,10 @@ use Rattle.update_machine.specs.Messages.{is_deliverable, is_forgotten, next_mes
 use Rattle.update_machine.specs.Moves.{end_items, stuck_on}
 use Rattle.update_machine.specs.Packets.{decision_of, header_in, next_packet, standing}
 use Rattle.update_machine.specs.Quiet.{is_waited_for, sendings}
-use Rattle.update_machine.specs.Setting.{Setting}
+use Rattle.update_machine.specs.Setting.{Setting, file_of, policy_in}
 use Rattle.update_machine.specs.SwitchNumbers.{switches_of}
 use Rattle.update_machine.specs.Causes.{present_step}
-use Rattle.update_machine.specs.Versions.{holds_version, policy_at, stamp_of, tables_at, version_count, file_of, next_policy, plan_at}
+use Rattle.update_machine.specs.Versions.{holds_version, policy_at, stamp_of, tables_at, version_count, next_policy, plan_at}
 use Rattle.update_machine.specs.Travels.{ingress_of, leg_of, next_travelling, travels}
 use Rattle.update_machine.specs.Ways.{found_down, next_switch, route_in, route_place}
 use Rattle.update_machine.specs.LinkMasks.{near, adverts_begun, adverts_heard, links_known}
@@ -169,6 +169,8 @@ pub record PacketsKeep (before after : List Item) : Type 0 where
 pub record PoliciesKeep (before after : List Item) : Type 0 where
   pub count : version_count after ≡ version_count before
   pub file : (v : ℕ) → file_of after v ≡ file_of before v
+  pub rows : (setting : Setting) (v : ℕ) →
+      policy_in setting after v ≡ policy_in setting before v
   pub policy : (setting : Setting) (v : ℕ) →
       policy_at setting after v ≡ policy_at setting before v
   pub plan : (setting : Setting) (v : ℕ) → plan_at setting after v ≡ plan_at setting before v

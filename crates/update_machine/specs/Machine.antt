@@ -3,6 +3,7 @@
 -- message. The notion of a version that decides a whole packet is that of Reitblatt, Foster,
 -- Rexford, Schlesinger and Walker, "Abstractions for Network Update".
 use Rattle.std.specs.Prelude.{⊤, ℕ, ◌≡◌, ◌+◌, ◌-◌, ◌<◌, if◌then◌else◌, ◌==◌, Option, Some, None, option_map, option_to_list, List, [], ◌∷◌, ◌++◌, length, slice_get}
+use Rattle.std.specs.Result.{result_ok}
 use Rattle.five_tuple.specs.declared.header.Header.{Header}
 use Rattle.policy_rules.specs.Policy.{IsFirstMatch}
 use Rattle.policy_rules.specs.declared.policy.Row.{Row}
@@ -10,7 +11,7 @@ use Rattle.policy_rules.specs.declared.policy.Hit.{Hit}
 use Rattle.policy_rules.specs.declared.policy.Action.TheVariants as action
 use Rattle.journal.specs.declared.item.Item.{Item}
 use Rattle.journal.specs.declared.item.Item.TheVariants as item
-use Rattle.update_machine.specs.Setting.{Setting, policy_of_file}
+use Rattle.update_machine.specs.Setting.{Setting, policy_by}
 
 -- how a packet ends
 pub data End : Type 0 where
@@ -36,7 +37,7 @@ pub record Machine : Type 0 where
 -- it begins with the policy of the first file, the mark 0 and no packet
 abbrev pub first_machine : Setting → Machine
 first_machine setting = record {
-  policies = option_to_list (policy_of_file setting 1);
+  policies = option_to_list (result_ok (policy_by setting None 1));
   mark = 0;
   packets = λ _. None;
 }
@@ -51,11 +52,12 @@ with_packet machine number packet = record machine {
   packets = λ other. if other == number then Some packet else machine.packets other;
 }
 
--- the policy that a file names, which must be there, is the newest version and carries its number
-pub record Submits (old : Machine) (version : ℕ) (named : Option (List Row)) (new : Machine)
+-- the policy that a file has, or makes of the newest one, must be there; it is the newest version
+-- then, and carries its number
+pub record Submits (old : Machine) (version : ℕ) (made : Option (List Row)) (new : Machine)
     : Type 0 where
   pub policy : List Row
-  pub there : named ≡ Some policy
+  pub there : made ≡ Some policy
   pub newest : version ≡ length old.policies + 1
   pub after : new ≡ record old { policies = old.policies ++ policy ∷ [] }
 
@@ -102,7 +104,8 @@ pub record Ends (old : Machine) (number : ℕ) (end : End) (new : Machine) : Typ
 -- what an item does to the machine: a move that the machine may make, or nothing
 abbrev pub Takes : Setting → Machine → Item → Machine → Type 0
 Takes setting old (item.Submitted file version) new =
-    Submits old version (policy_of_file setting file) new
+    let newest = submitted_policy old (length old.policies) in
+    Submits old version (result_ok (policy_by setting newest file)) new
 Takes setting old (item.Retired version) new = Retires old version new
 Takes setting old (item.Entered packet switch header) new = Enters old packet header new
 Takes setting old (item.Decided packet version rule action how) new =

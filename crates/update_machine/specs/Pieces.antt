@@ -7,6 +7,9 @@ use Rattle.ctrl_msg.specs.declared.message.Body.TheVariants.{Hello}
 use Rattle.ctrl_msg.specs.declared.message.Message.{Message}
 use Rattle.ctrl_msg.specs.Kinds.{to_controller}
 use Rattle.five_tuple.specs.declared.header.Header.{Header}
+use Rattle.policy_rules.specs.declared.applying.Inapplicable.{Inapplicable}
+use Rattle.policy_rules.specs.declared.applying.Inapplicable.TheVariants.{Absent, Taken, TooManyRows}
+use Rattle.policy_rules.specs.declared.policy.Row.{Row}
 use Rattle.policy_rules.specs.Hosted.{NoPlan, TooManyWords, TooManyLeaves, NoRoom}
 use Rattle.journal.specs.declared.item.Item.{Item}
 use Rattle.journal.specs.declared.item.Item.TheVariants as item
@@ -23,7 +26,7 @@ use Rattle.update_machine.specs.Moves.{lookup_items, move_items, items_then}
 use Rattle.update_machine.specs.Packets.{next_packet, standing}
 use Rattle.update_machine.specs.Setting.{Setting}
 use Rattle.update_machine.specs.Settling.{resent_by_controller, settling, submitted_items}
-use Rattle.update_machine.specs.Versions.{next_plan, version_count}
+use Rattle.update_machine.specs.Versions.{next_policy, version_count}
 use Rattle.update_machine.specs.Travels.{packets_at, travels}
 use Rattle.update_machine.specs.LinkMasks.{near}
 
@@ -74,7 +77,13 @@ expire_items setting s place journal =
 
 -- ---- policies
 
--- the code of a policy's refusal: it has no plan, or no more versions may be live, or no more may
+-- the code of a change that the newest policy refuses
+abbrev pub apply_code : Inapplicable → ℕ
+apply_code Absent = 24
+apply_code Taken = 25
+apply_code (TooManyRows rows) = 26
+
+-- that of a policy that is refused: it has no plan, or no more versions may be live, or no more may
 -- be there in all
 abbrev pub plan_code : NoPlan → ℕ
 plan_code (TooManyWords words) = 12
@@ -87,10 +96,16 @@ marks_code journal =
     else if version_count journal == most_versions then Some 17
     else None
 
-abbrev pub update_code : Setting → List Item → ℕ → Option ℕ
-update_code setting journal file = elim (next_plan setting journal file) [
+abbrev pub policy_code : Setting → List Item → List Row → Option ℕ
+policy_code setting journal rows = elim (setting.plan rows) [
   | Err why ↦ Some (plan_code why)
   | Ok plan ↦ marks_code journal
+]
+
+abbrev pub update_code : Setting → List Item → ℕ → Option ℕ
+update_code setting journal file = elim (next_policy setting journal file) [
+  | Err why ↦ Some (apply_code why)
+  | Ok rows ↦ policy_code setting journal rows
 ]
 
 -- a policy that isn't refused is the newest version

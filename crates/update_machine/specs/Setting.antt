@@ -1,53 +1,81 @@
--- First tier. What a journal is read against: the network, and policies by file with their plans.
-use Rattle.std.specs.Prelude.{ℕ, ◌-◌, ◌==◌, if◌then◌else◌, Option, Some, None, Result, Ok, Err, List, slice_get, ⊤, ◌≡◌, ◌⊎◌, Contains, is_some, IsOk, IsTrue, All}
+-- First tier. A network with files of policies, and the policies and plans of a journal's versions.
+use Rattle.std.specs.Prelude.{ℕ, zero, suc, ◌-◌, ◌==◌, if◌then◌else◌, Option, Some, None, Result, Ok, Err, option_and_then, List, [], ◌∷◌, slice_get, ⊤, ◌≡◌, is_some, IsOk, IsTrue, All}
+use Rattle.std.specs.Result.{result_ok}
+use Rattle.std.specs.Option.{option_or}
 use Rattle.net_file.specs.declared.net.Net.{Net}
 use Rattle.net_file.specs.Net.{IsNet}
 use Rattle.net_file.specs.Joins.{owner_of}
 use Rattle.partition.specs.Plan.{Hosted, plan_of}
+use Rattle.policy_rules.specs.Applied.{applied}
+use Rattle.policy_rules.specs.PolicyFiles.{GivesOnly, IsPolicyFile}
+use Rattle.policy_rules.specs.declared.applying.Inapplicable.{Inapplicable}
+use Rattle.policy_rules.specs.declared.applying.Inapplicable.TheVariants.{Absent}
+use Rattle.policy_rules.specs.declared.file.PolicyFile.{PolicyFile}
+use Rattle.policy_rules.specs.declared.file.PolicyFile.TheVariants.{Whole, Change}
 use Rattle.policy_rules.specs.declared.policy.Row.{Row}
-use Rattle.policy_rules.specs.Policy.{IsPolicy}
 use Rattle.policy_rules.specs.declared.policy.Action.{Action}
-use Rattle.policy_rules.specs.Hosted.{NoPlan, TooManyLeaves}
+use Rattle.policy_rules.specs.Hosted.{NoPlan}
 use Rattle.policy_rules.specs.declared.policy.Action.TheVariants as action
 use Rattle.journal.specs.declared.item.Item.{Item}
 use Rattle.journal.specs.declared.item.Item.TheVariants as item
 
--- the network; the policies of the files, in order; and the plan of the rows of a policy on the
--- network, if it has one
+-- the network; the files of policies and changes, in order; and the plan of the rows of a policy on
+-- the network, if it has one
 pub record Setting : Type 0 where
   pub net : Net
-  pub policies : List (List Row)
+  pub files : List PolicyFile
   pub plan : List Row → Result (List Hosted) NoPlan
 
--- the setting of these policies on this network
-abbrev pub setting_of : Net → List (List Row) → Setting
-setting_of net policies = record {
+-- the setting of these files on this network
+abbrev pub setting_of : Net → List PolicyFile → Setting
+setting_of net files = record {
   net = net;
-  policies = policies;
+  files = files;
   plan = λ rows. plan_of rows net;
 }
 
--- files are numbered from 1; a file that isn't there names no policy
-abbrev pub policy_of_file : Setting → ℕ → Option (List Row)
-policy_of_file setting file =
-    if file == 0 then None else slice_get setting.policies (file - 1)
+-- files are numbered from 1
+abbrev pub file_at : Setting → ℕ → Option PolicyFile
+file_at setting file = if file == 0 then None else slice_get setting.files (file - 1)
 
--- and has no plan
-abbrev pub plan_of_file : Setting → ℕ → Result (List Hosted) NoPlan
-plan_of_file setting file = elim (policy_of_file setting file) [
-  | None ↦ Err TooManyLeaves
-  | Some rows ↦ setting.plan rows
-]
+-- a file has a policy, or makes one of the policy of the version before; where there is no file, or
+-- a change has no policy before it, there is none
+abbrev pub made_by : Option PolicyFile → Option (List Row) → Result (List Row) Inapplicable
+made_by (Some (Whole rows)) earlier = Ok rows
+made_by (Some (Change edits)) (Some rows) = applied rows edits
+made_by _ _ = Err Absent
 
--- the file of a version: the first file for version 1, or the one that it was submitted with
-abbrev pub IsFileOf : List Item → ℕ → ℕ → Type 0
-IsFileOf journal version file =
-    ((version ≡ 1) × (file ≡ 1)) ⊎ Contains journal (item.Submitted file version)
+-- the same, of the file of this number
+abbrev pub policy_by : Setting → Option (List Row) → ℕ → Result (List Row) Inapplicable
+policy_by setting earlier file = made_by (file_at setting file) earlier
 
--- the plan of a version is that of its file's policy
+-- what the first item that tells something tells: one more way, beside those of `Folds`
+abbrev pub first_given : {X : Type 0} → (Item → Option X) → List Item → Option X
+first_given tells [] = None
+first_given tells (item ∷ items) = option_or (tells item) (first_given tells items)
+
+abbrev pub gives_file : ℕ → Item → Option ℕ
+gives_file v (item.Submitted file version) = if version == v then Some file else None
+gives_file v _ = None
+
+-- the file of a version: the first file is that of version 1, and any other version has the one
+-- with which it was submitted
+unfoldable pub file_of : List Item → ℕ → Option ℕ
+file_of journal version =
+    if version == 1 then Some 1 else first_given (gives_file version) journal
+
+-- the policy of a version, if it has one: what its file makes of that of the version before
+unfoldable pub policy_in : Setting → List Item → ℕ → Option (List Row)
+policy_in setting journal zero = None
+policy_in setting journal (suc version) =
+    option_and_then
+    (λ file. result_ok (policy_by setting (policy_in setting journal version) file))
+    (file_of journal (suc version))
+
+-- the plan of a version is that of its policy
 abbrev pub IsPlanOf : Setting → List Item → ℕ → List Hosted → Type 0
-IsPlanOf setting journal version plan = (file : ℕ) × IsFileOf journal version file
-    × (plan_of_file setting file ≡ Ok plan)
+IsPlanOf setting journal version plan = (rows : List Row)
+    × (policy_in setting journal version ≡ Some rows) × (setting.plan rows ≡ Ok plan)
 
 -- an action names a port that a switch has, if it names one
 abbrev pub NamesOwnPort : Setting → Action → Type 0
@@ -55,10 +83,13 @@ NamesOwnPort setting action.Drop = ⊤
 NamesOwnPort setting (action.Out port) =
     IsTrue (is_some (owner_of setting.net.switches port))
 
--- a network, and policies that name ports of it alone, of which the first one has a plan
+-- a network, and files of policies and changes that name ports of it alone, of which the first one
+-- has a policy, with a plan
 pub record IsSetting (setting : Setting) : Type 0 where
   pub net : IsNet setting.net
-  pub made : setting ≡ setting_of setting.net setting.policies
-  pub sound : All IsPolicy setting.policies
-  pub ports : All (All (λ row. NamesOwnPort setting row.action)) setting.policies
-  pub planned : IsOk (plan_of_file setting 1)
+  pub made : setting ≡ setting_of setting.net setting.files
+  pub sound : All IsPolicyFile setting.files
+  pub ports : All (GivesOnly (λ row. NamesOwnPort setting row.action)) setting.files
+  pub first : List Row
+  pub whole : file_at setting 1 ≡ Some (Whole first)
+  pub planned : IsOk (setting.plan first)

@@ -2,11 +2,12 @@
 -- packets with. Tables that are installed under a version before packets are stamped with it, and
 -- are removed once none is, are those of Reitblatt, Foster, Rexford, Schlesinger and Walker,
 -- "Abstractions for Network Update".
-use Rattle.std.specs.Prelude.{ℕ, ◌≡◌, ◌+◌, Bool, true, false, not, ◌&&◌, ◌||◌, ◌==◌, nat_le, max, if◌then◌else◌, Option, Some, None, is_some, unwrap_or, List, [], ◌∷◌, ◌++◌, fold, filter_map, Result, Ok, Err, option_and_then}
+use Rattle.std.specs.Prelude.{ℕ, ◌≡◌, ◌+◌, Bool, true, false, not, ◌&&◌, ◌||◌, ◌==◌, nat_le, max, if◌then◌else◌, Option, Some, None, is_some, unwrap_or, List, [], ◌∷◌, ◌++◌, fold, filter_map, Result, Ok, Err}
 use Rattle.std.specs.List.{list_any}
-use Rattle.std.specs.Option.{option_map_or, option_or}
+use Rattle.std.specs.Option.{option_map_or}
 use Rattle.ctrl_msg.specs.declared.message.Body.{Body}
 use Rattle.ctrl_msg.specs.declared.message.Body.TheVariants.{Install, OpenAt, Stamp, Collect}
+use Rattle.policy_rules.specs.declared.applying.Inapplicable.{Inapplicable}
 use Rattle.policy_rules.specs.declared.policy.Row.{Row}
 use Rattle.policy_rules.specs.Hosted.{NoPlan}
 use Rattle.switch_table.specs.Tables.{tables_of}
@@ -15,7 +16,7 @@ use Rattle.journal.specs.declared.item.Item.{Item}
 use Rattle.journal.specs.declared.item.Item.TheVariants as item
 use Rattle.update_machine.specs.Boots.{heard, is_in_first_boot}
 use Rattle.update_machine.specs.Folds.{count_of}
-use Rattle.update_machine.specs.Setting.{Setting, plan_of_file, policy_of_file}
+use Rattle.update_machine.specs.Setting.{Setting, file_of, policy_by, policy_in}
 use Rattle.partition.specs.Plan.{Hosted}
 
 -- ---- policies and plans
@@ -24,34 +25,6 @@ use Rattle.partition.specs.Plan.{Hosted}
 abbrev pub hosted_in : Result (List Hosted) NoPlan → List Hosted
 hosted_in (Ok plan) = plan
 hosted_in (Err why) = []
-
--- what the first item that tells something tells: one more way, beside those of `Folds`
-abbrev pub first_given : {X : Type 0} → (Item → Option X) → List Item → Option X
-first_given tells [] = None
-first_given tells (item ∷ items) = option_or (tells item) (first_given tells items)
-
-abbrev pub gives_file : ℕ → Item → Option ℕ
-gives_file v (item.Submitted file version) = if version == v then Some file else None
-gives_file v _ = None
-
--- the file of a version: the first file is that of version 1, and any other version has the one
--- with which it was submitted
-unfoldable pub file_of : List Item → ℕ → Option ℕ
-file_of journal version =
-    if version == 1 then Some 1 else first_given (gives_file version) journal
-
--- the policy of a version, if it is there and its file too
-abbrev pub policy_in : Setting → List Item → ℕ → Option (List Row)
-policy_in setting journal version =
-    option_and_then (policy_of_file setting) (file_of journal version)
-
--- the policy and the plan of the next version, if it is submitted with this file: the file's own,
--- whatever stands in the journal
-unfoldable pub next_policy : Setting → List Item → ℕ → Option (List Row)
-next_policy setting journal file = policy_of_file setting file
-
-unfoldable pub next_plan : Setting → List Item → ℕ → Result (List Hosted) NoPlan
-next_plan setting journal file = plan_of_file setting file
 
 -- the partitions of its plan with their targets; none where there is no policy or no plan
 unfoldable pub plan_at : Setting → List Item → ℕ → List Hosted
@@ -73,6 +46,12 @@ is_version journal version = is_some (file_of journal version)
 -- the rows of its policy; none where there is no policy
 unfoldable pub policy_at : Setting → List Item → ℕ → List Row
 policy_at setting journal version = unwrap_or (policy_in setting journal version) []
+
+-- the policy of the next version, if it is submitted with this file: what the file makes of the
+-- policy of the newest one
+unfoldable pub next_policy : Setting → List Item → ℕ → Result (List Row) Inapplicable
+next_policy setting journal file =
+    policy_by setting (policy_in setting journal (version_count journal)) file
 
 -- the version has a policy, which has a plan
 pub record HasPlan (setting : Setting) (journal : List Item) (version : ℕ) : Type 0 where

@@ -1,13 +1,14 @@
 //! Laws on journals: functions without a body, whose contracts are facts of the definitions alone.
-ghost use Rattle.std.specs.Prelude.{◌≡◌, ◌+◌, ◌++◌, ◌↔◌, ◌≤◌, ℕ, Bool, Option, Some, List, [], ◌∷◌, length, map, All, IsTrue};
+ghost use Rattle.std.specs.Prelude.{◌≡◌, ◌+◌, ◌++◌, ◌↔◌, ◌≤◌, ℕ, Bool, Option, Some, Ok, List, [], ◌∷◌, length, map, All, IsTrue};
 ghost use Rattle.std.specs.Option.{option_or};
 ghost use Rattle.policy_rules.specs.Policy.{IsPolicy};
+ghost use Rattle.policy_rules.specs.declared.file.PolicyFile.TheVariants.{Whole};
 ghost use Rattle.policy_rules.specs.declared.policy.Row.{Row};
 ghost use Rattle.journal.specs.declared.item.Item.TheVariants.{Submitted};
 ghost use Rattle.steps.specs.declared.step.Event.TheVariants.{One};
-ghost use Rattle.update_machine.specs.Exports.{Answers, AnswersSoFar, AreAnswered, AreNumbered, AreStepsOf, BeginsAnswer, ConcernLaws, Event, HasPlay, HaveSteps, IsFull, IsPlay, IsSetting, Item, KnownLinkLaws, NamesOwnPort, Setting, StartLaws, Step, StepOfRow, StopsFull, VersionsAreNumbered, after_steps, file_of, full_at, is_sending, is_version, hosted_in, next_policy, plan_at, policy_at, policy_of_file, version_count};
+ghost use Rattle.update_machine.specs.Exports.{Answers, AnswersSoFar, AreAnswered, AreNumbered, AreStepsOf, BeginsAnswer, ConcernLaws, Event, HasPlay, HaveSteps, IsFull, IsPlay, IsSetting, Item, KnownLinkLaws, NamesOwnPort, Setting, StartLaws, Step, StepOfRow, StopsFull, VersionsAreNumbered, after_steps, file_at, full_at, is_sending, is_version, hosted_in, next_policy, plan_at, policy_at, policy_in, version_count};
 ghost use Rattle.update_machine.specs.Folds.{all_given, count_of, folded_value, folded_from, last_given};
-ghost use Rattle.update_machine.specs.Versions.{first_given};
+ghost use Rattle.update_machine.specs.Setting.{first_given};
 ghost use Rattle.update_machine.specs.declared.full.TheConstants.{FULL_AT};
 
 /// What a journal says, once more items stand behind it: a law for each of the folds, over
@@ -81,30 +82,31 @@ pub fn answers_are_numbered()
         → BeginsAnswer setting events journal → AreNumbered journal }
 {}
 
-/// A version that is there keeps its policy and its plan, whatever items come behind; in an answer
-/// each version from 1 to their count is there (`answers_are_numbered`). The plan is that of the
-/// policy, which a file names: the first version has that of the first file, and the version that
-/// is submitted next has the next policy. In a sound setting each policy is one, and names ports of
-/// the network alone.
+/// A version that is there keeps its file, and so does its policy and its plan where all versions
+/// before it are there, whatever items come behind; in an answer each version from 1 to their count
+/// is there (`answers_are_numbered`). The plan is that of the policy. The first version has the
+/// policy of the first file, and the version that is submitted next has the next policy: what its
+/// file makes of the policy of the newest version. In a sound setting each policy is one, and names
+/// ports of the network alone.
 pub fn versions_keep_policies()
     ensures there { (before items : List Item) (version : ℕ) → IsTrue (is_version before version)
         → IsTrue (is_version (before ++ items) version) }
     ensures policy { (setting : Setting) (before items : List Item) (version : ℕ)
-        → IsTrue (is_version before version)
+        → VersionsAreNumbered before → version ≤ version_count before
         → policy_at setting (before ++ items) version ≡ policy_at setting before version }
     ensures plan { (setting : Setting) (before items : List Item) (version : ℕ)
-        → IsTrue (is_version before version)
+        → VersionsAreNumbered before → version ≤ version_count before
         → plan_at setting (before ++ items) version ≡ plan_at setting before version }
-    ensures of_file { (setting : Setting) (journal : List Item) (version file : ℕ) (rows : List Row)
-        → file_of journal version ≡ Some file → policy_of_file setting file ≡ Some rows
+    ensures of_policy { (setting : Setting) (journal : List Item) (version : ℕ) (rows : List Row)
+        → policy_in setting journal version ≡ Some rows
         → (policy_at setting journal version ≡ rows)
         × (plan_at setting journal version ≡ hosted_in (setting.plan rows)) }
     ensures first { (setting : Setting) (journal : List Item) (rows : List Row)
-        → policy_of_file setting 1 ≡ Some rows → (policy_at setting journal 1 ≡ rows)
+        → file_at setting 1 ≡ Some (Whole rows) → (policy_at setting journal 1 ≡ rows)
         × (plan_at setting journal 1 ≡ hosted_in (setting.plan rows)) }
     ensures next { (setting : Setting) (before : List Item) (file version : ℕ) (rows : List Row)
         → VersionsAreNumbered before → version ≡ version_count before + 1
-        → next_policy setting before file ≡ Some rows
+        → next_policy setting before file ≡ Ok rows
         → (policy_at setting (before ++ Submitted file version ∷ []) version ≡ rows)
         × (plan_at setting (before ++ Submitted file version ∷ []) version
         ≡ hosted_in (setting.plan rows)) }

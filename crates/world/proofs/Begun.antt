@@ -1,38 +1,56 @@
 -- The parts of a world in which nothing happened yet are as the empty journal says.
-use Rattle.std.proofs.Common.{◌≡◌, List, [], ℕ, sym, subst}
+use Rattle.std.proofs.Common.{ℕ, ◌≡◌, List, [], ◌∷◌, refl, sym, subst}
+use Rattle.std.specs.Prelude.{IsOk, IsSome, Ok, unwrap_or}
 use Rattle.message_bag.specs.Posts.{Post}
 use Rattle.controller.specs.Controller.{ControllerValue}
+use Rattle.controller.specs.Plan.{PlanValue}
 use Rattle.journal.specs.declared.item.Item.{Item}
 use Rattle.net_file.specs.Net.{IsNet}
 use Rattle.net_file.specs.Owners.{AreOwners}
 use Rattle.net_file.specs.declared.net.Net.{Net}
 use Rattle.net_file.specs.declared.ports.Ports.{Ports}
-use Rattle.policy_rules.specs.declared.policy.Row.{Row}
-use Rattle.world.specs.Files.{FilesValue}
+use Rattle.partition.specs.Plan.{plan_of}
+use Rattle.policy_rules.specs.declared.file.PolicyFile.{PolicyFile}
+use Rattle.policy_rules.specs.declared.file.PolicyFile.TheVariants.{Whole, Change}
+use Rattle.world.specs.Files.{FilesValue, IsMade, first_policy}
+use Rattle.world.specs.declared.files.Compiled.TheVariants.{Planned}
 use Rattle.switch_core.specs.State.{SwitchValue}
 use Rattle.travelling.specs.Travelling.{Flights}
-use Rattle.update_machine.specs.Setting.{setting_of}
+use Rattle.update_machine.specs.Setting.{IsSetting, setting_of}
+use Rattle.update_machine.proofs.CallerLemmas.{first_planned}
 use Rattle.refinement.specs.Refinement.{RefineJournal}
 
--- where the files are of this network and these policies, and nothing was written, posted or sent
+-- where the files are these, on this network, and nothing was written, posted or sent
 -- on its way
-pub as_begun : (net : Net) (policies : List (List Row)) (files : FilesValue)
+pub as_begun : (net : Net) (given : List PolicyFile) (files : FilesValue)
     (journal : List Item) (travelling : Flights) (bag : List Post)
     (switches : List SwitchValue) (controller : ControllerValue) (near : List ℕ)
-    → files.net ≡ net → files.policies ≡ policies → journal ≡ [] → travelling ≡ [] → bag ≡ []
-    → RefineJournal (setting_of net policies) [] switches [] 0 (record {
+    → files.net ≡ net → files.files ≡ given → journal ≡ [] → travelling ≡ [] → bag ≡ []
+    → RefineJournal (setting_of net given) [] switches [] 0 (record {
       controller = controller;
       posts = [];
       links = near;
       near = near;
-    }) → RefineJournal (setting_of files.net files.policies) journal switches travelling 0 (record {
+    }) → RefineJournal (setting_of files.net files.files) journal switches travelling 0 (record {
       controller = controller;
       posts = bag;
       links = near;
       near = near;
     })
-as_begun net policies files journal travelling bag switches controller near of_net of_policies
-    silent still none refines = rw (of_net, of_policies, silent, still, none) refines
+as_begun net given files journal travelling bag switches controller near of_net of_files
+    silent still none refines = rw (of_net, of_files, silent, still, none) refines
+
+-- in a sound setting that has a plan
+pub first_plans : (net : Net) (files : List PolicyFile) → IsSetting (setting_of net files)
+    → IsSome (first_policy files) → IsOk (plan_of (unwrap_or (first_policy files) []) net)
+first_plans net [] is whole = absurd cc
+first_plans net (Whole rows ∷ files) is whole = first_planned net (Whole rows ∷ files) rows is refl
+first_plans net (Change edits ∷ files) is whole = absurd cc
+
+-- a copy of a plan on a copy of the network is one
+pub plan_copied : (net own : Net) (plan copy : PlanValue) → own ≡ net → copy ≡ plan
+    → plan_of plan.policy net ≡ Ok plan.hosted → IsMade own (Ok copy.policy) (Planned copy)
+plan_copied net own plan copy same as_it is = (refl, rw (same, as_it) is)
 
 -- and so are its ports
 pub owners_begun : (net other : Net) (ports : Ports) → other ≡ net

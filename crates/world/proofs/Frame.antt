@@ -1,17 +1,19 @@
 -- What a kind of step owes to the frame that all of them share: its row stands behind the journal,
 -- and it writes the rest.
-use Rattle.std.proofs.Common.{ℕ, ◌≡◌, ◌+◌, List, [], ◌∷◌, ◌++◌, refl, sym, subst, ◌∙◌, arith, rules}
-use Rattle.std.specs.Prelude.{Err, IsErr, Ok, OnErr, OnOk, Result}
+use Rattle.std.proofs.Common.{ℕ, ◌≡◌, ◌+◌, List, [], ◌∷◌, ◌++◌, refl, ap, sym, subst, ◌∙◌, arith, rules}
+use Rattle.std.specs.Prelude.{Err, IsErr, Ok, OnErr, OnOk, Result, Some}
 use Rattle.std.proofs.lemmas.Result.{on_err_weaker, on_ok_weaker}
 use Rattle.message_bag.specs.Posts.{Post}
-use Rattle.controller.specs.Controller.{ControllerValue}
+use Rattle.controller.specs.Controller.{ControllerValue, newest_policy}
 use Rattle.journal.specs.declared.item.Item.{Item}
 use Rattle.journal.specs.declared.item.Item.TheVariants as item
+use Rattle.net_file.specs.declared.net.Net.{Net}
+use Rattle.policy_rules.specs.declared.file.PolicyFile.{PolicyFile}
 use Rattle.steps.specs.declared.step.Step.{Step}
 use Rattle.update_machine.specs.Pieces.{piece, step_items}
 use Rattle.update_machine.specs.Setting.{Setting, setting_of}
 use Rattle.world.specs.Files.{FilesValue}
-use Rattle.world.specs.Parts.{PartsRefineJournal, BeginsStep, Goes, HasBegun, IsReadyForStep, KeepNet, Plays, control_in, setting_in}
+use Rattle.world.specs.Parts.{PartsRefineJournal, BeginsStep, Goes, HasBegun, HoldNewest, IsReadyForStep, KeepNet, Plays, control_in, setting_in}
 use Rattle.world.specs.State.{comes_in}
 use Rattle.refinement.specs.Refinement.{RefineJournal, Control}
 use Rattle.world_log.specs.Writing.{IsPart}
@@ -20,23 +22,51 @@ use Rattle.refinement.proofs.OneItem.{grown}
 use Rattle.world_log.proofs.Writing.{both_ok, grown_more, none_ok, part_none, step_part, step_written, on_err}
 
 -- nothing was done to the files and the ports
+pub record KeepFiles (old new : Parts) : Type 0 where
+  pub files : new.files ≡ old.files
+  pub ports : new.ports ≡ old.ports
+
+pub files_stay : {old new : Parts} → new.files ≡ old.files → new.ports ≡ old.ports
+    → KeepFiles old new
+files_stay files ports = record { files = files; ports = ports }
+
+-- so the network stays, and the files
 pub net_stays : {old new : Parts} → new.files ≡ old.files → new.ports ≡ old.ports
     → KeepNet old new
-net_stays files ports = record { same_files = files; same_ports = ports }
+net_stays files ports = record {
+  same_net = ap (λ (f : FilesValue). f.net) files;
+  same_files = ap (λ (f : FilesValue). f.files) files;
+  same_ports = ports;
+}
+
+-- they do, and changes are still applied to the newest policy
+pub record Follows (old new : Parts) : Type 0 where
+  pub net : KeepNet old new
+  pub newest : HoldNewest new
+
+-- as where the newest policy is the one from before
+pub follows : {before : List Item} {row : ℕ} {step : Step} {old new : Parts}
+    → BeginsStep before row step old → new.files ≡ old.files → new.ports ≡ old.ports
+    → newest_policy new.controller ≡ newest_policy old.controller → Follows old new
+follows begins files ports newest = record {
+  net = net_stays files ports;
+  newest = newest ∙ begins.ready.newest ∙ ap (λ (f : FilesValue). Some f.newest) (sym files);
+}
 
 -- these parts are as this journal says, by the setting from before the step
 abbrev pub PartsRefineJournalAs : Parts → List Item → Parts → Control → Type 0
 PartsRefineJournalAs old journal new control =
     RefineJournal (setting_in old) journal new.switches.items new.log.travelling new.packets control
 
--- the network and the policies stayed
+-- the network and the files stayed
 as_kept : (old new : Parts) → KeepNet old new
     → PartsRefineJournalAs old new.log.journal new (control_in new) → PartsRefineJournal new
 as_kept old new keeps refines =
-    subst (λ (files : FilesValue). RefineJournal (setting_of files.net files.policies)
-    new.log.journal
-    new.switches.items new.log.travelling new.packets (control_in new)) (sym keeps.same_files)
-    refines
+    subst (λ (net : Net). RefineJournal (setting_of net new.files.files) new.log.journal
+    new.switches.items new.log.travelling new.packets (control_in new)) (sym keeps.same_net)
+    (subst (λ (files : List PolicyFile). RefineJournal (setting_of old.files.net files)
+    new.log.journal new.switches.items new.log.travelling new.packets (control_in new))
+    (sym keeps.same_files) refines)
 
 -- the controller stayed, and which links are up and can be used
 pub record KeepControl (old new : Parts) : Type 0 where
@@ -93,9 +123,9 @@ piece_split : (setting : Setting) (before : List Item) (row : ℕ) (step : Step)
 unfolding piece
 piece_split setting before row step = refl
 
+-- the step writes these items behind its row
 module _ {T E : Type 0} {r : Result T E} {before : List Item} {row : ℕ} {step : Step}
-    {old new : Parts} (begins : BeginsStep before row step old) (keeps : KeepNet old new) where
-  -- the step writes these items behind its row
+    {old new : Parts} (begins : BeginsStep before row step old) (keeps : Follows old new) where
   pub goes : (items : List Item)
       → piece (setting_in old) before row step ≡ item.Row row step ∷ items
       → OnOk r (new.packets ≡ old.packets + comes_in step)
@@ -104,11 +134,12 @@ module _ {T E : Type 0} {r : Result T E} {before : List Item} {row : ℕ} {step 
       → OnOk r (PartsRefineJournalAs old (before ++ item.Row row step ∷ items) new (control_in new))
       → Goes r before row step old new
   goes items is counted written part refines = record {
-    net = keeps;
+    net = keeps.net;
+    newest = on_ok_weaker r (λ grown. keeps.newest) written;
     counted = counted;
     written = step_written r before old.log.journal new.log.journal items
         (piece (setting_in old) before row step) (item.Row row step) is begins.rowed written;
-    refines = both_ok r (λ grown kept. as_kept old new keeps
+    refines = both_ok r (λ grown kept. as_kept old new keeps.net
         (subst (λ js. PartsRefineJournalAs old js new (control_in new))
         (sym (grown_more before old.log.journal new.log.journal items (item.Row row step)
         begins.rowed grown)) kept)) written refines;
@@ -116,6 +147,8 @@ module _ {T E : Type 0} {r : Result T E} {before : List Item} {row : ℕ} {step 
         (piece (setting_in old) before row step) (item.Row row step) is begins.rowed part;
   }
 
+module _ {T E : Type 0} {r : Result T E} {before : List Item} {row : ℕ} {step : Step}
+    {old new : Parts} (begins : BeginsStep before row step old) (keeps : KeepFiles old new) where
   -- and of the control plane it changes messages alone
   pub goes_quiet : (items : List Item) → KeepControl old new
       → piece (setting_in old) before row step ≡ item.Row row step ∷ items
@@ -126,7 +159,8 @@ module _ {T E : Type 0} {r : Result T E} {before : List Item} {row : ℕ} {step 
       (with_posts old new.log.bag))
       → Goes r before row step old new
   goes_quiet items control is counted written part refines =
-      goes items is counted written part
+      goes begins (follows begins keeps.files keeps.ports
+      (ap newest_policy control.same_controller)) items is counted written part
       (on_ok_weaker r (by_posts old new (before ++ item.Row row step ∷ items) control) refines)
 
   -- it writes one item, and no packet comes in
@@ -143,10 +177,13 @@ module _ {T E : Type 0} {r : Result T E} {before : List Item} {row : ℕ} {step 
       (on_ok_weaker r (λ grown. subst (λ bag. PartsRefineJournalAs old
       (before ++ item.Row row step ∷ one ∷ []) new (with_posts old bag)) (sym same) is.1) pushed)
 
+module _ {T E : Type 0} {r : Result T E} {before : List Item} {row : ℕ} {step : Step}
+    {old new : Parts} (begins : BeginsStep before row step old) (keeps : KeepNet old new) where
   -- it gives up behind its row, for want of memory
   pub nothing_goes : IsErr r → new.log.journal ≡ old.log.journal → Goes r before row step old new
   nothing_goes failed same = record {
     net = keeps;
+    newest = none_ok _ r failed;
     counted = none_ok _ r failed;
     written = none_ok _ r failed;
     refines = none_ok _ r failed;
@@ -171,7 +208,7 @@ pub goes_nothing : {T E : Type 0} {r : Result T E} {before : List Item} {row : �
     → OnErr r (journal ≡ old.log.journal)
     → Goes r before row step old (with_journal old journal)
 goes_nothing {old} begins none is pushed unchanged =
-    goes_one begins (net_stays refl refl) item.Nothing old.log.bag (plane_stays refl refl refl) refl
+    goes_one begins (files_stay refl refl) item.Nothing old.log.bag (plane_stays refl refl refl) refl
     (omega (arith, none)) is pushed unchanged
 
 -- ---- the row is written, and then the rest

@@ -17,7 +17,7 @@ use Rattle.world_log.specs.Sending.{act_items, act_posts}
 use Rattle.world_log.specs.Writing.{IsPart}
 use Rattle.world_log.specs.declared.log.Log.{Log}
 use Rattle.world.specs.declared.parts.Parts.{Parts}
-use Rattle.world.proofs.Frame.{goes}
+use Rattle.world.proofs.Frame.{Follows, goes}
 use Rattle.world_log.proofs.Writing.{both_ok, none_ok, step_part, step_written, on_err}
 
 -- the journal behind the first item, what is written then, under which number the messages are,
@@ -59,7 +59,7 @@ as_noted r begun number posts now given acts same written posted part =
 
 pub goes_told : {T E : Type 0} {r : Result T E} {before : List Item} {row : ℕ} {step : Step}
     {old new : Parts} (first : Item) (tail : ℕ → List Item) (begun : List Item) (number : ℕ)
-    (posts more : List Post) → BeginsStep before row step old → KeepNet old new
+    (posts more : List Post) → BeginsStep before row step old → Follows old new
     → Tells r before row step old new first tail begun number posts more
     → Goes r before row step old new
 goes_told {r} {before} {row} {step} {old} {new} first tail begun number posts more begins keeps
@@ -85,7 +85,7 @@ goes_told {r} {before} {row} {step} {old} {new} first tail begun number posts mo
 -- where the controller's acts are what it writes then
 pub goes_acting : {T E : Type 0} {r : Result T E} {before : List Item} {row : ℕ} {step : Step}
     {old new : Parts} (first : Item) (acts given : List Act) (begun : List Item)
-    → BeginsStep before row step old → KeepNet old new
+    → BeginsStep before row step old → Follows old new
     → new.packets ≡ old.packets + comes_in step
     → piece (setting_in old) before row step
     ≡ item.Row row step ∷ first ∷ act_items (length old.log.bag + 1) acts
@@ -115,6 +115,7 @@ pub first_goes : {T E : Type 0} {r : Result T E} {before : List Item} {row : ℕ
     → IsErr r → new.log.journal ≡ old.log.journal ++ first ∷ [] → Goes r before row step old new
 first_goes {r} {before} {row} {step} first rest begins keeps is failed pushed = record {
   net = keeps;
+  newest = none_ok _ r failed;
   counted = none_ok _ r failed;
   written = none_ok _ r failed;
   refines = none_ok _ r failed;

@@ -1,5 +1,6 @@
 pub mod OverParts
 pub mod OverSwitches
+pub mod KeptFiles
 pub mod Begun
 pub mod Frame
 pub mod GoesTold

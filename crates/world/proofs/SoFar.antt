@@ -34,7 +34,7 @@ kept_in law world refines =
 
 -- a part of a step's piece is written
 pub part_so_far : SoFarLaw → (world : WorldValue) (row : ℕ) (step : Step) (after : List Item)
-    → RefinesJournal world → IsStep world.net (length world.policies) step
+    → RefinesJournal world → IsStep world.net (length world.files) step
     → IsPart world.journal (piece (setting_at world) world.journal row step) after
     → HoldsSoFar (setting_at world) after
 unfolding RefineJournal
@@ -48,7 +48,7 @@ part_so_far law world row step after refines own part =
 
 -- all of it is
 pub step_so_far : SoFarLaw → (world : WorldValue) (row : ℕ) (step : Step) (after : List Item)
-    → RefinesJournal world → IsStep world.net (length world.policies) step
+    → RefinesJournal world → IsStep world.net (length world.files) step
     → after ≡ world.journal ++ piece (setting_at world) world.journal row step
     → HoldsSoFar (setting_at world) after
 unfolding RefineJournal

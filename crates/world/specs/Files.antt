@@ -1,29 +1,68 @@
--- The policies of files, and their plans on a network.
-use Rattle.std.specs.Prelude.{ℕ, ◌≡◌, Err, Ok, Some, None, Option, List, [], length, slice_index_or}
+-- The files of policies, and the plans of what they have or make on a network.
+use Rattle.std.specs.Prelude.{ℕ, ◌≡◌, ◌⊎◌, Result, Err, Ok, IsSome, Some, None, Option, List, [], ◌∷◌, length, slice_index_or}
 use Rattle.net_file.specs.Net.{IsNet}
 use Rattle.net_file.specs.declared.net.Net.{Net}
 use Rattle.partition.specs.Plan.{plan_of}
+use Rattle.policy_rules.specs.declared.applying.Inapplicable.{Inapplicable}
+use Rattle.policy_rules.specs.declared.file.PolicyFile.{PolicyFile}
+use Rattle.policy_rules.specs.declared.file.PolicyFile.TheVariants.{Whole, Change}
 use Rattle.policy_rules.specs.declared.policy.Row.{Row}
 use Rattle.policy_rules.specs.Hosted.{NoPlan}
-use Rattle.update_machine.specs.Pieces.{plan_code}
+use Rattle.update_machine.specs.Pieces.{apply_code, plan_code}
+use Rattle.update_machine.specs.Setting.{made_by}
 use Rattle.world.specs.declared.files.Compiled.{Compiled}
 use Rattle.world.specs.declared.files.Compiled.TheVariants.{Planned, Refused}
 
+-- the files, and the policy of the newest version
 pub record FilesValue : Type 0 where
   pub net : Net
-  pub policies : List (List Row)
+  pub files : List PolicyFile
+  pub newest : List Row
 
--- the policy has this plan, or is refused with this code
-abbrev pub IsCompiled : Net → List Row → Compiled → Type 0
-IsCompiled net rows (Planned plan) =
-    (plan.policy ≡ rows) × (plan_of rows net ≡ Ok plan.hosted)
-IsCompiled net rows (Refused code) =
-    (why : NoPlan) × (plan_of rows net ≡ Err why) × (plan_code why ≡ code)
+-- the file's own policy, where it is no change
+abbrev pub own_policy : PolicyFile → Option (List Row)
+own_policy (Whole rows) = Some rows
+own_policy (Change edits) = None
 
--- what is kept of each policy, if it was compiled
-pub record AreCompiled (net : Net) (policies : List (List Row))
+-- that of the first file
+abbrev pub first_policy : List PolicyFile → Option (List Row)
+first_policy [] = None
+first_policy (first ∷ files) = own_policy first
+
+-- the file at a place; one of no edits where there is none
+abbrev pub file_or_none : List PolicyFile → ℕ → PolicyFile
+file_or_none files place = slice_index_or files place (Change [])
+
+-- what it makes of the newest policy
+abbrev pub made_at : List PolicyFile → List Row → ℕ → Result (List Row) Inapplicable
+made_at files newest place = made_by (Some (file_or_none files place)) (Some newest)
+
+-- these rows have no plan, for the cause of this code
+pub record HasNoPlan (net : Net) (rows : List Row) (code : ℕ) : Type 0 where
+  pub why : NoPlan
+  pub none : plan_of rows net ≡ Err why
+  pub code_is : plan_code why ≡ code
+
+-- of what was made of a file: it is a policy that has this plan; or there is none, or it has none,
+-- for the cause of this code
+abbrev pub IsMade : Net → Result (List Row) Inapplicable → Compiled → Type 0
+IsMade net made (Planned plan) =
+    (made ≡ Ok plan.policy) × (plan_of plan.policy net ≡ Ok plan.hosted)
+IsMade net made (Refused code) =
+    ((why : Inapplicable) × (made ≡ Err why) × (apply_code why ≡ code))
+    ⊎ ((rows : List Row) × (made ≡ Ok rows) × HasNoPlan net rows code)
+
+-- what is kept of each file, if it was compiled, is for this newest policy
+pub record AreCompiled (net : Net) (files : List PolicyFile) (newest : List Row)
     (kept : List (Option Compiled)) : Type 0 where
   pub sound : IsNet net
-  pub many : length kept ≡ length policies
+  pub many : length kept ≡ length files
   pub each : (place : ℕ) (compiled : Compiled) → slice_index_or kept place None ≡ Some compiled
-      → IsCompiled net (slice_index_or policies place []) compiled
+      → IsMade net (made_at files newest place) compiled
+
+-- what is still kept was kept, and of a file with a policy of its own
+pub record KeepsWhole (files : List PolicyFile) (old new : List (Option Compiled)) : Type 0 where
+  pub many : length new ≡ length old
+  pub each : (place : ℕ) (compiled : Compiled) → slice_index_or new place None ≡ Some compiled
+      → (slice_index_or old place None ≡ Some compiled)
+      × IsSome (own_policy (file_or_none files place))

@@ -1,5 +1,6 @@
 -- The parts of a world, and what holds of them.
-use Rattle.std.specs.Prelude.{ℕ, ◌≡◌, ◌+◌, ◌<◌, ◌≤◌, Bool, false, List, [], ◌∷◌, ◌++◌, length, OnErr, OnOk, Result}
+use Rattle.std.specs.Prelude.{ℕ, ◌≡◌, ◌+◌, ◌<◌, ◌≤◌, Bool, false, Some, List, [], ◌∷◌, ◌++◌, length, OnErr, OnOk, Result}
+use Rattle.controller.specs.Controller.{newest_policy}
 use Rattle.journal.specs.declared.item.Item.{Item}
 use Rattle.journal.specs.declared.item.Item.TheVariants as item
 use Rattle.net_file.specs.Net.{IsNet}
@@ -15,12 +16,16 @@ use Rattle.world_log.specs.Writing.{IsPart}
 use Rattle.world.specs.declared.parts.Parts.{Parts}
 
 abbrev pub setting_in : Parts → Setting
-setting_in parts = setting_of parts.files.net parts.files.policies
+setting_in parts = setting_of parts.files.net parts.files.files
 
 -- the table of the ports is the network's
 pub record AreSoundParts (parts : Parts) : Type 0 where
   pub sound : IsNet parts.files.net
   pub owners : AreOwners parts.files.net.switches parts.ports
+
+-- changes are applied to the policy of the controller's newest version
+abbrev pub HoldNewest : Parts → Type 0
+HoldNewest parts = newest_policy parts.controller ≡ Some parts.files.newest
 
 abbrev pub control_in : Parts → Control
 control_in parts = record {
@@ -38,9 +43,10 @@ PartsRefineJournal parts =
 
 -- ---- one step
 
--- the network, its ports and the policies stay
+-- the network, its ports and the files stay
 pub record KeepNet (before after : Parts) : Type 0 where
-  pub same_files : after.files ≡ before.files
+  pub same_net : after.files.net ≡ before.files.net
+  pub same_files : after.files.files ≡ before.files.files
   pub same_ports : after.ports ≡ before.ports
 
 -- all but the switches, their usable links and the log stays, and so do the packets on their way
@@ -57,7 +63,8 @@ pub record IsReadyForStep (before : List Item) (step : Step) (parts : Parts) : T
   pub sound : AreSoundParts parts
   pub refines : RefineJournal (setting_in parts) before parts.switches.items parts.log.travelling
       parts.packets (control_in parts)
-  pub may : IsStep parts.files.net (length parts.files.policies) step
+  pub newest : HoldNewest parts
+  pub may : IsStep parts.files.net (length parts.files.files) step
   pub few : next_packet before ≤ 4_000_000_000
   pub room : length parts.log.bag < 990_000
 
@@ -71,6 +78,7 @@ pub record BeginsStep (before : List Item) (row : ℕ) (step : Step) (parts : Pa
 pub record Goes {T E : Type 0} (result : Result T E) (before : List Item) (row : ℕ) (step : Step)
     (old new : Parts) : Type 0 where
   pub net : KeepNet old new
+  pub newest : OnOk result (HoldNewest new)
   pub counted : OnOk result (new.packets ≡ old.packets + comes_in step)
   pub written : OnOk result (new.log.journal ≡ before ++ piece (setting_in old) before row step)
   pub refines : OnOk result (PartsRefineJournal new)
@@ -94,7 +102,7 @@ Plays step result old new =
 abbrev pub world_value : Parts → Bool → WorldValue
 world_value parts is_spent = record {
   net = parts.files.net;
-  policies = parts.files.policies;
+  files = parts.files.files;
   journal = parts.log.journal;
   switches = parts.switches.items;
   travelling = parts.log.travelling;
@@ -110,3 +118,4 @@ world_value parts is_spent = record {
 pub record IsWorld (parts : Parts) (is_spent : Bool) : Type 0 where
   pub sound : AreSoundParts parts
   pub refines : is_spent ≡ false → PartsRefineJournal parts
+  pub newest : is_spent ≡ false → HoldNewest parts

@@ -2,7 +2,7 @@
 use Rattle.std.specs.Prelude.{ℕ, ◌≡◌, Bool, false, List, []}
 use Rattle.message_bag.specs.Posts.{Post}
 use Rattle.controller.specs.Controller.{ControllerValue}
-use Rattle.policy_rules.specs.declared.policy.Row.{Row}
+use Rattle.policy_rules.specs.declared.file.PolicyFile.{PolicyFile}
 use Rattle.journal.specs.declared.item.Item.{Item}
 use Rattle.net_file.specs.declared.net.Net.{Net}
 use Rattle.steps.specs.declared.step.Step.{Step}
@@ -14,7 +14,7 @@ use Rattle.refinement.specs.Refinement.{RefineJournal}
 
 pub record WorldValue : Type 0 where
   pub net : Net
-  pub policies : List (List Row)
+  pub files : List PolicyFile
   pub journal : List Item
   pub switches : List SwitchValue
   pub travelling : Flights
@@ -31,7 +31,7 @@ pub record WorldValue : Type 0 where
 
 -- what its journal is read against
 abbrev pub setting_at : WorldValue → Setting
-setting_at world = setting_of world.net world.policies
+setting_at world = setting_of world.net world.files
 
 -- ---- a world
 

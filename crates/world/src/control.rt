@@ -16,8 +16,8 @@ use refinement::adverts_again;
 use std::alloc::{AllocError, Global};
 
 impl Parts {
-    /// The policy of the file becomes the newest version, unless it has no plan or the controller
-    /// refuses it.
+    /// The policy of the file, or the one that it makes of the newest version's, becomes the newest
+    /// version, unless there is none, or it has no plan, or the controller refuses it.
     ///
     /// # Errors
     /// Want of memory alone; a part of the items is written then.
@@ -31,9 +31,11 @@ impl Parts {
             }
             Compiled::Planned(plan) => plan,
         };
+        let newest = plan.clone()?;
         let version = self.controller.marks().count() + 1;
         let code = match self.controller.submit(alloc, plan) {
             Ok(sends) => {
+                self.files.set_newest(newest);
                 self.log.journal.push(Item::Submitted { file, version })?;
                 return self.log.note_acts(alloc, sends.into_items());
             }

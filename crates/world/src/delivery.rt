@@ -1,7 +1,7 @@
 //! Messages that are delivered: who hears them, and what is sent upon them.
 ghost use Rattle.std.specs.Prelude.{◌≡◌, ◌+◌, ◌-◌, ◌^◌, ◌<◌, ◌≤◌, ◌++◌, All, OnOk, OnErr, length, map};
 ghost use Rattle.message_bag.specs.Posts.{new_post};
-ghost use Rattle.controller.specs.Exports.{ControllerValue, NamesThere, SettlesWith, hear_acts, marks_after};
+ghost use Rattle.controller.specs.Exports.{ControllerValue, NamesThere, SettlesWith, hear_acts, marks_after, newest_policy};
 ghost use Rattle.steps.specs.declared.step.Step.TheVariants.{Deliver as DeliverStep};
 ghost use Rattle.update_machine.specs.Messages.{sent_from};
 ghost use Rattle.refinement.specs.Linking.{AreRelinked, all_adverts_sent, near_all};
@@ -101,6 +101,7 @@ fn deliver_to_controller(
         → MayNote log.old.bag (hear_acts body.now controller.old.marks new) }
     ensures after { SettlesWith
         (marks_after body.now controller.old.marks) controller.old.plans controller.new }
+    ensures newest { newest_policy controller.new ≡ newest_policy controller.old }
     ensures written { OnOk result (log.new.journal ≡ log.old.journal
         ++ act_items (length log.old.bag + 1)
         (hear_acts body.now controller.old.marks controller.new)) }

@@ -1,21 +1,23 @@
-//! The policies of a world, by the numbers of their files, and their plans.
-ghost use Rattle.std.specs.Prelude.{◌≡◌, ◌<◌, ◌≤◌, IfOk, length, slice_index_or, []};
+//! The files of a world, by their numbers, and the plans of the policies that they have or make.
+ghost use Rattle.std.specs.Prelude.{◌≡◌, ◌<◌, IfOk, IsSome, Ok, Some, length};
 ghost use Rattle.net_file.specs.Net.{IsNet};
-ghost use Rattle.world.specs.Files.{IsCompiled};
+ghost use Rattle.policy_rules.specs.Exports.{applied};
+ghost use Rattle.update_machine.specs.Exports.{made_by};
+ghost use Rattle.world.specs.Files.{IsMade, KeepsWhole, first_policy, made_at};
 ghost use Rattle.world.specs.declared.files.Compiled.TheVariants.{Planned};
 
-use crate::codes::{NO_ROOM, TOO_MANY_LEAVES, TOO_MANY_WORDS};
+use crate::codes::{ABSENT, NO_ROOM, TAKEN, TOO_MANY_LEAVES, TOO_MANY_ROWS, TOO_MANY_WORDS};
 use controller::{Plan, PlanError, compile};
 use net_file::Net;
-use policy_rules::Policy;
+use policy_rules::{Amendment, ApplyError, Inapplicable, Policy, PolicyFile, apply};
 use std::alloc::{AllocError, Global};
 use std::marker::Model;
 
-/// What became of a policy that was compiled.
+/// What became of the policy of a file, or of the one that it makes of the newest policy.
 #[derive(Drop)]
 pub enum Compiled {
     Planned(Plan),
-    /// It has no plan on the network, for the cause of this code.
+    /// There is none, or it has no plan on the network, for the cause of this code.
     Refused { code: u32 },
 }
 
@@ -30,13 +32,15 @@ impl Clone for Compiled {
     }
 }
 
-/// The policies of the files, each of which is compiled at most once: clones of a plan share it.
-/// Contracts see the network and the policies.
+/// The files, with the plan of the newest version, to whose policy changes are applied. Each is
+/// compiled at most once, and a change once for each newest version: clones of a plan share it.
+/// Contracts see the network, the files and the newest version's policy.
 #[derive(Drop)]
 pub struct Files {
     net: Net,
-    policies: Vec<Policy>,
-    // As many as policies.
+    files: Vec<PolicyFile>,
+    newest: Plan,
+    // As many as files.
     compiled: Vec<Option<Compiled>>,
 }
 
@@ -45,63 +49,119 @@ impl Model for Files {
 
     ghost Value = { FilesValue };
 
-    ghost view = { λ f. record { net = f.net; policies = f.policies.items } };
+    ghost view = { λ f. record { net = f.net; files = f.files.items; newest = f.newest.policy } };
 
-    ghost invariant = { λ f. AreCompiled f.net f.policies.items f.compiled.items };
+    ghost invariant = { λ f. AreCompiled f.net f.files.items f.newest.policy f.compiled.items };
 }
 
 impl Files {
-    /// These policies, of which the first one has this plan.
+    /// These files, of which the first one has a policy. Its plan is that of the newest version.
     ///
     /// # Errors
     /// Want of memory alone.
+    #[tactic(auto, using(crate::proofs::KeptFiles::first_there))]
     pub fn new(
         alloc: Global,
         net: Net,
-        policies: Vec<Policy>,
+        files: Vec<PolicyFile>,
         plan: Plan,
     ) -> Result<Files, AllocError>
         requires net { IsNet net }
-        requires first { 1 ≤ length policies.items }
-        requires planned { IsCompiled net (slice_index_or policies.items 0 []) (Planned plan) }
-        ensures net { IfOk result (λ files. files.net ≡ net) }
-        ensures policies { IfOk result (λ files. files.policies ≡ policies.items) }
+        requires first { first_policy files.items ≡ Some plan.policy }
+        requires planned { IsMade net (Ok plan.policy) (Planned plan) }
+        ensures { IfOk result (λ made. made
+            ≡ record { net = net; files = files.items; newest = plan.policy }) }
     {
-        let mut compiled = Vec::with_capacity(alloc, policies.len())?;
-        compiled.push(Some(Compiled::Planned(plan)))?;
-        while compiled.len() < policies.len() {
+        let first = plan.clone()?;
+        let mut compiled = Vec::with_capacity(alloc, files.len())?;
+        compiled.push(Some(Compiled::Planned(first)))?;
+        while compiled.len() < files.len() {
             compiled.push(None)?;
         }
         Ok(Files {
             net,
-            policies,
+            files,
+            newest: plan,
             compiled,
         })
     }
 
-    /// The plan of the policy at this place, from 0, or why it has none.
+    /// The plan of the policy that the file at this place, from 0, has, or that it makes of the
+    /// newest policy; or why there is none.
     ///
     /// # Errors
     /// Want of memory alone.
     pub fn compiled(&mut self, alloc: Global, place: usize) -> Result<Compiled, AllocError>
-        requires { place < length self.old.policies }
+        requires { place < length self.old.files }
         ensures compiled { IfOk result
-            (IsCompiled self.old.net (slice_index_or self.old.policies place [])) }
+            (IsMade self.old.net (made_at self.old.files self.old.newest place)) }
         ensures same { self.new ≡ self.old }
     {
         if let Some(compiled) = &self.compiled[place] {
             return Ok(compiled.clone()?);
         }
-        let compiled = plan_or_code(alloc, &self.policies[place], &self.net)?;
-        self.compiled[place] = Some(compiled.clone()?);
+        let file = &self.files[place];
+        let newest = self.newest.policy();
+        let compiled = made_or_code(alloc, file, newest, &self.net)?;
+        let kept = compiled.clone()?;
+        self.compiled[place] = Some(kept);
         Ok(compiled)
+    }
+
+    /// The newest version has this plan from now on.
+    pub fn set_newest(&mut self, plan: Plan)
+        ensures { self.new ≡ record self.old { newest = plan.policy } }
+    {
+        forget_changes(&self.files, &mut self.compiled);
+        self.newest = plan;
+    }
+}
+
+/// The policy of the first file.
+#[tactic(auto, using(crate::proofs::KeptFiles::first_there, crate::proofs::KeptFiles::first_at))]
+pub fn first_policy(files: &[PolicyFile]) -> &Policy
+    requires { IsSome (first_policy files.now) }
+    ensures { first_policy files.now ≡ Some result.now }
+{
+    match &files[0] {
+        PolicyFile::Whole(policy) => policy,
+        PolicyFile::Change(_) => unreachable!(),
+    }
+}
+
+// Forgets what became of changes.
+fn forget_changes(files: &[PolicyFile], compiled: &mut Vec<Option<Compiled>>)
+    requires { length compiled.old.items ≡ length files.now }
+    ensures { KeepsWhole files.now compiled.old.items compiled.new.items }
+{
+    for (place, file) in files.iter().enumerate() {
+        match file {
+            PolicyFile::Whole(_) => {}
+            PolicyFile::Change(_) => compiled[place] = None,
+        }
+    }
+}
+
+// The plan of what the file makes of the newest policy, or the code of its refusal.
+fn made_or_code(
+    alloc: Global,
+    file: &PolicyFile,
+    newest: &Policy,
+    net: &Net,
+) -> Result<Compiled, AllocError>
+    requires { IsNet net.now }
+    ensures { IfOk result (IsMade net.now (made_by (Some file.now) (Some newest.now))) }
+{
+    match file {
+        PolicyFile::Whole(policy) => plan_or_code(alloc, policy, net),
+        PolicyFile::Change(change) => amended_or_code(alloc, newest, change, net),
     }
 }
 
 // The plan of the policy on the network, or the code of its refusal.
 fn plan_or_code(alloc: Global, policy: &Policy, net: &Net) -> Result<Compiled, AllocError>
     requires { IsNet net.now }
-    ensures { IfOk result (IsCompiled net.now policy.now) }
+    ensures { IfOk result (IsMade net.now (Ok policy.now)) }
 {
     let code = match compile(alloc, policy, net) {
         Ok(plan) => return Ok(Compiled::Planned(plan)),
@@ -109,6 +169,26 @@ fn plan_or_code(alloc: Global, policy: &Policy, net: &Net) -> Result<Compiled, A
         Err(PlanError::TooManyLeaves) => TOO_MANY_LEAVES,
         Err(PlanError::NoRoom { .. }) => NO_ROOM,
         Err(PlanError::NoMemory) => return Err(AllocError),
+    };
+    Ok(Compiled::Refused { code })
+}
+
+// The plan of the policy that the change makes of this one, or the code of its refusal.
+fn amended_or_code(
+    alloc: Global,
+    policy: &Policy,
+    change: &Amendment,
+    net: &Net,
+) -> Result<Compiled, AllocError>
+    requires { IsNet net.now }
+    ensures { IfOk result (IsMade net.now (applied policy.now change.now)) }
+{
+    let code = match apply(alloc, policy, change) {
+        Ok(amended) => return plan_or_code(alloc, &amended, net),
+        Err(ApplyError::Refused(Inapplicable::Absent)) => ABSENT,
+        Err(ApplyError::Refused(Inapplicable::Taken)) => TAKEN,
+        Err(ApplyError::Refused(Inapplicable::TooManyRows { .. })) => TOO_MANY_ROWS,
+        Err(ApplyError::NoMemory) => return Err(AllocError),
     };
     Ok(Compiled::Refused { code })
 }

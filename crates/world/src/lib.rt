@@ -7,11 +7,12 @@
 //! plans are those that the journal says, and so are the links that each switch can use. What is to
 //! be kept on the way holds behind each step. Behind a full journal no step begins (`Full`). Where
 //! memory runs out within a step, a part of the step's items is written, which is a run whose ends
-//! have causes too, and no further step is taken. Each policy is compiled at most once, when it is
-//! first asked for, and all that take a plan share it (`Files`).
+//! have causes too, and no further step is taken. A file of a policy is compiled at most once, when
+//! it is first asked for, and a change once for each newest version that it is applied to; all that
+//! take a plan share it (`Files`).
 //!
 //! ```text
-//! let mut world = World::begin(alloc, &net, policies)?;   // why the first policy has no plan
+//! let mut world = World::begin(alloc, &net, files)?;   // why the first policy has no plan
 //! world.step(alloc, 1, &Step::Packet { switch, header })?;
 //! while let Some(packet) = world.next_travelling(1) {
 //!     world.step(alloc, 2, &Step::Hop { packet })?;

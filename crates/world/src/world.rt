@@ -1,13 +1,14 @@
-ghost use Rattle.std.specs.Prelude.{◌≡◌, ◌+◌, ◌-◌, ◌++◌, ◌<◌, ◌≤◌, false, true, [], length, slice_index_or, All, OnOk, OnErr, IfOk, IfErr, IsErrOf, is_some};
+ghost use Rattle.std.specs.Prelude.{◌≡◌, ◌+◌, ◌-◌, ◌++◌, ◌<◌, ◌≤◌, false, true, [], length, unwrap_or, All, OnOk, OnErr, IfOk, IfErr, IsErrOf, IsSome, is_some};
 ghost use Rattle.message_bag.specs.Posts.{next_waiting_post};
 ghost use Rattle.controller.specs.Plan.{RefusesPlan};
 ghost use Rattle.net_file.specs.Net.{IsNet};
-ghost use Rattle.policy_rules.specs.Policy.{IsPolicy};
+ghost use Rattle.policy_rules.specs.Exports.{GivesOnly, IsPolicyFile};
 ghost use Rattle.update_machine.specs.Exports.{HasRoom, IsFull, NamesOwnPort, next_packet, next_travelling, next_waiting, piece, setting_of, travels};
 ghost use Rattle.update_machine.specs.Messages.{is_waiting};
 ghost use Rattle.packet_laws.specs.Exports.{HoldsSoFar, IsKeptBehind};
 ghost use Rattle.steps.specs.Steps.{IsStep};
 ghost use Rattle.base.specs.declared.error.Failure.TheVariants.{NoMemory};
+ghost use Rattle.world.specs.Files.{first_policy};
 ghost use Rattle.world.specs.Least.{IsLeastFrom};
 ghost use Rattle.world.specs.NoStep.{no_step};
 ghost use Rattle.world.specs.State.{IsBegun, RefinesJournal, comes_in, setting_at};
@@ -16,7 +17,7 @@ ghost use Rattle.world_log.specs.Writing.{IsPart};
 
 use crate::beginning::switches_of;
 use crate::error::{Full, StepError};
-use crate::files::Files;
+use crate::files::{Files, first_policy};
 use crate::parts::Parts;
 use base::Failure;
 use controller::{Controller, PlanError, compile};
@@ -24,7 +25,7 @@ use journal::Journal;
 use message_bag::PostBag;
 use net_file::Net;
 use packet_laws::{journals_hold_so_far, steps_are_kept};
-use policy_rules::Policy;
+use policy_rules::PolicyFile;
 use refinement::near_masks;
 use std::alloc::Global;
 use std::marker::Model;
@@ -37,7 +38,7 @@ use world_log::Log;
 /// A network of switches with its controller, the packets on their way in it, and the journal of
 /// what happened.
 ///
-/// Contracts see the network, the policies, the journal, the switches, the packets on their way,
+/// Contracts see the network, the files, the journal, the switches, the packets on their way,
 /// the messages, how many packets there were, the controller, and whether memory ran out within a
 /// step.
 #[derive(Drop)]
@@ -58,23 +59,24 @@ impl Model for World {
 }
 
 impl World {
-    /// The network with the first policy in force as version 1: every switch is up and serves, and
-    /// no packet came in yet.
+    /// The network with the policy of the first file in force as version 1: every switch is up and
+    /// serves, and no packet came in yet. The files behind it may be changes.
     ///
     /// # Errors
     /// Why the first policy has no plan on the network.
-    pub fn begin(alloc: Global, net: &Net, policies: Vec<Policy>) -> Result<World, PlanError>
+    pub fn begin(alloc: Global, net: &Net, files: Vec<PolicyFile>) -> Result<World, PlanError>
         requires net { IsNet net.now }
-        requires some { 1 ≤ length policies.items }
-        requires sound { All IsPolicy policies.items }
-        requires ports { All (All (λ row. NamesOwnPort (setting_of net.now policies.items)
-            row.action)) policies.items }
-        ensures begun { IfOk result (IsBegun (setting_of net.now policies.items)) }
+        requires first { IsSome (first_policy files.items) }
+        requires sound { All IsPolicyFile files.items }
+        requires ports { All (GivesOnly (λ row. NamesOwnPort (setting_of net.now files.items)
+            row.action)) files.items }
+        ensures begun { IfOk result (IsBegun (setting_of net.now files.items)) }
         ensures refused { IfErr result
-            (RefusesPlan (slice_index_or policies.items 0 []) net.now) }
+            (RefusesPlan (unwrap_or (first_policy files.items) []) net.now) }
     {
-        let plan = compile(alloc, &policies[0], net)?;
-        let files = Files::new(alloc, net.clone()?, policies, plan.clone()?)?;
+        let plan = compile(alloc, first_policy(&files), net)?;
+        let first = plan.clone()?;
+        let files = Files::new(alloc, net.clone()?, files, first)?;
         let near = near_masks(net);
         let controller = Controller::begin(alloc, net, plan)?;
         let switches = switches_of(alloc, net, &controller, &near)?;
@@ -107,7 +109,7 @@ impl World {
     /// further step is answered so at once, full or not, and changes nothing.
     pub fn step(&mut self, alloc: Global, row: u32, step: &Step) -> Result<(), StepError>
         requires may { HasRoom self.old.journal
-            → IsStep self.old.net (length self.old.policies) step.now }
+            → IsStep self.old.net (length self.old.files) step.now }
         requires few { next_packet self.old.journal ≤ 4_000_000_000 }
         ensures setting { setting_at self.new ≡ setting_at self.old }
         ensures written { OnOk result (self.new.journal ≡ self.old.journal

@@ -16,6 +16,7 @@ from .wiring import Net, Wiring
 MODEL = Path(__file__).resolve().parents[4] / "model"
 sys.path.insert(0, str(MODEL))
 import plan_model  # noqa: E402
+import slow_replay  # noqa: E402
 
 TOO_FAR = "over more links than Open vSwitch takes"
 PATIENCE = 5.0  # seconds until the ports have counted what was sent
@@ -141,21 +142,34 @@ def journal_of(folder, policies, net):
     return done.stdout
 
 
-def tables_of(folder, name, version, policy, net):
-    """The tables that a switch has for a version."""
+def rows_of(folder, told):
+    """By version the rows of its policy; a change is applied to those of the version before it."""
+    rows, found = [], {}
+    policies, _ = files_of(folder)
+    for version in sorted(told.files):
+        stated = slow_replay.read_file(policies[int(told.files[version]) - 1])
+        try:
+            rows = found[version] = stated.of(rows)
+        except slow_replay.Refused as fault:
+            why = f"can't be applied to the one before (code {fault.code})"
+            raise tables.Refused(f"{folder}: the change of version {version} {why}") from fault
+    return found
+
+
+def tables_of(folder, name, version, rows, net):
+    """The tables that a switch has for a version, whose policy has these rows."""
     own = folder / f"show-{name}.txt"
     if version == 1 and own.is_file():
         return tables.read_file(own)
-    return tables.read_tables(plan_model.text_of(policy, name, net))[0]
+    return tables.read_tables(plan_model.text_of(tuple(map(tuple, rows)), name, net))[0]
 
 
 def all_tables(folder, net, told, versions):
     """By version the tables of each switch."""
-    policies, path = files_of(folder)
+    rows, (_, path) = rows_of(folder, told), files_of(folder)
     return {
         version: {
-            name: tables_of(folder, name, version, policies[int(told.files[version]) - 1], path)
-            for name in net.names
+            name: tables_of(folder, name, version, rows[version], path) for name in net.names
         }
         for version in versions
     }

@@ -1,11 +1,12 @@
 """What the program was asked: its arguments as files, and what the network's file says of them."""
+import re
 import tomllib
 from difflib import get_close_matches
 
 from . import fields
 from .cautions import network_cautions
 from .records import lines_of, record_at
-from .row_mistakes import SCHEDULE_HEADING
+from .row_mistakes import CHANGE_HEADING, EDIT_FORMS, SCHEDULE_HEADING
 
 MOST_ROOM = 8192
 
@@ -30,16 +31,27 @@ class Asked:
         return self.folder / name
 
     def role(self, name, code):
-        """Whether the name is that of the network, of the schedule or of a policy."""
+        """Whether the name is that of the network, of the schedule, of a policy or of a change."""
         if name == self.net_name:
             return "network"
-        if name == self.schedule and not (code == 1 and self.has_heading(name)):
+        if name == self.schedule and not (code == 1 and self.heading(name) == SCHEDULE_HEADING):
             return "schedule"
-        return "policy"
+        if code == 1:
+            is_change = name not in self.policies[:1] and self.is_meant_as_change(name)
+        else:
+            is_change = self.heading(name) == CHANGE_HEADING
+        return "change" if is_change else "policy"
 
-    def has_heading(self, name):
-        record = record_at(self.path(name), 0)
-        return record is not None and ",".join(record.fields) == SCHEDULE_HEADING
+    def heading(self, name):
+        """The first record of a file, or an empty text where it has none or isn't there."""
+        record = record_at(self.path(name), 0) if self.path(name).is_file() else None
+        return "" if record is None else ",".join(record.fields)
+
+    def is_meant_as_change(self, name):
+        """Whether a first record is nearly the heading of a change, or is one of its rows."""
+        columns = [re.sub(r"[\s\"']", "", text) for text in re.split("[,;\t]", self.heading(name))]
+        first, *left = [column.lower() for column in columns]
+        return first in ("op", *EDIT_FORMS) or left[:1] == ["priority"]
 
     def network(self):
         """What the network's file says, or an empty document where it can't be read."""

@@ -1,27 +1,17 @@
 """The folder of a journal, and the files beside it."""
-import csv
 import sys
 import tomllib
 from collections import Counter
 from pathlib import Path
-from typing import NamedTuple
 
 from .journal import read_items
 from .network import CACHE, Network
 from .packets import Play
+from .policies import Change, read_policy
 from .script import Mistake
 
 EXAMPLES = Path(__file__).resolve().parent.parent
-HEADING = "priority,src,dst,sport,dport,proto,action".split(",")
 SOLO = {"switch": [{"name": "s0", "ports": list(range(64)), "authority": 8192}]}
-
-
-class Rule(NamedTuple):
-    """A row of a policy file: its priority, its line in the file, and its fields."""
-
-    priority: str
-    line: int
-    fields: list
 
 
 def is_network(net):
@@ -45,6 +35,7 @@ class Case:
 
     def __init__(self, journal, name):
         self.journal, self.folder, self.name = journal, journal.parent, name
+        self.rows = {}  # of the versions, by their numbers
 
     def title(self):
         """The name of the folder, wherever it is seen from."""
@@ -71,17 +62,32 @@ class Case:
         """The F-th policy file by the names that examples/run gives it."""
         return self.folder / ("policy.csv" if file == 1 else f"policy{file}.csv")
 
-    def policy(self, file):
-        """The rows of the F-th policy file, or None where it isn't there."""
+    def stated(self, file):
+        """The rules or the change of the F-th policy file, or None where it isn't there."""
         path = self.policy_file(file)
-        if not path.is_file():
+        return read_policy(path) if path.is_file() else None
+
+    def policy(self, version):
+        """The rows of a version, or None where a file that they come from isn't there."""
+        if version.number not in self.rows:
+            stated = self.stated(version.file)
+            is_change = isinstance(stated, Change)
+            self.rows[version.number] = self.changed(version, stated) if is_change else stated
+        return self.rows[version.number]
+
+    def changed(self, version, change):
+        """The rows of a version that a change makes of the one before."""
+        path = self.policy_file(version.file)
+        if version.before is None:
+            raise Mistake(f"{path} is a change, and the first policy is none")
+        rows = self.policy(version.before)
+        if rows is None:
             return None
-        with open(path, newline="", encoding="utf-8-sig", errors="replace") as text:
-            reader = csv.reader(text)
-            rows = [(reader.line_num, row) for row in reader if row]
-        if not rows or rows[0][1] != HEADING or any(len(row) != len(HEADING) for _, row in rows):
-            raise Mistake(f"{path} is no policy: {','.join(HEADING)} and rows of seven fields")
-        return [Rule(row[0], line, row) for line, row in rows[1:]]
+        code, _ = change.fault(rows)
+        if code:
+            raise Mistake(f"{path} can't be applied to version {version.before.number} (code "
+                          f"{code}): is it the change that was played?")
+        return change.of(rows)
 
     def start(self):
         """The network and its packets before the journal's first line."""

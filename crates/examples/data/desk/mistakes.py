@@ -9,6 +9,7 @@ from difflib import get_close_matches
 from pathlib import Path
 
 from .asked import Asked, names_hint
+from .change_mistakes import CHANGE, explain_change
 from .network_mistakes import NETWORK, explain_network
 from .policy_mistakes import POLICY, explain_policy
 from .schedule_mistakes import SCHEDULE, explain_schedule
@@ -53,6 +54,7 @@ def explain_refusal(asked, name, code, row):
         "network": (NETWORK, explain_network),
         "schedule": (SCHEDULE, explain_schedule),
         "policy": (POLICY, explain_policy),
+        "change": (CHANGE, explain_change),
     }[role]
     return [f"code {code} of a {role}: {codes[code]}", *explainer(asked, name, code, row)]
 

@@ -1,6 +1,7 @@
 """What a journal says of switches, links, messages and versions, line by line."""
 UP, CLOSED, DOWN = "up", "closed", "down"
 CACHE = 256  # the rules that a cache takes where the network file doesn't say
+MOST_VERSIONS = 64
 
 
 class Switch:
@@ -70,10 +71,12 @@ class Message:
 
 
 class Version:
-    """A version of the policy: its file, and the rows by which it came, was current, went."""
+    """A version of the policy: its file, the version before it or None, and the rows by which it
+    came, was current, went.
+    """
 
-    def __init__(self, number, file, row):
-        self.number, self.file, self.submitted = number, file, row
+    def __init__(self, number, file, row, before):
+        self.number, self.file, self.submitted, self.before = number, file, row, before
         self.current = self.retired = None
 
 
@@ -89,7 +92,7 @@ class Network:
         self.versions[1].current = 0
 
     def add_version(self, number, file, row):
-        self.versions[number] = Version(number, file, row)
+        self.versions[number] = Version(number, file, row, self.versions.get(number - 1))
 
     def switch(self, name):
         """The switch of this name; one that no file names begins as all do."""
@@ -178,10 +181,13 @@ class Network:
     def on_submitted(self, item):
         if item.said["version"] != len(self.versions) + 1:
             raise item.mistake(f"version {len(self.versions) + 1} would be next")
+        if len(self.versions) == MOST_VERSIONS:
+            raise item.mistake(f"there are at most {MOST_VERSIONS} versions")
         self.add_version(item.said["version"], item.said["file"], item.row)
 
     def on_refused(self, item):
-        self.refused.append(item)
+        """It is kept with the newest version, to which a change would be applied."""
+        self.refused.append((item, self.versions[len(self.versions)]))
 
     def on_current(self, item):
         self.mark(item, "current")

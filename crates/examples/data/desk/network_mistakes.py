@@ -8,7 +8,7 @@ from . import fields
 from .asked import MOST_ROOM
 from .cautions import network_cautions
 from .records import header_line, key_line, lines_of, quoted
-from .row_mistakes import POLICY_HEADING, SCHEDULE_HEADING
+from .row_mistakes import HEADINGS
 
 LINK_ROWS = 100
 NETWORK = {
@@ -75,7 +75,7 @@ def no_document(path, name, lines):
         yield f"{name}, line {line}: the byte {path.read_bytes()[error.start]:#x} is no UTF-8"
         return
     heading = lines[0].strip() if lines else ""
-    if heading in (POLICY_HEADING, SCHEDULE_HEADING):
+    if heading in HEADINGS:
         yield f"{name}, line 1: {heading}"
         yield "this is no network: the name behind --net is that of a TOML file"
         return

@@ -13,7 +13,7 @@ class Packet:
         self.number, self.row = item.said["packet"], item.row
         self.ingress = self.at = item.said["switch"]
         self.header = {name: asked[name] for name in HEADER}
-        self.decision = self.target = self.port = None
+        self.decision = self.version = self.target = self.port = None
         self.end, self.end_row, self.cause, self.unusable = TRAVELLING, None, "", []
         self.stood, self.found = [self.ingress], []
 
@@ -90,10 +90,11 @@ class Play:
         self.packet(item).found.append((*ends, item.row, self.network.unusable(ends)))
 
     def on_decided(self, item):
-        packet, version = self.packet(item), self.network.version(item)
+        packet = self.packet(item)
+        packet.version = self.network.version(item)
         if item.said["by"] == "cache" and self.network.message(item).body != "cache":
             raise item.mistake(f"message {item.said['message']} is no cache rule")
-        packet.decision = {"row": item.row, "file": version.file, **item.said}
+        packet.decision = {"row": item.row, **item.said}
         packet.target, self.decided = None, packet.number
 
     def on_sent(self, item):

@@ -136,11 +136,7 @@ NOTES = {name.removeprefix("on_"): act for name, act in vars(Record).items() if 
 def rules_of(case, network):
     """For each version the rows of its policy, by their priorities, as far as it is there."""
     return {
-        version.number: {
-            rule.priority: f"{case.policy_file(version.file).name} line {rule.line}: "
-            + ",".join(rule.fields)
-            for rule in case.policy(version.file) or []
-        }
+        version.number: {rule.priority: rule.text() for rule in case.policy(version) or []}
         for version in network.versions.values()
     }
 

@@ -2,7 +2,7 @@
 from . import fields
 from .asked import network_hints
 from .records import lines_of, records_of
-from .row_mistakes import POLICY_HEADING, SCHEDULE_HEADING
+from .row_mistakes import CHANGE_HEADING, POLICY_HEADING
 from .row_mistakes import at_row, heading_fault, said_field, said_record, wrong_width
 
 MOST_WORDS, MOST_LEAVES = 4096, 512
@@ -34,7 +34,7 @@ POLICY_FIELDS = [
 def explain_policy(asked, name, code, row):
     """What stands in a policy for a code and its row."""
     if code == 1:
-        return heading_fault(asked, name, POLICY_HEADING, SCHEDULE_HEADING, "a schedule")
+        return [*heading_fault(asked, name, POLICY_HEADING), *change_hint(asked, name)]
     if code in (12, 14):
         return too_many_words(asked, name, code)
     if code == 15:
@@ -55,6 +55,14 @@ def explain_policy(asked, name, code, row):
         text = record.fields[code - 3]
         lines.append(said_field(what, text, fields.fault_of(check, text)))
     return lines
+
+
+def change_hint(asked, name):
+    """Where a change may stand."""
+    if asked.schedule is None and asked.heading(name) == CHANGE_HEADING:
+        yield "plans are of whole policies: only replay takes changes, behind its first policy"
+    elif name in asked.policies[1:]:
+        yield f"it may be a change too: then its first record is {CHANGE_HEADING}"
 
 
 def earlier_priority(asked, name, record):

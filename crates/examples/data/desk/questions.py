@@ -4,17 +4,21 @@ from collections import Counter
 from .folder import case_of
 from .network import DOWN
 from .packets import ENDS, TRAVELLING
+from .policies import ABSENT, TAKEN, TOO_MANY, Change
 from .script import Mistake
 from .story import story_of
 from .words import match_of
 
 UPDATE = "install installed stamp stamped collect".split()
 REFUSED = {
-    12: "its rows have more than 4,096 words",
-    14: "it has more than 512 partitions",
+    12: "the policy would have more than 4,096 words",
+    14: "the policy would have more than 512 partitions",
     15: "too few switches have room for a partition",
     16: "eight versions live",
     17: "there are 64 versions",
+    ABSENT: "its change removes rows that version {newest} hasn't",
+    TAKEN: "its change adds rows of priorities that version {newest} has and keeps",
+    TOO_MANY: "with its change, version {newest} would have more than 2,000 rows",
 }
 
 
@@ -44,31 +48,38 @@ def rules(case):
 
 def rules_of(case, version, uses):
     """The rows of one version with their uses; the default comes last."""
-    policy = case.policy(version.file)
+    policy, file = case.policy(version), case.policy_file(version.file)
     used = {rule for number, rule, _ in uses if number == version.number}
     named = {rule.priority for rule in policy or ()} | {"default"}
     if policy is not None and used - named:
-        rule = min(used - named)
-        raise Mistake(f"{case.policy_file(version.file)} has no row {rule}, by which version "
-                      f"{version.number} decided: is it the policy that was played?")
-    rows = [(rule.priority, rule.line, ",".join(rule.fields[1:])) for rule in policy or ()]
+        raise Mistake(f"{file} gives no row {min(used - named)} to version {version.number}, which "
+                      "decided by it: is it the policy that was played?")
+    rows = [(rule.priority, rule.file, rule.line, rule.fields[1:]) for rule in policy or ()]
     if policy is None:
-        rows = [(rule, None, "") for rule in sorted(used - {"default"}, key=int, reverse=True)]
-    rows.append(("default", None, "drop"))
+        unnamed = sorted(used - {"default"}, key=int, reverse=True)
+        rows = [(rule, None, None, []) for rule in unnamed]
+    rows.append(("default", None, None, ["drop"]))
     return {
         "version": version.number,
-        "policy": None if policy is None else case.policy_file(version.file).name,
+        "policy": None if policy is None else file.name,
+        "change of": version.before.number if is_changed(case, version) else None,
         "rules": [
             {
                 "rule": rule,
+                "file": file,
                 "line": line,
-                "says": says,
+                "says": ",".join(says),
                 "authority": uses[version.number, rule, "authority"],
                 "cache": uses[version.number, rule, "cache"],
             }
-            for rule, line, says in rows
+            for rule, file, line, says in rows
         ],
     }
+
+
+def is_changed(case, version):
+    """Whether a change made the version of the one before, and their files are there."""
+    return case.policy(version) is not None and isinstance(case.stated(version.file), Change)
 
 
 def caches(case):
@@ -111,7 +122,7 @@ def packet(case, number):
         "packet": number,
         "end": found.end,
         "header": found.header,
-        "decision": found.decision and decision_of(case, found.decision),
+        "decision": found.decision and decision_of(case, found),
         "lines": [
             {"line": item.line, "row": item.row, **match_in(item), "words": words}
             for item, words in told
@@ -119,15 +130,15 @@ def packet(case, number):
     }
 
 
-def decision_of(case, said):
+def decision_of(case, packet):
     """The version and the row that decided a packet, and the line of its file."""
-    policy = case.policy(said["file"]) or []
+    said, policy = packet.decision, case.policy(packet.version) or []
     rule = next((rule for rule in policy if rule.priority == said["rule"]), None)
     return {
         "version": said["version"],
         "rule": said["rule"],
         "action": said["action"],
-        "policy": rule and case.policy_file(said["file"]).name,
+        "policy": rule and rule.file,
         "line": rule and rule.line,
         "says": rule and ",".join(rule.fields),
     }
@@ -147,13 +158,13 @@ def updates(case):
             decided[one.decision["version"], one.decision["row"]] += 1
     return {
         "updates": [
-            update_of(network, version, decided)
+            {**update_of(network, version, decided), **change_of(case, version)}
             for version in network.versions.values()
             if version.number > 1
         ],
         "refused": [
-            {"row": item.row, "file": item.said["file"], "why": REFUSED.get(item.said["code"])}
-            for item in network.refused
+            {"row": item.row, "file": item.said["file"], "why": refusal_of(case, item, newest)}
+            for item, newest in network.refused
         ],
     }
 
@@ -180,6 +191,30 @@ def update_of(network, version, decided):
         "missing": [pending_text(one) for one in pending],
         "down and not confirmed": unconfirmed,
     }
+
+
+def change_of(case, version):
+    """What the change of an update removed and added, each row with its place."""
+    if not is_changed(case, version):
+        return {"change of": None, "removed": [], "added": []}
+    before, change = version.before, case.stated(version.file)
+    removed = [rule for rule in case.policy(before) if rule.priority in change.removed]
+    return {
+        "change of": before.number,
+        "removed": [rule.text() for rule in removed],
+        "added": [rule.text() for rule in change.added],
+    }
+
+
+def refusal_of(case, item, newest):
+    """Why an update was refused, and the priorities at fault where the files are there."""
+    code, change, rows = item.said["code"], case.stated(item.said["file"]), case.policy(newest)
+    why = REFUSED.get(code, f"code {code}").format(newest=newest.number)
+    if rows is None or not isinstance(change, Change):
+        return why
+    found, priorities = change.fault(rows)
+    by = sorted(priorities, key=lambda text: (len(text), text)) if found == code else []
+    return f"{why}: {' '.join(by)}" if by else why
 
 
 def messages_of(network, version, done):

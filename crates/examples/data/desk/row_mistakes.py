@@ -1,10 +1,15 @@
-"""What is wrong with a heading or a row, of a policy as of a schedule."""
+"""What is wrong with a heading or a row, of a policy, a change or a schedule."""
 import re
 
 from .records import is_open, lines_of, quoted, quoted_if_odd, record_at
 
 POLICY_HEADING = "priority,src,dst,sport,dport,proto,action"
+CHANGE_HEADING = f"op,{POLICY_HEADING}"
 SCHEDULE_HEADING = "event,arguments"
+HEADINGS = {
+    POLICY_HEADING: "a policy", CHANGE_HEADING: "a change", SCHEDULE_HEADING: "a schedule",
+}
+EDIT_FORMS = {"remove": "remove,PRIORITY", "add": f"add,{POLICY_HEADING}"}
 FORMS = {
     "packet": "packet,S,SRC,DST,SPORT,DPORT,PROTO",
     **{kind: f"{kind},I" for kind in ("hop", "lose")},
@@ -48,7 +53,14 @@ def open_quote(asked, name):
             return
 
 
-def heading_fault(asked, name, heading, other, other_is):
+def is_row(fields, heading):
+    """Whether a record in the place of this heading looks like a row behind it."""
+    if heading == POLICY_HEADING:
+        return len(fields) == heading.count(",") + 1 and fields[0][:1].isdigit()
+    return fields[0] in (EDIT_FORMS if heading == CHANGE_HEADING else FORMS)
+
+
+def heading_fault(asked, name, heading):
     """Of a file without its heading: what stands in its place."""
     record = record_at(asked.path(name), 0)
     if record is None:
@@ -57,8 +69,9 @@ def heading_fault(asked, name, heading, other, other_is):
     found = ",".join(record.fields)
     yield f"{name}, line {record.line}: {','.join(map(quoted_if_odd, record.fields))}"
     bare = re.sub(r"[\s\"']", "", found).lower()
-    if found == other:
-        yield f"this is {other_is}: the schedule is named first, and then the policies"
+    if found in HEADINGS:
+        order = ": the schedule is named first, and then the policies" if asked.schedule else ""
+        yield f"this is {HEADINGS[found]}{order}"
     elif re.match(r"\s*(\[|#|\w+\s*=)", found):
         yield "this looks like TOML: the network's file stands behind --net"
     elif bare == heading:
@@ -67,9 +80,7 @@ def heading_fault(asked, name, heading, other, other_is):
         yield f"it has {' and '.join(seen) or 'quotes'}: write {heading}"
     elif found.replace(";", ",").replace("\t", ",") == heading:
         yield "the fields are joined by commas"
-    elif len(record.fields) == heading.count(",") + 1 and record.fields[0][:1].isdigit():
-        yield f"the first record is a row: put {heading} before it"
-    elif heading == SCHEDULE_HEADING and record.fields[0] in FORMS:
+    elif is_row(record.fields, heading):
         yield f"the first record is a row: put {heading} before it"
     else:
         yield from differing_columns(record.fields, heading.split(","))

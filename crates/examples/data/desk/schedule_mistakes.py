@@ -4,7 +4,7 @@ from difflib import get_close_matches
 from . import fields
 from .asked import names_hint, network_hints
 from .records import quoted
-from .row_mistakes import FORMS, POLICY_HEADING, SCHEDULE_HEADING
+from .row_mistakes import FORMS, SCHEDULE_HEADING
 from .row_mistakes import at_row, heading_fault, no_row_meant, said_field, wrong_width
 
 # How many fields behind a kind name switches.
@@ -30,7 +30,7 @@ HEADER_FIELDS = [
 def explain_schedule(asked, name, code, row):
     """What stands in a schedule for a code and its row."""
     if code == 1:
-        return heading_fault(asked, name, SCHEDULE_HEADING, POLICY_HEADING, "a policy")
+        return heading_fault(asked, name, SCHEDULE_HEADING)
     record, lines = at_row(asked, name, row)
     if record is None:
         return lines

@@ -31,15 +31,23 @@ def ends(found):
 def rules(found):
     for version in found["versions"]:
         file = version["policy"] or "its policy isn't in the folder, so unused rows aren't known"
-        yield f"version {version['version']}: {file}"
+        before = version["change of"]
+        is_change = before is not None
+        yield f"version {version['version']}: {file}{change_text(before)}"
         rows = [
             (rule["authority"] + rule["cache"], rule["authority"], rule["cache"], rule["rule"],
-             rule["line"] or "-", rule["says"])
+             *[rule["file"] or "-"] * is_change, rule["line"] or "-", rule["says"])
             for rule in version["rules"]
         ]
-        yield from table(["packets", "authority", "cache", "rule", "line", "says"], rows)
+        places = [*["file"] * is_change, "line"]
+        yield from table(["packets", "authority", "cache", "rule", *places, "says"], rows)
         unused = [row[3] for row in rows if row[0] == 0 and row[3] != "default"]
         yield f"never used: {' '.join(unused) or 'none'}"
+
+
+def change_text(before):
+    """What is said behind the file of a version, where it is a change of the one before."""
+    return "" if before is None else f", a change of version {before}"
 
 
 def caches(found):
@@ -63,7 +71,10 @@ def packet(found):
 
 def updates(found):
     for one in found["updates"]:
-        yield f"version {one['version']}, from policy file {one['file']}"
+        before = change_text(one["change of"])
+        yield f"version {one['version']}, from policy file {one['file']}{before}"
+        yield from (f"  removed: {text}" for text in one["removed"])
+        yield from (f"  added: {text}" for text in one["added"])
         for name in ("submitted", "current", "retired"):
             what = f"version {one['version'] - 1} retired" if name == "retired" else name
             yield f"  {what}: {'row ' + str(one[name]) if one[name] else 'not in this journal'}"

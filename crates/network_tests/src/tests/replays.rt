@@ -5,7 +5,7 @@ ghost use Rattle.net_file.specs.Net.{IsNet};
 use journal_text::text;
 use meters::Recorder;
 use net_file::{Net, read_net};
-use policy_rules::Policy;
+use policy_rules::{Policy, PolicyFile};
 use replay::replay;
 use schedule::read_schedule;
 use std::alloc::Global;
@@ -44,7 +44,8 @@ fn replays_a_schedule(rt: HostRuntime) -> Result<(), Fail> {
     let events = read_schedule(alloc, SCHEDULE.as_bytes(), &net, 1)?;
     let policy = Policy::new(alloc, Vec::new(alloc))?;
     let meters: Vec<Recorder> = Vec::new(alloc);
-    let played = replay(alloc, &net, vec![in alloc; policy]?, &events, meters)?;
+    let files = vec![in alloc; PolicyFile::Whole(policy)]?;
+    let played = replay(alloc, &net, files, &events, meters)?;
     assert_eq!(rt; played.full, None);
     assert_eq!(rt; played.meters.len(), 0);
     let text = text(alloc, &played.journal, &net)?;

@@ -1,5 +1,6 @@
-//! Traces that are audited: of a packet on one switch, and the output of a whole day.
-use policy_file::read_policy;
+//! Traces that are audited: of a packet on one switch, of changes of its policy, and the output of a
+//! whole day.
+use policy_file::read_file;
 use std::alloc::Global;
 use std::test::Fail;
 use trace_audit::{Verdict, audit};
@@ -7,6 +8,11 @@ use trace_audit::{Verdict, audit};
 const TWO_ROWS: &str = "priority,src,dst,sport,dport,proto,action\n\
     100,10.0.0.0/8,any,any,80,tcp,out:3\n\
     50,any,any,any,any,any,drop\n";
+
+/// A change of the two rows.
+const CHANGE: &str = "op,priority,src,dst,sport,dport,proto,action\n\
+    remove,100\n\
+    add,90,10.0.0.0/8,any,any,443,tcp,out:4\n";
 
 const ROW: &str = "row 1: packet s0 10.1.1.1 9.9.9.9 5000 80 tcp\n";
 
@@ -310,7 +316,7 @@ const EVENING: &str = "\x20 sent 31 a collect boot 1 version 1\n\
 fn verdict(alloc: Global, parts: &[&str], policies: &[&str]) -> Result<Verdict, Fail> {
     let mut files = Vec::new(alloc);
     for text in policies {
-        files.push(read_policy(alloc, text.as_bytes())?)?;
+        files.push(read_file(alloc, text.as_bytes())?)?;
     }
     let mut trace = Vec::new(alloc);
     for part in parts {
@@ -331,6 +337,31 @@ fn traces_of_a_packet(rt: HostRuntime) -> Result<(), Fail> {
             Verdict::No { line: *line }
         );
     }
+    Ok(())
+}
+
+#[test]
+fn traces_of_changes(rt: HostRuntime) -> Result<(), Fail> {
+    let alloc = rt.alloc();
+    let files = [TWO_ROWS, CHANGE];
+    let changed = "  submitted file 2 version 2\n";
+    let by_change = "  decided 1 v2 rule 90 out:4 cache \n";
+    let header = "row 2: packet s0 10.1.1.1 9.9.9.9 5000 443 tcp\n";
+    let good = [changed, header, ENTERED, by_change, "  out 1 port 4\n"];
+    assert_eq!(rt; verdict(alloc, &good, &files)?, Verdict::Yes);
+    // its row is gone from the newest version, and there is none before the first
+    let again = [changed, "  submitted file 2 version 3\n"];
+    assert_eq!(rt; verdict(alloc, &again, &files)?, Verdict::No { line: 2 });
+    let first = ["  submitted file 1 version 1\n"];
+    assert_eq!(rt; verdict(alloc, &first, &[CHANGE])?, Verdict::No { line: 1 });
+    // a row that is removed decides no more
+    let removed = [
+        changed,
+        ROW,
+        ENTERED,
+        "  decided 1 v2 rule 100 out:3 cache \n",
+    ];
+    assert_eq!(rt; verdict(alloc, &removed, &files)?, Verdict::No { line: 4 });
     Ok(())
 }
 

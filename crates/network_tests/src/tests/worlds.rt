@@ -6,7 +6,7 @@ ghost use Rattle.world.specs.State.{setting_at};
 use five_tuple::{Fields, Header};
 use journal_text::text;
 use net_file::{Net, read_net};
-use policy_rules::Policy;
+use policy_rules::{Policy, PolicyFile};
 use std::alloc::Global;
 use std::process::Abort;
 use std::test::Fail;
@@ -48,7 +48,7 @@ const JOURNAL: &str = "row 1: packet a 1.2.3.4 10.2.0.1 5000 80 tcp\n\
 // A packet that comes in at a.
 fn packet(world: &World) -> Step
     requires { 1 ≤ length world.now.net.switches }
-    ensures { IsStep world.now.net (length world.now.policies) result }
+    ensures { IsStep world.now.net (length world.now.files) result }
 {
     let header = Header::pack(&Fields {
         src: 0x0102_0304,
@@ -63,7 +63,7 @@ fn packet(world: &World) -> Step
 // The oldest cached rule of a times out.
 fn expire(world: &World) -> Step
     requires { 1 ≤ length world.now.net.switches }
-    ensures { IsStep world.now.net (length world.now.policies) result }
+    ensures { IsStep world.now.net (length world.now.files) result }
 {
     let _ = world;
     Step::Expire {
@@ -83,7 +83,8 @@ fn begun(alloc: Global, net: &Net) -> Result<World, Fail>
     ensures { IfOk result (λ world. 1 ≤ length world.net.switches) }
 {
     let policy = Policy::new(alloc, Vec::new(alloc))?;
-    Ok(World::begin(alloc, net, vec![in alloc; policy]?)?)
+    let files = vec![in alloc; PolicyFile::Whole(policy)]?;
+    Ok(World::begin(alloc, net, files)?)
 }
 
 // Takes the step of the row.
@@ -95,7 +96,7 @@ fn take(
     row: u32,
     step: &Step,
 ) -> Result<(), Fail>
-    requires { IsStep world.old.net (length world.old.policies) step.now }
+    requires { IsStep world.old.net (length world.old.files) step.now }
     ensures { setting_at world.new ≡ setting_at world.old }
 {
     world.refines();

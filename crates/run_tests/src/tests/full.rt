@@ -61,3 +61,20 @@ fn prints_nothing_of_a_full_play(rt: HostRuntime) -> Result<(), Fail> {
     assert!(rt; ended(&ran, 5, "", "difane: write fault\n"));
     Ok(())
 }
+
+/// 246 rows send 992,364 messages, and the last step begins below 990,000; the 247th begins full.
+#[test]
+fn tells_all_again_until_full(rt: HostRuntime) -> Result<(), Fail> {
+    let (status, whole, _) = told_again(rt.alloc(), 246, 0)?;
+    assert!(rt; status == 0);
+    assert!(rt;
+        whole
+            .bytes()
+            .ends_with(b"  sent 992364 hub open boot 1 version 1\n")
+    );
+    let (status, part, errs) = told_again(rt.alloc(), 247, 0)?;
+    assert!(rt; status == 6);
+    assert!(rt; errs.bytes() == b"difane: full row 247\n".as_slice());
+    assert!(rt; part.bytes() == whole.bytes());
+    Ok(())
+}

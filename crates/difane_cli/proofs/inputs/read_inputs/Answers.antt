@@ -9,7 +9,7 @@ use Rattle.difane_cli.specs.Inputs.{most_reads, net_reads}
 use Rattle.difane_cli.proofs.Begun.{all_are_events, asked_for, inputs_are}
 use Rattle.difane_cli.proofs.ShelfReads.{all_reads, reads_then, schedule_read}
 use Rattle.difane_cli.proofs.inputs.read_inputs.Goals as goal
-use Rattle.difane_cli.proofs.inputs.read_inputs.Goals.{In_ok-policies}
+use Rattle.difane_cli.proofs.inputs.read_inputs.Goals.{In_ok-files}
 use Rattle.difane_cli.proofs.inputs.read_inputs.Given.{Over}
 
 -- there are as many names as the command has
@@ -24,40 +24,40 @@ returns-in_err-events-clause-shelf g c =
     reads_then (net_reads args.net) 1 _ _ (g.F.Shelf.state c.take_network.new.shelf) _ one
     c.in_ok-net.ensures.shelf c.in_err-events.ensures.shelf
 
-pub returns-in_err-policies-clause-shelf : goal.returns-in_err-policies-clause-shelf
-returns-in_err-policies-clause-shelf g c =
+pub returns-in_err-files-clause-shelf : goal.returns-in_err-files-clause-shelf
+returns-in_err-files-clause-shelf g c =
     all_reads (replay_named c.args.args.now) c.in_ok-net.net c.in_ok-events.events.items _ _ _ _ _ _
     (as_many _ _ c.deref-names.ensures.value) c.port_mask.ensures
     c.in_ok-net.ensures.read c.in_ok-events.ensures.read c.in_ok-net.ensures.shelf
-    c.in_ok-events.ensures.shelf (rw c.deref-names.ensures.value at c.in_err-policies.ensures.shelf)
+    c.in_ok-events.ensures.shelf (rw c.deref-names.ensures.value at c.in_err-files.ensures.shelf)
 
 -- the network, the schedule and the policies are all that is read
-policies_read : (g : Over) (c : In_ok-policies g)
+policies_read : (g : Over) (c : In_ok-files g)
     → IsAfterReads (most_reads (g.F.Shelf.state c.args.shelf.now).files
     (Some (Replay (replay_named c.args.args.now))))
-    (g.F.Shelf.state c.args.shelf.now) (g.F.Shelf.state c.read_policies.new.shelf)
+    (g.F.Shelf.state c.args.shelf.now) (g.F.Shelf.state c.read_files.new.shelf)
 policies_read g c =
     all_reads (replay_named c.args.args.now) c.in_ok-net.net c.in_ok-events.events.items _ _ _ _ _ _
     (as_many _ _ c.deref-names.ensures.value) c.port_mask.ensures
     c.in_ok-net.ensures.read c.in_ok-events.ensures.read c.in_ok-net.ensures.shelf
-    c.in_ok-events.ensures.shelf (rw c.deref-names.ensures.value at c.in_ok-policies.ensures.shelf)
+    c.in_ok-events.ensures.shelf (rw c.deref-names.ensures.value at c.in_ok-files.ensures.shelf)
 
 pub returns-in_err-world-clause-shelf : goal.returns-in_err-world-clause-shelf
 returns-in_err-world-clause-shelf g c =
-    policies_read g (goal.at.returns-in_err-world-clause-shelf g c).In_ok-policies
+    policies_read g (goal.at.returns-in_err-world-clause-shelf g c).In_ok-files
 
 pub returns-clause-shelf : goal.returns-clause-shelf
-returns-clause-shelf g c = policies_read g (goal.at.returns-clause-shelf g c).In_ok-policies
+returns-clause-shelf g c = policies_read g (goal.at.returns-clause-shelf g c).In_ok-files
 
 pub returns-clause-read : goal.returns-clause-read
 returns-clause-read g c =
     let net_files = c.in_ok-net.ensures.shelf.same_files in
-    inputs_are _ _ _ (replay_named c.args.args.now) c.in_ok-net.net c.in_ok-policies.policies.items
+    inputs_are _ _ _ (replay_named c.args.args.now) c.in_ok-net.net c.in_ok-files.files.items
     c.in_ok-events.events.items (setting_at c.in_ok-world.world) _ _ net_files
     (c.in_ok-events.ensures.shelf.same_files ∙ net_files)
     (as_many _ _ c.deref-names.ensures.value) c.port_mask.ensures
     c.in_ok-net.ensures.read c.in_ok-events.ensures.read
-    (rw c.deref-names.ensures.value at c.in_ok-policies.ensures.read)
+    (rw c.deref-names.ensures.value at c.in_ok-files.ensures.read)
     (rw c.deref-names.ensures.value at c.in_ok-world.ensures.planned) c.in_ok-world.ensures.begun.own
 
 pub returns-clause-ready : goal.returns-clause-ready
@@ -67,8 +67,8 @@ returns-clause-ready g c =
       net = ap (λ s. s.net) begun.own;
       sound = record {
         setting = c.in_ok-world.ensures.sound;
-        events = all_are_events c.in_ok-net.net c.in_ok-policies.policies.items _ _
-            c.in_ok-events.events.items begun.own c.in_ok-policies.ensures.many
+        events = all_are_events c.in_ok-net.net c.in_ok-files.files.items _ _
+            c.in_ok-events.events.items begun.own c.in_ok-files.ensures.many
             c.in_ok-events.ensures.sound.steps;
       };
       few = c.in_ok-events.ensures.sound.few;
@@ -76,8 +76,8 @@ returns-clause-ready g c =
 
 pub returns-clause-asked : goal.returns-clause-asked
 returns-clause-asked g c =
-    asked_for (replay_named c.args.args.now) c.in_ok-net.net c.in_ok-policies.policies.items
+    asked_for (replay_named c.args.args.now) c.in_ok-net.net c.in_ok-files.files.items
     c.in_ok-events.events.items (setting_at c.in_ok-world.world) c.in_ok-net.ensures.named
     c.in_ok-world.ensures.begun.own
-    (c.in_ok-policies.ensures.many ∙ as_many _ _ c.deref-names.ensures.value)
-    c.in_ok-events.ensures.sound.few c.in_ok-policies.ensures.few
+    (c.in_ok-files.ensures.many ∙ as_many _ _ c.deref-names.ensures.value)
+    c.in_ok-events.ensures.sound.few c.in_ok-files.ensures.few

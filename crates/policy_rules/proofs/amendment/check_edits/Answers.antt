@@ -3,7 +3,8 @@ use Rattle.std.specs.HashSet.{contains}
 use Rattle.std.proofs.lemmas.Bool.{not-true}
 use Rattle.std.proofs.lemmas.List.{take_all, take_more}
 use Rattle.std.proofs.lemmas.List.Elements.{All-more}
-use Rattle.policy_rules.specs.Edits.{AreDistinctEdits, AreSeen, IsSoundEdit, repeats}
+use Rattle.policy_rules.specs.Applied.{AreDistinctEdits, IsSoundEdit}
+use Rattle.policy_rules.specs.Edits.{AreSeen, repeats}
 use Rattle.policy_rules.proofs.Editing.{distinct_edits_push}
 use Rattle.policy_rules.proofs.amendment.check_edits.Goals as goal
 

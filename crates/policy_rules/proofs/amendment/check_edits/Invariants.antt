@@ -1,6 +1,7 @@
 use Rattle.std.proofs.Common.{◌≡◌, nat_eq, take, All}
 use Rattle.std.specs.HashSet.{contains}
-use Rattle.policy_rules.specs.Edits.{AreDistinctEdits, AreSeen, IsSoundEdit}
+use Rattle.policy_rules.specs.Applied.{AreDistinctEdits, IsSoundEdit}
+use Rattle.policy_rules.specs.Edits.{AreSeen}
 use Rattle.policy_rules.proofs.amendment.check_edits.Given as goal
 
 abbrev pub invariant-loop-edit : goal.invariant-loop-edit

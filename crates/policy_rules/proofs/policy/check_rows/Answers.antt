@@ -3,7 +3,7 @@ use Rattle.std.proofs.lemmas.Bool.{not-true}
 use Rattle.std.proofs.lemmas.List.{take_all}
 use Rattle.std.proofs.lemmas.List.Elements.{All-more}
 use Rattle.policy_rules.specs.Policy.{HaveDistinctPriorities, IsSoundRow}
-use Rattle.policy_rules.specs.Repeats.{has_priority}
+use Rattle.policy_rules.specs.Applied.{has_priority}
 use Rattle.policy_rules.proofs.Distinct.{distinct_more, seen_more}
 use Rattle.policy_rules.proofs.policy.check_rows.Goals as goal
 

@@ -46,7 +46,7 @@ step-requires-clause-may g c =
     let refines = tie_of c.loop-next.world (c.refines.ensures so_far.able) in
     let next = next_asked g (goal.at.step-requires-clause-may g c).After-refines in
     next.may
-    (subst (λ (s : Setting). IsEvent s.net (length s.policies) c.args.event.now)
+    (subst (λ (s : Setting). IsEvent s.net (length s.files) c.args.event.now)
     (sym so_far.setting) c.requires.may)
     (omega (arith, refines.counted, so_far.packets, next.none, c.requires.few))
 

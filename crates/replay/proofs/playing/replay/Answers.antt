@@ -1,12 +1,12 @@
 use Rattle.std.proofs.Common.{subst}
 use Rattle.update_machine.specs.Setting.{IsSetting}
-use Rattle.update_machine.proofs.CallerLemmas.{first_planned}
+use Rattle.world.proofs.Begun.{first_plans}
 use Rattle.replay.proofs.Refining.{tie_of}
 use Rattle.replay.proofs.playing.replay.Goals as goal
 
 pub returns-clause-planned : goal.returns-clause-planned
 returns-clause-planned g c =
     let begun = c.in_ok-world.ensures.begun in
-    first_planned c.args.net.now c.args.policies.items
+    first_plans c.args.net.now c.args.files.items
     (subst IsSetting begun.own
-    (tie_of c.in_ok-world.world (c.refines.ensures begun.able)).sound)
+    (tie_of c.in_ok-world.world (c.refines.ensures begun.able)).sound) c.requires.first

@@ -1,16 +1,16 @@
 use Rattle.std.proofs.Common.{All, subst, arith}
 use Rattle.std.proofs.lemmas.List.{take_all}
 use Rattle.std.proofs.lemmas.List.Elements.{All-more}
-use Rattle.policy_rules.specs.Policy.{IsPolicy}
+use Rattle.policy_rules.specs.PolicyFiles.{IsPolicyFile}
 use Rattle.trace_audit.proofs.trace.files_are_sound.Goals as goal
 
-pub loop-policy-preserved : goal.loop-policy-preserved
-loop-policy-preserved c =
-    All-more IsPolicy c.args.files.now c.loop-policy.policy-index c.policy-item.result
-    c.loop-policy-test.true c.loop-policy.invariant
-    (subst IsPolicy c.policy-item.is c.rows-rows.ensures.policy)
+pub loop-file-preserved : goal.loop-file-preserved
+loop-file-preserved c =
+    All-more IsPolicyFile c.args.files.now c.loop-file.file-index c.file-item.result
+    c.loop-file-test.true c.loop-file.invariant
+    (subst IsPolicyFile c.file-item.is c.file_is_sound.ensures)
 
 pub returns : goal.returns
 returns c =
-    subst (All IsPolicy) (take_all c.loop-policy.policy-index c.args.files.now (omega arith))
-    c.loop-policy.invariant
+    subst (All IsPolicyFile) (take_all c.loop-file.file-index c.args.files.now (omega arith))
+    c.loop-file.invariant

@@ -1,13 +1,13 @@
-use Rattle.update_machine.proofs.Policies.{first_is, next_is, of_its_file, plan_kept, policy_kept, version_kept}
+use Rattle.update_machine.proofs.Policies.{first_is, next_is, of_its_policy, plan_stays, policy_stays, version_kept}
 use Rattle.update_machine.proofs.Settings.{versions_own}
 use Rattle.update_machine.proofs.laws.versions_keep_policies.Goals as goal
 
 pub returns : goal.returns
 returns c = record {
   there = version_kept;
-  policy = policy_kept;
-  plan = plan_kept;
-  of_file = of_its_file;
+  policy = policy_stays;
+  plan = plan_stays;
+  of_policy = of_its_policy;
   first = first_is;
   next = next_is;
   own = versions_own;

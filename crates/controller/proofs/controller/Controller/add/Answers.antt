@@ -2,8 +2,10 @@ use Rattle.std.proofs.Common.{ℕ, ◌≡◌, ◌+◌, [], ◌∷◌, ◌++◌, 
 use Rattle.std.specs.Prelude.{not}
 use Rattle.version_update.specs.Marks.{with_version}
 use Rattle.version_update.specs.Record.{is_over}
-use Rattle.controller.specs.Controller.{KeptPlan, ControllerValue, StaysController}
+use Rattle.controller.specs.Controller.{KeptPlan, ControllerValue, StaysController, plans_from}
 use Rattle.controller.specs.Sends.{boot_recorded, install_act, switches_where, settling_acts, submit_acts}
+use Rattle.controller.specs.Submit.{SubmitsPlan}
+use Rattle.controller.proofs.Newest.{newest_added}
 use Rattle.controller.proofs.Versions.{IsWhole, pushed_next, whole_more, stays_more}
 use Rattle.controller.proofs.controller.Controller.add.Goals as goal
 use Rattle.controller.proofs.controller.Controller.add.Goals.{After-settle}
@@ -37,6 +39,19 @@ returns-in_err-settle-clause-rule c =
 
 pub invariant_of-self-2 : goal.invariant_of-self-2
 invariant_of-self-2 c = whole (goal.at.invariant_of-self-2 c).After-settle
+
+pub returns-clause-newest : goal.returns-clause-newest
+returns-clause-newest c =
+    let old : ControllerValue =
+    record { marks = c.self.inside.marks; plans = c.self.inside.versions.items } in
+    let marks = c.add_version-settled.new.marks in
+    let new : ControllerValue = record { marks = marks; plans = c.settle.new.versions.items } in
+    let at = (goal.at.returns-clause-newest c).After-settle in
+    let submits : SubmitsPlan old c.args.plan new = record {
+      marks = (_, c.add_version-settled.ensures.settled);
+      plans = c.settle.ensures.versions ∙ ap (plans_from marks.current) (pushed at);
+    } in
+    newest_added old new c.args.plan c.self.invariant (whole at) submits
 
 pub returns-clause-sends : goal.returns-clause-sends
 returns-clause-sends c =

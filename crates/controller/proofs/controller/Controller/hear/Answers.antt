@@ -1,6 +1,7 @@
 use Rattle.std.proofs.Common.{[], ◌++◌, refl, sym, ap, ◌∙◌, subst}
 use Rattle.version_update.specs.Marks.{MarksValue}
 use Rattle.controller.specs.Controller.{SettlesWith}
+use Rattle.controller.proofs.Newest.{newest_stays}
 use Rattle.controller.proofs.Unheard.{is_unheard}
 use Rattle.controller.proofs.controller.Controller.hear.Goals as goal
 
@@ -12,8 +13,24 @@ returns-in_default c =
     let Settled : MarksValue → Type 0 = λ marks. SettlesWith marks value.plans value in
     record {
       after = subst Settled (sym is.same) c.unheard.ensures.after;
+      newest = refl;
       sends = c.unheard.ensures.none ∙ sym (is.sent ∙ ap (λ l. l ++ []) c.unheard.ensures.idle);
       others = λ _. refl;
       silent = λ _. c.unheard.ensures.none;
       rule = record { controller = c.unheard.ensures.rule; switches = refl };
     }
+
+pub returns-in-Hello-clause-newest : goal.returns-in-Hello-clause-newest
+returns-in-Hello-clause-newest c =
+    newest_stays _ c.args.self.now c.hello.new.self c.hello.ensures.rule.controller
+    c.hello.ensures.after refl
+
+pub returns-in-Installed-clause-newest : goal.returns-in-Installed-clause-newest
+returns-in-Installed-clause-newest c =
+    newest_stays _ c.args.self.now c.replied.new.self c.replied.ensures.rule.controller
+    c.replied.ensures.after refl
+
+pub returns-in-Stamped-clause-newest : goal.returns-in-Stamped-clause-newest
+returns-in-Stamped-clause-newest c =
+    newest_stays _ c.args.self.now c.replied-in-Stamped.new.self
+    c.replied-in-Stamped.ensures.rule.controller c.replied-in-Stamped.ensures.after refl

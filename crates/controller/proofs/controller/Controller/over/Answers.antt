@@ -1,4 +1,8 @@
+use Rattle.std.proofs.Common.{refl}
+use Rattle.version_update.specs.Marks.{at_switch}
 use Rattle.version_update.specs.Record.{after_over}
+use Rattle.controller.specs.Controller.{ControllerValue, SettlesWith, StaysController}
+use Rattle.controller.proofs.Newest.{newest_stays}
 use Rattle.controller.proofs.Versions.{whole_at, settles_at, settles_seen, stays_at}
 use Rattle.controller.proofs.controller.Controller.over.Goals as goal
 
@@ -7,6 +11,20 @@ invariant_of-self c = search whole_at
 
 pub returns : goal.returns
 returns c =
+    let old = c.args.self.now in
+    let new : ControllerValue = record {
+      marks = c.over-settled.new.self;
+      plans = c.settled_sends.new.versions.items;
+    } in
+    let settles : SettlesWith (at_switch c.args.s after_over old.marks) old.plans new =
+    search settles_at in
+    let stays : StaysController old new = search stays_at in
     let sent = c.settled_sends.ensures.sends _ (settles_seen c.args.s after_over _ _ _ _ _
     c.self.view_is c.over-settled.ensures.settled) in
-    search (settles_at, stays_at, sent)
+    record {
+      after = settles;
+      newest = newest_stays (at_switch c.args.s after_over old.marks) old new stays.controller
+          settles refl;
+      sends = search sent;
+      rule = stays;
+    }

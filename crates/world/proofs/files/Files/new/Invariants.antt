@@ -1,10 +1,13 @@
-use Rattle.std.proofs.Common.{ℕ, ◌≡◌, ◌-◌, ◌≤◌, None, length, get_or}
+use Rattle.std.proofs.Common.{ℕ, ◌≡◌, ◌-◌, ◌≤◌, [], ◌∷◌, None, Some, length, get_or}
+use Rattle.world.specs.declared.files.Compiled.TheVariants.{Planned}
 use Rattle.world.proofs.files.Files.new.Given as goal
 
--- what is pushed says nothing
+-- what is pushed behind the first says nothing
 abbrev pub invariant-loop-compiled : goal.invariant-loop-compiled
-invariant-loop-compiled l = (length l.compiled.items ≤ length l.policies.items)
-    × ((i : ℕ) → get_or l.compiled.items i None ≡ get_or l.initial.compiled.items i None)
+invariant-loop-compiled l = record {
+  many : length l.compiled.items ≤ length l.files.items;
+  same : (i : ℕ) → get_or l.compiled.items i None ≡ get_or (Some (Planned l.fn.plan) ∷ []) i None;
+}
 
 abbrev pub decreases-loop-compiled : goal.decreases-loop-compiled
-decreases-loop-compiled l = length l.policies.items - length l.compiled.items
+decreases-loop-compiled l = length l.files.items - length l.compiled.items

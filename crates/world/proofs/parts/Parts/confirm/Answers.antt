@@ -6,7 +6,7 @@ use Rattle.journal.specs.declared.item.Item.TheVariants as item
 use Rattle.version_update.specs.Marks.{at_switch}
 use Rattle.version_update.specs.Record.{after_over}
 use Rattle.world_log.specs.Sending.{MayNote}
-use Rattle.world.proofs.Frame.{goes_nothing, net_stays, none_in, nothing_goes}
+use Rattle.world.proofs.Frame.{follows, goes_nothing, net_stays, none_in, nothing_goes}
 use Rattle.world.proofs.GoesTold.{goes_acting}
 use Rattle.world.proofs.OverSwitches.{known_in, place_in}
 use Rattle.refinement.proofs.GoneSwitches.{gone_may, gone_piece, gone_refines, still_up}
@@ -58,7 +58,7 @@ returns c = λ before row begins.
     let down = sym c.is_up.ensures ∙ c.if-is_up.false in
     let its = c.note_acts.ensures in
     goes_acting (item.OverNow s) acts c.into_items.result.items c.push-2.new.self begins
-    (net_stays refl refl) (none_in _)
+    (follows begins refl refl c.over.ensures.newest) (none_in _)
     (gone_piece _ _ _ _ _ _ row s c.index.result.now ready.refines ready.may c.index.ensures new
     down
     c.over.ensures.after)

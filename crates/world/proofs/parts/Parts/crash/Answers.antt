@@ -3,6 +3,7 @@ use Rattle.std.proofs.lemmas.List.{length-set}
 use Rattle.std.proofs.lemmas.Result.{on_err_weaker, on_ok_weaker}
 use Rattle.message_bag.specs.Posts.{new_post}
 use Rattle.ctrl_msg.specs.declared.message.Message.{Message}
+use Rattle.controller.specs.Controller.{newest_policy}
 use Rattle.journal.specs.declared.item.Item.{Item}
 use Rattle.journal.specs.declared.item.Item.TheVariants as item
 use Rattle.steps.specs.declared.step.Step.TheVariants.{Crash}
@@ -14,7 +15,7 @@ use Rattle.refinement.specs.Refinement.{RefineJournal}
 use Rattle.travelling.specs.Travelling.{WithoutAt, numbers_at}
 use Rattle.world_log.specs.Writing.{IsPart}
 use Rattle.refinement.proofs.Crashed.{crash_may, crash_next, crash_piece, crash_refines, same_switch, stays_down}
-use Rattle.world.proofs.Frame.{goes, goes_nothing, net_stays, nothing_goes}
+use Rattle.world.proofs.Frame.{follows, goes, goes_nothing, net_stays, nothing_goes}
 use Rattle.world.proofs.GoesTold.{same_control}
 use Rattle.world.proofs.OverSwitches.{few_in, place_in, switch_in}
 use Rattle.world_log.proofs.Writing.{none_ok, part_of_first, part_of_rest, step_part, step_written, three_ok, on_err}
@@ -66,7 +67,7 @@ returns-in_err-lose_at c = λ before row begins.
     let losses = map item.Lost (numbers_at self.log.travelling s) in
     let r = c.from_residual-in_err-lose_at.result in
     let failed = c.from_residual-in_err-lose_at.ensures.0 in
-    goes begins (net_stays refl refl) (item.Down s ∷ losses ++ sends)
+    goes begins (follows begins refl refl refl) (item.Down s ∷ losses ++ sends)
     (crash_piece _ _ _ _ _ _ row s own changed begins.ready.refines begins.ready.may within
     c.index_mut.ensures.value c.crash.ensures
     (was_up (goal.at.returns-in_err-lose_at c).After-index_mut))
@@ -122,7 +123,7 @@ returns c = λ before row begins.
     let down = c.push-2.new.self in
     let behind = c.lose_at.new.self in
     goes begins
-    (net_stays rest.files rest.ports)
+    (follows begins rest.files rest.ports (ap newest_policy rest.controller))
     (item.Down s ∷ losses ++ sends)
     (crash_piece _ _ _ _ _ _ row s own changed ready.refines ready.may within
     c.index_mut.ensures.value c.crash.ensures is_up)

@@ -5,7 +5,7 @@ use Rattle.std.proofs.lemmas.List.{length-set}
 use Rattle.std.proofs.lemmas.Result.{on_ok_weaker}
 use Rattle.message_bag.specs.Posts.{new_post, with_delivered, with_status}
 use Rattle.message_bag.proofs.Numbered.{length_changed}
-use Rattle.controller.specs.Controller.{ControllerValue}
+use Rattle.controller.specs.Controller.{ControllerValue, newest_policy}
 use Rattle.controller.specs.Sends.{hear_acts}
 use Rattle.ctrl_msg.specs.declared.message.Message.{Message}
 use Rattle.journal.specs.declared.item.Item.{Item}
@@ -24,7 +24,7 @@ use Rattle.refinement.proofs.HeardBy.{control_may, control_piece, control_refine
 use Rattle.world.proofs.OverSwitches.{few_in}
 use Rattle.refinement.proofs.HearReady.{hear_ready, usable_here}
 use Rattle.refinement.proofs.Opening.{opening_may, opening_next, opening_piece, opening_refines}
-use Rattle.world.proofs.Frame.{goes_nothing, net_stays, none_in, nothing_goes}
+use Rattle.world.proofs.Frame.{follows, goes_nothing, net_stays, none_in, nothing_goes}
 use Rattle.world_log.proofs.Writing.{both_ok, step_part, step_written}
 use Rattle.world.proofs.parts.Parts.deliver.Goals as goal
 use Rattle.world.proofs.parts.Parts.deliver.Goals.{In-Switch}
@@ -77,7 +77,8 @@ returns-in-Controller c = λ before row begins.
     let ready = begins.ready in
     goes_told (item.Delivered n)
     (λ k. act_items k acts) c.push-2.new.self (length c.deliver.new.self)
-    (with_delivered self.log.bag n) (act_posts acts) begins (net_stays refl refl) (record {
+    (with_delivered self.log.bag n) (act_posts acts) begins
+    (follows begins refl refl c.deliver_to_controller.ensures.newest) (record {
       piece_is = control_piece _ _ _ _ _ _ row n message new ready.refines ready.may there
           c.in-Controller.is c.deliver_to_controller.ensures.after;
       counted = none_in _;
@@ -166,7 +167,8 @@ returns-in-None-opened c = λ before row begins.
     c.into_items.ensures ∙ c.in_ok-heard.ensures.replies in
     goes_told (item.Delivered n)
     (λ k. sent_from k messages) c.push-2.new.self (length c.deliver.new.self)
-    (with_delivered self.log.bag n) (map new_post messages) begins (net_stays refl refl) (record {
+    (with_delivered self.log.bag n) (map new_post messages) begins
+    (follows begins refl refl refl) (record {
       piece_is = shut_piece _ _ _ _ _ _ row n s message own c.hear.new.self near ready.refines
           ready.may there c.in-Switch.is within.0 c.index_mut.ensures.value usable
           c.in_ok-heard.ensures.after shut;
@@ -253,7 +255,7 @@ returns c = λ before row begins.
     goes_told (item.Delivered n)
     (λ k. item.Opened s stamp ∷ sent_from k messages) c.push-2.new.self
     (length c.deliver.new.self) (with_delivered self.log.bag n) (map new_post messages) begins
-    (net_stays rest.files rest.ports) (record {
+    (follows begins rest.files rest.ports (ap newest_policy rest.controller)) (record {
       piece_is = opening_piece _ _ _ _ _ _ row n s stamp message own c.hear.new.self ready.refines
           ready.may there c.in-Switch.is within.0 c.index_mut.ensures.value
           c.in_ok-heard.ensures.after opens;

@@ -1,7 +1,7 @@
 use Rattle.std.proofs.Common.{Some, None, refl, sym, ◌∙◌}
 use Rattle.journal.specs.declared.item.Item.TheVariants as item
 use Rattle.refinement.proofs.Expiring.{expired_refines}
-use Rattle.world.proofs.Frame.{goes_one, net_stays, none_in, plane_stays}
+use Rattle.world.proofs.Frame.{files_stay, goes_one, none_in, plane_stays}
 use Rattle.world.proofs.OverSwitches.{place_in}
 use Rattle.world.proofs.parts.Parts.expire.Goals as goal
 
@@ -12,7 +12,7 @@ pub returns-in-None : goal.returns-in-None
 returns-in-None c = λ before row begins.
     let self = c.args.self.now in
     goes_one begins
-    (net_stays refl refl) item.Nothing self.log.bag (plane_stays refl refl refl) refl (none_in _)
+    (files_stay refl refl) item.Nothing self.log.bag (plane_stays refl refl refl) refl (none_in _)
     (expired_refines _ _ _ _ _ _ row c.args.switch c.args.place c.index_mut.result.now
     c.expire.new.self None begins.ready.refines begins.ready.may c.index_mut.ensures.value
     c.expire.ensures.after (sym c.in-None.is ∙ c.expire.ensures.message))
@@ -22,7 +22,7 @@ pub returns-in-Some : goal.returns-in-Some
 returns-in-Some c = λ before row begins.
     let self = c.args.self.now in
     goes_one begins
-    (net_stays refl refl) (item.Expired c.args.switch c.args.place c.in-Some.message) self.log.bag (plane_stays refl refl refl) refl
+    (files_stay refl refl) (item.Expired c.args.switch c.args.place c.in-Some.message) self.log.bag (plane_stays refl refl refl) refl
     (none_in _)
     (expired_refines _ _ _ _ _ _ row c.args.switch c.args.place c.index_mut.result.now
     c.expire.new.self (Some c.in-Some.message) begins.ready.refines begins.ready.may

@@ -2,7 +2,7 @@ use Rattle.std.proofs.Common.{refl, sym, ◌∙◌}
 use Rattle.journal.specs.declared.item.Item.TheVariants as item
 use Rattle.message_bag.specs.Posts.{with_forgotten}
 use Rattle.refinement.proofs.Delivering.{forgotten_refines, unforgotten}
-use Rattle.world.proofs.Frame.{goes_nothing, goes_one, net_stays, none_in, plane_stays}
+use Rattle.world.proofs.Frame.{files_stay, goes_nothing, goes_one, none_in, plane_stays}
 use Rattle.world.proofs.parts.Parts.forget.Goals as goal
 
 pub returns-then-not-may_be_delivered : goal.returns-then-not-may_be_delivered
@@ -16,7 +16,7 @@ returns-then-not-may_be_delivered c = λ before row begins.
 pub returns : goal.returns
 returns c = λ before row begins.
     let self = c.args.self.now in
-    goes_one begins (net_stays refl refl)
+    goes_one begins (files_stay refl refl)
     (item.Forgotten c.args.number) (with_forgotten self.log.bag c.args.number) (plane_stays refl refl refl) c.forget.ensures
     (none_in _)
     (forgotten_refines _ _ _ _ _ _ row c.args.number begins.ready.refines begins.ready.may

@@ -8,7 +8,7 @@ use Rattle.switch_core.specs.Moving.{hop_answer}
 use Rattle.switch_core.specs.declared.answers.HopEnd.TheVariants.{Arrive}
 use Rattle.world_log.proofs.Passing.{of_kept}
 use Rattle.refinement.proofs.Asking.{can_ask, ingress_below, within_here, number_of_packet}
-use Rattle.world.proofs.Frame.{goes_nothing, goes_quiet, net_stays, none_in, plane_stays}
+use Rattle.world.proofs.Frame.{files_stay, goes_nothing, goes_quiet, none_in, plane_stays}
 use Rattle.refinement.proofs.HopRefines.{hop_left}
 use Rattle.world.proofs.OverParts.{hop_is, hops_refine}
 use Rattle.world.proofs.parts.Parts.hop.Goals as goal
@@ -66,7 +66,7 @@ returns c = λ before row begins.
     let its = sym c.look.ensures ∙ ap option_copied c.in-Some.is in
     let log = c.hop.ensures.log c.in-Some.kept.now its in
     goes_quiet begins
-    (net_stays refl refl) _ (plane_stays refl refl refl)
+    (files_stay refl refl) _ (plane_stays refl refl refl)
     (hop_is self before row c.args.packet c.in-Some.kept.now c.here.result
     c.index_mut.result.now begins.ready its c.here.ensures.here c.index_mut.ensures.value)
     (on_ok_weaker c.hop.result (λ done. none_in _) log.written)

@@ -3,7 +3,7 @@ use Rattle.std.proofs.lemmas.Result.{on_err_weaker, on_ok_weaker}
 use Rattle.journal.specs.declared.item.Item.TheVariants as item
 use Rattle.steps.specs.declared.step.Step.TheVariants.{Lose}
 use Rattle.world.specs.Parts.{control_in, setting_in}
-use Rattle.world.proofs.Frame.{PartsRefineJournalAs, goes_nothing, goes_quiet, net_stays, none_in, plane_stays, with_posts}
+use Rattle.world.proofs.Frame.{PartsRefineJournalAs, goes_nothing, goes_quiet, files_stay, none_in, plane_stays, with_posts}
 use Rattle.world_log.proofs.Writing.{part_none}
 use Rattle.world_log.specs.declared.log.Log.{Log}
 use Rattle.refinement.proofs.Losing.{lost, lost_piece, not_lost}
@@ -24,7 +24,7 @@ returns c = λ before row begins.
     let new = c.lose.new.self in
     let all = record self { log = new } in
     let travelling = sym c.has.ensures ∙ c.if-not-has.false in
-    goes_quiet begins (net_stays refl refl) (item.Lost c.args.packet ∷ [])
+    goes_quiet begins (files_stay refl refl) (item.Lost c.args.packet ∷ [])
     (plane_stays refl refl refl)
     (lost_piece (control_in self) (setting_in self) before self.switches.items self.log.travelling
     self.packets row c.args.packet begins.ready.refines travelling)

@@ -1,6 +1,6 @@
 use Rattle.std.proofs.Common.{refl, arith}
 use Rattle.std.proofs.lemmas.Result.{on_ok_weaker}
-use Rattle.world.proofs.Frame.{goes_quiet, net_stays, plane_stays}
+use Rattle.world.proofs.Frame.{files_stay, goes_quiet, plane_stays}
 use Rattle.refinement.proofs.Asking.{can_look_up}
 use Rattle.refinement.proofs.Incoming.{come_fits}
 use Rattle.world.proofs.OverParts.{come_is, entries_refine}
@@ -31,7 +31,7 @@ pub returns : goal.returns
 returns c = λ before row begins.
     let self = c.args.self.now in
     goes_quiet begins
-    (net_stays refl refl) _ (plane_stays refl refl refl)
+    (files_stay refl refl) _ (plane_stays refl refl refl)
     (come_is self before row c.args.switch c.args.header.now c.index_mut.result.now begins.ready
     c.index_mut.ensures.value)
     (on_ok_weaker c.enter.result (λ done. refl) c.enter.ensures.log.written)

@@ -8,7 +8,7 @@ use Rattle.steps.specs.declared.step.Step.TheVariants.{Resend}
 use Rattle.refinement.specs.Linking.{adverts_again}
 use Rattle.world.specs.Parts.{control_in, setting_in}
 use Rattle.world_log.specs.Sending.{MayNote, act_items, act_posts}
-use Rattle.world.proofs.Frame.{goes_nothing, goes_quiet, net_stays, none_in, nothing_goes, plane_stays}
+use Rattle.world.proofs.Frame.{files_stay, goes_nothing, goes_quiet, net_stays, none_in, nothing_goes, plane_stays}
 use Rattle.world.proofs.GoesTold.{as_noted}
 use Rattle.world.proofs.OverSwitches.{few_in, known_in, place_in, switch_in}
 use Rattle.refinement.proofs.SentAgain.{acts_same, again_may, again_piece, again_refines, sent_refines, silent}
@@ -109,7 +109,7 @@ returns c = λ before row begins.
     let noted = as_noted r self.log.journal (length self.log.bag) self.log.bag
     c.send_and_note.new.self _ acts (said sent) c.send_and_note.ensures.written
     c.send_and_note.ensures.posted c.send_and_note.ensures.part in
-    goes_quiet begins (net_stays refl refl)
+    goes_quiet begins (files_stay refl refl)
     (act_items (length self.log.bag + 1) acts) (plane_stays refl refl refl)
     (again_piece _ _ _ _ _ _ row s _ ready.refines ready.may c.index.ensures some)
     (on_ok_weaker r (λ done. none_in _) noted.written) noted.written noted.part

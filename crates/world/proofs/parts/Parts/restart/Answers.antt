@@ -9,7 +9,7 @@ use Rattle.journal.specs.declared.item.Item.TheVariants as item
 use Rattle.switch_core.specs.State.{SwitchValue}
 use Rattle.refinement.proofs.Sendable.{hello_spelled}
 use Rattle.refinement.proofs.Booting.{boot_next, boot_piece, boot_refines, up_already}
-use Rattle.world.proofs.Frame.{goes_nothing, net_stays, none_in, nothing_goes}
+use Rattle.world.proofs.Frame.{follows, goes_nothing, net_stays, none_in, nothing_goes}
 use Rattle.world.proofs.GoesTold.{goes_told}
 use Rattle.world.proofs.OverSwitches.{few_in, place_in, switch_in}
 use Rattle.world_log.proofs.Writing.{part_none}
@@ -88,7 +88,7 @@ returns c = λ before row begins.
     ≡ begun ++ item.Sent (length self.log.bag + 1) message ∷ [])) said c.send.ensures.written in
     goes_told (item.Booted s boot)
     (λ k. item.Sent k hello ∷ []) begun (length self.log.bag) self.log.bag (new_post hello ∷ [])
-    begins (net_stays refl refl) (record {
+    begins (follows begins refl refl refl) (record {
       piece_is = boot_piece _ _ _ _ _ _ row s own ready.refines ready.may
           c.index_mut.ensures.value down;
       counted = none_in _;

@@ -2,6 +2,7 @@ use Rattle.std.proofs.Common.{ℕ, ◌≡◌, ◌+◌, ◌<◌, ◌++◌, ◌∷
 use Rattle.std.specs.Bool.{beq}
 use Rattle.message_bag.specs.Posts.{new_post}
 use Rattle.ctrl_msg.specs.declared.message.Message.{Message}
+use Rattle.controller.specs.Controller.{newest_policy}
 use Rattle.journal.specs.declared.item.Item.{Item}
 use Rattle.journal.specs.declared.item.Item.TheVariants as item
 use Rattle.update_machine.specs.Messages.{sent_from}
@@ -10,7 +11,7 @@ use Rattle.world.specs.Parts.{HasBegun, control_in, setting_in}
 use Rattle.world.specs.declared.parts.Parts.{Parts}
 use Rattle.world.specs.State.{comes_in}
 use Rattle.refinement.specs.Refinement.{RefineJournal}
-use Rattle.world.proofs.Frame.{goes_nothing, net_stays, nothing_goes}
+use Rattle.world.proofs.Frame.{follows, goes_nothing, net_stays, nothing_goes}
 use Rattle.world.proofs.GoesTold.{goes_told, same_control}
 use Rattle.world.proofs.OverSwitches.{few_in}
 use Rattle.refinement.proofs.LinksChange.{numbers_left}
@@ -101,7 +102,7 @@ returns c = λ before row begins.
     goes_told told
     (λ k. sent_from k messages) c.push-2.new.self (length self.log.bag) self.log.bag
     (map new_post messages) begins
-    (net_stays rest.files rest.ports) (record {
+    (follows begins rest.files rest.ports (ap newest_policy rest.controller)) (record {
       piece_is = set_piece _ _ _ _ _ _ row one two up ready.refines ready.may links other
           c.set_ends.ensures.set c.set_ends.ensures.fits;
       counted = omega (arith, rest.packets, none_come one two up);

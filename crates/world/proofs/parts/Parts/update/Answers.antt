@@ -1,24 +1,40 @@
-use Rattle.std.proofs.Common.{ℕ, ◌≡◌, ◌≢◌, ◌+◌, ◌-◌, ◌++◌, ◌∷◌, [], List, Err, get_or, refl, ap, sym, subst, ◌∙◌, rules}
-use Rattle.std.specs.Prelude.{OnErr, OnOk, Result}
+use Rattle.std.proofs.Common.{ℕ, ◌≡◌, ◌≢◌, ◌+◌, ◌-◌, ◌++◌, ◌∷◌, [], List, Err, Some, inl, inr, refl, ap, sym, subst, ◌∙◌, ◌≤◌, arith, length, rules}
+use Rattle.std.specs.Prelude.{OnErr, OnOk, Result, slice_get}
 use Rattle.refinement.specs.Controller.{IsPlanOfNext}
 use Rattle.base.specs.declared.error.Failure.TheVariants.{Refused}
 use Rattle.controller.specs.Controller.{ControllerValue}
+use Rattle.controller.specs.Plan.{PlanValue}
 use Rattle.controller.specs.Sends.{submit_acts}
 use Rattle.controller.specs.declared.sends.Act.{Act}
 use Rattle.journal.specs.declared.item.Item.{Item}
 use Rattle.journal.specs.declared.item.Item.TheVariants as item
+use Rattle.policy_rules.specs.declared.applying.Inapplicable.{Inapplicable}
+use Rattle.policy_rules.specs.declared.policy.Row.{Row}
 use Rattle.steps.specs.declared.step.Step.TheVariants.{Update}
 use Rattle.version_update.specs.declared.marks.SubmitError.TheVariants.{TooManyLive, TooManyVersions}
-use Rattle.world.specs.Files.{FilesValue, IsCompiled}
-use Rattle.update_machine.specs.Pieces.{piece}
-use Rattle.world.specs.Parts.{BeginsStep, Goes, setting_in}
+use Rattle.world.specs.Files.{FilesValue, IsMade, made_at}
+use Rattle.update_machine.specs.Pieces.{piece, update_code}
+use Rattle.update_machine.specs.Setting.{made_by}
+use Rattle.world.specs.Parts.{BeginsStep, Goes, KeepNet, setting_in}
 use Rattle.world.specs.declared.parts.Parts.{Parts}
 use Rattle.world_log.specs.Sending.{MayNote}
-use Rattle.world.proofs.Frame.{goes_one, net_stays, none_in, not_err, nothing_goes, plane_stays}
+use Rattle.world.proofs.KeptFiles.{file_there}
+use Rattle.world.proofs.Frame.{files_stay, goes_one, net_stays, none_in, not_err, nothing_goes, plane_stays}
 use Rattle.world.proofs.GoesTold.{goes_acting}
-use Rattle.refinement.proofs.Submitting.{live_piece, planned_next, refused_piece, refused_refines, submitted_may, submitted_piece, submitted_refines, unplanned_next, versions_piece}
+use Rattle.refinement.proofs.Submitting.{live_piece, newest_refines, planned_next, refused_piece, refused_refines, submitted_may, submitted_piece, submitted_refines, unapplied_next, unplanned_next, versions_piece}
 use Rattle.world.proofs.parts.Parts.update.Goals as goal
 use Rattle.world.proofs.parts.Parts.update.Goals.{In-Planned, in-Err-Refused-TooManyLive, in-Err-Refused-TooManyVersions}
+
+-- what the file makes of the newest policy
+abbrev made_of : Parts → ℕ → Result (List Row) Inapplicable
+made_of self file = made_at self.files.files self.files.newest (file - 1)
+
+-- as that of a file which is there
+made_there : (self : Parts) (file : ℕ) → 1 ≤ file → file ≤ length self.files.files
+    → made_by (slice_get self.files.files (file - 1)) (Some self.files.newest) ≡ made_of self file
+made_there self file first last =
+    ap (λ o. made_by o (Some self.files.newest))
+    (file_there self.files.files (file - 1) (omega (arith, first, last)))
 
 -- the update is refused by this code
 refused : {T E : Type 0} {r : Result T E} {before : List Item} {row file : ℕ} (code : ℕ)
@@ -34,7 +50,7 @@ refused : {T E : Type 0} {r : Result T E} {before : List Item} {row file : ℕ} 
       controller = controller;
     })
 refused {row} {file} code {self} begins same stays is pushed unchanged =
-    goes_one begins (net_stays same refl)
+    goes_one begins (files_stay same refl)
     (item.Refused file code) self.log.bag (plane_stays stays refl refl) refl (none_in _) (
       is,
       refused_refines _ _ _ _ _ _ row file begins.ready.refines begins.ready.may code is,
@@ -52,35 +68,60 @@ pub returns-in-Refused : goal.returns-in-Refused
 returns-in-Refused c = λ before row begins.
     let self = c.args.self.now in
     let file = c.args.file in
-    let net = self.files.net in
-    let policies = self.files.policies in
-    let may = begins.ready.may in
-    let why = subst (IsCompiled net (get_or policies (file - 1) [])) c.in-Refused.is
+    let code = c.in-Refused.code in
+    let ready = begins.ready in
+    let cause = subst (IsMade self.files.net (made_of self file)) c.in-Refused.is
     c.in_ok-code.ensures.compiled in
-    let is = refused_piece (setting_in self) before row file c.in-Refused.code
-    (unplanned_next net policies (before ++ item.Row row (Update file) ∷ []) file
-    c.in-Refused.code why.0 may.0 may.1 why.1 why.2) in
-    refused c.in-Refused.code begins
+    let own = newest_refines _ _ _ _ _ _ row (Update file) self.files.newest ready.refines
+    ready.newest in
+    let there = made_there self file ready.may.0 ready.may.1 in
+    let coded : update_code (setting_in self) (before ++ item.Row row (Update file) ∷ []) file
+    ≡ Some code = elim cause [
+      | inl why ↦ unapplied_next self.files.net self.files.files _ file self.files.newest why.0
+          ready.may.0 own.1 (there ∙ why.1) ∙ ap Some why.2
+      | inr rows ↦ unplanned_next self.files.net self.files.files _ file self.files.newest rows.0
+          rows.2.why ready.may.0 own.1 (there ∙ rows.1) rows.2.none ∙ ap Some rows.2.code_is
+    ] in
+    let is = refused_piece (setting_in self) before row file code coded in
+    refused code begins
     c.in_ok-code.ensures.same refl is c.push.ensures.pushed c.push.ensures.unchanged
 
 -- ---- it is submitted
 
+-- the network and the files stay
+changed_net : (self new : Parts) (files : FilesValue) (rows : List Row)
+    → new.files ≡ record files { newest = rows } → files ≡ self.files → new.ports ≡ self.ports
+    → KeepNet self new
+changed_net self new files rows changed same ports = record {
+  same_net = ap (λ (f : FilesValue). f.net) changed ∙ ap (λ (f : FilesValue). f.net) same;
+  same_files = ap (λ (f : FilesValue). f.files) changed ∙ ap (λ (f : FilesValue). f.files) same;
+  same_ports = ports;
+}
+
 -- the plan is that of the next version
-planned : (c : In-Planned) (journal : List Item)
-    → IsPlanOfNext (setting_in c.args.self.now) journal c.args.file c.in-Planned.plan
-planned c journal =
-    let files = c.args.self.now.files in
+planned : (c : In-Planned) (before : List Item) (row : ℕ)
+    → BeginsStep before row (Update c.args.file) c.args.self.now
+    → IsPlanOfNext (setting_in c.args.self.now) before c.args.file c.in-Planned.plan
+planned c before row begins =
+    let self = c.args.self.now in
     let file = c.args.file in
-    let may = c.requires.begins.ready.may in
-    let of_policy = subst (IsCompiled files.net (get_or files.policies (file - 1) []))
-    c.in-Planned.is c.in_ok-code.ensures.compiled in
-    planned_next files.net files.policies journal file c.in-Planned.plan may.0 may.1 of_policy.0
-    of_policy.1
+    let ready = begins.ready in
+    let made = subst (IsMade self.files.net (made_of self file)) c.in-Planned.is
+    c.in_ok-code.ensures.compiled in
+    let own = newest_refines _ _ _ _ _ _ row (Update file) self.files.newest ready.refines
+    ready.newest in
+    planned_next self.files.net self.files.files before file self.files.newest c.in-Planned.plan
+    ready.may.0 own.0 (made_there self file ready.may.0 ready.may.1 ∙ made.0) made.1
+
+pub returns-in_err-newest : goal.returns-in_err-newest
+returns-in_err-newest c = λ before row begins.
+    nothing_goes begins (net_stays c.in_ok-code.ensures.same refl)
+    c.from_residual-in_err-newest.ensures.0 refl
 
 pub returns-in_err-push-in-Ok : goal.returns-in_err-push-in-Ok
 returns-in_err-push-in-Ok c = λ before row begins.
     nothing_goes begins
-    (net_stays c.in_ok-code.ensures.same refl)
+    (changed_net _ _ _ _ c.set_newest.ensures c.in_ok-code.ensures.same refl)
     c.from_residual-in_err-push-in-Ok.ensures.0 c.in_err-push-in-Ok.ensures.unchanged
 
 pub note_acts-requires : goal.note_acts-requires
@@ -88,7 +129,8 @@ note_acts-requires c =
     let self = c.args.self.now in
     let file = c.args.file in
     let ready = c.requires.begins.ready in
-    let of_next = planned (goal.at.note_acts-requires c).In-Planned c.requires.before in
+    let of_next = planned (goal.at.note_acts-requires c).In-Planned c.requires.before c.requires.row
+    c.requires.begins in
     subst (MayNote self.log.bag) (sym (c.into_items.ensures ∙ c.in-Ok.ensures.sends))
     (submitted_may _ _ _ _ _ _ c.requires.row file ready.refines
     ready.may c.in-Planned.plan c.submit.new.self of_next
@@ -104,7 +146,7 @@ returns-in-Ok c = λ before row begins.
     let self = c.args.self.now in
     let file = c.args.file in
     let ready = begins.ready in
-    let of_next = planned (goal.at.returns-in-Ok c).In-Planned before in
+    let of_next = planned (goal.at.returns-in-Ok c).In-Planned before row begins in
     let live : self.controller.marks.count - self.controller.marks.retired ≢ 8 =
     λ e. not_err _ _ (c.in-Ok.ensures.live.1 e) in
     let versions : self.controller.marks.count ≢ 64 =
@@ -114,7 +156,12 @@ returns-in-Ok c = λ before row begins.
     let one = item.Submitted file (self.controller.marks.count + 1) in
     let its = c.note_acts.ensures in
     goes_acting one acts c.into_items.result.items c.push-in-Ok.new.self begins
-    (net_stays c.in_ok-code.ensures.same refl) (none_in _)
+    (record {
+      net = changed_net _ _ _ _ c.set_newest.ensures c.in_ok-code.ensures.same refl;
+      newest = c.in-Ok.ensures.newest
+          ∙ ap Some (sym (ap (λ (f : FilesValue). f.newest) c.set_newest.ensures
+          ∙ ap (λ (plan : PlanValue). plan.policy) c.in_ok-newest.ensures.cases));
+    }) (none_in _)
     (submitted_piece _ _ _ _ _ _ row file ready.refines ready.may c.in-Planned.plan new of_next live
     versions c.in-Ok.ensures.after)
     (subst (λ v. c.push-in-Ok.new.self ≡ self.log.journal ++ item.Submitted file (v + 1) ∷ [])
@@ -133,7 +180,7 @@ returns c = λ before row begins.
     let file = c.args.file in
     let code = c.match-this-2.code in
     let submitted = c.submit.ensures in
-    let of_next = planned (goal.at.returns c).In-Planned before in
+    let of_next = planned (goal.at.returns c).In-Planned before row begins in
     let is : (c.submit.new.self ≡ self.controller) × (piece (setting_in self) before row (Update file)
     ≡ item.Row row (Update file) ∷ item.Refused file code ∷ []) =
     elim c.match-this-2.branch [

@@ -1,36 +1,65 @@
-use Rattle.std.proofs.Common.{◌≡◌, [], get_or, ap, sym, ◌∙◌, arith}
+use Rattle.std.proofs.Common.{◌≡◌, Some, ap, sym, ◌∙◌}
 use Rattle.std.specs.Prelude.{Ok}
-use Rattle.std.proofs.lemmas.List.{get_or_default}
+use Rattle.controller.specs.Controller.{newest_policy}
+use Rattle.controller.specs.Plan.{PlanValue}
 use Rattle.partition.specs.Plan.{plan_of}
-use Rattle.world.proofs.Begun.{as_begun, net_begun, owners_begun}
+use Rattle.world.specs.Files.{FilesValue, first_policy}
+use Rattle.world.proofs.Begun.{as_begun, plan_copied, net_begun, owners_begun}
+use Rattle.world.proofs.KeptFiles.{first_whole}
 use Rattle.refinement.proofs.Starting.{begun_refines}
 use Rattle.world.proofs.world.World.begin.Goals as goal
+use Rattle.world.proofs.world.World.begin.Goals.{In_ok-plan}
+
+-- the policy of the first file has this plan
+first_is : (c : In_ok-plan) → first_policy c.args.files.items ≡ Some c.in_ok-plan.plan.policy
+first_is c =
+    ap first_policy (sym c.deref.ensures.value) ∙ c.first_policy.ensures
+    ∙ ap Some (sym c.in_ok-plan.ensures.policy)
+
+planned : (c : In_ok-plan)
+    → plan_of c.in_ok-plan.plan.policy c.args.net.now ≡ Ok c.in_ok-plan.plan.hosted
+planned c =
+    ap (λ rows. plan_of rows c.args.net.now) c.in_ok-plan.ensures.policy ∙ c.in_ok-plan.ensures.plan
+
+pub new-requires-clause-first : goal.new-requires-clause-first
+new-requires-clause-first c =
+    first_is (goal.at.new-requires-clause-first c).In_ok-plan
+    ∙ ap (λ (plan : PlanValue). Some plan.policy) (sym c.in_ok-first.ensures.cases)
+
+pub new-requires-clause-planned : goal.new-requires-clause-planned
+new-requires-clause-planned c =
+    plan_copied c.args.net.now c.in_ok-clone.field-0 c.in_ok-plan.plan c.in_ok-first.first
+    c.in_ok-clone.ensures.cases c.in_ok-first.ensures.cases
+    (planned (goal.at.new-requires-clause-planned c).In_ok-plan)
 
 pub invariant_of-result : goal.invariant_of-result
 invariant_of-result c =
     let net = c.args.net.now in
-    let policies = c.args.policies.items in
+    let given = c.args.files.items in
+    let plan = c.in_ok-plan.plan in
     let files = c.in_ok-files.files in
     let switches = c.in_ok-switches.switches.items in
     let controller = c.in_ok-controller.controller in
     let near = c.near_masks-near.result in
-    let first : c.index.result.now ≡ get_or policies 0 [] =
-    c.index.ensures
-    ∙ get_or_default policies 0 c.index.result.now [] (omega (arith, c.requires.some)) in
-    let planned : plan_of (get_or policies 0 []) net ≡ Ok c.in_ok-plan.plan.hosted =
-    ap (λ rows. plan_of rows net) (sym first) ∙ c.in_ok-plan.ensures.plan in
-    let of_net : files.net ≡ net = c.in_ok-files.ensures.net ∙ c.in_ok-clone.ensures.cases in
+    let at = (goal.at.invariant_of-result c).In_ok-plan in
+    let of_net : files.net ≡ net =
+    ap (λ (f : FilesValue). f.net) c.in_ok-files.ensures ∙ c.in_ok-clone.ensures.cases in
+    let of_files : files.files ≡ given = ap (λ (f : FilesValue). f.files) c.in_ok-files.ensures in
+    let of_plan : files.newest ≡ plan.policy =
+    ap (λ (f : FilesValue). f.newest) c.in_ok-files.ensures
+    ∙ ap (λ (plan : PlanValue). plan.policy) c.in_ok-first.ensures.cases in
     record {
       sound = record {
         sound = net_begun net files.net of_net c.requires.net;
         owners = owners_begun net files.net c.ports.result of_net c.ports.ensures;
       };
-      refines = λ able. as_begun net policies files c.new-2.result c.new-3.result c.new-4.result
-          switches controller near of_net c.in_ok-files.ensures.policies c.new-2.ensures
+      refines = λ able. as_begun net given files c.new-2.result c.new-3.result c.new-4.result
+          switches controller near of_net of_files c.new-2.ensures
           c.new-3.ensures c.new-4.ensures
-          (begun_refines net policies c.in_ok-plan.plan switches controller near c.requires.net
-          c.requires.some c.requires.sound c.requires.ports
-          (c.in_ok-plan.ensures.policy ∙ first) planned
-          (c.in_ok-switches.ensures c.in_ok-plan.plan c.in_ok-controller.ensures.first)
+          (begun_refines net given plan switches controller near c.requires.net
+          (first_whole given plan.policy (first_is at)) c.requires.sound c.requires.ports
+          (planned at)
+          (c.in_ok-switches.ensures plan c.in_ok-controller.ensures.first)
           c.in_ok-controller.ensures.first c.near_masks-near.ensures);
+      newest = λ able. ap newest_policy c.in_ok-controller.ensures.first ∙ ap Some (sym of_plan);
     }

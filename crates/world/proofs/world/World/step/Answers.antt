@@ -1,14 +1,34 @@
-use Rattle.std.proofs.Common.{◌≤◌, List, subst, sym, arith, length}
+use Rattle.std.proofs.Common.{◌≡◌, ◌≤◌, List, ap, subst, sym, ◌∙◌, arith, length}
 use Rattle.journal.specs.declared.item.Item.{Item}
+use Rattle.net_file.specs.declared.net.Net.{Net}
+use Rattle.policy_rules.specs.declared.file.PolicyFile.{PolicyFile}
 use Rattle.update_machine.specs.Full.{HasRoom, IsFull}
 use Rattle.update_machine.specs.Packets.{next_packet}
+use Rattle.update_machine.specs.Setting.{setting_of}
 use Rattle.steps.specs.Steps.{IsStep}
 use Rattle.world.specs.State.{WorldValue, setting_at}
 use Rattle.world.proofs.Filling.{has_room, is_full, not_full}
 use Rattle.world.proofs.SoFar.{part_so_far, so_far_in, step_so_far}
-use Rattle.world.specs.Parts.{world_value}
+use Rattle.world.specs.Parts.{KeepNet, setting_in, world_value}
+use Rattle.world.specs.declared.parts.Parts.{Parts}
 use Rattle.packet_laws.specs.OnTheWay.{HoldsSoFar}
 use Rattle.world.proofs.world.World.step.Goals as goal
+
+-- the network and the files stay
+setting_kept : (old new : Parts) → KeepNet old new → setting_in new ≡ setting_in old
+setting_kept old new keeps =
+    ap (λ (net : Net). setting_of net new.files.files) keeps.same_net
+    ∙ ap (λ (files : List PolicyFile). setting_of old.files.net files) keeps.same_files
+
+pub returns-in_err-play-clause-setting : goal.returns-in_err-play-clause-setting
+returns-in_err-play-clause-setting c =
+    setting_kept c.self.inside.parts c.play.new.self c.in_err-play.ensures.net
+    ∙ ap setting_at c.self.view_is
+
+pub returns-clause-setting : goal.returns-clause-setting
+returns-clause-setting c =
+    setting_kept c.self.inside.parts c.play.new.self c.in_ok-play.ensures.net
+    ∙ ap setting_at c.self.view_is
 
 pub play-requires : goal.play-requires
 play-requires c =
@@ -18,7 +38,8 @@ play-requires c =
     record {
       sound = c.self.invariant.sound;
       refines = c.self.invariant.refines c.if-self.false;
-      may = subst (λ (w : WorldValue). IsStep w.net (length w.policies) c.args.step.now) (sym c.self.view_is)
+      newest = c.self.invariant.newest c.if-self.false;
+      may = subst (λ (w : WorldValue). IsStep w.net (length w.files) c.args.step.now) (sym c.self.view_is)
           (c.requires.may room);
       few = subst (λ (w : WorldValue). next_packet w.journal ≤ 4_000_000_000) (sym c.self.view_is)
           c.requires.few;
@@ -70,7 +91,7 @@ returns-in_err-play-clause-so_far c = λ able.
     let room = subst (λ (w : WorldValue). HasRoom w.journal) c.self.view_is
     (has_room _ _ _ _ _ _ refines
     (omega (arith, c.sent.ensures, c.if-sent-ge-FULL_AT.false))) in
-    let may = subst (λ (w : WorldValue). IsStep w.net (length w.policies) c.args.step.now)
+    let may = subst (λ (w : WorldValue). IsStep w.net (length w.files) c.args.step.now)
     (sym c.self.view_is) (c.requires.may room) in
     subst (λ (w : WorldValue). HoldsSoFar (setting_at w) after) c.self.view_is
     (part_so_far c.journals_hold_so_far.ensures old c.args.row c.args.step.now after refines may
@@ -84,7 +105,7 @@ returns-clause-so_far c = λ able.
     let room = subst (λ (w : WorldValue). HasRoom w.journal) c.self.view_is
     (has_room _ _ _ _ _ _ refines
     (omega (arith, c.sent.ensures, c.if-sent-ge-FULL_AT.false))) in
-    let may = subst (λ (w : WorldValue). IsStep w.net (length w.policies) c.args.step.now)
+    let may = subst (λ (w : WorldValue). IsStep w.net (length w.files) c.args.step.now)
     (sym c.self.view_is) (c.requires.may room) in
     subst (λ (w : WorldValue). HoldsSoFar (setting_at w) after) c.self.view_is
     (step_so_far c.journals_hold_so_far.ensures old c.args.row c.args.step.now after refines may

@@ -1,0 +1,23 @@
+-- What holds of the rows of each policy.
+use Rattle.std.specs.Prelude.{◌≢◌, ◌^◌, ◌<◌, List, length, All, AllPairs}
+use Rattle.five_tuple.specs.SoundFields.{IsAddressBlock, IsPortRange, IsProtocol}
+use Rattle.policy_rules.specs.declared.policy.Row.{Row}
+
+-- no two rows have one priority
+abbrev pub HaveDistinctPriorities : List Row → Type 0
+HaveDistinctPriorities rows = AllPairs (λ row later. row.priority ≢ later.priority) rows
+
+-- each field of the row is as its type has it
+pub record IsSoundRow (row : Row) : Type 0 where
+  pub priority : row.priority < 2 ^ 32
+  pub src : IsAddressBlock row.src
+  pub dst : IsAddressBlock row.dst
+  pub sport : IsPortRange row.sport
+  pub dport : IsPortRange row.dport
+  pub proto : IsProtocol row.proto
+
+-- what holds of the rows of each policy
+pub record IsPolicy (rows : List Row) : Type 0 where
+  pub sound : All IsSoundRow rows
+  pub distinct : HaveDistinctPriorities rows
+  pub few : length rows < 2 ^ 32

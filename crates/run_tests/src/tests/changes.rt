@@ -1,0 +1,167 @@
+//! Worked runs of `replay` with changes of policies.
+use crate::runs::{ended, run_over};
+use std::alloc::{AllocError, Global};
+use std::fmt::Write;
+use std::test::Fail;
+
+const POLICY: &str = "priority,src,dst,sport,dport,proto,action\n\
+    100,10.0.0.0/8,any,any,80,tcp,out:3\n50,any,any,any,any,any,drop\n";
+
+/// Another row in the place of the first one.
+const OTHER: &str = "op,priority,src,dst,sport,dport,proto,action\n\
+    remove,100\nadd,90,10.0.0.0/8,any,any,443,tcp,out:4\n";
+
+/// And another in the place of that.
+const THIRD: &str = "op,priority,src,dst,sport,dport,proto,action\n\
+    remove,90\nadd,80,10.0.0.0/8,any,any,443,tcp,drop\n";
+
+const ABSENT_AND_TAKEN: &str = "op,priority,src,dst,sport,dport,proto,action\n\
+    remove,7\nadd,50,any,any,any,any,any,drop\n";
+
+const TAKEN: &str = "op,priority,src,dst,sport,dport,proto,action\n\
+    add,50,any,any,any,any,any,drop\n";
+
+const SWAP: &str = "op,priority,src,dst,sport,dport,proto,action\nswap,5\n";
+
+/// The third row is the first that repeats one.
+const TWICE: &str = "op,priority,src,dst,sport,dport,proto,action\n\
+    remove,100\nadd,100,any,any,any,any,any,out:1\nremove,100\n";
+
+/// The second row names a port that the network lacks.
+const PORT_5: &str = "op,priority,src,dst,sport,dport,proto,action\n\
+    remove,100\nadd,100,any,any,any,any,any,out:5\n";
+
+const NET: &str = "switch = [{ name = \"a\", ports = [3, 4], authority = 100 }]\n";
+
+const ONCE: &str = "event,arguments\nupdate,2\n";
+
+/// Arguments, the change, the status, the output and the line of errors. The codes of a change are
+/// asked for in their order, and a first file is refused before its rows are read.
+const ENDS: [(&[&str], &str, u8, &str, &str); 8] = [
+    (
+        &["replay", "s.csv", "p.csv", "c.csv"],
+        ABSENT_AND_TAKEN,
+        0,
+        "row 1: update 2\n  refused file 2 code 24\n",
+        "",
+    ),
+    (
+        &["replay", "s.csv", "p.csv", "c.csv"],
+        TAKEN,
+        0,
+        "row 1: update 2\n  refused file 2 code 25\n",
+        "",
+    ),
+    (
+        &["replay", "s.csv", "p.csv", "c.csv"],
+        SWAP,
+        3,
+        "",
+        "difane: input c.csv code 22 row 1\n",
+    ),
+    (
+        &["replay", "s.csv", "p.csv", "c.csv"],
+        TWICE,
+        3,
+        "",
+        "difane: input c.csv code 10 row 3\n",
+    ),
+    (
+        &["replay", "s.csv", "p.csv", "c.csv", "--net", "n.toml"],
+        PORT_5,
+        3,
+        "",
+        "difane: input c.csv code 13 row 2\n",
+    ),
+    (
+        &["replay", "s.csv", "c.csv", "p.csv"],
+        SWAP,
+        3,
+        "",
+        "difane: input c.csv code 23 row 0\n",
+    ),
+    (
+        &["compile", "c.csv"],
+        OTHER,
+        3,
+        "",
+        "difane: input c.csv code 1 row 0\n",
+    ),
+    (
+        &["show", "c.csv", "s0"],
+        OTHER,
+        3,
+        "",
+        "difane: input c.csv code 1 row 0\n",
+    ),
+];
+
+#[test]
+fn refuses_changes(rt: HostRuntime) -> Result<(), Fail> {
+    for (args, change, status, out, line) in &ENDS {
+        let files = [
+            ("s.csv", ONCE),
+            ("p.csv", POLICY),
+            ("c.csv", *change),
+            ("n.toml", NET),
+        ];
+        let ran = run_over(rt.alloc(), args, &files)?;
+        assert!(rt; ended(&ran, *status, out, line), "{out}{line}");
+    }
+    Ok(())
+}
+
+/// A change that adds so many rows.
+fn adding(alloc: Global, rows: u32) -> Result<String, AllocError> {
+    let mut text = String::from_str(alloc, "op,priority,src,dst,sport,dport,proto,action\n")?;
+    for number in 0..rows {
+        writeln!(text, "add,{},any,any,any,any,any,drop", 1001 + number)?;
+    }
+    Ok(text)
+}
+
+#[test]
+fn leaves_at_most_2000_rows(rt: HostRuntime) -> Result<(), Fail> {
+    let change = adding(rt.alloc(), 1999)?;
+    let files = [("s.csv", ONCE), ("p.csv", POLICY), ("c.csv", &change)];
+    let ran = run_over(rt.alloc(), &["replay", "s.csv", "p.csv", "c.csv"], &files)?;
+    assert!(rt; ended(&ran, 0, "row 1: update 2\n  refused file 2 code 26\n", ""));
+    Ok(())
+}
+
+const UPDATES: &str = "event,arguments\n\
+    update,2\nupdate,3\nupdate,2\nupdate,1\nupdate,3\nupdate,2\n";
+
+/// No version but the first is current. Each change is applied to the newest one all the same, and
+/// what became of it before tells nothing: the third policy has no row 100, and the fourth, which
+/// is the first file's again, has that but no row 90.
+const VERSIONS: &str = "row 1: update 2\n\
+    \x20 submitted file 2 version 2\n\
+    \x20 sent 1 s0 install boot 1 version 2\n\
+    row 2: update 3\n\
+    \x20 submitted file 3 version 3\n\
+    \x20 sent 2 s0 install boot 1 version 3\n\
+    row 3: update 2\n\
+    \x20 refused file 2 code 24\n\
+    row 4: update 1\n\
+    \x20 submitted file 1 version 4\n\
+    \x20 sent 3 s0 install boot 1 version 4\n\
+    row 5: update 3\n\
+    \x20 refused file 3 code 24\n\
+    row 6: update 2\n\
+    \x20 submitted file 2 version 5\n\
+    \x20 sent 4 s0 install boot 1 version 5\n";
+
+#[test]
+fn changes_the_newest_version(rt: HostRuntime) -> Result<(), Fail> {
+    let files = [
+        ("s.csv", UPDATES),
+        ("p.csv", POLICY),
+        ("c.csv", OTHER),
+        ("d.csv", THIRD),
+    ];
+    let args = ["replay", "s.csv", "p.csv", "c.csv", "d.csv"];
+    let ran = run_over(rt.alloc(), &args, &files)?;
+    assert!(rt; ended(&ran, 0, VERSIONS, ""));
+    Ok(())
+}

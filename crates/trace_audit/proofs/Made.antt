@@ -1,0 +1,32 @@
+-- What files make of policies, by how it was made.
+use Rattle.std.proofs.Common.{◌≡◌, ℕ, IfOk, Option, Some, None, Result, Ok, Err, List, sym, ap, subst}
+use Rattle.std.specs.Result.{result_ok}
+use Rattle.policy_rules.specs.declared.file.PolicyFile.{PolicyFile}
+use Rattle.policy_rules.specs.declared.policy.Row.{Row}
+use Rattle.update_machine.specs.Setting.{made_by}
+use Rattle.trace_audit.specs.Reading.{file_in, policy_by}
+
+-- of the file of a number
+pub policy_of : {E : Type 0} (files : List PolicyFile) (file : ℕ) (given : Option PolicyFile)
+    (newest : Option (List Row)) (made : Result (Option (List Row)) E)
+    → given ≡ file_in files file
+    → IfOk made (λ policy. policy ≡ result_ok (made_by given newest))
+    → IfOk made (λ policy. policy ≡ policy_by files file newest)
+policy_of files file given newest made e is =
+    subst (λ (this : Option PolicyFile). IfOk made (λ policy. policy ≡ result_ok (made_by this newest)))
+    e is
+
+-- a file that isn't there makes none
+pub no_policy : (files : List PolicyFile) (file : ℕ) (newest : Option (List Row))
+    → None ≡ file_in files file → None ≡ policy_by files file newest
+no_policy files file newest e =
+    ap (λ (this : Option PolicyFile). result_ok (made_by this newest)) e
+
+-- a change that was applied, and one that was refused
+pub some_made : {E : Type 0} (made : Result (List Row) E) (rows : List Row) → made ≡ Ok rows
+    → Some rows ≡ result_ok made
+some_made made rows e = sym (ap result_ok e)
+
+pub none_made : {E : Type 0} (made : Result (List Row) E) (why : E) → made ≡ Err why
+    → None ≡ result_ok made
+none_made made why e = sym (ap result_ok e)
