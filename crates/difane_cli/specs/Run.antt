@@ -183,7 +183,7 @@ MayWantMemory (Some (asked.Print args)) = ⊥
 MayWantMemory (Some (asked.Load n)) = ⊤
 
 -- memory ran out in the output's own writes, if they take any. Or the output wasn't touched, and
--- either nothing was played, or memory was wanted behind the play
+-- either the journal is empty, or the command is one that may want memory behind its play
 abbrev pub RanOut : Option Command → (takes_memory : Bool) → List Item → (before now : SinkState)
     → Type 0
 RanOut command takes_memory journal before now =

@@ -101,8 +101,8 @@ pub enum Status {
     NoMemory,
 }
 
-/// How a command ended, the journal of its play, which is the empty one where nothing was played,
-/// and the meters that are still there.
+/// How a command ended, the journal of its play, and the meters that are still there. The journal is
+/// the empty one where nothing was played, and where memory ran out before the play was done.
 #[derive(Drop)]
 pub struct Ended<M> {
     pub status: Status,

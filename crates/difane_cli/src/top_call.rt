@@ -67,8 +67,8 @@ pub fn run<F: Shelf, K: Sink, E: Sink>(
     ensures no_write_fault { result.status ≢ status.WriteFault
         → (K.state out.new).faults ≡ (K.state out.old).faults }
 
-    // Where memory runs out nothing was written, unless the output's own writes take memory. And
-    // nothing was played, unless more than the lines of the play is asked for.
+    // Where memory runs out nothing was written, unless the output's own writes take memory. And the
+    // journal is empty, unless the command asks for more than the lines of a play.
     ensures no_memory { result.status ≡ status.NoMemory
         → RanOut (command_of (argument_texts words.now)) K.takes_memory result.journal
         (K.state out.old) (K.state out.new) }

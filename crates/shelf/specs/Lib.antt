@@ -2,3 +2,4 @@ pub mod Scripts
 pub mod Shelf
 pub mod Sink
 pub mod SinkWrites
+pub mod Streams

@@ -18,6 +18,7 @@ mod calm;
 mod output;
 mod scripted;
 mod source;
+mod streams;
 mod system;
 
 pub use block::Block;
@@ -25,4 +26,5 @@ pub use calm::{CalmShelf, CalmSink};
 pub use output::{Sink, SinkError, write_whole};
 pub use scripted::{MemShelf, MemSink};
 pub use source::{Shelf, ShelfError};
+pub use streams::read_up_to;
 pub use system::{DiskShelf, StdSink};

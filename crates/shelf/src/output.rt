@@ -36,6 +36,7 @@ pub trait Sink {
 
     /// Takes some bytes of the piece from its front, and says how many.
     fn write(&mut self, piece: &[u8]) -> Result<u64, SinkError>
+        requires short { length piece.now ≤ 65536 }
         ensures within { IfOk result (λ taken. taken ≤ length piece.now) }
         ensures taken { IfOk result (λ taken.
             (state self.new).bytes ≡ with_gained (state self.old).bytes (take taken piece.now)) }

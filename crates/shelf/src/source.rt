@@ -4,9 +4,13 @@ ghost use Rattle.std.specs.Option.{ForSome, ForNone, option_copied};
 ghost use Rattle.std.specs.Str.{bytes_eq};
 ghost use Rattle.shelf.specs.Sink.{Rose, next_count};
 ghost use Rattle.shelf.specs.Shelf.{ShelfState, HasFile, LacksFile, HasLongerFile, IsNoFault, file_named, files_of, is_read_fault, is_refusal};
+ghost use Rattle.shelf.specs.Streams.{cause_by_kind};
 ghost use Rattle.shelf.specs.declared.source.ShelfError.TheVariants.{NoMemory};
+ghost use Rattle.std.specs.IoError.{error_kind};
 
 use std::alloc::{AllocError, Global};
+use std::io;
+use std::io::ErrorKind;
 use std::marker::Model;
 use thiserror::Error;
 
@@ -32,6 +36,18 @@ impl From<AllocError> for ShelfError {
 
     fn from(_: AllocError) -> Self {
         ShelfError::NoMemory
+    }
+}
+
+impl ShelfError {
+    /// Why a call of the system failed, by the kind of its error: want of memory, or else `other`.
+    pub fn by_kind(error: &io::Error, other: ShelfError) -> ShelfError
+        ensures { result ≡ cause_by_kind (error_kind error.now) other }
+    {
+        match error.kind() {
+            ErrorKind::OutOfMemory => ShelfError::NoMemory,
+            _ => other,
+        }
     }
 }
 

@@ -1,15 +1,16 @@
-//! The trusted edge: files, standard output and standard error of the system.
+//! The edge: files, standard output and standard error of the system.
 //!
-//! Nothing is known here of what a file holds or of what reaches a stream, so neither is known to
-//! contracts.
+//! Nothing is known here of what a file holds or of what reaches a stream of the system, so neither
+//! is known to contracts. Of readers and writers whose bytes are known, these lines are proved:
+//! what `read_up_to` answers, and what a `StdSink` takes.
 ghost use Rattle.std.specs.Prelude.{◌≡◌, ◌≤◌, None, false, length, IfOk, ◌≢◌, if◌then◌else◌};
 ghost use Rattle.shelf.specs.Sink.{next_count};
 
 use crate::output::{Sink, SinkError};
 use crate::source::{Shelf, ShelfError};
+use crate::streams::{read_up_to, write_through};
 use std::fs::File;
-use std::io;
-use std::io::{ErrorKind, Read, Write};
+use std::io::Write;
 use std::marker::Model;
 use std::rt::Files;
 
@@ -46,33 +47,6 @@ impl<R: Files + AllocGlobal + Drop> DiskShelf<R> {
     }
 }
 
-/// Reads a file, and no more than one byte past the limit.
-fn read_file<R: Files + AllocGlobal>(
-    system: &R,
-    name: &str,
-    limit: u64,
-) -> Result<Vec<u8>, ShelfError>
-    ensures { IfOk result (λ content. length content.items ≤ limit) }
-{
-    let file = File::open(system, name).map_err(|error| cause(error, ShelfError::Missing))?;
-    let mut content = Vec::new(system.alloc());
-    file.take(limit.saturating_add(1))
-        .read_to_end(&mut content)
-        .map_err(|error| cause(error, ShelfError::Failed))?;
-    if content.len() as u64 > limit {
-        return Err(ShelfError::TooLong);
-    }
-    Ok(content)
-}
-
-/// Want of memory, or the other cause.
-fn cause(error: io::Error, other: ShelfError) -> ShelfError {
-    match error.kind() {
-        ErrorKind::OutOfMemory => ShelfError::NoMemory,
-        _ => other,
-    }
-}
-
 impl<R: Files + AllocGlobal + Drop> Shelf for DiskShelf<R> {
     ghost use Rattle.shelf.specs.Shelf.{is_refusal};
 
@@ -87,7 +61,10 @@ impl<R: Files + AllocGlobal + Drop> Shelf for DiskShelf<R> {
         ensures within { IfOk result (λ content. length content.items ≤ limit) }
     {
         self.reads = self.reads.saturating_add(1);
-        let content = read_file(&self.system, name, limit);
+        let content = match File::open(&self.system, name) {
+            Ok(file) => read_up_to(self.system.alloc(), file, limit),
+            Err(error) => Err(ShelfError::by_kind(&error, ShelfError::Missing)),
+        };
         if matches!(
             content,
             Err(ShelfError::Failed | ShelfError::Missing | ShelfError::TooLong)
@@ -100,8 +77,10 @@ impl<R: Files + AllocGlobal + Drop> Shelf for DiskShelf<R> {
 
 /// A stream of the system, as its standard output or its standard error.
 ///
-/// Its model is the count of its faults, which rises at each error and where the stream takes
-/// nothing of a piece that has bytes. Its writes take no memory.
+/// Its model is the bytes that the stream holds, where its type says them, and the count of its
+/// faults, which rises at each error and where the stream takes nothing of a piece that has bytes.
+/// Its writes take no memory. As a sink its bytes aren't known, since an error may leave a part of
+/// a piece with the stream.
 #[derive(Drop)]
 pub struct StdSink<W: Write + Drop> {
     stream: W,
@@ -109,44 +88,37 @@ pub struct StdSink<W: Write + Drop> {
 }
 
 impl<W: Write + Drop> Model for StdSink<W> {
-    ghost use Rattle.std.specs.Prelude.{ℕ};
+    ghost use Rattle.shelf.specs.Sink.{SinkState};
 
-    ghost Value = { ℕ };
+    ghost Value = { SinkState };
 
-    ghost view = { λ s. s.faults };
+    ghost view = { λ s. record { bytes = W.contents s.stream; faults = s.faults } };
 }
 
 impl<W: Write + Drop> StdSink<W> {
     /// A sink into this stream, as `rt.stdout()` or `rt.stderr()`.
     pub fn new(stream: W) -> Self
-        ensures { result ≡ 0 }
+        ensures { result ≡ record { bytes = W.contents stream; faults = 0 } }
     {
         StdSink { stream, faults: 0 }
     }
 }
 
-/// Writes some of the piece, and flushes the stream, so that a fault of the device is noticed.
-fn write_through<W: Write>(stream: &mut W, piece: &[u8]) -> io::Result<usize>
-    ensures { IfOk result (λ taken. taken ≤ length piece.now) }
-{
-    let taken = stream.write(piece)?;
-    stream.flush()?;
-    Ok(taken)
-}
-
 impl<W: Write + Drop> Sink for StdSink<W> {
     ghost use Rattle.shelf.specs.SinkWrites.{is_write_fault};
+    ghost use Rattle.shelf.specs.Streams.{GainsFront};
 
-    ghost state = { λ s. record { bytes = None; faults = s } };
+    ghost state = { λ s. record { bytes = None; faults = s.faults } };
 
     ghost takes_memory = { false };
 
     fn write(&mut self, piece: &[u8]) -> Result<u64, SinkError>
         ensures within { IfOk result (λ taken. taken ≤ length piece.now) }
         ensures no_memory { result ≢ Err SinkError.NoMemory }
-        ensures after { self.new
-            ≡ (if is_write_fault piece.now result then next_count self.old else self.old) }
-        ensures faults { self.old ≤ self.new }
+        ensures gains { GainsFront piece.now result self.old.bytes self.new.bytes }
+        ensures after { self.new.faults ≡ (if is_write_fault piece.now result
+            then next_count self.old.faults else self.old.faults) }
+        ensures faults { self.old.faults ≤ self.new.faults }
     {
         match write_through(&mut self.stream, piece) {
             Ok(taken) if taken > 0 || piece.is_empty() => Ok(taken as u64),

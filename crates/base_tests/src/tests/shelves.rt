@@ -5,6 +5,7 @@ use shelf::{
 };
 use std::alloc::{AllocError, Global};
 use std::fs::OpenOptions;
+use std::io::BufWriter;
 use std::test::Fail;
 
 fn one_file(alloc: Global) -> Result<Vec<(String, Vec<u8>)>, AllocError> {
@@ -60,16 +61,6 @@ fn writes_in_pieces(rt: HostRuntime) -> Result<(), Fail> {
 }
 
 #[test]
-fn keeps_a_piece_before_a_fault(rt: HostRuntime) -> Result<(), Fail> {
-    let alloc = rt.alloc();
-    let bytes = vec![in alloc; 7u8; 70_000]?;
-    let mut sink = MemSink::new(alloc, 70_000, vec![in alloc; 2]?);
-    assert!(rt; write_whole(&mut sink, &bytes).err() == Some(SinkError::Failed));
-    assert!(rt; sink.bytes().len() == 65_536);
-    Ok(())
-}
-
-#[test]
 fn reads_files_of_the_system(rt: HostRuntime) -> Result<(), Fail> {
     let mut shelf = DiskShelf::new(rt);
     assert!(rt; read(&mut shelf, "/no/such/file", 9).err() == Some(ShelfError::Missing));
@@ -99,4 +90,13 @@ fn tells_a_full_slice(rt: HostRuntime) {
     let written = write_whole(&mut StdSink::new(room.as_mut_slice()), b"four");
     assert!(rt; written.err() == Some(SinkError::Failed));
     assert!(rt; room.as_slice() == b"fou".as_slice());
+}
+
+// What it takes is held back until the flush, which finds room for three bytes.
+#[test]
+fn tells_a_failed_flush(rt: HostRuntime) -> Result<(), Fail> {
+    let mut room = [0; 3];
+    let held_back = BufWriter::new(rt.alloc(), room.as_mut_slice())?;
+    assert!(rt; StdSink::new(held_back).write(b"four").err() == Some(SinkError::Failed));
+    Ok(())
 }

@@ -1,0 +1,28 @@
+-- What a read of a reader of std answers, and what a write to a writer of std leaves.
+use Rattle.std.specs.Prelude.{⊤, ◌≡◌, ℕ, ◌<◌, ◌≤◌, List, length, take, Option, IfSome, Result, Ok, Err, Vec}
+use Rattle.std.specs.Global.{Global}
+use Rattle.std.specs.Io.KnownBytes.{Appends}
+use Rattle.std.specs.declared.io.ErrorKind.{ErrorKind}
+use Rattle.std.specs.declared.io.ErrorKind.TheVariants.{OutOfMemory}
+use Rattle.shelf.specs.declared.source.ShelfError.{ShelfError}
+use Rattle.shelf.specs.declared.source.ShelfError.TheVariants.{Missing, NoMemory, TooLong}
+
+-- why a call of the system failed, by the kind of its error: want of memory, or else this cause
+abbrev pub cause_by_kind : ErrorKind → ShelfError → ShelfError
+cause_by_kind OutOfMemory other = NoMemory
+cause_by_kind kind other = other
+
+-- what a reader had left, where that is known, is what was read of it; or it is longer than this,
+-- where that is the answer. A read that failed or found no memory says nothing of it
+abbrev pub IsReadOf : Option (List ℕ) → ℕ → Result (Vec ℕ Global) ShelfError → Type 0
+IsReadOf known limit (Ok content) = IfSome known (λ left. content.items ≡ left)
+IsReadOf known limit (Err TooLong) = IfSome known (λ left. limit < length left)
+IsReadOf known limit (Err Missing) = ⊥
+IsReadOf known limit (Err cause) = ⊤
+
+-- the bytes that a writer holds, where they are known, grew by the first of a piece: by so many as
+-- an Ok says, and at an error by some or by none
+abbrev pub GainsFront : {E : Type 0} → List ℕ → Result ℕ E → (before now : Option (List ℕ)) → Type 0
+GainsFront piece (Ok taken) before now = Appends before now (take taken piece)
+GainsFront piece (Err error) before now =
+    (n : ℕ) × (n ≤ length piece) × Appends before now (take n piece)
