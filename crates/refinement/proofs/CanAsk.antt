@@ -9,7 +9,7 @@ use Rattle.net_file.specs.Owners.{AreOwners}
 use Rattle.net_file.specs.declared.ports.Ports.{Ports}
 use Rattle.switch_core.specs.Answering.{CanLookUp, IsAtAuthority}
 use Rattle.switch_core.specs.State.{SwitchValue, serves}
-use Rattle.switch_core.specs.Moving.{hop_answer}
+use Rattle.switch_core.specs.Moving.{StandsAt, hop_answer}
 use Rattle.switch_core.specs.declared.answers.HopEnd.TheVariants as hop
 use Rattle.refinement.specs.SwitchOf.{switch_of}
 use Rattle.refinement.proofs.Asked.{requirements_hold}
@@ -25,6 +25,7 @@ use Rattle.refinement.proofs.Known.{Known}
 use Rattle.refinement.proofs.Moving.{Hops, arrives_at_end}
 use Rattle.refinement.proofs.OnWay.{IsStanding, got}
 use Rattle.refinement.proofs.Seeing.{Sees, sees}
+use Rattle.refinement.proofs.SwitchFacts.{number_shown}
 
 -- the switch and its usable links are as the journal says
 pub sees_as : (setting : Setting) (journal : List Item) (s mask : ℕ) (w : SwitchValue)
@@ -70,6 +71,7 @@ pub record CanAsk (setting : Setting) (journal : List Item) (i : ℕ) (t : Fligh
   pub at : s ≡ standing.switch
   pub hops : Hops setting journal i standing.switch standing.header standing.ingress standing.leg w
       near ports
+  pub stands : StandsAt w t.tunnel.route t.tunnel.place
   pub serving : IsTrue (serves w)
   pub stamped : CanLookUp w
   pub authority : (hop_answer w near t.tunnel).end ≡ hop.Arrive
@@ -97,6 +99,9 @@ can_be_asked setting journal i t s mask w ports knows owners standing at own usa
       standing = standing;
       at = here_it;
       hops = hops;
+      stands = subst (λ (u : Flight). StandsAt w u.tunnel.route u.tunnel.place) (sym standing.is)
+          (standing.stands.here ∙ ap Some (sym (ap (λ (v : SwitchValue). v.number) is_switch
+          ∙ number_shown setting journal standing.switch)));
       serving = hops.sees.serving ∙ standing.stands.serving;
       stamped = looks_up_as setting journal s w knows there own;
       authority = λ arrive.

@@ -123,6 +123,7 @@ hops_refine setting journal row i t ports of its =
     record {
       may = record {
         there = omega (arith, can.at, can.standing.stands.there);
+        stands = can.stands;
         serving = can.serving;
         stamped = can.stamped;
         authority = can.authority;

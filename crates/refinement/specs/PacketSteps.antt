@@ -11,7 +11,7 @@ use Rattle.net_file.specs.Owners.{AreOwners}
 use Rattle.net_file.specs.declared.ports.Ports.{Ports}
 use Rattle.steps.specs.declared.step.Step.TheVariants.{Packet, Hop}
 use Rattle.switch_core.specs.Answering.{CanLookUp, IsAtAuthority}
-use Rattle.switch_core.specs.Moving.{hop_answer}
+use Rattle.switch_core.specs.Moving.{StandsAt, hop_answer}
 use Rattle.switch_core.specs.State.{serves}
 use Rattle.switch_core.specs.Answers.{Answer}
 use Rattle.switch_core.specs.declared.answers.HopEnd.TheVariants as hop
@@ -67,6 +67,7 @@ EntriesRefine = (setting : Setting) (journal : List Item) (row s : ℕ) (header 
 -- what a hop asks of the switch where the packet stands
 pub record MayHop (setting : Setting) (journal : List Item) (t : Flight) : Type 0 where
   pub there : here t.tunnel < length setting.net.switches
+  pub stands : StandsAt (switch_of setting journal (here t.tunnel)) t.tunnel.route t.tunnel.place
   pub serving : IsTrue (serves (switch_of setting journal (here t.tunnel)))
   pub stamped : CanLookUp (switch_of setting journal (here t.tunnel))
   pub authority : (hop_answer (switch_of setting journal (here t.tunnel))

@@ -19,7 +19,7 @@ use Rattle.tunnel.specs.Moves.{here, marked_down, next, on_route, route_from_her
 use Rattle.tunnel.specs.Tunnel.{TunnelValue}
 use Rattle.switch_core.specs.AnswerLaws.{IsSamePacket, down_with, way_around}
 use Rattle.switch_core.specs.Ends.{cause_of}
-use Rattle.switch_core.specs.Moving.{Moved, link_found_down, hop_answer, hopped_to, move_answer, moved_along, rerouted_here}
+use Rattle.switch_core.specs.Moving.{Moved, StandsAt, link_found_down, hop_answer, hopped_to, move_answer, moved_along, rerouted_here}
 use Rattle.switch_core.specs.State.{SwitchValue}
 use Rattle.switch_core.specs.declared.answers.HopEnd.TheVariants.{Arrive, Move, Stuck}
 
@@ -216,16 +216,22 @@ second_of_four true true c d is = refl
 second_of_four true false c d is = is
 second_of_four false b c d is = absurd (cc)
 
+-- a way is a path to some target by the links that are known
+way_leads : (adverts : List (Option Advert)) (from near : ℕ) (down targets way : List ℕ) →
+    route_of adverts from targets near down ≡ Some way →
+    (target : ℕ) × IsPath (known_links adverts from near down) from target way
+way_leads adverts from near down targets way is =
+    let links = known_links adverts from near down in
+    path_of links from targets way (subst (λ (r : Option (List ℕ)). IsRoute links from targets r)
+    is (known_route_is_route adverts from targets near down))
+
 way_is_usable : (adverts : List (Option Advert)) (from near : ℕ) (down targets way : List ℕ)
     (second : ℕ) → route_of adverts from targets near down ≡ Some way →
     slice_get way 1 ≡ Some second → IsTrue (has near second)
 unfolding is_link
 way_is_usable adverts from near down targets way second is next =
     let links = known_links adverts from near down in
-    let route : IsRoute links from targets (Some way) =
-    subst (λ (r : Option (List ℕ)). IsRoute links from targets r) is
-    (known_route_is_route adverts from targets near down) in
-    let path = path_of links from targets way route in
+    let path = way_leads adverts from near down targets way is in
     let link = first_link links from path.0 way second path.1 next in
     seen adverts from near second
     (second_of_four _ _ _ _
@@ -269,3 +275,42 @@ hop_usable s near t other = by_found (link_found_down near (next t)) refl
         (hopped_to s near t found).end ≡ Move other → IsTrue (has near other)
     by_found None none end = by_next (next t) none end
     by_found (Some from) found end = by_way from (way_around s near t from) refl end
+
+-- ---- where it arrives
+
+-- a path begins where it leaves
+path_begins : (links : List ℕ) (from target : ℕ) (way : List ℕ) →
+    IsPath links from target way → slice_get way 0 ≡ Some from
+unfolding IsPath
+path_begins links from target [] path = absurd path
+path_begins links from target (first ∷ rest) path = ap Some path.0
+
+-- a packet that stands here and arrives still stands here
+pub hop_stays : (s : SwitchValue) (near : ℕ) (t : TunnelValue) → StandsAt s t.route t.place →
+    (hop_answer s near t).end ≡ Arrive →
+    StandsAt s (hop_answer s near t).tunnel.route (hop_answer s near t).tunnel.place
+unfolding hop_answer rerouted_here
+hop_stays s near t stands = by_found (link_found_down near (next t))
+  where
+    by_next : (on : TunnelValue) → StandsAt s on.route on.place → (after : Option ℕ) →
+        (move_answer on after).end ≡ Arrive →
+        StandsAt s (move_answer on after).tunnel.route (move_answer on after).tunnel.place
+    by_next on is None end = is
+    by_next on is (Some other) end = absurd (cc)
+
+    by_way : (from : ℕ) (way : Option (List ℕ)) → way_around s near t from ≡ way →
+        (moved_along s near (marked_down t from) way).end ≡ Arrive →
+        StandsAt s (moved_along s near (marked_down t from) way).tunnel.route
+        (moved_along s near (marked_down t from) way).tunnel.place
+    by_way from None is end = absurd (cc)
+    by_way from (Some way) is end =
+        let leads = way_leads s.database (here t) near (down_with t from) t.targets way is in
+        let begins : slice_get way 0 ≡ Some s.number =
+        path_begins (known_links s.database (here t) near (down_with t from)) (here t) leads.0 way
+        leads.1 ∙ ap Some (get_or_from_slice_get t.route t.place s.number 0 stands) in
+        by_next (on_route (marked_down t from) way) begins (slice_get way 1) end
+
+    by_found : (found : Option ℕ) → (hopped_to s near t found).end ≡ Arrive →
+        StandsAt s (hopped_to s near t found).tunnel.route (hopped_to s near t found).tunnel.place
+    by_found None end = by_next t stands (next t) end
+    by_found (Some from) end = by_way from (way_around s near t from) refl end

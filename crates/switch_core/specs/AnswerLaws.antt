@@ -36,7 +36,7 @@ use Rattle.ctrl_msg.specs.declared.message.Body.TheVariants.{CacheRule}
 use Rattle.switch_core.specs.Answering.{IsAtAuthority, admitted, arrive_answer, enter_answer, looked_up, packet_of}
 use Rattle.switch_core.specs.Deciding.{IsFirstHit, by_entry, by_rule, own_part}
 use Rattle.switch_core.specs.Ends.{Site, cause_of, next_of}
-use Rattle.switch_core.specs.Moving.{Moved, link_found_down, hop_answer}
+use Rattle.switch_core.specs.Moving.{Moved, StandsAt, link_found_down, hop_answer}
 use Rattle.switch_core.specs.State.{IsSwitch, SwitchValue, held_tables, holds_version, serves, stamp_tables}
 use Rattle.switch_core.specs.Answers.{Answer, Decided, Seek, Stuck, arrived_with, entered_with}
 use Rattle.switch_core.specs.declared.answers.Arrived.{Arrived}
@@ -314,9 +314,11 @@ pub record IsHop (s : SwitchValue) (near : ℕ) (t : TunnelValue) (after : Moved
         tunnel = record t { route = way; place = 1; down = down_with t other };
       })
   -- so a packet that moved stands at that switch, to which a usable link leads, and one that
-  -- arrived is at the end of its route
+  -- arrived stands at this switch still, at the end of its route
   pub stands : (other : ℕ) → after.end ≡ hop.Move other → here after.tunnel ≡ other
   pub usable : (other : ℕ) → after.end ≡ hop.Move other → IsTrue (has near other)
+  pub stays : StandsAt s t.route t.place → after.end ≡ hop.Arrive →
+      StandsAt s after.tunnel.route after.tunnel.place
   pub ends : after.end ≡ hop.Arrive → next after.tunnel ≡ None
   pub same_packet : IsSamePacket t after.tunnel
 

@@ -6,6 +6,6 @@ pub use Rattle.switch_core.specs.Answering.{CanLookUp, IsAtAuthority, IsUncached
 pub use Rattle.switch_core.specs.Deciding.{IsFirstHit, IsFound, own_part, packet_with, rule_for_cache, rule_in}
 pub use Rattle.switch_core.specs.Ends.{Site, are_isolated, around, begun_by, cause_of, exit_by, next_of, set_out, site_of}
 pub use Rattle.switch_core.specs.Laws.{SwitchLaws}
-pub use Rattle.switch_core.specs.Moving.{hop_answer, is_free, link_found_down, rerouted_here}
+pub use Rattle.switch_core.specs.Moving.{StandsAt, hop_answer, is_free, link_found_down, rerouted_here}
 pub use Rattle.switch_core.specs.State.{HasOwnUpTo, call_counted, holds_version, serves}
 pub use Rattle.switch_core.specs.Verdicts.{IsByLookup, admitted_as, answer_of, cached_by}

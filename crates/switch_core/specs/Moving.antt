@@ -1,6 +1,6 @@
 -- What becomes of a packet that is on its way at a switch, as a function. What it says is the
 -- relation `IsHop`, which allows nothing else.
-use Rattle.std.specs.Prelude.{ℕ, Bool, true, Option, Some, None, if◌then◌else◌, List}
+use Rattle.std.specs.Prelude.{ℕ, ◌≡◌, Bool, true, Option, Some, None, if◌then◌else◌, List, slice_get}
 use Rattle.base.specs.Masks.{has}
 use Rattle.tunnel.specs.Tunnel.{TunnelValue}
 use Rattle.tunnel.specs.Moves.{next, advanced_tunnel, marked_down, on_route, route_from_here}
@@ -8,6 +8,10 @@ use Rattle.switch_core.specs.declared.answers.HopEnd.{HopEnd}
 use Rattle.switch_core.specs.declared.answers.HopEnd.TheVariants.{Arrive, Move, Stuck}
 use Rattle.switch_core.specs.Ends.{cause_of}
 use Rattle.switch_core.specs.State.{SwitchValue}
+
+-- a packet at this place of its route stands at the switch
+abbrev pub StandsAt : SwitchValue → List ℕ → ℕ → Type 0
+StandsAt s route place = slice_get route place ≡ Some s.number
 
 -- where the hop ends, and the packet after it
 pub record Moved : Type 0 where

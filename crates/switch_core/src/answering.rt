@@ -1,13 +1,14 @@
-ghost use Rattle.std.specs.Prelude.{◌≡◌, ℕ, List, IsSomeAnd, IsTrue, option_map};
+ghost use Rattle.std.specs.Prelude.{◌≡◌, ◌+◌, ℕ, List, None, IsSomeAnd, IsTrue, option_map, slice_get};
 ghost use Rattle.policy_rules.specs.Hosted.{is_in};
 ghost use Rattle.policy_rules.specs.declared.packet.Leg.TheVariants.{Seek as SeekLeg};
+ghost use Rattle.tunnel.specs.Moves.{next};
 ghost use Rattle.switch_core.specs.Answers.{Answered};
-ghost use Rattle.switch_core.specs.Exports.{CanLookUp, IsAtAuthority, IsFirstHit, IsFound, IsUncached, Site as SiteValue, admitted, admitted_as, answer_by, answer_of, around, arrive_answer, arrived_on, call_counted, decided_at, decided_in, enter_answer, holds_version, incoming_packet, looked_up, own_part, packet_of, packet_with, serves};
+ghost use Rattle.switch_core.specs.Exports.{CanLookUp, IsAtAuthority, IsFirstHit, IsFound, IsUncached, Site as SiteValue, StandsAt, admitted, admitted_as, answer_by, answer_of, around, arrive_answer, arrived_on, call_counted, decided_at, decided_in, enter_answer, holds_version, incoming_packet, looked_up, own_part, packet_of, packet_with, serves};
 
 use crate::answers::{Arrived, Decision, Entered};
 use crate::deciding::{cache_word, found_in, own_part, rule_in};
 use crate::kept::KeptTables;
-use crate::packet::Packet;
+use crate::packet::{Arriving, Packet};
 use crate::site::Site;
 use crate::switch::Switch;
 use crate::verdicts::Verdict;
@@ -67,42 +68,54 @@ impl Switch {
         Some(verdict)
     }
 
-    /// A packet is at the end of its route here. On its way to a port it leaves. On its way to an
-    /// authority switch it is decided by the tables of its version. Where these aren't there, it is
-    /// looked up anew under the switch's stamp. `arrive_laws` and `lookup_laws` say how.
+    /// A packet stands here, at the end of its route. On its way to a port it leaves. On its way to
+    /// an authority switch it is decided by the tables of its version. Where these aren't there, it
+    /// is looked up anew under the switch's stamp. `arrive_laws` and `lookup_laws` say how.
     ///
     /// `near` has a bit for each switch to which there is a usable link.
     #[tactic(auto, unfolding(crate::specs::Answering::received))]
     pub fn arrive(&mut self, t: &Tunnel, near: u64, ports: &Ports) -> Arrived
         requires serving { IsTrue (serves self.old) }
         requires stamped { CanLookUp self.old }
+        requires here { StandsAt self.old t.now.route t.now.place }
+        requires last { next t.now ≡ None }
         requires authority { IsAtAuthority self.old t.now.header t.now.leg }
         ensures answer { result ≡ arrive_answer self.old (around near ports.now) t.now }
         ensures after { self.new ≡ call_counted self.old }
     {
-        let verdict = self.receive(&t.header, t.ingress, t.leg);
+        let verdict = self.receive(Arriving {
+            header: &t.header,
+            ingress: t.ingress,
+            leg: t.leg,
+            route: &t.route,
+            place: t.place,
+        });
         self.answer_arrival(Site { near, ports }, &carried(t), verdict)
     }
 
-    /// `arrive` before any route is taken: what is said of a packet of this header that came in at
-    /// `ingress` and is at the end of its route, whatever its number and the links that it found
-    /// down. It copies no route and no set of links.
-    pub fn receive(&mut self, h: &Header, ingress: u32, leg: Leg) -> Verdict
+    /// `arrive` before any route is taken: what is said of a packet that stands here, at the end of
+    /// its route, whatever its number and the links that it found down. It copies no route and no
+    /// set of links.
+    pub fn receive(&mut self, t: Arriving) -> Verdict
         requires serving { IsTrue (serves self.old) }
         requires stamped { CanLookUp self.old }
-        requires authority { IsAtAuthority self.old h.now leg }
+        requires here { StandsAt self.old t.route.now t.place }
+        requires last { slice_get t.route.now (t.place + 1) ≡ None }
+        requires authority { IsAtAuthority self.old t.header.now t.leg }
         ensures answer { (site : SiteValue) (number : ℕ) (down : List ℕ) →
-            answer_of self.new site (packet_with number h.now ingress down) result
-            ≡ arrived_on self.old site (packet_with number h.now ingress down) leg }
+            answer_of self.new site
+            (packet_with number t.entry.header.now t.entry.ingress down) result
+            ≡ arrived_on self.old site
+            (packet_with number t.entry.header.now t.entry.ingress down) t.entry.leg }
         ensures after { self.new ≡ call_counted self.old }
     {
-        match leg {
+        match t.leg {
             Leg::Exit { port } => {
                 self.count();
                 Verdict::Out(port)
             }
             Leg::Seek { version, partition } => {
-                let verdict = self.judge(h, ingress, version, partition);
+                let verdict = self.judge(t.header, t.ingress, version, partition);
                 self.count();
                 verdict
             }

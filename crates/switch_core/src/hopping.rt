@@ -1,6 +1,6 @@
-ghost use Rattle.std.specs.Prelude.{◌≡◌, ◌+◌, ◌<◌, IfSome, None, Some, if◌then◌else◌, slice_get};
+ghost use Rattle.std.specs.Prelude.{◌≡◌, ◌+◌, ◌<◌, IfSome, IsTrue, None, Some, if◌then◌else◌, slice_get};
 ghost use Rattle.tunnel.specs.Moves.{next};
-ghost use Rattle.switch_core.specs.Exports.{call_counted, hop_answer, is_free, link_found_down, rerouted_here};
+ghost use Rattle.switch_core.specs.Exports.{StandsAt, call_counted, hop_answer, is_free, link_found_down, rerouted_here, serves};
 
 use crate::answers::{Hop, HopEnd};
 use crate::switch::Switch;
@@ -11,11 +11,14 @@ use tunnel::Tunnel;
 impl Switch {
     /// A packet that stands here goes on: at the end of its route it arrives. Where the link to the
     /// next switch is usable it moves there. Otherwise that link is found down and the packet takes
-    /// a new route, on which it moves or arrives, or is stuck. `hop_laws` says how.
+    /// a new route, on which it moves or arrives, or is stuck. `hop_laws` says how. A packet that
+    /// arrives stands here, at the end of its route.
     ///
     /// `near` has a bit for each switch to which there is a usable link.
     #[tactic(auto, unfolding(crate::specs::Moving::hop_answer))]
     pub fn hop(&mut self, t: &mut Tunnel, near: u64) -> Hop
+        requires serving { IsTrue (serves self.old) }
+        requires here { StandsAt self.old t.old.route t.old.place }
         ensures found { result.found ≡ link_found_down near (next t.old) }
         ensures end { result.end ≡ (hop_answer self.old near t.old).end }
         ensures tunnel { t.new ≡ (hop_answer self.old near t.old).tunnel }
@@ -45,11 +48,13 @@ impl Switch {
         hop
     }
 
-    /// The next switch on the route of a packet at this place of it, or `None` at the route's end,
-    /// where the packet finds no link down; no tunnel is made for it. Nothing is answered, and it
-    /// isn't counted, where the link to the next switch isn't usable: `hop` says what becomes of it
-    /// then.
+    /// The next switch on the route of a packet that stands here, at this place of it, or `None` at
+    /// the route's end, where the packet finds no link down; no tunnel is made for it. Nothing is
+    /// answered, and it isn't counted, where the link to the next switch isn't usable: `hop` says
+    /// what becomes of it then.
     pub fn pass(&mut self, route: &Route, place: u32, near: u64) -> Option<Option<u32>>
+        requires serving { IsTrue (serves self.old) }
+        requires here { StandsAt self.old route.now place }
         ensures next { result ≡ (if is_free near (slice_get route.now (place + 1))
             then Some (slice_get route.now (place + 1)) else None) }
         ensures after { self.new ≡ (if is_free near (slice_get route.now (place + 1))

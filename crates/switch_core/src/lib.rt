@@ -32,6 +32,7 @@ pub use answers::{Arrived, Decision, Entered, Heard, Hop, HopEnd, Next, Replies}
 pub use laws::{
     arrive_laws, decision_laws, enter_laws, exit_laws, hop_laws, lookup_laws, switch_laws,
 };
+pub use packet::Arriving;
 pub use policy_rules::{Cause, How};
 pub use site::Site;
 pub use switch::Switch;

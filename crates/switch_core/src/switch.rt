@@ -119,9 +119,12 @@ impl Switch {
         self.held_tables(version).is_some()
     }
 
-    /// How many calls of `enter`, `hop` and `arrive` it answered, each to a packet that was put to
-    /// it; those of `admit`, `pass` and `receive` are their first parts, and count in their place.
-    /// The count stands still at its last value.
+    /// How many packet calls it answered: of `enter` or `admit` for a packet that comes in here, of
+    /// `hop` or `pass` for one that stands here at a place of its route, and of `arrive` or
+    /// `receive` for one that stands here at its route's end. No call counts without the packet's
+    /// header, or its route and its place there, which has to be this switch. `admit`, `pass` and
+    /// `receive` are the first parts of the others and count in their place; a `pass` that answers
+    /// `None` counts nothing. The count stands still at its last value.
     pub fn handled(&self) -> u64
         ensures { result ≡ self.now.handled }
     {

@@ -1,7 +1,8 @@
 -- The tables that tests use are sound: one region has all headers, and one rule decides them.
-use Rattle.std.proofs.Common.{◌≡◌, ◌<◌, ◌^◌, ◌==◌, ◌∙◌, ℕ, Bool, true, false, cond, Option, Some, None, is_some, List, [], ◌∷◌, length, map, slice_get, refl, sym, subst, arith, All, get_or, eq-eqb, lit<}
+use Rattle.std.proofs.Common.{◌≡◌, ◌<◌, ◌^◌, ◌==◌, ◌∙◌, ℕ, Bool, true, false, cond, Option, Some, None, is_some, List, [], ◌∷◌, length, map, slice_get, refl, ap, sym, subst, arith, All, get_or, eq-eqb, eqb-true, lit<}
 use Rattle.std.specs.Bool.{IsTrue}
 use Rattle.std.specs.Option.{IfSome, IsSomeAnd}
+use Rattle.std.proofs.lemmas.Option.{slice_get-get_or}
 use Rattle.five_tuple.specs.Header.{number_of}
 use Rattle.five_tuple.specs.declared.header.Header.{Header}
 use Rattle.ternary.specs.Word.{holds}
@@ -19,7 +20,9 @@ use Rattle.switch_table.specs.declared.tables.PartRow.{PartRow}
 use Rattle.switch_table.specs.declared.tables.Tables.{Tables}
 use Rattle.switch_core.specs.Answering.{CanLookUp, IsAtAuthority}
 use Rattle.switch_core.specs.Deciding.{own_part}
+use Rattle.switch_core.specs.Moving.{StandsAt}
 use Rattle.switch_core.specs.State.{SwitchValue, new_switch, held_tables, holds_version}
+use Rattle.tunnel.specs.Tunnel.{IsOnRoute}
 
 abbrev pub whole_row : PartRow
 whole_row = record { region = any_word; targets = 1 ∷ [] }
@@ -90,3 +93,10 @@ not_held s header version partition holds is other =
         (λ t. IsSomeAnd (own_part t partition) (λ part. IsTrue (is_in header part)))
     by_tables (Some tables) h = absurd (cc)
     by_tables None h = tt
+
+-- a packet stands at the switch that has this number
+pub stands : (s : SwitchValue) (route : List ℕ) (place at number : ℕ) → IsOnRoute route place →
+    at ≡ get_or route place 0 → number ≡ s.number → (at == number) ≡ true → StandsAt s route place
+stands s route place at number on is own same =
+    slice_get-get_or route place 0 on.within
+    ∙ ap Some (sym is ∙ eqb-true at number same ∙ own)

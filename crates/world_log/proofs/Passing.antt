@@ -8,7 +8,7 @@ use Rattle.net_file.specs.declared.ports.Ports.{Ports}
 use Rattle.policy_rules.specs.declared.packet.Leg.{Leg}
 use Rattle.switch_core.specs.Answering.{arrived_on, received}
 use Rattle.switch_core.specs.Ends.{around}
-use Rattle.switch_core.specs.Moving.{Moved, link_found_down, hop_answer, hopped_to, is_free, move_answer}
+use Rattle.switch_core.specs.Moving.{Moved, StandsAt, link_found_down, hop_answer, hopped_to, is_free, move_answer}
 use Rattle.switch_core.specs.State.{SwitchValue, call_counted}
 use Rattle.switch_core.specs.Answers.{Arrival}
 use Rattle.switch_core.specs.declared.answers.HopEnd.{HopEnd}
@@ -227,6 +227,31 @@ pub met_switch : (s : SwitchValue) (near : ℕ) (t : Flight) (end : HopEnd)
 met_switch s near t end is = ap (ended_switch (call_counted s)) is
 
 -- ---- at the end of its route
+
+-- what was written of the packet by its switch's verdict, which says this
+pub settled_log : {T E : Type 0} (r : Result T E) (number : ℕ) (at : Standing) (version : ℕ)
+    (rule : Option ℕ) (packet : ℕ) (old new : Log) (said what : Arrival) → said ≡ what
+    → LogAfter r (arrived_items number at version rule said) (arrived_posts at said) packet
+    (arrived_flight version rule said) old new
+    → LogAfter r (arrived_items number at version rule what) (arrived_posts at what) packet
+    (arrived_flight version rule what) old new
+settled_log r number at version rule packet old new said what is log =
+    subst (λ what. LogAfter r (arrived_items number at version rule what) (arrived_posts at what)
+    packet (arrived_flight version rule what) old new) is log
+
+-- a tunnel of the packet that is there stands where that does
+pub stood : (s : SwitchValue) (there : Option Flight) (kept : Flight) (tunnel : TunnelValue)
+    → Some kept ≡ there → tunnel ≡ kept.tunnel
+    → ((t : Flight) → there ≡ Some t → StandsAt s t.tunnel.route t.tunnel.place)
+    → StandsAt s tunnel.route tunnel.place
+stood s there kept tunnel is tunnel_is here =
+    subst (λ (u : TunnelValue). StandsAt s u.route u.place) (sym tunnel_is) (here kept (sym is))
+
+-- what holds at the packet's place of its route holds at this place of this route
+pub placed : (P : List ℕ → ℕ → Type 0) (route : List ℕ) (place : ℕ) (t : TunnelValue)
+    → route ≡ t.route → place ≡ t.place → P t.route t.place → P route place
+placed P route place t route_is place_is holds =
+    subst (λ way. P way place) (sym route_is) (subst (P t.route) (sym place_is) holds)
 
 -- what was written of the packet that stands there is what its arrival writes
 pub arrival_log : {T E : Type 0} (r : Result T E) (number : ℕ) (w : SwitchValue) (near : ℕ)

@@ -1,6 +1,6 @@
 ghost use Rattle.std.specs.Prelude.{◌≡◌, ◌+◌, ◌-◌, ◌^◌, ◌<◌, ◌++◌, [], ◌∷◌, Some, IfOk, IsSome, IsSomeAnd, IsTrue, OnOk, OnErr, length, map};
 ghost use Rattle.message_bag.specs.Posts.{new_post};
-ghost use Rattle.switch_core.specs.Exports.{CanLookUp, IsAtAuthority, answer_of, arrived_on, cached_by, call_counted, hop_answer, link_found_down, next_of, serves, site_of};
+ghost use Rattle.switch_core.specs.Exports.{CanLookUp, IsAtAuthority, StandsAt, answer_of, cached_by, call_counted, hop_answer, link_found_down, next_of, serves, site_of};
 ghost use Rattle.switch_core.specs.declared.answers.HopEnd.TheVariants.{Arrive};
 ghost use Rattle.travelling.specs.Travelling.{Flight, flight, standing_kept, travels_by};
 ghost use Rattle.journal.specs.declared.item.Item.TheVariants.{Rerouted};
@@ -14,7 +14,7 @@ use five_tuple::Header;
 use journal::{Item, Message, Place, SharedRoute};
 use policy_rules::{Action, Cause, Leg, Targets};
 use std::alloc::{AllocError, Global};
-use switch_core::{Decision, HopEnd, Site, Switch, Verdict};
+use switch_core::{Arriving, Decision, HopEnd, Site, Switch, Verdict};
 use ternary::Word;
 use travelling::{Standing, StoredFlight};
 use tunnel::Tunnel;
@@ -91,6 +91,8 @@ impl Log {
     ) -> Result<(), AllocError>
         requires known { IsSomeAnd (flight self.old.travelling packet)
             (λ t. t.tunnel.packet ≡ packet) }
+        requires here { (t : Flight) → flight self.old.travelling packet ≡ Some t
+            → StandsAt switch.old t.tunnel.route t.tunnel.place }
         requires serving { IsTrue (serves switch.old) }
         requires stamped { CanLookUp switch.old }
         requires authority { (t : Flight) → flight self.old.travelling packet ≡ Some t
@@ -110,16 +112,22 @@ impl Log {
             → OnOk result (switch.new ≡ hopped_switch switch.old site.entry.near t) }
     {
         let kept = self.travelling.look(packet).unwrap();
-        match switch.pass(kept.route(), kept.place(), site.near) {
+        let route = kept.route();
+        let place = kept.place();
+        match switch.pass(route, place, site.near) {
             None => self.go_around(alloc, packet, switch, site),
-            Some(Some(next)) => {
-                let place = kept.place() + 1;
-                self.move_on(packet, place, next)
-            }
+            Some(Some(next)) => self.move_on(packet, place + 1, next),
             Some(None) => {
                 let leg = kept.leg();
                 let at = kept.standing(switch.number())?;
-                self.arrive(alloc, at, leg, switch, site)
+                let verdict = switch.receive(Arriving {
+                    header: &at.header,
+                    ingress: at.ingress,
+                    leg,
+                    route,
+                    place,
+                });
+                self.settle(alloc, at, verdict, switch, site)
             }
         }
     }
@@ -137,6 +145,8 @@ impl Log {
     ) -> Result<(), AllocError>
         requires known { IsSomeAnd (flight self.old.travelling packet)
             (λ t. t.tunnel.packet ≡ packet) }
+        requires here { (t : Flight) → flight self.old.travelling packet ≡ Some t
+            → StandsAt switch.old t.tunnel.route t.tunnel.place }
         requires serving { IsTrue (serves switch.old) }
         requires stamped { CanLookUp switch.old }
         requires authority { (t : Flight) → flight self.old.travelling packet ≡ Some t
@@ -186,7 +196,16 @@ impl Log {
             HopEnd::Arrive => {
                 let kept = self.reroute(alloc, &tunnel, version, rule)?;
                 let at = kept.standing(here)?;
-                self.arrive(alloc, at, leg, switch, site)
+                let route = kept.route();
+                let place = kept.place();
+                let verdict = switch.receive(Arriving {
+                    header: &at.header,
+                    ingress: at.ingress,
+                    leg,
+                    route,
+                    place,
+                });
+                self.settle(alloc, at, verdict, switch, site)
             }
         }
     }
@@ -211,34 +230,6 @@ impl Log {
         let kept = StoredFlight::new(alloc, tunnel, version, rule, route.clone()?)?;
         self.journal.push(Item::Rerouted { packet, route })?;
         Ok(kept)
-    }
-
-    // The packet is at the end of its route at the switch, which is asked what becomes of it.
-    fn arrive(
-        &mut self,
-        alloc: Global,
-        at: Standing,
-        leg: Leg,
-        switch: &mut Switch,
-        site: Site,
-    ) -> Result<(), AllocError>
-        requires serving { IsTrue (serves switch.old) }
-        requires stamped { CanLookUp switch.old }
-        requires authority { IsAtAuthority switch.old at.header leg }
-        requires ingress { at.ingress < 64 }
-        requires few { length self.old.bag < 2 ^ 32 - 1 }
-        ensures log { LogAfter result
-            (arrived_items (length self.old.bag + 1) (standing_kept at) at.version at.rule
-            (arrived_on switch.old (site_of site.entry) (packet_standing (standing_kept at)) leg))
-            (arrived_posts (standing_kept at)
-            (arrived_on switch.old (site_of site.entry) (packet_standing (standing_kept at)) leg))
-            at.packet (arrived_flight at.version at.rule
-            (arrived_on switch.old (site_of site.entry) (packet_standing (standing_kept at)) leg))
-            self.old self.new }
-        ensures counted { switch.new ≡ call_counted switch.old }
-    {
-        let verdict = switch.receive(&at.header, at.ingress, leg);
-        self.settle(alloc, at, verdict, switch, site)
     }
 
     // This becomes of the packet.

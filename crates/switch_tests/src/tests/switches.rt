@@ -1,12 +1,13 @@
 //! One switch by its calls: a packet decided at an authority switch, a packet on its way to one and
 //! where its link is down, and a switch through two versions, a crash and a new boot.
-ghost use Rattle.std.specs.Prelude.{◌≡◌, [], ◌∷◌, IfOk, IsSomeAnd, IsTrue};
+ghost use Rattle.std.specs.Prelude.{◌≡◌, [], ◌∷◌, None, IfOk, IsSomeAnd, IsTrue};
 ghost use Rattle.five_tuple.specs.declared.header.Header.{Header};
 ghost use Rattle.ternary.specs.Meets.{any_word};
 ghost use Rattle.policy_rules.specs.Hosted.{is_in};
 ghost use Rattle.policy_rules.specs.declared.packet.Leg.TheVariants.{Seek};
 ghost use Rattle.switch_table.specs.Tables.{AreSoundTables};
-ghost use Rattle.switch_core.specs.Exports.{CanLookUp, HasOwnUpTo, IsAtAuthority, own_part, serves};
+ghost use Rattle.switch_core.specs.Exports.{CanLookUp, HasOwnUpTo, IsAtAuthority, StandsAt, own_part, serves};
+ghost use Rattle.tunnel.specs.Moves.{next};
 
 use ctrl_msg::{Body, SharedTables};
 use failover::{Advert, Database, DownSet};
@@ -108,6 +109,21 @@ fn seeking(version: u32) -> Result<Tunnel, Fail>
     let down = DownSet::empty();
     let route = chain().route(1, &to_b, 0b101, &down).ok_or("b to b")?;
     Ok(Tunnel::begin(7, Header::pack(&FIELDS), 0, leg, to_b, route, down))
+}
+
+// Whether the packet stands at the switch.
+fn is_at(packet: &Tunnel, switch: &Switch) -> bool
+    ensures { IsTrue result → StandsAt switch.now packet.now.route packet.now.place }
+{
+    packet.here() == switch.number()
+}
+
+// Whether it stands there at the end of its route.
+fn is_at_end(packet: &Tunnel, switch: &Switch) -> bool
+    ensures here { IsTrue result → StandsAt switch.now packet.now.route packet.now.place }
+    ensures last { IsTrue result → next packet.now ≡ None }
+{
+    is_at(packet, switch) && packet.next().is_none()
 }
 
 // b, with its tables of version 1.
@@ -225,7 +241,7 @@ fn is_decided(arrived: &Arrived, version: u32) -> bool {
 fn arrives_anew(b: &mut Switch, ports: &Ports) -> Result<bool, Fail> {
     let packet = seeking(1)?;
     let is_held = b.holds_version(1);
-    if is_held || !b.serves() || !b.holds_version(b.stamp()) {
+    if is_held || !b.serves() || !b.holds_version(b.stamp()) || !is_at_end(&packet, b) {
         return Ok(false);
     }
     let arrived = b.arrive(&packet, 0b101, ports);
@@ -236,7 +252,9 @@ fn arrives_anew(b: &mut Switch, ports: &Ports) -> Result<bool, Fail> {
 fn an_authority_switch_decides(rt: HostRuntime) -> Result<(), Fail> {
     let alloc = rt.alloc();
     let mut b = authority(alloc)?;
-    let arrived = b.arrive(&seeking(1)?, 0b101, &solo(alloc)?.ports());
+    let packet = seeking(1)?;
+    assert!(rt; is_at_end(&packet, &b));
+    let arrived = b.arrive(&packet, 0b101, &solo(alloc)?.ports());
     assert!(rt; is_decided(&arrived, 1));
     assert_eq!(rt; b.handled(), 1);
     assert_eq!(rt; b.number(), 1);
@@ -260,11 +278,16 @@ fn a_packet_goes_on_or_is_stuck(rt: HostRuntime) -> Result<(), Fail> {
     let ports = solo(alloc)?.ports();
     let mut a = Switch::begin(alloc, 0, 4, ingress_tables(alloc, 1)?, chain())?;
     let mut packet = setting_out(&mut a, &ports).ok_or("to b")?;
+    assert!(rt; a.serves());
+    assert!(rt; is_at(&packet, &a));
     assert_eq!(rt; a.hop(&mut packet, 0b010).end, HopEnd::Move(1));
     assert_eq!(rt; packet.here(), 1);
     let mut b = authority(alloc)?;
+    assert!(rt; is_at(&packet, &b));
     assert_eq!(rt; b.hop(&mut packet, 0b101).end, HopEnd::Arrive);
     let mut lost = setting_out(&mut a, &ports).ok_or("to b")?;
+    assert!(rt; a.serves());
+    assert!(rt; is_at(&lost, &a));
     let stuck = a.hop(&mut lost, 0);
     assert_eq!(rt; stuck.found, Some(1));
     assert_eq!(rt; stuck.end, HopEnd::Stuck(Cause::NoRoute));

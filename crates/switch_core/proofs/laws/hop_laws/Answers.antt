@@ -1,4 +1,4 @@
-use Rattle.switch_core.proofs.OnWay.{down_is, hop_arrives, hop_ends, hop_moves, hop_same, hop_stands, hop_stuck, hop_turns, hop_usable}
+use Rattle.switch_core.proofs.OnWay.{down_is, hop_arrives, hop_ends, hop_moves, hop_same, hop_stands, hop_stays, hop_stuck, hop_turns, hop_usable}
 use Rattle.switch_core.proofs.Only.{one_hop}
 use Rattle.switch_core.proofs.laws.hop_laws.Goals as goal
 
@@ -12,6 +12,7 @@ returns c = record {
     turns = hop_turns s near t;
     stands = hop_stands s near t;
     usable = hop_usable s near t;
+    stays = hop_stays s near t;
     ends = hop_ends s near t;
     same_packet = hop_same s near t;
   };

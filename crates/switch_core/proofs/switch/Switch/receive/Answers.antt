@@ -6,7 +6,7 @@ use Rattle.switch_core.proofs.switch.Switch.receive.Goals as goal
 
 pub returns-in-Seek-clause-answer : goal.returns-in-Seek-clause-answer
 returns-in-Seek-clause-answer c = λ site number down.
-    let packet = packet_with number c.args.h.now c.args.ingress down in
+    let packet = packet_with number c.args.t.header.now c.args.t.ingress down in
     answer_counted c.args.self.now c.count-in-Seek.new.self site packet
     c.judge-verdict.result c.count-in-Seek.ensures
     ∙ c.judge-verdict.ensures site number down

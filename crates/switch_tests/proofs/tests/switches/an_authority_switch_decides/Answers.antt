@@ -2,4 +2,4 @@ use Rattle.switch_tests.proofs.tests.switches.an_authority_switch_decides.Goals 
 
 pub arrive-arrived-requires-clause-authority : goal.arrive-arrived-requires-clause-authority
 arrive-arrived-requires-clause-authority g c =
-    rw c.in_ok-seeking.ensures (c.in_ok-b.ensures.part c.in_ok-seeking.field-0.header)
+    rw c.in_ok-packet.ensures (c.in_ok-b.ensures.part c.in_ok-packet.packet.header)

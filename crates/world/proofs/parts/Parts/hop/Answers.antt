@@ -4,7 +4,7 @@ use Rattle.std.specs.Option.{option_copied}
 use Rattle.std.specs.Prelude.{IsSomeAnd, is_some, slice_index}
 use Rattle.std.proofs.lemmas.Result.{on_ok_weaker}
 use Rattle.switch_core.specs.Answering.{IsAtAuthority}
-use Rattle.switch_core.specs.Moving.{hop_answer}
+use Rattle.switch_core.specs.Moving.{StandsAt, hop_answer}
 use Rattle.switch_core.specs.declared.answers.HopEnd.TheVariants.{Arrive}
 use Rattle.world_log.proofs.Passing.{of_kept}
 use Rattle.refinement.proofs.Asking.{can_ask, ingress_below, within_here, number_of_packet}
@@ -46,6 +46,8 @@ hop-requires c =
       known = subst (λ o. IsSomeAnd o (λ t. t.tunnel.packet ≡ c.args.packet)) (sym its)
           (number_of_packet _ _ _ _ _ _ c.args.packet c.in-Some.kept.now
           c.requires.begins.ready.refines its);
+      here = of_kept (λ t. StandsAt c.index_mut.result.now t.tunnel.route t.tunnel.place) _
+          c.in-Some.kept.now (sym its) can.stands;
       serving = can.serving;
       stamped = can.stamped;
       authority = of_kept (λ t. (hop_answer c.index_mut.result.now

@@ -1,28 +1,37 @@
 -- A packet goes around a link that it found down.
 use Rattle.std.proofs.Common.{ℕ, ◌≡◌, ◌+◌, ◌++◌, ◌∷◌, ◌<◌, [], Option, Some, None, List, ap, length, refl, subst, sym, ◌∙◌}
 use Rattle.std.specs.Option.{option_copied}
-use Rattle.std.specs.Prelude.{IsSomeAnd}
+use Rattle.std.specs.Prelude.{IsSomeAnd, slice_get}
 use Rattle.journal.specs.declared.item.Item.{Item}
 use Rattle.journal.specs.declared.item.Item.TheVariants as item
 use Rattle.message_bag.specs.Posts.{Post}
 use Rattle.policy_rules.specs.declared.packet.Leg.{Leg}
 use Rattle.switch_core.specs.Answering.{IsAtAuthority, arrived_on}
 use Rattle.switch_core.specs.Ends.{around}
-use Rattle.switch_core.specs.Moving.{hop_answer}
+use Rattle.switch_core.specs.Moving.{StandsAt, hop_answer}
 use Rattle.switch_core.specs.State.{SwitchValue, call_counted}
+use Rattle.switch_core.proofs.OnWay.{hop_ends, hop_stays}
 use Rattle.switch_core.specs.declared.answers.HopEnd.{HopEnd}
 use Rattle.switch_core.specs.declared.answers.HopEnd.TheVariants as hop
 use Rattle.travelling.specs.Travelling.{Flight, Standing, WithOne, standing_at, standing_kept, flight}
+use Rattle.tunnel.specs.Moves.{next}
 use Rattle.tunnel.specs.Tunnel.{TunnelValue}
 use Rattle.world_log.specs.Packets.{hop_posts, hop_flight, hop_written}
 use Rattle.world_log.specs.Writing.{LogAfter, arrived_items, arrived_posts, arrived_flight, packet_standing}
 use Rattle.world_log.specs.declared.log.Log.{Log}
 use Rattle.world_log.proofs.Hopping.{SamePacket, authority_counted, hopped_same}
 use Rattle.world_log.proofs.Logs.{log_failed, log_one}
-use Rattle.world_log.proofs.Passing.{IsMet, arrival_log, met_log, met_turned, of_kept}
+use Rattle.world_log.proofs.Passing.{IsMet, arrival_log, met_log, met_turned, of_kept, placed, settled_log, stood}
 use Rattle.world_log.proofs.Writing.{both_written}
 use Rattle.world_log.proofs.log.Log.go_around.Goals as goal
 use Rattle.world_log.proofs.log.Log.go_around.Goals.{After-unwrap-other}
+
+pub hop-hop-requires-clause-here : goal.hop-hop-requires-clause-here
+hop-hop-requires-clause-here c =
+    stood c.args.switch.now (flight c.args.self.now.travelling c.args.packet)
+    c.unwrap-kept.result.now c.tunnel-tunnel.result
+    (sym (ap option_copied c.unwrap-kept.ensures) ∙ c.look.ensures) c.tunnel-tunnel.ensures
+    c.requires.here
 
 -- the packet in flight
 abbrev its_flight : After-unwrap-other → Flight
@@ -192,9 +201,42 @@ returns-in_err-at-in-Arrive-clause-log c =
     (rerouted before c.args.self.now.journal c.push.new.self now.journal
     c.in_ok-push.ensures.pushed c.in_ok-kept-in-Arrive.ensures.written)))
 
-pub arrive-requires-clause-authority : goal.arrive-requires-clause-authority
-arrive-requires-clause-authority c =
-    let before = (goal.at.arrive-requires-clause-authority c).After-unwrap-other in
+-- where it arrives its switch is asked at the end of its route
+still : (c : After-unwrap-other) → c.hop-hop.result.end ≡ hop.Arrive
+    → StandsAt c.args.switch.now c.hop-hop.new.t.route c.hop-hop.new.t.place
+still c arrives =
+    subst (λ (u : TunnelValue). StandsAt c.args.switch.now u.route u.place)
+    (sym c.hop-hop.ensures.tunnel)
+    (hop_stays c.args.switch.now c.args.site.near c.tunnel-tunnel.result
+    (stood c.args.switch.now (flight c.args.self.now.travelling c.args.packet)
+    c.unwrap-kept.result.now c.tunnel-tunnel.result
+    (sym (ap option_copied c.unwrap-kept.ensures) ∙ c.look.ensures) c.tunnel-tunnel.ensures
+    c.requires.here) (sym c.hop-hop.ensures.end ∙ arrives))
+
+pub receive-verdict-requires-clause-here : goal.receive-verdict-requires-clause-here
+receive-verdict-requires-clause-here c =
+    let before = (goal.at.receive-verdict-requires-clause-here c).After-unwrap-other in
+    let kept = c.in_ok-kept-in-Arrive.ensures.kept in
+    subst (λ w. StandsAt w c.route-route.result.now c.place-place.result)
+    (sym c.hop-hop.ensures.after)
+    (placed (StandsAt c.args.switch.now) c.route-route.result.now c.place-place.result
+    c.hop-hop.new.t (c.route-route.ensures ∙ ap (λ (k : Flight). k.tunnel.route) kept)
+    (c.place-place.ensures.place ∙ ap (λ (k : Flight). k.tunnel.place) kept)
+    (still before c.in-Arrive.is))
+
+pub receive-verdict-requires-clause-last : goal.receive-verdict-requires-clause-last
+receive-verdict-requires-clause-last c =
+    let kept = c.in_ok-kept-in-Arrive.ensures.kept in
+    placed (λ route place. ◌≡◌ {A = Option ℕ} (slice_get route (place + 1)) None)
+    c.route-route.result.now c.place-place.result
+    c.hop-hop.new.t (c.route-route.ensures ∙ ap (λ (k : Flight). k.tunnel.route) kept)
+    (c.place-place.ensures.place ∙ ap (λ (k : Flight). k.tunnel.place) kept)
+    (ap next c.hop-hop.ensures.tunnel ∙ hop_ends c.args.switch.now c.args.site.near
+    c.tunnel-tunnel.result (sym c.hop-hop.ensures.end ∙ c.in-Arrive.is))
+
+pub receive-verdict-requires-clause-authority : goal.receive-verdict-requires-clause-authority
+receive-verdict-requires-clause-authority c =
+    let before = (goal.at.receive-verdict-requires-clause-authority c).After-unwrap-other in
     let t = its_flight before in
     let s = c.args.switch.now in
     let header : c.in_ok-at-in-Arrive.at.header ≡ t.tunnel.header =
@@ -208,9 +250,9 @@ arrive-requires-clause-authority c =
     (authority_counted s t.tunnel.header t.tunnel.leg
     (c.requires.authority t (sym (its before)) (sym c.hop-hop.ensures.end ∙ c.in-Arrive.is)))))
 
-pub arrive-requires-clause-ingress : goal.arrive-requires-clause-ingress
-arrive-requires-clause-ingress c =
-    let before = (goal.at.arrive-requires-clause-ingress c).After-unwrap-other in
+pub settle-requires-clause-ingress : goal.settle-requires-clause-ingress
+settle-requires-clause-ingress c =
+    let before = (goal.at.settle-requires-clause-ingress c).After-unwrap-other in
     let ingress : c.in_ok-at-in-Arrive.at.ingress ≡ (its_flight before).tunnel.ingress =
     ap (λ (a : Standing). a.ingress) c.in_ok-at-in-Arrive.ensures.at
     ∙ ap (λ (k : Flight). k.tunnel.ingress) c.in_ok-kept-in-Arrive.ensures.kept
@@ -226,11 +268,11 @@ returns-in_ok-at-in-Arrive-clause-log c =
     let near = c.args.site.near in
     let ports = c.args.site.ports.now in
     let n = length c.args.self.now.bag + 1 in
-    let r = c.arrive.result in
+    let r = c.settle.result in
     let tunnel = c.hop-hop.new.t in
     let u : Flight = record t { tunnel = tunnel } in
     let mid : Log = c.reroute-in-Arrive.new.self in
-    let now : Log = c.arrive.new.self in
+    let now : Log = c.settle.new.self in
     let at = c.in_ok-at-in-Arrive.at in
     let says = c.in_ok-at-in-Arrive.ensures in
     let kept = c.in_ok-kept-in-Arrive.ensures.kept in
@@ -260,4 +302,6 @@ returns-in_ok-at-in-Arrive-clause-log c =
     (ap (λ (a : Standing). a.packet) stands ∙ packet_is before)
     (subst (λ w. P c.args.self.now.bag w at.packet) c.hop-hop.ensures.after
     (subst (λ bag. P bag c.hop-hop.new.self at.packet) c.reroute-in-Arrive.ensures.unsent
-    c.arrive.ensures.log)))))
+    (settled_log r (length mid.bag + 1) (standing_kept at) at.version at.rule at.packet mid now _ _
+    (c.receive-verdict.ensures.answer (around near ports) at.packet (standing_kept at).down)
+    c.settle.ensures))))))

@@ -1,11 +1,11 @@
 -- A packet goes on as it is kept.
 use Rattle.std.proofs.Common.{ℕ, ◌≡◌, ◌+◌, Option, Some, None, ap, length, subst, sym, true, ◌∙◌}
 use Rattle.std.specs.Option.{option_copied}
-use Rattle.std.specs.Prelude.{IsSomeAnd, OnOk}
+use Rattle.std.specs.Prelude.{IsSomeAnd, OnOk, slice_get}
 use Rattle.std.proofs.lemmas.Result.{on_ok_weaker}
 use Rattle.switch_core.specs.Answering.{IsAtAuthority, arrived_on}
 use Rattle.switch_core.specs.Ends.{around}
-use Rattle.switch_core.specs.Moving.{Moved, hop_answer, is_free}
+use Rattle.switch_core.specs.Moving.{Moved, StandsAt, hop_answer, is_free}
 use Rattle.switch_core.specs.State.{SwitchValue, call_counted}
 use Rattle.switch_core.specs.declared.answers.HopEnd.TheVariants.{Arrive}
 use Rattle.travelling.specs.Travelling.{Flight, Standing, standing_at, standing_kept, flight}
@@ -13,7 +13,7 @@ use Rattle.tunnel.specs.Moves.{next}
 use Rattle.world_log.specs.Packets.{hop_posts, hop_flight, hop_written, hopped_switch}
 use Rattle.world_log.specs.Writing.{LogAfter, arrived_items, arrived_posts, arrived_flight, packet_standing}
 use Rattle.world_log.proofs.Hopping.{authority_counted}
-use Rattle.world_log.proofs.Passing.{IsPassed, arrival_log, free_hop, move_log, of_kept, passed_by, passed_log, passed_switch, passed_to}
+use Rattle.world_log.proofs.Passing.{IsPassed, arrival_log, free_hop, move_log, of_kept, passed_by, passed_log, passed_switch, passed_to, placed, settled_log}
 use Rattle.world_log.proofs.log.Log.hop.Goals as goal
 use Rattle.world_log.proofs.log.Log.hop.Goals.{After-pass}
 
@@ -25,8 +25,8 @@ passed : (c : After-pass) → IsPassed c.args.switch.now c.pass.new.self c.args.
     (next c.unwrap-kept.result.now.tunnel) c.pass.result
 passed c =
     passed_by c.args.switch.now c.pass.new.self c.args.site.near c.pass.result
-    c.route.result.now c.place.result c.unwrap-kept.result.now.tunnel c.route.ensures
-    c.place.ensures.place (record { next = c.pass.ensures.next; after = c.pass.ensures.after })
+    c.route-route.result.now c.place-place.result c.unwrap-kept.result.now.tunnel
+    c.route-route.ensures c.place-place.ensures.place (record { next = c.pass.ensures.next; after = c.pass.ensures.after })
 
 onward : (c : After-pass) (to : Option ℕ) → c.pass.result ≡ Some to
     → (is_free c.args.site.near (next c.unwrap-kept.result.now.tunnel) ≡ true)
@@ -38,6 +38,15 @@ onward c to some = passed_to c.args.switch.now c.pass.new.self c.args.site.near
 number : (c : After-pass) → c.unwrap-kept.result.now.tunnel.packet ≡ c.args.packet
 number c = subst (λ o. IsSomeAnd o (λ (t : Flight). t.tunnel.packet ≡ c.args.packet))
     (sym (its c)) c.requires.known
+
+-- ---- its switch is asked
+
+pub pass-requires-clause-here : goal.pass-requires-clause-here
+pass-requires-clause-here c =
+    placed (StandsAt c.args.switch.now) c.route-route.result.now c.place-place.result
+    c.unwrap-kept.result.now.tunnel c.route-route.ensures c.place-place.ensures.place
+    (c.requires.here c.unwrap-kept.result.now
+    (sym c.look.ensures ∙ ap option_copied c.unwrap-kept.ensures))
 
 -- ---- it moves on
 
@@ -82,9 +91,25 @@ ended c last =
     ap (λ (m : Moved). m.end) (free_hop c.args.switch.now c.args.site.near c.args.site.ports.now
     c.unwrap-kept.result.now None on.0 on.1)
 
-pub arrive-requires-clause-authority : goal.arrive-requires-clause-authority
-arrive-requires-clause-authority c =
-    let before = (goal.at.arrive-requires-clause-authority c).After-pass in
+pub receive-verdict-requires-clause-here : goal.receive-verdict-requires-clause-here
+receive-verdict-requires-clause-here c =
+    let before = (goal.at.receive-verdict-requires-clause-here c).After-pass in
+    let k = c.unwrap-kept.result.now in
+    let on = onward before None (c.in-Some-None.is ∙ ap Some c.in-Some-None.field-0-is) in
+    subst (λ w. StandsAt w c.route-route.result.now c.place-place.result) (sym on.2)
+    (placed (StandsAt c.args.switch.now) c.route-route.result.now c.place-place.result k.tunnel
+    c.route-route.ensures c.place-place.ensures.place (c.requires.here k (sym (its before))))
+
+pub receive-verdict-requires-clause-last : goal.receive-verdict-requires-clause-last
+receive-verdict-requires-clause-last c =
+    (passed_to c.args.switch.now c.pass.new.self c.args.site.near
+    (slice_get c.route-route.result.now (c.place-place.result + 1)) c.pass.result
+    (record { next = c.pass.ensures.next; after = c.pass.ensures.after }) None
+    (c.in-Some-None.is ∙ ap Some c.in-Some-None.field-0-is)).1
+
+pub receive-verdict-requires-clause-authority : goal.receive-verdict-requires-clause-authority
+receive-verdict-requires-clause-authority c =
+    let before = (goal.at.receive-verdict-requires-clause-authority c).After-pass in
     let k = c.unwrap-kept.result.now in
     let s = c.args.switch.now in
     let last = c.in-Some-None.is ∙ ap Some c.in-Some-None.field-0-is in
@@ -110,24 +135,27 @@ returns-in_ok-at-in-Some-None-clause-log c =
     let says = c.in_ok-at-in-Some-None.ensures in
     let here : c.number.result ≡ (call_counted s).number =
     c.number.ensures.number ∙ ap (λ (w : SwitchValue). w.number) on.2 in
-    let P : SwitchValue → ℕ → Type 0 = λ w packet. LogAfter c.arrive.result
+    let P : SwitchValue → ℕ → Type 0 = λ w packet. LogAfter c.settle.result
     (arrived_items n (standing_kept at) at.version at.rule
     (arrived_on w (around near ports) (packet_standing (standing_kept at)) c.leg-leg.result))
     (arrived_posts (standing_kept at)
     (arrived_on w (around near ports) (packet_standing (standing_kept at)) c.leg-leg.result))
     packet (arrived_flight at.version at.rule
     (arrived_on w (around near ports) (packet_standing (standing_kept at)) c.leg-leg.result))
-    c.args.self.now c.arrive.new.self in
-    of_kept (λ t. LogAfter c.arrive.result (hop_written n s near ports t)
+    c.args.self.now c.settle.new.self in
+    of_kept (λ t. LogAfter c.settle.result (hop_written n s near ports t)
     (hop_posts s near ports t) c.args.packet (hop_flight s near ports t)
-    c.args.self.now c.arrive.new.self) _ k (its before)
-    (passed_log s near ports k c.arrive.result n c.args.packet None c.args.self.now
-    c.arrive.new.self on.0 on.1
-    (arrival_log c.arrive.result n (call_counted s) near ports k (standing_kept at) at.version
-    at.rule c.leg-leg.result c.args.packet c.args.self.now c.arrive.new.self
+    c.args.self.now c.settle.new.self) _ k (its before)
+    (passed_log s near ports k c.settle.result n c.args.packet None c.args.self.now
+    c.settle.new.self on.0 on.1
+    (arrival_log c.settle.result n (call_counted s) near ports k (standing_kept at) at.version
+    at.rule c.leg-leg.result c.args.packet c.args.self.now c.settle.new.self
     (says.at ∙ ap (λ n. standing_at n k) here) says.version says.rule c.leg-leg.ensures
     (subst (P (call_counted s)) (ap (λ (a : Standing). a.packet) says.at ∙ number before)
-    (subst (λ w. P w at.packet) on.2 c.arrive.ensures.log))))
+    (subst (λ w. P w at.packet) on.2
+    (settled_log c.settle.result n (standing_kept at) at.version at.rule at.packet c.args.self.now
+    c.settle.new.self _ _ (c.receive-verdict.ensures.answer (around near ports) at.packet
+    (standing_kept at).down) c.settle.ensures)))))
 
 pub returns-in_ok-at-in-Some-None-clause-counted :
     goal.returns-in_ok-at-in-Some-None-clause-counted
@@ -137,8 +165,8 @@ returns-in_ok-at-in-Some-None-clause-counted c =
     let s = c.args.switch.now in
     let near = c.args.site.near in
     let on = onward before None (c.in-Some-None.is ∙ ap Some c.in-Some-None.field-0-is) in
-    of_kept (λ t. OnOk c.arrive.result (c.arrive.new.switch ≡ hopped_switch s near t)) _ k
-    (its before) (on_ok_weaker c.arrive.result (λ _. c.arrive.ensures.counted
+    of_kept (λ t. OnOk c.settle.result (c.receive-verdict.new.self ≡ hopped_switch s near t)) _ k
+    (its before) (on_ok_weaker c.settle.result (λ _. c.receive-verdict.ensures.after
     ∙ ap call_counted on.2
     ∙ sym (passed_switch s near c.args.site.ports.now k None on.0 on.1))
-    c.arrive.ensures.log.written)
+    c.settle.ensures.written)
