@@ -51,6 +51,7 @@ STOPS = {
     "IsAccepted": "refusals",
     "Accounts": "refusals",
     "NeedsReadFault": "faults",
+    "MayFollowFault": "faults",
     "most_reads": "reads",
     "IsAfterReads": "reads",
 }

@@ -1,13 +1,14 @@
 -- What comes of a play, by what became of its text.
 use Rattle.std.specs.Prelude.{⊤, is_some}
-use Rattle.std.proofs.Common.{ℕ, ◌≡◌, ◌⊎◌, IsTrue, inl, inr, refl, Bool, Option, Some, None, Result, Ok, Err, List}
+use Rattle.std.proofs.Common.{ℕ, ◌≡◌, ◌⊎◌, IsTrue, arith, inl, inr, length, refl, subst, Bool, Option, Some, None, Result, Ok, Err, List}
+use Rattle.std.proofs.lemmas.List.{take_all}
 use Rattle.std.specs.Option.{ForSome}
 use Rattle.journal.specs.declared.item.Item.{Item}
 use Rattle.meters.specs.Seen.{Seen}
 use Rattle.net_file.specs.declared.net.Net.{Net}
 use Rattle.journal_reports.specs.Plain.{IsPlain}
 use Rattle.update_machine.specs.Full.{IsPlay}
-use Rattle.packet_laws.specs.OnTheWay.{HeldOnTheWay}
+use Rattle.packet_laws.specs.OnTheWay.{HeldOnTheWay, HoldsSoFar}
 use Rattle.packet_laws.proofs.StepsOfPlays.{play_begins}
 use Rattle.update_machine.specs.Setting.{Setting}
 use Rattle.difane_cli.specs.Tasks.{Inputs, Play}
@@ -32,20 +33,24 @@ pub played : AnswerLaws → (command : Command) (files : Option Files) (inputs :
     (journal : List Item) (full : Option ℕ) → IsPlayOf command inputs
     → ForSome (known_task files (Some command)) (λ read. read ≡ Ok (Play inputs))
     → MayBePlayed inputs → IsPlay inputs.setting inputs.events journal full
-    → HeldOnTheWay inputs.setting inputs.events journal full
+    → HeldOnTheWay inputs.setting journal
     → IsAnswer command files inputs journal full
-played laws command files inputs journal full asked accepted sound play held = record {
-  asked = asked;
-  stated = stated_by files command inputs accepted;
-  accepted = accepted;
-  sound = sound;
-  play = play;
-  run = held.so_far.run;
-  causes = held.so_far.causes;
-  strong = held.so_far.strong;
-  entered = laws.entered inputs.setting inputs.events journal full play;
-  held = held;
-}
+played laws command files inputs journal full asked accepted sound play held =
+    let whole : HoldsSoFar inputs.setting journal =
+    subst (HoldsSoFar inputs.setting) (take_all (length journal) journal (omega arith))
+    (held.so_far (length journal)) in
+    record {
+      asked = asked;
+      stated = stated_by files command inputs accepted;
+      accepted = accepted;
+      sound = sound;
+      play = play;
+      run = whole.run;
+      causes = whole.causes;
+      strong = whole.strong;
+      entered = laws.entered inputs.setting inputs.events journal full play;
+      held = held;
+    }
 
 -- the answer that the judge gave is the one that is asked for
 pub judged : AnswerLaws → (command : Command) (files : Option Files) (inputs : Inputs)

@@ -58,6 +58,14 @@ NeedsReadFault files status.ReadFault = ⊤
 NeedsReadFault None (status.Input file code row) = (code ≡ missing_file) ⊎ (code ≡ too_long)
 NeedsReadFault _ _ = ⊥
 
+-- a status behind which the shelf may have counted a fault: one that only a fault gives; and where
+-- files are not known, want of memory, which may be found as an absent file is told
+abbrev pub MayFollowFault : Option Files → Status → Type 0
+MayFollowFault files status.ReadFault = ⊤
+MayFollowFault None (status.Input file code row) = (code ≡ missing_file) ⊎ (code ≡ too_long)
+MayFollowFault None status.NoMemory = ⊤
+MayFollowFault _ _ = ⊥
+
 -- what a status says of what was to be read: a refusal is the one that stands there, and work was
 -- done only on what is accepted
 abbrev pub Accounts : {X : Type 0} → Result X Refusal → Status → Type 0
@@ -80,10 +88,11 @@ EndsRead known read seen old new (Err stop) =
     ForSome known (λ given. Accounts (read given) (status_of stop))
     × (NeedsReadFault old.files (status_of stop) → Rose old.faults new.faults)
 
--- where files are known, a reading that doesn't end with a read fault counts no fault
+-- a reading counts no fault, unless it stops as one that met a fault may
 abbrev pub IsCalmRead : {V : Type 0} → (old new : ShelfState) → Result V Stop → Type 0
-IsCalmRead old new (Err stop.ReadFault) = ⊤
-IsCalmRead old new result = ForSome old.files (λ files. new.faults ≡ old.faults)
+IsCalmRead old new (Ok value) = new.faults ≡ old.faults
+IsCalmRead old new (Err stop) =
+    ¬ MayFollowFault old.files (status_of stop) → new.faults ≡ old.faults
 
 -- ---- checks of what was read
 

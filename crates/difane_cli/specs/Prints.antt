@@ -5,7 +5,9 @@ use Rattle.std.specs.Option.{ForSome}
 use Rattle.net_file.specs.Owners.{switch_number}
 use Rattle.net_file.specs.declared.net.Net.{Net}
 use Rattle.partition.specs.Plan.{IsPlan, plan_of}
-use Rattle.policy_rules.specs.Policy.{IsPolicy}
+use Rattle.five_tuple.specs.declared.header.Header.{Header}
+use Rattle.policy_rules.specs.Policy.{IsFirstMatch, IsPolicy}
+use Rattle.policy_rules.specs.Scan.{scan}
 use Rattle.show_text.specs.Text.{compile_text, table_text}
 use Rattle.switch_table.specs.Tables.{tables_of}
 use Rattle.shelf.specs.Shelf.{Files}
@@ -30,7 +32,8 @@ IsSwitchOf (Some name) net switch =
 
 -- a policy, its plan on the network that a command names, and the switch that it names; the plan's
 -- partitions are the leaves of the tree that is defined for the policy's rules, and their targets a
--- placement; and at every switch it leads each header to the first match of the policy
+-- placement; and at every switch it leads each header to what a scan of the policy finds, which is
+-- the first match
 pub record IsPrintingOf (command : PrintCommand) (printing : Printing) : Type 0 where
   pub policy : IsPolicy printing.policy
   pub net : IsNetOf command.net printing.net
@@ -38,6 +41,8 @@ pub record IsPrintingOf (command : PrintCommand) (printing : Printing) : Type 0 
   pub plan : plan_of printing.policy printing.net ≡ Ok printing.hosted
   pub parts : IsPlan printing.policy printing.net printing.hosted
   pub leads : LeadEveryHeader printing.policy printing.hosted
+  pub first_match : (header : Header)
+      → IsFirstMatch printing.policy header (scan printing.policy header)
 
 -- the plan, or the tables that it gives to the switch for version 1
 abbrev pub text_by : Option ℕ → Printing → List ℕ

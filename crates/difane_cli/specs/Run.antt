@@ -87,7 +87,7 @@ pub record IsAnswer (command : Command) (files : Option Files) (inputs : Inputs)
   pub causes : HaveCauses (HasCause inputs.setting) [] journal
   pub strong : HaveCauses (StrongCause inputs.setting) [] journal
   pub entered : AreEntered (rows_played full inputs.events) journal
-  pub held : HeldOnTheWay inputs.setting inputs.events journal full
+  pub held : HeldOnTheWay inputs.setting journal
 
 -- there are inputs such that the journal is that of their play, to its end or to a row at which it
 -- stopped full; the meters that were given back are those that stayed of the ones that were taken;

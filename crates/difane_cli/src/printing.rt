@@ -16,6 +16,7 @@ use crate::status::Stop;
 use command_line::PrintArgs;
 use controller::Plan;
 use net_file::Net;
+use policy_rules::policy_laws;
 use shelf::{Shelf, Sink, SinkError, write_whole};
 use show_text::{compile_text, table_text};
 use std::alloc::{AllocError, Global};
@@ -46,6 +47,7 @@ pub fn read_printing<F: Shelf>(
     ensures planned { IfOk result (λ inputs.
         IsPrintingOf (print_named args.now) (printing_stated inputs)) }
 {
+    policy_laws();
     let net = take_network(alloc, shelf, args.net)?;
     let switch = find_switch(alloc, &net, args.switch)?;
     let policy = read_policy(alloc, shelf, args.policy, net.port_mask())?;

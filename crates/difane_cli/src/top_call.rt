@@ -3,7 +3,7 @@ ghost use Rattle.std.specs.Prelude.{◌≡◌, ◌≢◌, ◌≤◌, ◌⊎◌, 
 ghost use Rattle.std.specs.Option.{ForSome};
 ghost use Rattle.shelf.specs.Sink.{Rose};
 ghost use Rattle.shelf.specs.Shelf.{IsAfterReads};
-ghost use Rattle.difane_cli.specs.Exports.{Accounts, IsAccepted, NeedsReadFault, Outcome, PlaysNothing, RanOut, WritesLine, known_task, most_reads, status_line};
+ghost use Rattle.difane_cli.specs.Exports.{Accounts, IsAccepted, MayFollowFault, NeedsReadFault, Outcome, PlaysNothing, RanOut, WritesLine, known_task, most_reads, status_line};
 ghost use Rattle.command_line.specs.Grammar.{command_of};
 ghost use Rattle.command_line.specs.Commands.{argument_texts};
 ghost use Rattle.difane_cli.specs.declared.status.Status.TheVariants as status;
@@ -59,11 +59,10 @@ pub fn run<F: Shelf, K: Sink, E: Sink>(
     ensures write_fault { result.status ≡ status.WriteFault
         → Rose (K.state out.old).faults (K.state out.new).faults }
 
-    // Only there is a fault counted, of known files and of the output: what failed is not tried again
-    // with success.
-    ensures no_read_fault { result.status ≢ status.ReadFault
-        → ForSome (F.state shelf.old).files (λ files.
-        (F.state shelf.new).faults ≡ (F.state shelf.old).faults) }
+    // Only there is a fault counted, or, of files that aren't known, behind want of memory too: what
+    // failed is not tried again with success.
+    ensures no_read_fault { ¬ MayFollowFault (F.state shelf.old).files result.status
+        → (F.state shelf.new).faults ≡ (F.state shelf.old).faults }
     ensures no_write_fault { result.status ≢ status.WriteFault
         → (K.state out.new).faults ≡ (K.state out.old).faults }
 

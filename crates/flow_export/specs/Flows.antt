@@ -1,7 +1,8 @@
 -- The flows of a list of leavings: which headers it has, and how many packets had each.
-use Rattle.std.specs.Prelude.{ℕ, not, List, [], ◌∷◌, count_by, filter, map}
+use Rattle.std.specs.Prelude.{ℕ, ◌≡◌, not, List, [], ◌∷◌, count_by, filter, length, map, nat_le}
 use Rattle.five_tuple.specs.HeaderNumbers.{header_eq}
 use Rattle.five_tuple.specs.declared.header.Header.{Header}
+use Rattle.meters.specs.Seen.{Seen}
 use Rattle.meters.specs.declared.flows.FlowRecord.{FlowRecord}
 use Rattle.policy_rules.specs.declared.packet.Leaving.{Leaving}
 
@@ -26,3 +27,11 @@ pub record FlowMeterValue : Type 0 where
   pub port : ℕ
   pub held : List Leaving
   pub most : ℕ
+
+-- the meter is one of its kind, whatever list it holds: the records of a list are its flows, and a
+-- list of so many different headers is ended
+pub record IsFlowMeter (port most : ℕ) (meter : Seen) : Type 0 where
+  pub at_port : meter.port ≡ port
+  pub recorded : (held : List Leaving) → meter.recorded held ≡ flows port held
+  pub is_ended : (held : List Leaving)
+      → meter.is_ended held ≡ nat_le most (length (headers_of held))

@@ -1,7 +1,7 @@
 ghost use Rattle.std.specs.Prelude.{◌≡◌, ◌+◌, ◌<◌, ◌≤◌, ◌^◌, [], ◌∷◌, ◌++◌, length, nat_le, OnErr, OnOk};
 ghost use Rattle.five_tuple.specs.HeaderNumbers.{header_eq};
 ghost use Rattle.flow_export.specs.Counts.{count_at};
-ghost use Rattle.flow_export.specs.Flows.{flows, headers_of};
+ghost use Rattle.flow_export.specs.Flows.{IsFlowMeter, flows, headers_of};
 ghost use Rattle.indexmap.specs.IndexMap.{insert_entry};
 
 use five_tuple::Header;
@@ -39,7 +39,8 @@ impl FlowMeter {
     pub fn new(alloc: Global, port: u32, most: u32) -> Self
         requires some { 1 ≤ most }
         requires few { most ≤ 65536 }
-        ensures { result ≡ record { port = port; held = []; most = most } }
+        ensures value { result ≡ record { port = port; held = []; most = most } }
+        ensures kind { IsFlowMeter port most (⟦<FlowMeter as Meter>⟧.seen result) }
     {
         FlowMeter {
             port,

@@ -47,5 +47,6 @@ mod RowPieces
 mod Rows
 mod Plays
 mod EntryTrials
+mod StepEnds
 mod Together
 mod OnTheWay

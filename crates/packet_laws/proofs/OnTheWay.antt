@@ -1,9 +1,9 @@
 -- What held on the way, by the laws that say it one by one.
 use Rattle.std.specs.Prelude.{length}
-use Rattle.std.proofs.Common.{ℕ, ◌≤◌, ◌∙◌, Option, List, [], ◌++◌, ap, arith, sym, subst, take}
-use Rattle.std.proofs.Math.Seq.{take-append_seam}
+use Rattle.std.proofs.Common.{ℕ, zero, suc, ◌≡◌, ◌≤◌, ◌∙◌, Option, Some, None, List, [], ◌∷◌, ap, arith, refl, sym, subst, take}
 use Rattle.journal.specs.declared.item.Item.{Item}
 use Rattle.steps.specs.declared.step.Event.{Event}
+use Rattle.update_machine.specs.Answers.{BeginsAnswer, StepOfRow, after_steps}
 use Rattle.update_machine.specs.Causes.{HasCause, HaveCauses}
 use Rattle.update_machine.specs.Full.{IsPlay}
 use Rattle.update_machine.specs.Machine.{IsRun}
@@ -13,21 +13,21 @@ use Rattle.control_laws.specs.Always.{AreEvents, HoldsAlways, HoldsAtEnds, Holds
 use Rattle.control_laws.specs.Rises.{RisesRightly}
 use Rattle.packet_laws.specs.Between.{HoldsBetween, steps_played}
 use Rattle.packet_laws.specs.Hops.{detour_count, exit_count, hops_taken, most_hops, most_switches, routes_taken, search_count}
-use Rattle.packet_laws.specs.OnTheWay.{HeldOnTheWay, HoldsSoFar, IsKeptBehind, TakesFew}
+use Rattle.packet_laws.specs.OnTheWay.{EndsStep, HeldOnTheWay, HoldsSoFar, IsKeptBehind, TakesFew}
 use Rattle.packet_laws.specs.Routes.{hops_on_route, most_routes}
 use Rattle.packet_laws.specs.StrongCauses.{StrongCause}
+use Rattle.packet_laws.specs.Travelling.{PacketsTravel}
 use Rattle.packet_laws.specs.Whole.{KeepVersionsWhole}
+use Rattle.packet_laws.proofs.StepEnds.{ends_at}
 use Rattle.packet_laws.proofs.StepsOfPlays.{play_begins}
-
--- a fact of the journals of settings, within a step too
-abbrev pub OfReached : (Setting → List Item → Type 0) → Type 0
-OfReached Holds = HoldsReached (λ setting journal. IsSetting setting → Holds setting journal)
+use Rattle.packet_laws.proofs.Together.{OfReached, always_reached}
 
 -- the laws of journals that may end within a step
 pub record Laws : Type 0 where
   pub run : OfReached (λ setting journal. IsRun setting journal)
   pub causes : OfReached (λ setting journal. HaveCauses (HasCause setting) [] journal)
   pub strong : OfReached (λ setting journal. HaveCauses (StrongCause setting) [] journal)
+  pub versions : OfReached KeepVersionsWhole
   pub rises : HoldsAlways (λ setting journal. HaveCauses (RisesRightly setting) [] journal)
   pub searches : OfReached (λ setting journal. (i : ℕ) → search_count journal i ≤ most_versions)
   pub exits : OfReached (λ setting journal. (i : ℕ) → exit_count journal i ≤ 1)
@@ -37,20 +37,6 @@ pub record Laws : Type 0 where
   pub on_route : OfReached (λ setting journal. (i : ℕ) → hops_on_route journal i ≤ most_switches)
   pub hops : OfReached (λ setting journal. (i : ℕ) → hops_taken journal i ≤ most_hops)
 
--- what always holds, holds where a journal is reached
-always_reached : (Holds : Setting → List Item → Type 0) → HoldsAlways Holds → HoldsReached Holds
-always_reached Holds law = record {
-  reached = λ setting journal at.
-      subst (Holds setting) (sym at.written) (law.behind.ends.stepped setting at.steps);
-  within = λ setting journal rest at.
-      subst (Holds setting)
-      (ap (take (length journal)) (sym at.written) ∙ take-append_seam journal rest)
-      (law.behind.items setting at.steps (length journal));
-  answered = λ setting events journal own answers.
-      law.behind.ends.answered setting events journal answers;
-  begun = λ setting events journal own begins. law.behind.begun setting events journal begins;
-}
-
 -- whatever gives each of the laws gives all
 all_so_far : Laws → (setting : Setting) (journal : List Item) → IsSetting setting
     → ((Holds : Setting → List Item → Type 0) → HoldsReached Holds → Holds setting journal)
@@ -59,6 +45,7 @@ all_so_far laws setting journal is give = record {
   run = give _ laws.run is;
   causes = give _ laws.causes is;
   strong = give _ laws.strong is;
+  versions = give _ laws.versions is;
   rises = give _ (always_reached _ laws.rises);
   few = λ i. record {
     searches = give _ laws.searches is i;
@@ -87,34 +74,66 @@ holds_so_far laws = record {
 abbrev pub OfSteps : (Setting → List Item → Type 0) → Type 0
 OfSteps Holds = HoldsBetween (λ setting journal. IsSetting setting → Holds setting journal)
 
-pub kept_behind : OfSteps KeepVersionsWhole → HoldsAtEnds AreSettled → OfSteps IsKeptBehind
-kept_behind whole settle = record {
+pub kept_behind : OfSteps PacketsTravel → HoldsAtEnds AreSettled → OfSteps IsKeptBehind
+kept_behind travel settle = record {
   reached = λ setting journal at is. record {
-    versions = whole.reached setting journal at is;
+    packets = travel.reached setting journal at is;
     settled = subst (AreSettled setting) (sym at.written) (settle.stepped setting at.steps);
   };
   answered = λ setting events journal own answers is. record {
-    versions = whole.answered setting events journal own answers is;
+    packets = travel.answered setting events journal own answers is;
     settled = settle.answered setting events journal answers;
   };
   so_far = λ setting events journal own answers is. record {
-    versions = whole.so_far setting events journal own answers is;
+    packets = travel.so_far setting events journal own answers is;
     settled = settle.so_far setting events journal answers;
   };
   played = λ setting events journal full own play n is. record {
-    versions = whole.played setting events journal full own play n is;
+    packets = travel.played setting events journal full own play n is;
     settled = settle.stepped setting (take n (steps_played setting events journal full play));
   };
 }
 
 -- ---- plays
 
+-- the first items of what begins an answer begin it too
+fewer_begin : (setting : Setting) (events : List Event) (journal : List Item) (n : ℕ)
+    → BeginsAnswer setting events journal → BeginsAnswer setting events (take n journal)
+fewer_begin setting events journal n begins =
+    let less = fewer n begins.length begins.whole in
+    record {
+      whole = begins.whole;
+      answers = begins.answers;
+      length = less.0;
+      written = ap (take n) begins.written ∙ less.1;
+    }
+  where
+    fewer : (n m : ℕ) (items : List Item)
+        → (l : ℕ) × (take n (take m items) ≡ take l items)
+    fewer zero m items = (0, refl)
+    fewer (suc n) zero items = (0, refl)
+    fewer (suc n) (suc m) [] = (0, refl)
+    fewer (suc n) (suc m) (first ∷ items) =
+        let less = fewer n m items in (suc less.0, ap (λ (js : List Item). first ∷ js) less.1)
+
+written_of : (setting : Setting) (events : List Event) (journal : List Item) (full : Option ℕ)
+    → (play : IsPlay setting events journal full)
+    → journal ≡ after_steps setting [] (steps_played setting events journal full play)
+written_of setting events journal None play = play.answers.written
+written_of setting events journal (Some row) play = play.written
+
 pub held_on_the_way : OfReached HoldsSoFar → OfSteps IsKeptBehind
     → (setting : Setting) (events : List Event) (journal : List Item) (full : Option ℕ)
     → IsSetting setting → AreEvents setting events → IsPlay setting events journal full
-    → HeldOnTheWay setting events journal full
-held_on_the_way so_far behind setting events journal full is own play = record {
-  kept = λ steps n within. behind.played setting events journal full own steps n is;
-  so_far = so_far.begun setting events journal own (play_begins setting events journal full play)
-      is;
-}
+    → HeldOnTheWay setting journal
+held_on_the_way so_far behind setting events journal full is own play =
+    let steps : List StepOfRow = steps_played setting events journal full play in
+    let written = written_of setting events journal full play in
+    record {
+      so_far = λ n. so_far.begun setting events (take n journal) own
+          (fewer_begin setting events journal n (play_begins setting events journal full play)) is;
+      kept = λ n ends.
+          let found = ends_at setting steps n (subst (λ (js : List Item). EndsStep js n) written ends) in
+          subst (IsKeptBehind setting) (sym (ap (take n) written ∙ found.1))
+          (behind.played setting events journal full own play found.0 is);
+    }

@@ -1,10 +1,11 @@
--- What always holds, holds between steps too; so all of it holds there.
-use Rattle.std.proofs.Common.{ℕ, List, [], sym, subst, take}
+-- What always holds, holds of journals that are reached, within a step too; so all that keeps
+-- versions whole holds of them.
+use Rattle.std.proofs.Common.{ℕ, ◌∙◌, List, [], ◌++◌, ap, length, sym, subst, take}
+use Rattle.std.proofs.Math.Seq.{take-append_seam}
 use Rattle.journal.specs.declared.item.Item.{Item}
-use Rattle.update_machine.specs.Answers.{after_steps}
 use Rattle.update_machine.specs.Causes.{HaveCauses}
 use Rattle.update_machine.specs.Setting.{Setting, IsSetting}
-use Rattle.control_laws.specs.Always.{HoldsAlways}
+use Rattle.control_laws.specs.Always.{HoldsAlways, HoldsReached}
 use Rattle.control_laws.specs.BootLaws.{BootsAreKnown, OpensAtOneVersion, ServingIsKnown}
 use Rattle.control_laws.specs.ItemCauses.{HasItemCause}
 use Rattle.control_laws.specs.Acknowledged.{IsAckedFirst, MembersAcknowledged}
@@ -12,11 +13,28 @@ use Rattle.control_laws.specs.Bounds.{MarksAreBounded}
 use Rattle.control_laws.specs.Heard.{AcksHold, InstallsArePlanned}
 use Rattle.control_laws.specs.Serving.{ServingHold}
 use Rattle.control_laws.specs.Planned.{TablesArePlanned}
-use Rattle.packet_laws.specs.Between.{HoldsBetween, steps_played}
-use Rattle.packet_laws.specs.Travelling.{PacketsTravel, RulesAreRight}
+use Rattle.packet_laws.specs.Travelling.{RulesAreRight}
 use Rattle.packet_laws.specs.Whole.{KeepVersionsWhole}
 
--- the laws of boots, versions and marks, of cache rules and of packets
+-- what always holds, holds where a journal is reached
+pub always_reached : (Holds : Setting → List Item → Type 0) → HoldsAlways Holds → HoldsReached Holds
+always_reached Holds law = record {
+  reached = λ setting journal at.
+      subst (Holds setting) (sym at.written) (law.behind.ends.stepped setting at.steps);
+  within = λ setting journal rest at.
+      subst (Holds setting)
+      (ap (take (length journal)) (sym at.written) ∙ take-append_seam journal rest)
+      (law.behind.items setting at.steps (length journal));
+  answered = λ setting events journal own answers.
+      law.behind.ends.answered setting events journal answers;
+  begun = λ setting events journal own begins. law.behind.begun setting events journal begins;
+}
+
+-- a fact of the journals of settings, within a step too
+abbrev pub OfReached : (Setting → List Item → Type 0) → Type 0
+OfReached Holds = HoldsReached (λ setting journal. IsSetting setting → Holds setting journal)
+
+-- the laws of boots, versions and marks, and of cache rules
 pub record Laws : Type 0 where
   pub causes : HoldsAlways (λ setting journal. HaveCauses (HasItemCause setting) [] journal)
   pub boots : HoldsAlways (λ setting journal. BootsAreKnown journal)
@@ -30,15 +48,13 @@ pub record Laws : Type 0 where
   pub members : HoldsAlways (λ setting journal. MembersAcknowledged setting journal)
   pub marks : HoldsAlways (λ setting journal. MarksAreBounded setting journal)
   pub holding : HoldsAlways (λ setting journal. ServingHold setting journal)
-  pub rules : HoldsBetween (λ setting journal. IsSetting setting → RulesAreRight setting journal)
-  pub packets : HoldsBetween (λ setting journal.
-      IsSetting setting → PacketsTravel setting journal)
+  pub rules : OfReached RulesAreRight
 
 module _ (laws : Laws) (setting : Setting) (journal : List Item) where
   -- each item has its cause, and most of it follows
   whole : HaveCauses (HasItemCause setting) [] journal → RulesAreRight setting journal
-      → PacketsTravel setting journal → KeepVersionsWhole setting journal
-  whole causes rules packets = record {
+      → KeepVersionsWhole setting journal
+  whole causes rules = record {
     causes = causes;
     boots = laws.boots.caused setting journal causes;
     serving = laws.serving.caused setting journal causes;
@@ -51,29 +67,22 @@ module _ (laws : Laws) (setting : Setting) (journal : List Item) where
     marks = laws.marks.caused setting journal causes;
     holding = laws.holding.caused setting journal causes;
     rules = rules;
-    packets = packets;
   }
 
-pub together : Laws
-    → HoldsBetween (λ setting journal. IsSetting setting → KeepVersionsWhole setting journal)
-together laws = record {
-  reached = λ setting journal reached is. whole laws setting journal
-      (subst (HaveCauses (HasItemCause setting) []) (sym reached.written)
-      (laws.causes.behind.ends.stepped setting reached.steps))
-      (laws.rules.reached setting journal reached is)
-      (laws.packets.reached setting journal reached is);
-  answered = λ setting events journal own answers is. whole laws setting journal
-      (laws.causes.behind.ends.answered setting events journal answers)
-      (laws.rules.answered setting events journal own answers is)
-      (laws.packets.answered setting events journal own answers is);
-  so_far = λ setting events journal own answers is. whole laws setting journal
-      (laws.causes.behind.ends.so_far setting events journal answers)
-      (laws.rules.so_far setting events journal own answers is)
-      (laws.packets.so_far setting events journal own answers is);
-  played = λ setting events journal full own play n is.
-      let steps = take n (steps_played setting events journal full play) in
-      whole laws setting (after_steps setting [] steps)
-      (laws.causes.behind.ends.stepped setting steps)
-      (laws.rules.played setting events journal full own play n is)
-      (laws.packets.played setting events journal full own play n is);
-}
+pub together : Laws → OfReached KeepVersionsWhole
+together laws =
+    let causes : HoldsReached (λ setting journal. HaveCauses (HasItemCause setting) [] journal) =
+    always_reached _ laws.causes in
+    record {
+      reached = λ setting journal at is. whole laws setting journal
+          (causes.reached setting journal at) (laws.rules.reached setting journal at is);
+      within = λ setting journal rest at is. whole laws setting journal
+          (causes.within setting journal rest at)
+          (laws.rules.within setting journal rest at is);
+      answered = λ setting events journal own answers is. whole laws setting journal
+          (causes.answered setting events journal own answers)
+          (laws.rules.answered setting events journal own answers is);
+      begun = λ setting events journal own begins is. whole laws setting journal
+          (causes.begun setting events journal own begins)
+          (laws.rules.begun setting events journal own begins is);
+    }

@@ -1,5 +1,5 @@
--- What each step keeps, so that no packet is decided by half of an old version and half of a new
--- one.
+-- What is kept at each moment, within a step too, so that no packet is decided by half of an old
+-- version and half of a new one.
 use Rattle.std.specs.Prelude.{ℕ, List, []}
 use Rattle.journal.specs.declared.item.Item.{Item}
 use Rattle.update_machine.specs.Causes.{HaveCauses}
@@ -11,7 +11,7 @@ use Rattle.control_laws.specs.Bounds.{MarksAreBounded}
 use Rattle.control_laws.specs.Heard.{AcksHold, InstallsArePlanned}
 use Rattle.control_laws.specs.Serving.{ServingHold}
 use Rattle.control_laws.specs.Planned.{TablesArePlanned}
-use Rattle.packet_laws.specs.Travelling.{PacketsTravel, RulesAreRight}
+use Rattle.packet_laws.specs.Travelling.{RulesAreRight}
 
 pub record KeepVersionsWhole (setting : Setting) (journal : List Item) : Type 0 where
   -- each item of switches and of the controller was written for its cause: what is sent to a boot
@@ -38,5 +38,3 @@ pub record KeepVersionsWhole (setting : Setting) (journal : List Item) : Type 0 
   pub holding : ServingHold setting journal
   -- each cache rule says what its own version says of each header of its word
   pub rules : RulesAreRight setting journal
-  -- each packet that travels is on its way to a target of its own version, or to its port
-  pub packets : PacketsTravel setting journal

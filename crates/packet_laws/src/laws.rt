@@ -148,11 +148,10 @@ pub fn packet_rows_are_entered()
         → AreEntered (rows_played full events) journal }
 {}
 
-/// Behind each step of a network, of any kind, what is known of boots, versions and marks is right,
-/// each switch holds what it stamps with, each cache rule says what its version says, and each
-/// packet is on its way to an authority of its own version, or to its port.
-pub fn steps_keep_versions_whole()
-    ensures { HoldsBetween (λ setting journal.
+/// At each moment, within a step too, what is known of boots, versions and marks is right, each
+/// switch holds what it stamps with, and each cache rule says what its version says.
+pub fn items_keep_versions_whole()
+    ensures { HoldsReached (λ setting journal.
         IsSetting setting → KeepVersionsWhole setting journal) }
 {
     items_have_causes();
@@ -166,5 +165,5 @@ pub fn steps_keep_versions_whole()
     members_acknowledged();
     marks_are_bounded();
     serving_switches_hold();
-    packets_travel();
+    cache_rules_are_right();
 }

@@ -1,7 +1,7 @@
 //! Packets on their way, and the cache rules that they bring: each journal is a run of the machine,
 //! what ends packets has its cause, and what came in are the packet rows of the schedule. A packet
 //! takes few routes and few hops, drains and flushes end, and each list of events has a play. And
-//! what every step keeps of an update, all of it in one law (Reitblatt, Foster, Rexford,
+//! what every item keeps of an update, all of it in one law (Reitblatt, Foster, Rexford,
 //! Schlesinger and Walker, "Abstractions for Network Update"): so no packet is decided by half of
 //! an old version and half of a new one, whatever fails.
 //!
@@ -14,8 +14,8 @@ mod way_laws;
 
 pub use laws::{
     answers_are_runs, cache_rules_are_right, causes_are_strong, deliveries_rise, drains_end,
-    ends_have_causes, flushes_end, items_keep_packets, packet_items_have_causes,
-    packet_rows_are_entered, packets_arrive, packets_rest, packets_take_few_hops,
-    packets_take_few_routes, packets_travel, plays_exist, steps_keep_versions_whole,
+    ends_have_causes, flushes_end, items_keep_packets, items_keep_versions_whole,
+    packet_items_have_causes, packet_rows_are_entered, packets_arrive, packets_rest,
+    packets_take_few_hops, packets_take_few_routes, packets_travel, plays_exist,
 };
 pub use way_laws::{journals_hold_so_far, plays_held_on_the_way, steps_are_kept};

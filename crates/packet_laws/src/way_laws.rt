@@ -5,38 +5,40 @@ ghost use Rattle.control_laws.specs.Always.{AreEvents, HoldsReached};
 ghost use Rattle.packet_laws.specs.Exports.{HeldOnTheWay, HoldsBetween, HoldsSoFar, IsKeptBehind};
 
 use crate::laws::{
-    answers_are_runs, causes_are_strong, ends_have_causes, packets_take_few_hops,
-    packets_take_few_routes, steps_keep_versions_whole,
+    answers_are_runs, causes_are_strong, ends_have_causes, items_keep_versions_whole,
+    packets_take_few_hops, packets_take_few_routes, packets_travel,
 };
 use control_laws::{current_rises_rightly, marks_settle};
 
 /// At each moment, within a step too, the journal is a run of the machine whose ends and items have
-/// their causes, the current mark rose as it may, and each packet took few routes and hops.
+/// their causes, the versions are whole, the current mark rose as it may, and each packet took few
+/// routes and hops.
 pub fn journals_hold_so_far()
     ensures { HoldsReached (λ setting journal. IsSetting setting → HoldsSoFar setting journal) }
 {
     answers_are_runs();
     ends_have_causes();
     causes_are_strong();
+    items_keep_versions_whole();
     current_rises_rightly();
     packets_take_few_routes();
     packets_take_few_hops();
 }
 
-/// Behind each step the versions are whole, and the marks stand where they are to stand.
+/// Behind each step packets are on their way, and the marks stand where they are to stand.
 pub fn steps_are_kept()
     ensures { HoldsBetween (λ setting journal. IsSetting setting → IsKeptBehind setting journal) }
 {
-    steps_keep_versions_whole();
+    packets_travel();
     marks_settle();
 }
 
-/// So it was on the way of each play of events of a network: behind each of its steps, and at its
-/// end.
+/// So it was on the way of each play of events of a network: at each moment, and behind each of its
+/// steps.
 pub fn plays_held_on_the_way()
     ensures { (setting : Setting) (events : List Event) (journal : List Item) (full : Option ℕ)
         → IsSetting setting → AreEvents setting events → IsPlay setting events journal full
-        → HeldOnTheWay setting events journal full }
+        → HeldOnTheWay setting journal }
 {
     journals_hold_so_far();
     steps_are_kept();

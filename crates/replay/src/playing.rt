@@ -62,8 +62,8 @@ pub fn replay<M: Meter>(
     requires few { length events.now ≤ max_events }
     ensures play { IfOk result (λ played.
         IsPlay (setting_of net.now files.items) events.now played.journal played.full) }
-    ensures held { IfOk result (λ played. HeldOnTheWay (setting_of net.now files.items)
-        events.now played.journal played.full) }
+    ensures held { IfOk result (λ played.
+        HeldOnTheWay (setting_of net.now files.items) played.journal) }
     ensures kept { IfOk result (λ played. map M.seen played.meters.items
         ≡ kept_meters (port_mask net.now.switches) (left_in played.journal)
         (map M.seen meters.items)) }
@@ -98,8 +98,7 @@ pub fn play<M: Meter>(
     requires few { length events.now ≤ max_events }
     ensures play { IfOk result (λ played.
         IsPlay (setting_at world) events.now played.journal played.full) }
-    ensures held { IfOk result (λ played.
-        HeldOnTheWay (setting_at world) events.now played.journal played.full) }
+    ensures held { IfOk result (λ played. HeldOnTheWay (setting_at world) played.journal) }
     ensures kept { IfOk result (λ played. map M.seen played.meters.items
         ≡ kept_meters ports (left_in played.journal) (map M.seen meters.items)) }
     ensures gone { IfOk result (λ played. played.gone

@@ -127,7 +127,8 @@ impl World {
         ensures spent { self.old.is_spent ≡ true
             → (IsErrOf result NoMemory) × (self.new ≡ self.old) }
 
-        // However the step ends, what is written is a run whose ends have causes.
+        // However the step ends, what is written is a run whose ends have causes, and the versions
+        // are whole.
         ensures so_far { self.old.is_spent ≡ false
             → HoldsSoFar (setting_at self.old) self.new.journal }
     {
@@ -228,7 +229,8 @@ impl World {
     }
 
     /// As long as memory didn't run out within a step, the journal is a run of the machine whose
-    /// ends have causes, and behind the last step the versions are whole and the marks settled.
+    /// ends have causes, and the versions are whole; and behind the last step packets are on their
+    /// way, and the marks are settled.
     pub fn keeps_on_the_way(&self)
         ensures so_far { self.now.is_spent ≡ false
             → HoldsSoFar (setting_at self.now) self.now.journal }

@@ -11,7 +11,7 @@ use Rattle.command_line.specs.Named.{names_seen}
 use Rattle.world.specs.Files.{first_policy}
 use Rattle.difane_cli.specs.Ending.{EndsRead}
 use Rattle.difane_cli.specs.Inputs.{read_file}
-use Rattle.difane_cli.proofs.CalmReads.{none_then}
+use Rattle.difane_cli.proofs.CalmReads.{all_calm, stop_then, stopped}
 use Rattle.difane_cli.proofs.FileReads.{HasRead, at_next, first_behind, is_none, name_there, one_read, reads_at, stops_at}
 use Rattle.difane_cli.proofs.inputs.read_files.Goals as goal
 
@@ -93,7 +93,22 @@ loop-name-preserved g c =
           (All-push IsPolicyFile before file c.loop-name.invariant.sound c.in_ok-file.ensures.sound);
       few = subst (All IsShort) (sym pushed)
           (All-push IsShort before file c.loop-name.invariant.few c.in_ok-file.ensures.few);
-      calm = none_then (g.F.Shelf.state c.args.shelf.now) (g.F.Shelf.state c.loop-name.shelf)
-          (g.F.Shelf.state c.read_file.new.shelf) so_far.after.same_files
-          c.loop-name.invariant.calm c.in_ok-file.ensures.calm;
+      calm = c.in_ok-file.ensures.calm ∙ c.loop-name.invariant.calm;
     }
+
+pub returns-in_err-file-clause-calm : goal.returns-in_err-file-clause-calm
+returns-in_err-file-clause-calm g c =
+    let so_far = at_next c.args.ports c.args.names.now c.loop-name.name-index _ _ _
+    c.loop-name.invariant.read c.loop-name-test.true in
+    let old = g.F.Shelf.state c.args.shelf.now in
+    let now = g.F.Shelf.state c.read_file.new.shelf in
+    let stop = c.in_err-file.field-0.0 in
+    stopped old now stop c.from_residual.result c.from_residual.ensures.1
+    (stop_then old (g.F.Shelf.state c.loop-name.shelf) now stop so_far.after.same_files
+    c.loop-name.invariant.calm c.in_err-file.ensures.calm)
+
+pub returns-in_err-push-clause-calm : goal.returns-in_err-push-clause-calm
+returns-in_err-push-clause-calm g c =
+    all_calm (g.F.Shelf.state c.args.shelf.now) (g.F.Shelf.state c.read_file.new.shelf)
+    c.from_residual-in_err-push.result
+    (c.in_ok-file.ensures.calm ∙ c.loop-name.invariant.calm)

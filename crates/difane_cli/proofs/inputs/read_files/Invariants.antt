@@ -5,7 +5,6 @@ use Rattle.policy_file.specs.Ports.{names_port_of}
 use Rattle.policy_rules.specs.PolicyFiles.{GivesOnly, IsPolicyFile}
 use Rattle.world.specs.Files.{first_policy}
 use Rattle.command_line.specs.Named.{names_seen}
-use Rattle.difane_cli.proofs.CalmReads.{CountsNone}
 use Rattle.difane_cli.proofs.FileReads.{HasRead}
 use Rattle.difane_cli.proofs.inputs.read_files.Given as goal
 
@@ -19,5 +18,5 @@ invariant-loop-name g l = record {
   own_ports : All (GivesOnly (λ row. IsTrue (names_port_of l.ports row.action))) l.read.items;
   sound : All IsPolicyFile l.read.items;
   few : All (λ file. file_length file ≤ 2000) l.read.items;
-  calm : CountsNone (g.F.Shelf.state l.fn.shelf) (g.F.Shelf.state l.shelf);
+  calm : (g.F.Shelf.state l.shelf).faults ≡ (g.F.Shelf.state l.fn.shelf).faults;
 }

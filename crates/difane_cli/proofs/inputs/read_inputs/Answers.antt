@@ -7,6 +7,7 @@ use Rattle.command_line.specs.Commands.{Replay}
 use Rattle.command_line.specs.Named.{names_seen, replay_named}
 use Rattle.difane_cli.specs.Inputs.{most_reads, net_reads}
 use Rattle.difane_cli.proofs.Begun.{all_are_events, asked_for, inputs_are}
+use Rattle.difane_cli.proofs.CalmReads.{all_calm, stop_then, stopped}
 use Rattle.difane_cli.proofs.ShelfReads.{all_reads, reads_then, schedule_read}
 use Rattle.difane_cli.proofs.inputs.read_inputs.Goals as goal
 use Rattle.difane_cli.proofs.inputs.read_inputs.Goals.{In_ok-files}
@@ -81,3 +82,34 @@ returns-clause-asked g c =
     c.in_ok-world.ensures.begun.own
     (c.in_ok-files.ensures.many ∙ as_many _ _ c.deref-names.ensures.value)
     c.in_ok-events.ensures.sound.few c.in_ok-files.ensures.few
+
+pub returns-in_err-events-clause-calm : goal.returns-in_err-events-clause-calm
+returns-in_err-events-clause-calm g c =
+    let old = g.F.Shelf.state c.args.shelf.now in
+    let now = g.F.Shelf.state c.read_schedule.new.shelf in
+    let stop = c.in_err-events.field-0.0 in
+    stopped old now stop c.from_residual-in_err-events.result
+    c.from_residual-in_err-events.ensures.1
+    (stop_then old (g.F.Shelf.state c.take_network.new.shelf) now stop
+    c.in_ok-net.ensures.shelf.same_files c.in_ok-net.ensures.calm c.in_err-events.ensures.calm)
+
+pub returns-in_err-files-clause-calm : goal.returns-in_err-files-clause-calm
+returns-in_err-files-clause-calm g c =
+    let old = g.F.Shelf.state c.args.shelf.now in
+    let now = g.F.Shelf.state c.read_files.new.shelf in
+    let stop = c.in_err-files.field-0.0 in
+    stopped old now stop c.from_residual-in_err-files.result
+    c.from_residual-in_err-files.ensures.1
+    (stop_then old (g.F.Shelf.state c.read_schedule.new.shelf) now stop
+    (c.in_ok-events.ensures.shelf.same_files ∙ c.in_ok-net.ensures.shelf.same_files)
+    (c.in_ok-events.ensures.calm ∙ c.in_ok-net.ensures.calm) c.in_err-files.ensures.calm)
+
+pub returns-in_err-world-clause-calm : goal.returns-in_err-world-clause-calm
+returns-in_err-world-clause-calm g c =
+    all_calm (g.F.Shelf.state c.args.shelf.now) (g.F.Shelf.state c.read_files.new.shelf)
+    c.from_residual-in_err-world.result
+    (c.in_ok-files.ensures.calm ∙ c.in_ok-events.ensures.calm ∙ c.in_ok-net.ensures.calm)
+
+pub returns-clause-calm : goal.returns-clause-calm
+returns-clause-calm g c =
+    c.in_ok-files.ensures.calm ∙ c.in_ok-events.ensures.calm ∙ c.in_ok-net.ensures.calm

@@ -3,7 +3,6 @@ use Rattle.meters.specs.Meters.{kept_meters}
 use Rattle.net_file.specs.declared.net.Net.{Net}
 use Rattle.replay.specs.Leavings.{left_in, kept_by}
 use Rattle.steps.specs.declared.step.Event.{Event}
-use Rattle.packet_laws.specs.OnTheWay.{HeldOnTheWay}
 use Rattle.update_machine.specs.Full.{IsPlay}
 use Rattle.difane_cli.specs.Commands.{inputs_stated}
 use Rattle.difane_cli.specs.Texts.{play_text}
@@ -23,10 +22,8 @@ returns-clause-outcome g c = λ command files asked read.
     let laws = c.answer_laws.ensures in
     let play = subst (λ (events : List Event). IsPlay inputs.setting events journal full)
     c.deref.ensures.value c.in-Ok.ensures.play in
-    let held = subst (λ (events : List Event). HeldOnTheWay inputs.setting events journal full)
-    c.deref.ensures.value c.in-Ok.ensures.held in
-    let answer = played laws command files inputs journal full asked read c.requires.sound play held
-    in
+    let answer = played laws command files inputs journal full asked read c.requires.sound play
+    c.in-Ok.ensures.held in
     let verdict = judged laws command files inputs journal full c.args.inputs.net said answer
     c.requires.net
     (c.in-Ok-judge.ensures.asked ∙ ap (λ q. is_asked q full) c.asks_quiet.ensures)
@@ -56,10 +53,8 @@ returns-in_default-judge-clause-outcome g c = λ command files asked read.
     let laws = c.answer_laws.ensures in
     let play = subst (λ (events : List Event). IsPlay inputs.setting events journal full)
     c.deref.ensures.value c.in-Ok.ensures.play in
-    let held = subst (λ (events : List Event). HeldOnTheWay inputs.setting events journal full)
-    c.deref.ensures.value c.in-Ok.ensures.held in
-    let answer = played laws command files inputs journal full asked read c.requires.sound play held
-    in
+    let answer = played laws command files inputs journal full asked read c.requires.sound play
+    c.in-Ok.ensures.held in
     let kept = c.in-Ok.ensures.kept
     ∙ ap (λ (ports : ℕ). kept_meters ports (left_in journal) (map g.M.Meter.seen c.args.meters.items))
     c.port_mask.ensures in

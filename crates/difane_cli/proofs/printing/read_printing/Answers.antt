@@ -1,4 +1,6 @@
+use Rattle.std.proofs.Common.{◌∙◌}
 use Rattle.command_line.specs.Named.{print_named}
+use Rattle.difane_cli.proofs.CalmReads.{all_calm, stop_then, stopped}
 use Rattle.difane_cli.proofs.ShelfReads.{both_reads}
 use Rattle.difane_cli.proofs.printing.read_printing.Goals as goal
 
@@ -19,3 +21,23 @@ returns-clause-shelf g c =
     both_reads (print_named c.args.args.now) c.in_ok-net.net c.in_ok-switch.switch _ _ _
     c.in_ok-net.ensures.read c.in_ok-switch.ensures.value c.in_ok-net.ensures.shelf
     c.in_ok-policy.ensures.shelf
+
+pub returns-in_err-switch-clause-calm : goal.returns-in_err-switch-clause-calm
+returns-in_err-switch-clause-calm g c =
+    all_calm (g.F.Shelf.state c.args.shelf.now) (g.F.Shelf.state c.take_network.new.shelf)
+    c.from_residual-in_err-switch.result c.in_ok-net.ensures.calm
+
+pub returns-in_err-policy-clause-calm : goal.returns-in_err-policy-clause-calm
+returns-in_err-policy-clause-calm g c =
+    let old = g.F.Shelf.state c.args.shelf.now in
+    let now = g.F.Shelf.state c.read_policy.new.shelf in
+    let stop = c.in_err-policy.field-0.0 in
+    stopped old now stop c.from_residual-in_err-policy.result
+    c.from_residual-in_err-policy.ensures.1
+    (stop_then old (g.F.Shelf.state c.take_network.new.shelf) now stop
+    c.in_ok-net.ensures.shelf.same_files c.in_ok-net.ensures.calm c.in_err-policy.ensures.calm)
+
+pub returns-in_err-plan-clause-calm : goal.returns-in_err-plan-clause-calm
+returns-in_err-plan-clause-calm g c =
+    all_calm (g.F.Shelf.state c.args.shelf.now) (g.F.Shelf.state c.read_policy.new.shelf)
+    c.from_residual-in_err-plan.result (c.in_ok-policy.ensures.calm ∙ c.in_ok-net.ensures.calm)

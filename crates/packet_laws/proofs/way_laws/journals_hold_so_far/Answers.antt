@@ -6,6 +6,7 @@ returns c = holds_so_far (record {
   run = c.answers_are_runs.ensures;
   causes = c.ends_have_causes.ensures;
   strong = c.causes_are_strong.ensures;
+  versions = c.items_keep_versions_whole.ensures;
   rises = c.current_rises_rightly.ensures;
   searches = c.packets_take_few_routes.ensures.searched;
   exits = c.packets_take_few_routes.ensures.exited;

@@ -2,4 +2,4 @@ use Rattle.packet_laws.proofs.OnTheWay.{kept_behind}
 use Rattle.packet_laws.proofs.way_laws.steps_are_kept.Goals as goal
 
 pub returns : goal.returns
-returns c = kept_behind c.steps_keep_versions_whole.ensures c.marks_settle.ensures
+returns c = kept_behind c.packets_travel.ensures c.marks_settle.ensures

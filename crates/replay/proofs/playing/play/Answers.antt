@@ -110,12 +110,14 @@ returns-clause-gone g c =
 
 pub returns-in-Err-Refused-clause-held : goal.returns-in-Err-Refused-clause-held
 returns-in-Err-Refused-clause-held g c =
-    c.plays_held_on_the_way.ensures (setting_at c.args.world) c.args.events.now _ _
+    c.plays_held_on_the_way.ensures (setting_at c.args.world) c.args.events.now
+    c.ended.result.journal c.ended.result.full
     (tie_of c.args.world (c.refines.ensures c.requires.begun.able)).sound c.requires.events
     (returns-in-Err-Refused-clause-play g c)
 
 pub returns-clause-held : goal.returns-clause-held
 returns-clause-held g c =
-    c.plays_held_on_the_way.ensures (setting_at c.args.world) c.args.events.now _ _
+    c.plays_held_on_the_way.ensures (setting_at c.args.world) c.args.events.now
+    c.ended-2.result.journal c.ended-2.result.full
     (tie_of c.args.world (c.refines.ensures c.requires.begun.able)).sound c.requires.events
     (returns-clause-play g c)

@@ -1,8 +1,5 @@
-use Rattle.packet_laws.proofs.AllKept.{all_kept}
-use Rattle.packet_laws.proofs.Reached.{between}
 use Rattle.packet_laws.proofs.Together.{together}
-use Rattle.packet_laws.proofs.Travelling.{rules_right}
-use Rattle.packet_laws.proofs.laws.steps_keep_versions_whole.Goals as goal
+use Rattle.packet_laws.proofs.laws.items_keep_versions_whole.Goals as goal
 
 pub returns : goal.returns
 returns c = together (record {
@@ -17,7 +14,5 @@ returns c = together (record {
   members = c.members_acknowledged.ensures;
   marks = c.marks_are_bounded.ensures;
   holding = c.serving_switches_hold.ensures;
-  rules = between _ (λ setting journal is settled.
-      rules_right setting journal (all_kept setting journal is settled.causes));
-  packets = c.packets_travel.ensures;
+  rules = c.cache_rules_are_right.ensures;
 })
