@@ -3,7 +3,7 @@ use Rattle.std.proofs.Common.{ℕ, ◌≡◌, ◌∙◌, ◌+◌, ◌^◌, ◌<�
 use Rattle.std.specs.List.{zip}
 use Rattle.std.proofs.lemmas.Grind.{take_at_read}
 use Rattle.std.proofs.lemmas.List.{get_or-map, length-map}
-use Rattle.std.proofs.lemmas.Slice.Zip.{get_or-zip, length-zip}
+use Rattle.std.proofs.lemmas.Slice.Zip.{firsts-zip, get_or-zip, length-zip}
 use Rattle.std.proofs.lemmas.List.Elements.{All-weaker}
 use Rattle.base.specs.Refusals.{IfRefused}
 use Rattle.base.specs.declared.error.Failure.{Failure}
@@ -26,6 +26,7 @@ use Rattle.policy_rules.specs.declared.policy.Row.{Row}
 use Rattle.policy_rules.specs.declared.rules.Partition.{Partition}
 use Rattle.policy_rules.specs.declared.rules.Rule.{Rule}
 use Rattle.switch_table.proofs.TableLemmas.{tables_lead}
+use Rattle.switch_table.specs.Tables.{part_of}
 use Rattle.controller.specs.Leads.{LeadEveryHeader}
 use Rattle.controller.specs.Plan.{IsSoundPlan, RefusesPlan}
 
@@ -58,6 +59,53 @@ pub plan_leads : (rows : List Row) (net : Net) (plan : List Hosted) → IsPlan r
 unfolding LeadEveryHeader
 plan_leads rows net plan is version switch header sound =
     tables_lead rows plan version switch header is.sound (some_targets rows net plan is) sound
+
+-- ---- other targets
+
+pub retargeted_sound : (rows : List Row) (plan : List Hosted) (targets : List (List ℕ))
+    → length targets ≡ length plan → IsSoundPlan (record { policy = rows; hosted = plan })
+    → IsSoundPlan (record { policy = rows; hosted = zip (map part_of plan) targets })
+retargeted_sound rows plan targets len is =
+    let parts : List Partition = map part_of plan in
+    let count : length parts ≡ length plan = length-map plan part_of in
+    let each : length targets ≡ length parts = len ∙ sym count in
+    let firsts : map part_of (zip parts targets) ≡ parts = firsts-zip parts targets each in
+    let pairs : length (zip parts targets) ≡ length parts =
+    grind (arith, length-zip parts targets, each) in
+    record {
+      sound = rw firsts is.sound;
+      covers = rw firsts is.covers;
+      few = omega (arith, pairs, count, is.few);
+      few_rules = λ k d within.
+          let here : k < length parts = omega (arith, within, pairs) in
+          let same = ap (λ (h : Hosted). h.0)
+          (get_or-zip parts targets k d here (omega (arith, here, each)))
+          ∙ get_or-map part_of plan k d d.0 (omega (arith, here, count)) in
+          omega (
+            arith,
+            is.few_rules k d (omega (arith, here, count)),
+            ap (λ (part : Partition). length part.rules) same,
+          );
+    }
+
+pub retargeted_leads : (rows : List Row) (plan : List Hosted) (targets : List (List ℕ))
+    → length targets ≡ length plan → IsSoundPlan (record { policy = rows; hosted = plan })
+    → All (λ switches. 0 < length switches) targets
+    → LeadEveryHeader rows (zip (map part_of plan) targets)
+unfolding LeadEveryHeader
+retargeted_leads rows plan targets len is some version switch header sound =
+    let parts : List Partition = map part_of plan in
+    let count : length parts ≡ length plan = length-map plan part_of in
+    let each : length targets ≡ length parts = len ∙ sym count in
+    let pairs : length (zip parts targets) ≡ length parts =
+    grind (arith, length-zip parts targets, each) in
+    tables_lead rows (zip parts targets) version switch header
+    (retargeted_sound rows plan targets len is).sound
+    (λ k d within.
+    let here : k < length parts = omega (arith, within, pairs) in
+    let there : k < length targets = omega (arith, here, each) in
+    let same = ap (λ (h : Hosted). h.1) (get_or-zip parts targets k d here there) in
+    omega (arith, some k d.1 there, ap length same)) sound
 
 pub small_rules : (most : ℕ) (parts : List Partition) → most ≤ 8192
     → All (λ part. length part.rules ≤ most) parts → All (λ part. length part.rules < 2 ^ 32) parts

@@ -1,6 +1,7 @@
-ghost use Rattle.std.specs.Prelude.{◌≡◌, length, map, IfOk};
+ghost use Rattle.std.specs.Prelude.{◌≡◌, ◌<◌, length, map, All, IfOk};
 ghost use Rattle.std.specs.List.{zip};
-ghost use Rattle.switch_table.specs.Tables.{row_of};
+ghost use Rattle.switch_table.specs.Tables.{part_of, row_of};
+ghost use Rattle.controller.specs.Leads.{LeadEveryHeader};
 ghost use Rattle.controller.specs.Plan.{IsSoundPlan};
 
 use policy_rules::{Partition, Policy, Targets};
@@ -75,6 +76,25 @@ impl Plan {
         Ok(Plan { shared })
     }
 
+    /// The plan of the same partitions with these targets, in order. Where each has a target, its
+    /// tables still lead each header to the policy's first match.
+    ///
+    /// # Errors
+    /// Want of memory alone.
+    pub fn with_targets(self, alloc: Global, targets: Vec<Targets>) -> Result<Plan, AllocError>
+        requires { length targets.items ≡ length self.hosted }
+        ensures policy { IfOk result (λ plan. plan.policy ≡ self.policy) }
+        ensures hosted { IfOk result (λ plan.
+            plan.hosted ≡ zip (map part_of self.hosted) targets.items) }
+        ensures leads { All (λ switches. 0 < length switches) targets.items
+            → IfOk result (λ plan. LeadEveryHeader self.policy plan.hosted) }
+    {
+        let parts = parts_of(alloc, self.hosted())?;
+        let policy = self.policy().clone()?;
+        let plan = Plan::new(alloc, policy, &parts, &targets)?;
+        Ok(plan)
+    }
+
     /// The policy.
     pub fn policy(&self) -> &Policy
         ensures { result.now ≡ self.now.policy }
@@ -121,6 +141,17 @@ fn host_each(
         hosted.push((part.clone()?, targets[place]))?;
     }
     Ok(hosted)
+}
+
+// The partitions without their targets.
+fn parts_of(alloc: Global, hosted: &[(Partition, Targets)]) -> Result<Vec<Partition>, AllocError>
+    ensures { IfOk result (λ parts. parts.items ≡ map part_of hosted.now) }
+{
+    let mut parts = Vec::with_capacity(alloc, hosted.len())?;
+    for (part, _) in hosted {
+        parts.push(part.clone()?)?;
+    }
+    Ok(parts)
 }
 
 // The regions with their targets.

@@ -1,4 +1,5 @@
 mod journal_lines;
+mod loads;
 mod marks;
 mod messages;
 mod quiet_journals;

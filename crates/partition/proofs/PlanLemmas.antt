@@ -111,8 +111,8 @@ targets_there net sizes targets placement =
     let hosted = placement.hosted i (omega (arith, within, placement.number)) in
     All-weaker (λ s. s < length (rooms_of net)) (λ s. s < length net.switches)
     (λ s here. omega (arith, here, length-map net.switches (λ row. row.room)))
-    _ (first_there (load_before sizes targets i) (rooms_of net) (get_or sizes i 0) (1 + net.backups)
-    _ hosted))
+    _ (first_there (load_before sizes targets i) (load_before sizes targets i) (rooms_of net)
+    (get_or sizes i 0) (1 + net.backups) _ hosted))
 
 -- pairs of these partitions with these targets are a plan
 zip_holds : (rows : List Row) (net : Net) (tree : Shape) (targets : List (List ℕ)) → IsPolicy rows

@@ -1,6 +1,7 @@
 -- The first of the switches that have room: what a rising list gives, and that one list alone is
 -- the first.
-use Rattle.std.proofs.Common.{ℕ, zero, suc, ◌≡◌, ◌≢◌, ◌∙◌, ◌+◌, ◌^◌, ◌<◌, ◌≤◌, Bool, true, false, cond, eqb, ltb, leb, not, ◌&&◌, List, [], ◌∷◌, length, filter, take, get_or, refl, ap, sym, subst, inl, inr, arith, All, AllPairs, length-take}
+use Rattle.std.specs.Prelude.{min}
+use Rattle.std.proofs.Common.{ℕ, zero, suc, ◌≡◌, ◌≢◌, ◌∙◌, ◌+◌, ◌-◌, ◌^◌, ◌<◌, ◌≤◌, Bool, true, false, cond, eqb, ltb, leb, not, ◌&&◌, Option, Some, None, MatchOption, List, [], ◌∷◌, length, filter, take, get_or, refl, ap, sym, subst, inl, inr, arith, All, AllPairs, length-take}
 use Rattle.std.specs.List.{AllByRecursion, list_any, range_with_len}
 use Rattle.std.proofs.lemmas.Bool.{cases_Bool, cases_eq, cases_lt, eq-eqb, ne_eqb, leb-true, false≢true, true≢false, or_parts, not-true, not_from_false, and_from, and_parts}
 use Rattle.std.proofs.lemmas.Bool.Decides.{nat_tests}
@@ -8,7 +9,7 @@ use Rattle.std.proofs.lemmas.List.Elements.{All-from_recursion, recursion_from_A
 use Rattle.std.proofs.lemmas.List.Sums.{sum_by-cons}
 use Rattle.placement.specs.Order.{in_order}
 use Rattle.placement.specs.Placement.{is_earlier, is_lighter, has_room, with_room, AreFirst}
-use Rattle.placement.proofs.OrderLemmas.{IsOrder, Rises, one_of, one_of-same, one_of-other, count, count-filter, count-range-le, count-range_within, sum-in_order, rises-in_order, each_from_count, each_by_count, pairs_from_rises, rises_from_pairs}
+use Rattle.placement.proofs.OrderLemmas.{IsOrder, Rises, one_of, one_of-same, one_of-other, count, count-filter, count-range-le, count-range_within, length-in_order, sum-in_order, rises-in_order, each_from_count, each_by_count, pairs_from_rises, rises_from_pairs}
 
 -- ---- the two orders
 
@@ -64,6 +65,10 @@ has_room-within : (load : ℕ → ℕ) (rooms : List ℕ) (size s : ℕ) → has
 unfolding has_room
 has_room-within load rooms size s room = grind (arith, nat_tests)
 
+-- a sum that stands still at its type's end is above the same rooms
+pub capped_within : (n room : ℕ) → room < 2 ^ 32 → leb (min n (2 ^ 64 - 1)) room ≡ leb n room
+capped_within n room small = grind (arith, nat_tests)
+
 -- a switch is listed once if it has room, and else not at all
 pub count-with_room : (load : ℕ → ℕ) (rooms : List ℕ) (size s : ℕ)
     → count s (with_room load rooms size) ≡ cond (has_room load rooms size s) 1 0
@@ -88,35 +93,77 @@ pub count-with_room-le : (load : ℕ → ℕ) (rooms : List ℕ) (size s : ℕ)
 count-with_room-le load rooms size s = grind (arith, count-with_room load rooms size s)
 
 -- a list that rises, of the switches that have room: its front is the first of them
-pub front_is_first : (load : ℕ → ℕ) (rooms : List ℕ) (size n : ℕ) (xs : List ℕ)
-    → Rises (is_lighter load) xs → ((s : ℕ) → count s xs ≡ count s (with_room load rooms size))
-    → n ≤ length xs → AreFirst load rooms size n (take n xs)
-front_is_first load rooms size n xs rises counts enough =
-    let fits : (s : ℕ) → 0 < count s xs → has_room load rooms size s ≡ true = λ s there.
-    grind (arith, counts s, count-with_room load rooms size s) in
+pub front_is_first : (held load : ℕ → ℕ) (rooms : List ℕ) (size n : ℕ) (xs : List ℕ)
+    → Rises (is_lighter load) xs → ((s : ℕ) → count s xs ≡ count s (with_room held rooms size))
+    → n ≤ length xs → AreFirst held load rooms size n (take n xs)
+front_is_first held load rooms size n xs rises counts enough =
+    let fits : (s : ℕ) → 0 < count s xs → has_room held rooms size s ≡ true = λ s there.
+    grind (arith, counts s, count-with_room held rooms size s) in
     record {
       number = omega (arith, length-take n xs);
-      fit = All-from_recursion (λ s. has_room load rooms size s ≡ true) (take n xs)
-          (each-take (λ s. has_room load rooms size s ≡ true) n xs
-          (each_by_count (λ s. has_room load rooms size s ≡ true) xs fits));
+      fit = All-from_recursion (λ s. has_room held rooms size s ≡ true) (take n xs)
+          (each-take (λ s. has_room held rooms size s ≡ true) n xs
+          (each_by_count (λ s. has_room held rooms size s ≡ true) xs fits));
       rising = pairs_from_rises (is_lighter load) (take n xs)
           (rises-take (is_lighter load) n xs rises);
       least = λ other room none.
           let there : 0 < count other xs =
-          grind (arith, counts other, count-with_room load rooms size other) in
+          grind (arith, counts other, count-with_room held rooms size other) in
           All-from_recursion (λ s. is_lighter load s other ≡ true) (take n xs)
           (after-take (is_lighter load) n xs other rises there none);
     }
 
 -- so is the front of the switches that have room, in order
-pub first_in_order : (load : ℕ → ℕ) (rooms : List ℕ) (size n : ℕ)
-    → n ≤ length (in_order (is_lighter load) (with_room load rooms size))
-    → AreFirst load rooms size n (take n (in_order (is_lighter load) (with_room load rooms size)))
-first_in_order load rooms size n enough =
-    front_is_first load rooms size n _
-    (rises-in_order (is_lighter load) (lighter_order load) (with_room load rooms size)
-    (count-with_room-le load rooms size))
-    (λ s. sum-in_order (one_of s) (is_lighter load) (with_room load rooms size)) enough
+pub first_in_order : (held load : ℕ → ℕ) (rooms : List ℕ) (size n : ℕ)
+    → n ≤ length (in_order (is_lighter load) (with_room held rooms size))
+    → AreFirst held load rooms size n (take n (in_order (is_lighter load) (with_room held rooms size)))
+first_in_order held load rooms size n enough =
+    front_is_first held load rooms size n _
+    (rises-in_order (is_lighter load) (lighter_order load) (with_room held rooms size)
+    (count-with_room-le held rooms size))
+    (λ s. sum-in_order (one_of s) (is_lighter load) (with_room held rooms size)) enough
+
+-- the same order, by numbers that are the same
+pub order_along : (held held' loads loads' rooms : List ℕ) (size size' : ℕ) (switches : List ℕ)
+    → held ≡ held' → loads ≡ loads' → size ≡ size'
+    → switches ≡ in_order (is_lighter (λ s. get_or loads s 0))
+    (with_room (λ s. get_or held s 0) rooms size)
+    → switches ≡ in_order (is_lighter (λ s. get_or loads' s 0))
+    (with_room (λ s. get_or held' s 0) rooms size')
+order_along held held' loads loads' rooms size size' switches holds carries large is =
+    is
+    ∙ ap (λ xs. in_order (is_lighter (λ s. get_or xs s 0))
+    (with_room (λ s. get_or held s 0) rooms size)) carries
+    ∙ ap (λ xs. in_order (is_lighter (λ s. get_or loads' s 0))
+    (with_room (λ s. get_or xs s 0) rooms size)) holds
+    ∙ ap (λ n. in_order (is_lighter (λ s. get_or loads' s 0))
+    (with_room (λ s. get_or held' s 0) rooms n)) large
+
+-- what a search says that found nothing
+pub none_of : (found : Option (List ℕ)) (few : Type 0) (first : List ℕ → Type 0)
+    → MatchOption found few first → ((targets : List ℕ) → found ≡ Some targets → ⊥) → few
+none_of None few first said none = said
+none_of (Some targets) few first said none = absurd (none targets refl)
+
+-- fewer switches in order are fewer with room
+pub fewer_in_order : (held load : ℕ → ℕ) (rooms : List ℕ) (size n : ℕ) (switches : List ℕ)
+    → switches ≡ in_order (is_lighter load) (with_room held rooms size) → length switches < n
+    → length (with_room held rooms size) < n
+fewer_in_order held load rooms size n switches is fewer =
+    omega (
+      arith,
+      ap length is,
+      length-in_order (is_lighter load) (with_room held rooms size),
+      fewer,
+    )
+
+-- the front of the switches in order
+pub first_of_order : (held load : ℕ → ℕ) (rooms : List ℕ) (size n : ℕ) (switches targets : List ℕ)
+    → switches ≡ in_order (is_lighter load) (with_room held rooms size) → n ≤ length switches
+    → targets ≡ take n switches → AreFirst held load rooms size n targets
+first_of_order held load rooms size n switches targets is enough front =
+    subst (AreFirst held load rooms size n) (sym (front ∙ ap (take n) is))
+    (first_in_order held load rooms size n (omega (arith, ap length is, enough)))
 
 -- ---- one list alone is the first
 
@@ -127,13 +174,13 @@ record IsFront (before : ℕ → ℕ → Bool) (passes : ℕ → Bool) (xs : Lis
   least : (z : ℕ) → passes z ≡ true → list_any (eqb z) xs ≡ false
       → AllByRecursion (λ x. before x z ≡ true) xs
 
-each_from_among : (P : ℕ → Type 0) (z : ℕ) (xs : List ℕ) → AllByRecursion P xs
+pub among_holds : (P : ℕ → Type 0) (z : ℕ) (xs : List ℕ) → AllByRecursion P xs
     → list_any (eqb z) xs ≡ true → P z
-each_from_among P z [] each among = absurd (false≢true among)
-each_from_among P z (x ∷ xs) each among =
+among_holds P z [] each among = absurd (false≢true among)
+among_holds P z (x ∷ xs) each among =
     elim (cases_eq z x) [
       | inl same ↦ subst P (sym same) each.0
-      | inr other ↦ each_from_among P z xs each.1 (rw (ne_eqb z x other) at among)
+      | inr other ↦ among_holds P z xs each.1 (rw (ne_eqb z x other) at among)
     ]
 
 -- the head of the one front is the head of the other, or comes after it
@@ -141,7 +188,7 @@ after_head : (before : ℕ → ℕ → Bool) (passes : ℕ → Bool) (x y : ℕ)
     → IsFront before passes (x ∷ xs) → IsFront before passes (y ∷ ys) → x ≢ y → before y x ≡ true
 after_head before passes x y xs ys p q other =
     elim (cases_Bool (list_any (eqb x) ys)) [
-      | inl among ↦ each_from_among (λ z. before y z ≡ true) x ys q.rises.0 among
+      | inl among ↦ among_holds (λ z. before y z ≡ true) x ys q.rises.0 among
       | inr absent ↦ (q.least x p.each.0 (rw (ne_eqb x y other) absent)).0
     ]
 
@@ -186,21 +233,21 @@ same_front before order passes (x ∷ xs) (y ∷ ys) len p q =
           (after_head before passes x y xs ys p q other)))
     ]
 
-front_of : (load : ℕ → ℕ) (rooms : List ℕ) (size n : ℕ) (xs : List ℕ)
-    → AreFirst load rooms size n xs → IsFront (is_lighter load) (has_room load rooms size) xs
-front_of load rooms size n xs first = record {
-  each = recursion_from_All (λ s. has_room load rooms size s ≡ true) xs first.fit;
+front_of : (held load : ℕ → ℕ) (rooms : List ℕ) (size n : ℕ) (xs : List ℕ)
+    → AreFirst held load rooms size n xs → IsFront (is_lighter load) (has_room held rooms size) xs
+front_of held load rooms size n xs first = record {
+  each = recursion_from_All (λ s. has_room held rooms size s ≡ true) xs first.fit;
   rises = rises_from_pairs (is_lighter load) xs first.rising;
   least = λ z room none. recursion_from_All (λ s. is_lighter load s z ≡ true) xs
       (first.least z room none);
 }
 
-pub same_first : (load : ℕ → ℕ) (rooms : List ℕ) (size n : ℕ) (xs ys : List ℕ)
-    → AreFirst load rooms size n xs → AreFirst load rooms size n ys → xs ≡ ys
-same_first load rooms size n xs ys p q =
-    same_front (is_lighter load) (lighter_order load) (has_room load rooms size) xs ys
-    (p.number ∙ sym q.number) (front_of load rooms size n xs p)
-    (front_of load rooms size n ys q)
+pub same_first : (held load : ℕ → ℕ) (rooms : List ℕ) (size n : ℕ) (xs ys : List ℕ)
+    → AreFirst held load rooms size n xs → AreFirst held load rooms size n ys → xs ≡ ys
+same_first held load rooms size n xs ys p q =
+    same_front (is_lighter load) (lighter_order load) (has_room held rooms size) xs ys
+    (p.number ∙ sym q.number) (front_of held load rooms size n xs p)
+    (front_of held load rooms size n ys q)
 
 count-rises : (before : ℕ → ℕ → Bool) → IsOrder before → (xs : List ℕ) → Rises before xs → (z : ℕ)
     → count z xs ≤ 1
@@ -276,41 +323,49 @@ length_by_count (x ∷ xs) ys once there =
     )
 
 -- as many switches have room
-pub room_for_first : (load : ℕ → ℕ) (rooms : List ℕ) (size n : ℕ) (xs : List ℕ)
-    → AreFirst load rooms size n xs → n ≤ length (with_room load rooms size)
-room_for_first load rooms size n xs first =
+pub room_for_first : (held load : ℕ → ℕ) (rooms : List ℕ) (size n : ℕ) (xs : List ℕ)
+    → AreFirst held load rooms size n xs → n ≤ length (with_room held rooms size)
+room_for_first held load rooms size n xs first =
     let rises = rises_from_pairs (is_lighter load) xs first.rising in
     let once = count-rises (is_lighter load) (lighter_order load) xs rises in
-    let there : (s : ℕ) → count s xs ≤ count s (with_room load rooms size) = λ s.
+    let there : (s : ℕ) → count s xs ≤ count s (with_room held rooms size) = λ s.
     elim (cases_lt 0 (count s xs)) [
       | inl some ↦
-          let room = each_from_count (λ t. has_room load rooms size t ≡ true) s xs
-          (recursion_from_All (λ t. has_room load rooms size t ≡ true) xs first.fit) some in
-          grind (arith, once s, count-with_room load rooms size s)
+          let room = each_from_count (λ t. has_room held rooms size t ≡ true) s xs
+          (recursion_from_All (λ t. has_room held rooms size t ≡ true) xs first.fit) some in
+          grind (arith, once s, count-with_room held rooms size s)
       | inr none ↦ omega arith
     ] in
-    omega (arith, length_by_count xs (with_room load rooms size) once there, first.number)
+    omega (arith, length_by_count xs (with_room held rooms size) once there, first.number)
 
 -- ---- what the first switches are
 
-pub first_there : (load : ℕ → ℕ) (rooms : List ℕ) (size n : ℕ) (xs : List ℕ)
-    → AreFirst load rooms size n xs → All (λ s. s < length rooms) xs
-first_there load rooms size n xs first = λ k d within. has_room-within load rooms size _
+pub first_there : (held load : ℕ → ℕ) (rooms : List ℕ) (size n : ℕ) (xs : List ℕ)
+    → AreFirst held load rooms size n xs → All (λ s. s < length rooms) xs
+first_there held load rooms size n xs first = λ k d within. has_room-within held rooms size _
     (first.fit k d within)
 
-pub first_fits : (load : ℕ → ℕ) (rooms : List ℕ) (size n : ℕ) (xs : List ℕ)
-    → AreFirst load rooms size n xs → ((i : ℕ) → get_or rooms i 0 < 2 ^ 32)
-    → All (λ s. load s + size < 2 ^ 32) xs
+pub first_room : (held load : ℕ → ℕ) (rooms : List ℕ) (size n : ℕ) (xs : List ℕ)
+    → AreFirst held load rooms size n xs → All (λ s. held s + size ≤ get_or rooms s 0) xs
 unfolding has_room
-first_fits load rooms size n xs first small = λ k d within.
+first_room held load rooms size n xs first = λ k d within.
     let s = get_or xs k d in
-    let parts = and_parts (ltb s (length rooms)) (leb (load s + size) (get_or rooms s 0))
+    let parts = and_parts (ltb s (length rooms)) (leb (held s + size) (get_or rooms s 0))
     (first.fit k d within) in
-    omega (arith, leb-true (load s + size) (get_or rooms s 0) parts.1, small s)
+    leb-true (held s + size) (get_or rooms s 0) parts.1
 
-pub first_distinct : (load : ℕ → ℕ) (rooms : List ℕ) (size n : ℕ) (xs : List ℕ)
-    → AreFirst load rooms size n xs → AllPairs (λ a b. a ≡ b → ⊥) xs
-first_distinct load rooms size n xs first = λ i j d less within same.
+pub first_distinct : (held load : ℕ → ℕ) (rooms : List ℕ) (size n : ℕ) (xs : List ℕ)
+    → AreFirst held load rooms size n xs → AllPairs (λ a b. a ≡ b → ⊥) xs
+first_distinct held load rooms size n xs first = λ i j d less within same.
     false≢true (sym ((lighter_order load).never (get_or xs i d))
     ∙ subst (λ z. is_lighter load (get_or xs i d) z ≡ true) (sym same)
     (first.rising i j d less within))
+
+-- the same switches are first where the same is held and carried
+pub first_along : (held held' load load' : ℕ → ℕ) (rooms : List ℕ) (size n : ℕ) (xs ys : List ℕ)
+    → held ≡ held' → load ≡ load' → xs ≡ ys → AreFirst held load rooms size n xs
+    → AreFirst held' load' rooms size n ys
+first_along held held' load load' rooms size n xs ys holds carries same first =
+    subst (λ f. AreFirst f load' rooms size n ys) holds
+    (subst (λ f. AreFirst held f rooms size n ys) carries
+    (subst (AreFirst held load rooms size n) same first))

@@ -1,4 +1,5 @@
 mod OrderLemmas
 mod FirstLemmas
 mod TurnLemmas
+mod PlacementLemmas
 pub mod CallerLemmas

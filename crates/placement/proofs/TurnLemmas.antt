@@ -1,17 +1,19 @@
--- Partitions in turn: what a turn keeps, that turns end in a placement, and that there is one.
-use Rattle.std.proofs.Common.{ℕ, ◌≡◌, ◌≢◌, ◌∙◌, ◌+◌, ◌<◌, Bool, true, false, cond, eqb, ltb, ◌&&◌, Result, Ok, Err, List, [], ◌∷◌, ◌++◌, length, filter, take, replicate, get_or, set, refl, ap, sym, subst, inl, inr, arith, length-set, append_assoc}
+-- Partitions in turn, whatever loads they weigh: what a turn keeps, that turns end in a placement
+-- or in a refusal, that there is one of these, and that no switch is given more than its room.
+use Rattle.std.proofs.Common.{ℕ, ◌≡◌, ◌≢◌, ◌∙◌, ◌+◌, ◌<◌, ◌≤◌, Bool, true, false, cond, eqb, ltb, ◌&&◌, List, [], ◌∷◌, ◌++◌, length, filter, take, drop, replicate, get_or, set, refl, ap, sym, subst, inl, inr, arith, length-set, append_assoc}
 use Rattle.std.specs.List.{AllByRecursion, list_any, range_with_len, sum_by}
 use Rattle.std.proofs.Math.Path.{fun_ext}
-use Rattle.std.proofs.lemmas.Bool.{cases_Bool, cases_eq, cases_lt, ltb-true, ltb-false, false≢true, false_from_ne_true}
+use Rattle.std.proofs.lemmas.Bool.{cases_Bool, cases_eq, cases_lt, false≢true, false_from_ne_true}
 use Rattle.std.proofs.lemmas.Bool.Decides.{nat_tests}
-use Rattle.std.proofs.lemmas.List.{append-nil, get_or_past, get_or-set_other, get_or-set_same, same_lists, get_or_default, length-replicate}
-use Rattle.std.proofs.lemmas.List.Elements.{filter_agree}
+use Rattle.std.proofs.lemmas.Grind.{common_steps}
+use Rattle.std.proofs.lemmas.List.{append-nil, drop_all, get_or_past, get_or-set_other, get_or-set_same, same_lists, get_or_default, take_all}
+use Rattle.std.proofs.lemmas.List.Elements.{filter_agree, recursion_from_All}
 use Rattle.std.proofs.lemmas.List.Sums.{sum_by-cons, sum_by-append, sum_by_push}
 use Rattle.policy_rules.proofs.CallerLemmas.{each_weaker}
 use Rattle.placement.specs.Order.{in_order}
-use Rattle.placement.specs.Placement.{is_earlier, targets_at, is_target, load_before, is_lighter, with_room, AreFirst, HasDueTargets, IsPlacement, LacksRoom, placement_from, placement_of, MeetsPlacement}
-use Rattle.placement.proofs.OrderLemmas.{Rises, one_of, one_of-same, one_of-other, count, count-range-le, count-range_within, range-within, sum-in_order, length-in_order, rises-in_order, each_from_count}
-use Rattle.placement.proofs.FirstLemmas.{earlier_order, first_in_order, same_first, room_for_first}
+use Rattle.placement.specs.Placement.{is_earlier, targets_at, with_room, AreFirst}
+use Rattle.placement.proofs.OrderLemmas.{Rises, one_of, one_of-same, one_of-other, count, count-range-le, count-range_within, range-within, sum-in_order, rises-in_order, each_from_count}
+use Rattle.placement.proofs.FirstLemmas.{among_holds, earlier_order, first_along, first_room, same_first, room_for_first}
 
 -- ---- turns
 
@@ -111,37 +113,55 @@ earlier-within sizes o p earlier within =
           absurd (grind (arith, nat_tests))
     ]
 
--- ---- loads
+-- ---- what the earlier partitions put on a switch
 
-loads_agree : (sizes : List ℕ) (P Q : List (List ℕ)) (p : ℕ)
-    → ((o : ℕ) → is_earlier sizes o p ≡ true → targets_at P o ≡ targets_at Q o)
-    → load_before sizes P p ≡ load_before sizes Q p
-unfolding load_before
-loads_agree sizes P Q p same =
-    fun_ext (λ s. ap (sum_by (λ o. get_or sizes o 0))
-    (filter_agree _ _ (λ o. by_case o s (is_earlier sizes o p) refl)
-    (range_with_len 0 (length sizes))))
-  where
-    by_case : (o s : ℕ) (b : Bool) → is_earlier sizes o p ≡ b
-        → (b && is_target P o s) ≡ (b && is_target Q o s)
-    by_case o s true is = ap (list_any (eqb s)) (same o is)
-    by_case o s false is = refl
+-- how partitions take their turns: by falling keys; each puts its size on all of its targets, and
+-- its key on some of them
+pub record TurnRule : Type 0 where
+  pub keys : List ℕ
+  pub sizes : List ℕ
+  pub loaded : List ℕ → List ℕ
+  pub rooms : List ℕ
+  pub backups : ℕ
 
--- a turn changes no load before itself or before an earlier one
-loads-set : (sizes : List ℕ) (P : List (List ℕ)) (p q : ℕ) (chosen : List ℕ)
-    → is_earlier sizes p q ≡ false → load_before sizes (set P p chosen) q ≡ load_before sizes P q
-loads-set sizes P p q chosen later =
-    loads_agree sizes (set P p chosen) P q (λ o earlier.
-    let other : o ≢ p = λ same.
-    false≢true (sym later ∙ subst (λ z. is_earlier sizes z q ≡ true) same earlier) in
-    get_or-set_other P p o chosen [] other)
+-- the sum of the numbers of the earlier partitions that put theirs on the switch
+abbrev pub sum_before : (List ℕ → List ℕ) → List ℕ → List ℕ → List (List ℕ) → ℕ → ℕ → ℕ
+sum_before chosen keys numbers placement p s =
+    sum_by (λ o. get_or numbers o 0)
+    (filter (λ o. is_earlier keys o p && list_any (eqb s) (chosen (targets_at placement o)))
+    (range_with_len 0 (length keys)))
 
--- the sizes of these partitions that a switch is a target of
-abbrev pub held_load : List ℕ → List (List ℕ) → List ℕ → ℕ → ℕ
-held_load sizes placement done s = sum_by (λ o. cond (is_target placement o s) (get_or sizes o 0) 0)
+-- the sum of the numbers of these partitions, as far as they put theirs on the switch
+abbrev pub sum_among : (List ℕ → List ℕ) → List ℕ → List (List ℕ) → List ℕ → ℕ → ℕ
+sum_among chosen numbers placement done s =
+    sum_by (λ o. cond (list_any (eqb s) (chosen (targets_at placement o))) (get_or numbers o 0) 0)
     done
 
-sum-filter : (f : ℕ → ℕ) (p : ℕ → Bool) (xs : List ℕ)
+sums_agree : (chosen : List ℕ → List ℕ) (keys numbers : List ℕ) (P Q : List (List ℕ)) (p : ℕ)
+    → ((o : ℕ) → is_earlier keys o p ≡ true → targets_at P o ≡ targets_at Q o)
+    → sum_before chosen keys numbers P p ≡ sum_before chosen keys numbers Q p
+sums_agree chosen keys numbers P Q p same =
+    fun_ext (λ s. ap (sum_by (λ o. get_or numbers o 0))
+    (filter_agree _ _ (λ o. by_case o s (is_earlier keys o p) refl)
+    (range_with_len 0 (length keys))))
+  where
+    by_case : (o s : ℕ) (b : Bool) → is_earlier keys o p ≡ b
+        → (b && list_any (eqb s) (chosen (targets_at P o)))
+        ≡ (b && list_any (eqb s) (chosen (targets_at Q o)))
+    by_case o s true is = ap (λ targets. list_any (eqb s) (chosen targets)) (same o is)
+    by_case o s false is = refl
+
+-- a turn changes nothing of what stands before itself or before an earlier one
+sums-set : (chosen : List ℕ → List ℕ) (keys numbers : List ℕ) (P : List (List ℕ)) (p q : ℕ)
+    (targets : List ℕ) → is_earlier keys p q ≡ false
+    → sum_before chosen keys numbers (set P p targets) q ≡ sum_before chosen keys numbers P q
+sums-set chosen keys numbers P p q targets later =
+    sums_agree chosen keys numbers (set P p targets) P q (λ o earlier.
+    let other : o ≢ p = λ same.
+    false≢true (sym later ∙ subst (λ z. is_earlier keys z q ≡ true) same earlier) in
+    get_or-set_other P p o targets [] other)
+
+pub sum-filter : (f : ℕ → ℕ) (p : ℕ → Bool) (xs : List ℕ)
     → sum_by f (filter p xs) ≡ sum_by (λ x. cond (p x) (f x) 0) xs
 sum-filter f p [] = refl
 sum-filter f p (x ∷ xs) = by_case (p x) refl (sum-filter f p xs)
@@ -168,7 +188,7 @@ sum_same f g [] each = refl
 sum_same f g (x ∷ xs) each =
     omega (arith, sum_by-cons f x xs, sum_by-cons g x xs, each.0, sum_same f g xs each.1)
 
-sum_none : (f : ℕ → ℕ) (xs : List ℕ) → AllByRecursion (λ x. f x ≡ 0) xs → sum_by f xs ≡ 0
+pub sum_none : (f : ℕ → ℕ) (xs : List ℕ) → AllByRecursion (λ x. f x ≡ 0) xs → sum_by f xs ≡ 0
 sum_none f [] each = refl
 sum_none f (x ∷ xs) each = omega (arith, sum_by-cons f x xs, each.0, sum_none f xs each.1)
 
@@ -177,229 +197,246 @@ each-append : (P : ℕ → Type 0) (xs ys : List ℕ) → AllByRecursion P xs �
 each-append P [] ys front back = back
 each-append P (x ∷ xs) ys front back = (front.0, each-append P xs ys front.1 back)
 
--- a running load is the load before the next turn
-running_load : (sizes : List ℕ) (P : List (List ℕ)) (done : List ℕ) (p : ℕ) (left : List ℕ)
-    → turns sizes ≡ done ++ p ∷ left → (s : ℕ) → load_before sizes P p s ≡ held_load sizes P done s
-unfolding load_before
-running_load sizes P done p left split s =
-    let parts = split_of sizes done p left split in
-    let size : ℕ → ℕ = λ o. get_or sizes o 0 in
-    let held : ℕ → Bool = λ o. is_earlier sizes o p && is_target P o s in
-    let weight : ℕ → ℕ = λ o. cond (held o) (size o) 0 in
-    let there : AllByRecursion (λ o. weight o ≡ cond (is_target P o s) (size o) 0) done =
-    each_weaker (λ o. is_earlier sizes o p ≡ true) _
-    (λ o is. ap (λ b. cond (b && is_target P o s) (size o) 0) is) done parts.before in
+-- what was put on a switch so far is what stands there before the next turn
+running_sum : (chosen : List ℕ → List ℕ) (keys numbers : List ℕ) (P : List (List ℕ))
+    (done : List ℕ) (p : ℕ) (left : List ℕ) → turns keys ≡ done ++ p ∷ left → (s : ℕ)
+    → sum_before chosen keys numbers P p s ≡ sum_among chosen numbers P done s
+running_sum chosen keys numbers P done p left split s =
+    let parts = split_of keys done p left split in
+    let number : ℕ → ℕ = λ o. get_or numbers o 0 in
+    let among : ℕ → Bool = λ o. list_any (eqb s) (chosen (targets_at P o)) in
+    let held : ℕ → Bool = λ o. is_earlier keys o p && among o in
+    let weight : ℕ → ℕ = λ o. cond (held o) (number o) 0 in
+    let there : AllByRecursion (λ o. weight o ≡ cond (among o) (number o) 0) done =
+    each_weaker (λ o. is_earlier keys o p ≡ true) _
+    (λ o is. ap (λ b. cond (b && among o) (number o) 0) is) done parts.before in
     let later : AllByRecursion (λ o. weight o ≡ 0) left =
-    each_weaker (λ o. is_earlier sizes p o ≡ true) _
-    (λ o is. ap (λ b. cond (b && is_target P o s) (size o) 0)
-    (false_from_ne_true _ (λ flipped. not_both sizes p o is flipped))) left parts.after in
-    let here : weight p ≡ 0 = ap (λ b. cond (b && is_target P p s) (size p) 0)
-    ((earlier_order sizes).never p) in
-    let whole : sum_by size (filter held (range_with_len 0 (length sizes))) ≡ sum_by weight
-    (done ++ p ∷ left) = sum-filter size held (range_with_len 0 (length sizes))
-    ∙ sym (sum-in_order weight (is_earlier sizes) (range_with_len 0 (length sizes)))
+    each_weaker (λ o. is_earlier keys p o ≡ true) _
+    (λ o is. ap (λ b. cond (b && among o) (number o) 0)
+    (false_from_ne_true _ (λ flipped. not_both keys p o is flipped))) left parts.after in
+    let here : weight p ≡ 0 = ap (λ b. cond (b && among p) (number p) 0)
+    ((earlier_order keys).never p) in
+    let whole : sum_by number (filter held (range_with_len 0 (length keys))) ≡ sum_by weight
+    (done ++ p ∷ left) = sum-filter number held (range_with_len 0 (length keys))
+    ∙ sym (sum-in_order weight (is_earlier keys) (range_with_len 0 (length keys)))
     ∙ ap (sum_by weight) split in
-    let front = sum_same weight (λ o. cond (is_target P o s) (size o) 0) done there in
+    let front = sum_same weight (λ o. cond (among o) (number o) 0) done there in
     let back = sum_none weight (p ∷ left) (here, later) in
     omega (arith, whole, sum_by-append weight done (p ∷ left), front, back)
 
 -- ---- one turn
 
+-- the partition has the targets that its turn gives it
+abbrev pub IsDue : TurnRule → List (List ℕ) → ℕ → Type 0
+IsDue t P p =
+    AreFirst (sum_before (λ xs. xs) t.keys t.sizes P p) (sum_before t.loaded t.keys t.keys P p)
+    t.rooms (get_or t.sizes p 0) (1 + t.backups) (targets_at P p)
+
+-- each partition has its targets
+pub record AreHosted (t : TurnRule) (placement : List (List ℕ)) : Type 0 where
+  pub number : length placement ≡ length t.keys
+  pub hosted : (p : ℕ) → p < length t.keys → IsDue t placement p
+
+-- the earlier ones have their targets, and this one finds too few
+pub record IsRefused (t : TurnRule) (p : ℕ) : Type 0 where
+  pub there : p < length t.keys
+  pub placement : List (List ℕ)
+  pub earlier : (o : ℕ) → o < length t.keys → is_earlier t.keys o p ≡ true → IsDue t placement o
+  pub fewer : length
+      (with_room (sum_before (λ xs. xs) t.keys t.sizes placement p) t.rooms (get_or t.sizes p 0))
+      < 1 + t.backups
+
 -- the partitions of the turns so far have their targets
-pub record TakenTurns (sizes rooms : List ℕ) (backups : ℕ) (placement : List (List ℕ))
-    (done left : List ℕ) : Type 0 where
-  pub split : turns sizes ≡ done ++ left
-  pub number : length placement ≡ length sizes
-  pub hosted : AllByRecursion (HasDueTargets sizes rooms backups placement) done
+pub record TakenTurns (t : TurnRule) (placement : List (List ℕ)) (done left : List ℕ) : Type 0 where
+  pub split : turns t.keys ≡ done ++ left
+  pub number : length placement ≡ length t.keys
+  pub hosted : AllByRecursion (IsDue t placement) done
 
-pub taken_none : (sizes rooms : List ℕ) (backups : ℕ) (placement : List (List ℕ))
-    → length placement ≡ length sizes → TakenTurns sizes rooms backups placement [] (turns sizes)
-taken_none sizes rooms backups placement len = record { split = refl; number = len; hosted = tt }
+pub taken_none : (t : TurnRule) (placement : List (List ℕ)) → length placement ≡ length t.keys
+    → TakenTurns t placement [] (turns t.keys)
+taken_none t placement len = record { split = refl; number = len; hosted = tt }
 
-hosted-set : (sizes rooms : List ℕ) (backups : ℕ) (P : List (List ℕ)) (p q : ℕ) (chosen : List ℕ)
-    → is_earlier sizes q p ≡ true → HasDueTargets sizes rooms backups P q
-    → HasDueTargets sizes rooms backups (set P p chosen) q
-hosted-set sizes rooms backups P p q chosen earlier hosted =
-    let later : is_earlier sizes p q ≡ false = false_from_ne_true _
-    (λ flipped. not_both sizes q p earlier flipped) in
+hosted-set : (t : TurnRule) (P : List (List ℕ)) (p q : ℕ) (targets : List ℕ)
+    → is_earlier t.keys q p ≡ true → IsDue t P q → IsDue t (set P p targets) q
+hosted-set t P p q targets earlier hosted =
+    let later : is_earlier t.keys p q ≡ false = false_from_ne_true _
+    (λ flipped. not_both t.keys q p earlier flipped) in
     let other : q ≢ p = λ same.
-    false≢true (sym ((earlier_order sizes).never p) ∙ subst (λ z. is_earlier sizes z p ≡ true)
+    false≢true (sym ((earlier_order t.keys).never p) ∙ subst (λ z. is_earlier t.keys z p ≡ true)
     same earlier) in
-    subst (λ load. AreFirst load rooms (get_or sizes q 0) (1 + backups)
-    (targets_at (set P p chosen) q)) (sym (loads-set sizes P p q chosen later))
-    (subst (AreFirst (load_before sizes P q) rooms (get_or sizes q 0) (1 + backups))
-    (sym (get_or-set_other P p q chosen [] other)) hosted)
+    first_along _ _ _ _ t.rooms (get_or t.sizes q 0) (1 + t.backups) _ _
+    (sym (sums-set (λ xs. xs) t.keys t.sizes P p q targets later))
+    (sym (sums-set t.loaded t.keys t.keys P p q targets later))
+    (sym (get_or-set_other P p q targets [] other)) hosted
 
-pub taken_more : (sizes rooms : List ℕ) (backups : ℕ) (P : List (List ℕ)) (done : List ℕ) (p : ℕ)
-    (left chosen : List ℕ) → TakenTurns sizes rooms backups P done (p ∷ left)
-    → AreFirst (load_before sizes P p) rooms (get_or sizes p 0) (1 + backups) chosen
-    → TakenTurns sizes rooms backups (set P p chosen) (done ++ p ∷ []) left
-taken_more sizes rooms backups P done p left chosen taken first =
-    let parts = split_of sizes done p left taken.split in
+pub taken_more : (t : TurnRule) (P : List (List ℕ)) (done : List ℕ) (p : ℕ) (left targets : List ℕ)
+    → TakenTurns t P done (p ∷ left)
+    → AreFirst (sum_before (λ xs. xs) t.keys t.sizes P p) (sum_before t.loaded t.keys t.keys P p)
+    t.rooms (get_or t.sizes p 0) (1 + t.backups) targets
+    → TakenTurns t (set P p targets) (done ++ p ∷ []) left
+taken_more t P done p left targets taken first =
+    let parts = split_of t.keys done p left taken.split in
     let within : p < length P = omega (arith, parts.within, taken.number) in
-    let here : HasDueTargets sizes rooms backups (set P p chosen) p =
-    subst (λ load. AreFirst load rooms (get_or sizes p 0) (1 + backups)
-    (targets_at (set P p chosen) p))
-    (sym (loads-set sizes P p p chosen ((earlier_order sizes).never p)))
-    (subst (AreFirst (load_before sizes P p) rooms (get_or sizes p 0) (1 + backups))
-    (sym (get_or-set_same P p chosen [] within)) first) in
+    let never = (earlier_order t.keys).never p in
+    let here : IsDue t (set P p targets) p =
+    first_along _ _ _ _ t.rooms (get_or t.sizes p 0) (1 + t.backups) _ _
+    (sym (sums-set (λ xs. xs) t.keys t.sizes P p p targets never))
+    (sym (sums-set t.loaded t.keys t.keys P p p targets never))
+    (sym (get_or-set_same P p targets [] within)) first in
     record {
       split = taken.split ∙ sym (append_assoc done (p ∷ []) left);
-      number = length-set P p chosen ∙ taken.number;
-      hosted = each-append (HasDueTargets sizes rooms backups (set P p chosen)) done (p ∷ [])
+      number = length-set P p targets ∙ taken.number;
+      hosted = each-append (IsDue t (set P p targets)) done (p ∷ [])
           (both done parts.before taken.hosted) (here, tt);
     }
   where
-    both : (xs : List ℕ) → AllByRecursion (λ o. is_earlier sizes o p ≡ true) xs
-        → AllByRecursion (HasDueTargets sizes rooms backups P) xs
-        → AllByRecursion (HasDueTargets sizes rooms backups (set P p chosen)) xs
+    both : (xs : List ℕ) → AllByRecursion (λ o. is_earlier t.keys o p ≡ true) xs
+        → AllByRecursion (IsDue t P) xs → AllByRecursion (IsDue t (set P p targets)) xs
     both [] earlier hosted = tt
     both (x ∷ xs) earlier hosted =
-        (hosted-set sizes rooms backups P p x chosen earlier.0 hosted.0, both xs earlier.1 hosted.1)
+        (hosted-set t P p x targets earlier.0 hosted.0, both xs earlier.1 hosted.1)
 
-pub taken_within : (sizes rooms : List ℕ) (backups : ℕ) (P : List (List ℕ)) (done : List ℕ)
-    (p : ℕ) (left : List ℕ) → TakenTurns sizes rooms backups P done (p ∷ left) → p < length P
-taken_within sizes rooms backups P done p left taken =
-    omega (arith, (split_of sizes done p left taken.split).within, taken.number)
+pub taken_within : (t : TurnRule) (P : List (List ℕ)) (done : List ℕ) (p : ℕ) (left : List ℕ)
+    → TakenTurns t P done (p ∷ left) → p < length P
+taken_within t P done p left taken =
+    omega (arith, (split_of t.keys done p left taken.split).within, taken.number)
 
-pub taken_all : (sizes rooms : List ℕ) (backups : ℕ) (P : List (List ℕ)) (done : List ℕ)
-    → TakenTurns sizes rooms backups P done [] → IsPlacement sizes rooms backups P
-taken_all sizes rooms backups P done taken =
-    let whole : turns sizes ≡ done = taken.split ∙ append-nil done in
+pub taken_all : (t : TurnRule) (P : List (List ℕ)) (done : List ℕ) → TakenTurns t P done []
+    → AreHosted t P
+taken_all t P done taken =
+    let whole : turns t.keys ≡ done = taken.split ∙ append-nil done in
     record {
       number = taken.number;
-      hosted = λ p within. each_from_count (HasDueTargets sizes rooms backups P) p done taken.hosted
-          (subst (λ xs. 0 < count p xs) whole (in_turns sizes p within));
+      hosted = λ p within. each_from_count (IsDue t P) p done taken.hosted
+          (subst (λ xs. 0 < count p xs) whole (in_turns t.keys p within));
     }
 
-pub taken_refused : (sizes rooms : List ℕ) (backups : ℕ) (P : List (List ℕ)) (done : List ℕ)
-    (p : ℕ) (left : List ℕ) → TakenTurns sizes rooms backups P done (p ∷ left)
-    → length (with_room (load_before sizes P p) rooms (get_or sizes p 0)) < 1 + backups
-    → LacksRoom sizes rooms backups p
-taken_refused sizes rooms backups P done p left taken fewer =
-    let parts = split_of sizes done p left taken.split in
+pub taken_refused : (t : TurnRule) (P : List (List ℕ)) (done : List ℕ) (p : ℕ) (left : List ℕ)
+    → TakenTurns t P done (p ∷ left)
+    → length (with_room (sum_before (λ xs. xs) t.keys t.sizes P p) t.rooms (get_or t.sizes p 0))
+    < 1 + t.backups → IsRefused t p
+taken_refused t P done p left taken fewer =
+    let parts = split_of t.keys done p left taken.split in
     record {
       there = parts.within;
       placement = P;
-      earlier = λ o within earlier. each_from_count (HasDueTargets sizes rooms backups P) o done
-          taken.hosted (parts.others o within earlier);
+      earlier = λ o within earlier. each_from_count (IsDue t P) o done taken.hosted
+          (parts.others o within earlier);
       fewer = fewer;
     }
 
--- what a turn adds to the running loads
-pub held_load_more : (sizes rooms : List ℕ) (backups : ℕ) (P : List (List ℕ)) (done : List ℕ)
-    (p : ℕ) (left chosen : List ℕ) → TakenTurns sizes rooms backups P done (p ∷ left) → (s : ℕ)
-    → held_load sizes (set P p chosen) (done ++ p ∷ []) s ≡ held_load sizes P done s + cond
-    (list_any (eqb s) chosen) (get_or sizes p 0) 0
-held_load_more sizes rooms backups P done p left chosen taken s =
-    let parts = split_of sizes done p left taken.split in
+-- what a turn puts on a switch
+sum_among_more : (chosen : List ℕ → List ℕ) (t : TurnRule) (numbers : List ℕ) (P : List (List ℕ))
+    (done : List ℕ) (p : ℕ) (left targets : List ℕ) → TakenTurns t P done (p ∷ left) → (s : ℕ)
+    → sum_among chosen numbers (set P p targets) (done ++ p ∷ []) s
+    ≡ sum_among chosen numbers P done s + cond (list_any (eqb s) (chosen targets))
+    (get_or numbers p 0) 0
+sum_among_more chosen t numbers P done p left targets taken s =
+    let parts = split_of t.keys done p left taken.split in
     let within : p < length P = omega (arith, parts.within, taken.number) in
-    let after : ℕ → ℕ = λ o. cond (is_target (set P p chosen) o s) (get_or sizes o 0) 0 in
-    let before : ℕ → ℕ = λ o. cond (is_target P o s) (get_or sizes o 0) 0 in
+    let put : List ℕ → ℕ → ℕ = λ xs o. cond (list_any (eqb s) (chosen xs)) (get_or numbers o 0) 0 in
+    let after : ℕ → ℕ = λ o. put (targets_at (set P p targets) o) o in
+    let before : ℕ → ℕ = λ o. put (targets_at P o) o in
     let same : AllByRecursion (λ o. after o ≡ before o) done =
-    each_weaker (λ o. is_earlier sizes o p ≡ true) _ (λ o is.
+    each_weaker (λ o. is_earlier t.keys o p ≡ true) _ (λ o is.
     let other : o ≢ p = λ here.
-    false≢true (sym ((earlier_order sizes).never p) ∙ subst (λ z. is_earlier sizes z p ≡ true)
+    false≢true (sym ((earlier_order t.keys).never p) ∙ subst (λ z. is_earlier t.keys z p ≡ true)
     here is) in
-    ap (λ targets. cond (list_any (eqb s) targets) (get_or sizes o 0) 0)
-    (get_or-set_other P p o chosen [] other)) done parts.before in
-    let here : after p ≡ cond (list_any (eqb s) chosen) (get_or sizes p 0) 0 =
-    ap (λ targets. cond (list_any (eqb s) targets) (get_or sizes p 0) 0)
-    (get_or-set_same P p chosen [] within) in
+    ap (λ xs. put xs o) (get_or-set_other P p o targets [] other)) done parts.before in
+    let here : after p ≡ put targets p = ap (λ xs. put xs p)
+    (get_or-set_same P p targets [] within) in
     omega (arith, sum_by_push after done p, sum_same after before done same, here)
 
--- ---- one turn with running loads
+-- ---- one turn with running sums
 
--- the turns so far are done, and the running loads are what they put on the switches
-pub record Loaded (sizes rooms : List ℕ) (backups : ℕ) (loads : List ℕ) (placement : List (List ℕ))
+-- a slice of a list, written back
+pub overwritten : (n : ℕ) (new old : List ℕ) → length new ≡ length old → n ≡ length old
+    → take n (new ++ drop (length new) old) ≡ new
+overwritten n new old len is = rw (drop_all (length new) old (omega arith), append-nil)
+    (take_all n new (omega arith))
+
+pub none_yet : (numbers : List ℕ) (n s : ℕ) → numbers ≡ replicate n 0 → get_or numbers s 0 ≡ 0
+none_yet numbers n s is = grind (arith, common_steps)
+
+-- the turns so far are done, and these are what they put on the switches
+pub record Loaded (t : TurnRule) (held loads : List ℕ) (placement : List (List ℕ))
     (done left : List ℕ) : Type 0 where
-  pub taken : TakenTurns sizes rooms backups placement done left
-  pub held : (s : ℕ) → get_or loads s 0 ≡ held_load sizes placement done s
-  pub switches : length loads ≡ length rooms
+  pub taken : TakenTurns t placement done left
+  pub held_is : (s : ℕ) → get_or held s 0 ≡ sum_among (λ xs. xs) t.sizes placement done s
+  pub loads_is : (s : ℕ) → get_or loads s 0 ≡ sum_among t.loaded t.keys placement done s
+  pub held_switches : length held ≡ length t.rooms
+  pub loads_switches : length loads ≡ length t.rooms
 
--- the running loads are the loads before the next turn
-loads_before : (sizes rooms : List ℕ) (backups : ℕ) (loads : List ℕ) (P : List (List ℕ))
-    (done : List ℕ) (p : ℕ) (left : List ℕ) → Loaded sizes rooms backups loads P done (p ∷ left)
-    → (λ s. get_or loads s 0) ≡ load_before sizes P p
-loads_before sizes rooms backups loads P done p left loaded =
-    fun_ext (λ s. loaded.held s ∙ sym (running_load sizes P done p left loaded.taken.split s))
+-- the running sums are what stands there before the next turn
+held_before : (t : TurnRule) (held loads : List ℕ) (P : List (List ℕ)) (done : List ℕ) (p : ℕ)
+    (left : List ℕ) → Loaded t held loads P done (p ∷ left)
+    → (λ s. get_or held s 0) ≡ sum_before (λ xs. xs) t.keys t.sizes P p
+held_before t held loads P done p left loaded =
+    fun_ext (λ s. loaded.held_is s
+    ∙ sym (running_sum (λ xs. xs) t.keys t.sizes P done p left loaded.taken.split s))
 
-pub loaded_none : (sizes rooms : List ℕ) (backups : ℕ) (loads : List ℕ) (P : List (List ℕ))
-    → length P ≡ length sizes → ((s : ℕ) → get_or loads s 0 ≡ 0) → length loads ≡ length rooms
-    → Loaded sizes rooms backups loads P [] (turns sizes)
-loaded_none sizes rooms backups loads P len none switches = record {
-  taken = taken_none sizes rooms backups P len;
-  held = none;
-  switches = switches;
+loads_before : (t : TurnRule) (held loads : List ℕ) (P : List (List ℕ)) (done : List ℕ) (p : ℕ)
+    (left : List ℕ) → Loaded t held loads P done (p ∷ left)
+    → (λ s. get_or loads s 0) ≡ sum_before t.loaded t.keys t.keys P p
+loads_before t held loads P done p left loaded =
+    fun_ext (λ s. loaded.loads_is s
+    ∙ sym (running_sum t.loaded t.keys t.keys P done p left loaded.taken.split s))
+
+pub loaded_none : (t : TurnRule) (held loads : List ℕ) (P : List (List ℕ))
+    → length P ≡ length t.keys → ((s : ℕ) → get_or held s 0 ≡ 0)
+    → ((s : ℕ) → get_or loads s 0 ≡ 0) → length held ≡ length t.rooms
+    → length loads ≡ length t.rooms → Loaded t held loads P [] (turns t.keys)
+loaded_none t held loads P len none_held none_loads held_switches loads_switches = record {
+  taken = taken_none t P len;
+  held_is = none_held;
+  loads_is = none_loads;
+  held_switches = held_switches;
+  loads_switches = loads_switches;
 }
 
-pub loaded_more : (sizes rooms : List ℕ) (backups : ℕ) (loads : List ℕ) (P : List (List ℕ))
-    (done : List ℕ) (p : ℕ) (left chosen more : List ℕ) → Loaded sizes rooms backups loads P done
-    (p ∷ left) → AreFirst (λ s. get_or loads s 0) rooms (get_or sizes p 0) (1 + backups) chosen
-    → ((s : ℕ) → get_or more s 0 ≡ get_or loads s 0 + cond (list_any (eqb s) chosen)
-    (get_or sizes p 0) 0) → length more ≡ length loads
-    → Loaded sizes rooms backups more (set P p chosen) (done ++ p ∷ []) left
-loaded_more sizes rooms backups loads P done p left chosen more loaded first added len = record {
-  taken = taken_more sizes rooms backups P done p left chosen loaded.taken
-      (subst (λ load. AreFirst load rooms (get_or sizes p 0) (1 + backups) chosen)
-      (loads_before sizes rooms backups loads P done p left loaded) first);
-  held = λ s. omega (
-    arith,
-    added s,
-    loaded.held s,
-    held_load_more sizes rooms backups P done p left
-        chosen loaded.taken s,
-  );
-  switches = len ∙ loaded.switches;
-}
+-- what a turn adds to a running sum
+abbrev pub IsAdded : List ℕ → List ℕ → List ℕ → ℕ → Type 0
+IsAdded old new targets size = (s : ℕ) → get_or new s 0
+    ≡ get_or old s 0 + cond (list_any (eqb s) targets) size 0
 
-pub loaded_refused : (sizes rooms : List ℕ) (backups : ℕ) (loads : List ℕ) (P : List (List ℕ))
-    (done : List ℕ) (p : ℕ) (left : List ℕ) → Loaded sizes rooms backups loads P done (p ∷ left)
-    → length (with_room (λ s. get_or loads s 0) rooms (get_or sizes p 0)) < 1 + backups
-    → LacksRoom sizes rooms backups p
-loaded_refused sizes rooms backups loads P done p left loaded fewer =
-    taken_refused sizes rooms backups P done p left loaded.taken
-    (subst (λ load. length (with_room load rooms (get_or sizes p 0)) < 1 + backups)
-    (loads_before sizes rooms backups loads P done p left loaded) fewer)
+pub loaded_more : (t : TurnRule) (held loads : List ℕ) (P : List (List ℕ)) (done : List ℕ) (p : ℕ)
+    (left targets more_held more_loads : List ℕ) → Loaded t held loads P done (p ∷ left)
+    → AreFirst (λ s. get_or held s 0) (λ s. get_or loads s 0) t.rooms (get_or t.sizes p 0)
+    (1 + t.backups) targets → IsAdded held more_held targets (get_or t.sizes p 0)
+    → IsAdded loads more_loads (t.loaded targets) (get_or t.keys p 0)
+    → length more_held ≡ length held → length more_loads ≡ length loads
+    → Loaded t more_held more_loads (set P p targets) (done ++ p ∷ []) left
+loaded_more t held loads P done p left targets more_held more_loads loaded first added carried
+    held_len loads_len =
+    record {
+      taken = taken_more t P done p left targets loaded.taken
+          (first_along _ _ _ _ t.rooms (get_or t.sizes p 0) (1 + t.backups) targets targets
+          (held_before t held loads P done p left loaded)
+          (loads_before t held loads P done p left loaded) refl first);
+      held_is = λ s. omega (
+        arith,
+        added s,
+        loaded.held_is s,
+        sum_among_more (λ xs. xs) t t.sizes P done p left targets loaded.taken s,
+      );
+      loads_is = λ s. omega (
+        arith,
+        carried s,
+        loaded.loads_is s,
+        sum_among_more t.loaded t t.keys P done p left targets loaded.taken s,
+      );
+      held_switches = held_len ∙ loaded.held_switches;
+      loads_switches = loads_len ∙ loaded.loads_switches;
+    }
 
--- ---- all turns
-
-turns_meet : (sizes rooms : List ℕ) (backups : ℕ) (left done : List ℕ) (P : List (List ℕ))
-    → TakenTurns sizes rooms backups P done left → MeetsPlacement sizes rooms backups
-    (placement_from sizes rooms backups P left)
-turns_meet sizes rooms backups [] done P taken = taken_all sizes rooms backups P done taken
-turns_meet sizes rooms backups (p ∷ left) done P taken =
-    let load = load_before sizes P p in
-    let found = in_order (is_lighter load) (with_room load rooms (get_or sizes p 0)) in
-    by_case (ltb (length found) (1 + backups))
-    (placement_from sizes rooms backups (set P p (take (1 + backups) found)) left)
-    (λ few. taken_refused sizes rooms backups P done p left taken
-    (omega (
-      arith,
-      ltb-true (length found) (1 + backups) few,
-      length-in_order (is_lighter load)
-          (with_room load rooms (get_or sizes p 0)),
-    )))
-    (λ many. turns_meet sizes rooms backups left (done ++ p ∷ [])
-    (set P p (take (1 + backups) found))
-    (taken_more sizes rooms backups P done p left (take (1 + backups) found) taken
-    (first_in_order load rooms (get_or sizes p 0) (1 + backups)
-    (ltb-false (length found) (1 + backups) many))))
-  where
-    by_case : (b : Bool) (hosted : Result (List (List ℕ)) ℕ)
-        → (b ≡ true → LacksRoom sizes rooms backups p)
-        → (b ≡ false → MeetsPlacement sizes rooms backups hosted)
-        → MeetsPlacement sizes rooms backups (cond b (Err p) hosted)
-    by_case true hosted refused meets = refused refl
-    by_case false hosted refused meets = meets refl
-
-pub placement_meets : (sizes rooms : List ℕ) (backups : ℕ) → MeetsPlacement sizes rooms backups
-    (placement_of sizes rooms backups)
-unfolding placement_of
-placement_meets sizes rooms backups = turns_meet sizes rooms backups (turns sizes) []
-    (replicate (length sizes) [])
-    (taken_none sizes rooms backups (replicate (length sizes) [])
-    (length-replicate (length sizes) []))
+pub loaded_refused : (t : TurnRule) (held loads : List ℕ) (P : List (List ℕ)) (done : List ℕ) (p : ℕ)
+    (left : List ℕ) → Loaded t held loads P done (p ∷ left)
+    → length (with_room (λ s. get_or held s 0) t.rooms (get_or t.sizes p 0)) < 1 + t.backups
+    → IsRefused t p
+loaded_refused t held loads P done p left loaded fewer =
+    taken_refused t P done p left loaded.taken
+    (subst (λ f. length (with_room f t.rooms (get_or t.sizes p 0)) < 1 + t.backups)
+    (held_before t held loads P done p left loaded) fewer)
 
 -- ---- one placement
 
@@ -407,28 +444,29 @@ placement_meets sizes rooms backups = turns_meet sizes rooms backups (turns size
 abbrev Agree : List (List ℕ) → List (List ℕ) → List ℕ → Type 0
 Agree P Q xs = AllByRecursion (λ o. targets_at P o ≡ targets_at Q o) xs
 
-agree_next : (sizes rooms : List ℕ) (backups : ℕ) (P Q : List (List ℕ)) (done : List ℕ) (p : ℕ)
-    (left : List ℕ) → turns sizes ≡ done ++ p ∷ left → Agree P Q done
-    → load_before sizes P p ≡ load_before sizes Q p
-agree_next sizes rooms backups P Q done p left split agree =
-    let parts = split_of sizes done p left split in
-    loads_agree sizes P Q p (λ o earlier. each_from_count (λ z. targets_at P z ≡ targets_at Q z) o
-    done agree (parts.others o (earlier-within sizes o p earlier parts.within) earlier))
+agree_next : (chosen : List ℕ → List ℕ) (keys numbers : List ℕ) (P Q : List (List ℕ))
+    (done : List ℕ) (p : ℕ) (left : List ℕ) → turns keys ≡ done ++ p ∷ left → Agree P Q done
+    → sum_before chosen keys numbers P p ≡ sum_before chosen keys numbers Q p
+agree_next chosen keys numbers P Q done p left split agree =
+    let parts = split_of keys done p left split in
+    sums_agree chosen keys numbers P Q p (λ o earlier.
+    each_from_count (λ z. targets_at P z ≡ targets_at Q z) o
+    done agree (parts.others o (earlier-within keys o p earlier parts.within) earlier))
 
-agree_from : (sizes rooms : List ℕ) (backups : ℕ) (P Q : List (List ℕ)) (now done left : List ℕ)
-    → turns sizes ≡ done ++ (now ++ left) → Agree P Q done
-    → AllByRecursion (HasDueTargets sizes rooms backups P) now
-    → AllByRecursion (HasDueTargets sizes rooms backups Q) now → Agree P Q (done ++ now)
-agree_from sizes rooms backups P Q [] done left split agree p q = subst (Agree P Q)
-    (sym (append-nil done)) agree
-agree_from sizes rooms backups P Q (x ∷ xs) done left split agree p q =
-    let loads = agree_next sizes rooms backups P Q done x (xs ++ left) split agree in
-    let here = same_first (load_before sizes Q x) rooms (get_or sizes x 0) (1 + backups)
+agree_from : (t : TurnRule) (P Q : List (List ℕ)) (now done left : List ℕ)
+    → turns t.keys ≡ done ++ (now ++ left) → Agree P Q done → AllByRecursion (IsDue t P) now
+    → AllByRecursion (IsDue t Q) now → Agree P Q (done ++ now)
+agree_from t P Q [] done left split agree p q = subst (Agree P Q) (sym (append-nil done)) agree
+agree_from t P Q (x ∷ xs) done left split agree p q =
+    let held = agree_next (λ xs. xs) t.keys t.sizes P Q done x (xs ++ left) split agree in
+    let loads = agree_next t.loaded t.keys t.keys P Q done x (xs ++ left) split agree in
+    let here = same_first (sum_before (λ xs. xs) t.keys t.sizes Q x)
+    (sum_before t.loaded t.keys t.keys Q x) t.rooms (get_or t.sizes x 0) (1 + t.backups)
     (targets_at P x) (targets_at Q x)
-    (subst (λ load. AreFirst load rooms (get_or sizes x 0) (1 + backups) (targets_at P x)) loads
-    p.0) q.0 in
+    (first_along _ _ _ _ t.rooms (get_or t.sizes x 0) (1 + t.backups) (targets_at P x)
+    (targets_at P x) held loads refl p.0) q.0 in
     subst (Agree P Q) (append_assoc done (x ∷ []) xs)
-    (agree_from sizes rooms backups P Q xs (done ++ x ∷ []) left
+    (agree_from t P Q xs (done ++ x ∷ []) left
     (split ∙ sym (append_assoc done (x ∷ []) (xs ++ left)))
     (each-append (λ o. targets_at P o ≡ targets_at Q o) done (x ∷ []) agree (here, tt)) p.1 q.1)
 
@@ -441,93 +479,128 @@ each_within P sizes all (x ∷ xs) within = (
       (λ z there. within z (omega (arith, sum_by-cons (one_of z) x xs))),
 )
 
-same_placement : (sizes rooms : List ℕ) (backups : ℕ) (P Q : List (List ℕ))
-    → IsPlacement sizes rooms backups P → IsPlacement sizes rooms backups Q → P ≡ Q
-same_placement sizes rooms backups P Q p q =
-    let hosted = λ (R : List (List ℕ)) (r : IsPlacement sizes rooms backups R). each_within
-    (HasDueTargets sizes rooms backups R) sizes r.hosted (turns sizes) (turns-within sizes) in
-    let agree = agree_from sizes rooms backups P Q (turns sizes) [] []
-    (sym (append-nil (turns sizes))) tt (hosted P p) (hosted Q q) in
+pub same_hosted : (t : TurnRule) (P Q : List (List ℕ)) → AreHosted t P → AreHosted t Q → P ≡ Q
+same_hosted t P Q p q =
+    let due = λ (R : List (List ℕ)) (r : AreHosted t R). each_within (IsDue t R) t.keys r.hosted
+    (turns t.keys) (turns-within t.keys) in
+    let agree = agree_from t P Q (turns t.keys) [] [] (sym (append-nil (turns t.keys))) tt
+    (due P p) (due Q q) in
     same_lists P Q (omega (arith, p.number, q.number)) (λ k d within.
-    let here = each_from_count (λ z. targets_at P z ≡ targets_at Q z) k (turns sizes) agree
-    (in_turns sizes k (omega (arith, p.number))) in
+    let here = each_from_count (λ z. targets_at P z ≡ targets_at Q z) k (turns t.keys) agree
+    (in_turns t.keys k (omega (arith, p.number))) in
     get_or_default P k d [] within ∙ here
     ∙ get_or_default Q k [] d (omega (arith, p.number, q.number)))
 
 -- a partition that is refused has no targets in any placement of the earlier ones
-refused_clash : (sizes rooms : List ℕ) (backups p : ℕ) → LacksRoom sizes rooms backups p
-    → (Q : List (List ℕ)) → ((o : ℕ) → o < length sizes → is_earlier sizes o p ≡ true
-    → HasDueTargets sizes rooms backups Q o) → HasDueTargets sizes rooms backups Q p → ⊥
-refused_clash sizes rooms backups p refused Q earlier hosted =
-    let cut = split_at p (turns sizes) (in_turns sizes p refused.there) in
-    let parts = split_of sizes cut.0 p cut.1 cut.2 in
-    let within : (z : ℕ) → 0 < count z cut.0 → z < length sizes = λ z there. turns-within sizes z
+refused_clash : (t : TurnRule) (p : ℕ) → IsRefused t p → (Q : List (List ℕ))
+    → ((o : ℕ) → o < length t.keys → is_earlier t.keys o p ≡ true → IsDue t Q o) → IsDue t Q p → ⊥
+refused_clash t p refused Q earlier due =
+    let cut = split_at p (turns t.keys) (in_turns t.keys p refused.there) in
+    let parts = split_of t.keys cut.0 p cut.1 cut.2 in
+    let within : (z : ℕ) → 0 < count z cut.0 → z < length t.keys = λ z there. turns-within t.keys z
     (omega (arith, ap (count z) cut.2, sum_by-append (one_of z) cut.0 (p ∷ cut.1))) in
-    let all = λ (R : List (List ℕ)) (r : (o : ℕ) → o < length sizes → is_earlier sizes o p ≡ true
-    → HasDueTargets sizes rooms backups R o). each_both sizes p R r cut.0 parts.before within in
-    let agree = agree_from sizes rooms backups refused.placement Q cut.0 [] (p ∷ cut.1) cut.2 tt
+    let all = λ (R : List (List ℕ)) (r : (o : ℕ) → o < length t.keys
+    → is_earlier t.keys o p ≡ true → IsDue t R o). each_both R r cut.0 parts.before within in
+    let agree = agree_from t refused.placement Q cut.0 [] (p ∷ cut.1) cut.2 tt
     (all refused.placement refused.earlier) (all Q earlier) in
-    let loads = agree_next sizes rooms backups refused.placement Q cut.0 p cut.1 cut.2 agree in
-    let room = room_for_first (load_before sizes Q p) rooms (get_or sizes p 0) (1 + backups)
-    (targets_at Q p) hosted in
-    let fewer = subst (λ load. length (with_room load rooms (get_or sizes p 0)) < 1 + backups) loads
+    let held = agree_next (λ xs. xs) t.keys t.sizes refused.placement Q cut.0 p cut.1 cut.2 agree in
+    let room = room_for_first (sum_before (λ xs. xs) t.keys t.sizes Q p)
+    (sum_before t.loaded t.keys t.keys Q p) t.rooms (get_or t.sizes p 0) (1 + t.backups)
+    (targets_at Q p) due in
+    let fewer = subst (λ f. length (with_room f t.rooms (get_or t.sizes p 0)) < 1 + t.backups) held
     refused.fewer in
     omega (arith, room, fewer)
   where
-    each_both : (sizes : List ℕ) (p : ℕ) (R : List (List ℕ))
-        → ((o : ℕ) → o < length sizes → is_earlier sizes o p ≡ true
-        → HasDueTargets sizes rooms backups R o) → (xs : List ℕ)
-        → AllByRecursion (λ o. is_earlier sizes o p ≡ true) xs
-        → ((z : ℕ) → 0 < count z xs → z < length sizes)
-        → AllByRecursion (HasDueTargets sizes rooms backups R) xs
-    each_both sizes p R all [] before within = tt
-    each_both sizes p R all (x ∷ xs) before within = (
+    each_both : (R : List (List ℕ))
+        → ((o : ℕ) → o < length t.keys → is_earlier t.keys o p ≡ true → IsDue t R o)
+        → (xs : List ℕ) → AllByRecursion (λ o. is_earlier t.keys o p ≡ true) xs
+        → ((z : ℕ) → 0 < count z xs → z < length t.keys) → AllByRecursion (IsDue t R) xs
+    each_both R all [] before within = tt
+    each_both R all (x ∷ xs) before within = (
       all x (within x (omega (arith, sum_by-cons (one_of x) x xs, one_of-same x))) before.0,
-      each_both sizes p R all xs before.1
+      each_both R all xs before.1
           (λ z there. within z (omega (arith, sum_by-cons (one_of z) x xs))),
     )
 
-refused_before : (sizes rooms : List ℕ) (backups p q : ℕ) → LacksRoom sizes rooms backups p
-    → LacksRoom sizes rooms backups q → is_earlier sizes p q ≡ true → ⊥
-refused_before sizes rooms backups p q at_p at_q first =
-    refused_clash sizes rooms backups p at_p at_q.placement
+refused_before : (t : TurnRule) (p q : ℕ) → IsRefused t p → IsRefused t q
+    → is_earlier t.keys p q ≡ true → ⊥
+refused_before t p q at_p at_q first =
+    refused_clash t p at_p at_q.placement
     (λ o within earlier. at_q.earlier o within
-    ((earlier_order sizes).trans o p q earlier first)) (at_q.earlier p at_p.there first)
+    ((earlier_order t.keys).trans o p q earlier first)) (at_q.earlier p at_p.there first)
 
-same_refusal : (sizes rooms : List ℕ) (backups p q : ℕ) → LacksRoom sizes rooms backups p
-    → LacksRoom sizes rooms backups q → p ≡ q
-same_refusal sizes rooms backups p q at_p at_q =
+pub same_refused : (t : TurnRule) (p q : ℕ) → IsRefused t p → IsRefused t q → p ≡ q
+same_refused t p q at_p at_q =
     elim (cases_eq p q) [
       | inl same ↦ same
       | inr other ↦
-          elim (cases_Bool (is_earlier sizes q p)) [
-            | inl later ↦ absurd (refused_before sizes rooms backups q p at_q at_p later)
-            | inr first ↦ absurd (refused_before sizes rooms backups p q at_p at_q
-                ((earlier_order sizes).total p q other first))
+          elim (cases_Bool (is_earlier t.keys q p)) [
+            | inl later ↦ absurd (refused_before t q p at_q at_p later)
+            | inr first ↦ absurd (refused_before t p q at_p at_q
+                ((earlier_order t.keys).total p q other first))
           ]
     ]
 
-hosted_or_refused : (sizes rooms : List ℕ) (backups p : ℕ) (Q : List (List ℕ))
-    → IsPlacement sizes rooms backups Q → LacksRoom sizes rooms backups p → ⊥
-hosted_or_refused sizes rooms backups p Q placement refused = refused_clash sizes rooms backups p
-    refused Q (λ o within _. placement.hosted o within) (placement.hosted p refused.there)
+pub hosted_or_refused : (t : TurnRule) (p : ℕ) (Q : List (List ℕ)) → AreHosted t Q → IsRefused t p → ⊥
+hosted_or_refused t p Q placement refused = refused_clash t p refused Q
+    (λ o within _. placement.hosted o within) (placement.hosted p refused.there)
 
-pub placement_is : (sizes rooms : List ℕ) (backups : ℕ) (Q : List (List ℕ))
-    → IsPlacement sizes rooms backups Q → placement_of sizes rooms backups ≡ Ok Q
-placement_is sizes rooms backups Q placement = by_case (placement_of sizes rooms backups)
-    (placement_meets sizes rooms backups)
-  where
-    by_case : (answer : Result (List (List ℕ)) ℕ) → MeetsPlacement sizes rooms backups answer
-        → answer ≡ Ok Q
-    by_case (Ok P) meets = ap Ok (same_placement sizes rooms backups P Q meets placement)
-    by_case (Err p) meets = absurd (hosted_or_refused sizes rooms backups p Q placement meets)
+-- ---- no switch has more than its room
 
-pub refusal_is : (sizes rooms : List ℕ) (backups p : ℕ) → LacksRoom sizes rooms backups p
-    → placement_of sizes rooms backups ≡ Err p
-refusal_is sizes rooms backups p refused = by_case (placement_of sizes rooms backups)
-    (placement_meets sizes rooms backups)
+-- one more turn leaves each switch within its room
+fits_more : (t : TurnRule) (P : List (List ℕ)) (done : List ℕ) (p : ℕ) (left : List ℕ) (s : ℕ)
+    → turns t.keys ≡ done ++ p ∷ left → IsDue t P p
+    → sum_among (λ xs. xs) t.sizes P done s ≤ get_or t.rooms s 0
+    → sum_among (λ xs. xs) t.sizes P (done ++ p ∷ []) s ≤ get_or t.rooms s 0
+fits_more t P done p left s split due fits =
+    by_case (list_any (eqb s) (targets_at P p)) refl
   where
-    by_case : (answer : Result (List (List ℕ)) ℕ) → MeetsPlacement sizes rooms backups answer
-        → answer ≡ Err p
-    by_case (Ok P) meets = absurd (hosted_or_refused sizes rooms backups p P meets refused)
-    by_case (Err q) meets = ap Err (same_refusal sizes rooms backups q p meets refused)
+    by_case : (b : Bool) → list_any (eqb s) (targets_at P p) ≡ b
+        → sum_among (λ xs. xs) t.sizes P (done ++ p ∷ []) s ≤ get_or t.rooms s 0
+    by_case true among =
+        let put : ℕ → ℕ = λ o. cond (list_any (eqb s) (targets_at P o)) (get_or t.sizes o 0) 0 in
+        let here : put p ≡ get_or t.sizes p 0 = ap (λ b. cond b (get_or t.sizes p 0) 0) among in
+        let before : ℕ → ℕ = sum_before (λ xs. xs) t.keys t.sizes P p in
+        let load : ℕ → ℕ = sum_before t.loaded t.keys t.keys P p in
+        let room : before s + get_or t.sizes p 0 ≤ get_or t.rooms s 0 =
+        among_holds (λ z. before z + get_or t.sizes p 0 ≤ get_or t.rooms z 0) s (targets_at P p)
+        (recursion_from_All (λ z. before z + get_or t.sizes p 0 ≤ get_or t.rooms z 0)
+        (targets_at P p)
+        (first_room before load t.rooms (get_or t.sizes p 0) (1 + t.backups) (targets_at P p) due))
+        among in
+        omega (
+          arith,
+          sum_by_push put done p,
+          here,
+          room,
+          running_sum (λ xs. xs) t.keys t.sizes P done p left split s,
+        )
+    by_case false among =
+        let put : ℕ → ℕ = λ o. cond (list_any (eqb s) (targets_at P o)) (get_or t.sizes o 0) 0 in
+        let here : put p ≡ 0 = ap (λ b. cond b (get_or t.sizes p 0) 0) among in
+        omega (arith, sum_by_push put done p, here, fits)
+
+fits_from : (t : TurnRule) (P : List (List ℕ)) (now done : List ℕ) (s : ℕ)
+    → turns t.keys ≡ done ++ now → AllByRecursion (IsDue t P) now
+    → sum_among (λ xs. xs) t.sizes P done s ≤ get_or t.rooms s 0
+    → sum_among (λ xs. xs) t.sizes P (done ++ now) s ≤ get_or t.rooms s 0
+fits_from t P [] done s split due fits =
+    subst (λ xs. sum_among (λ xs. xs) t.sizes P xs s ≤ get_or t.rooms s 0) (sym (append-nil done))
+    fits
+fits_from t P (x ∷ xs) done s split due fits =
+    subst (λ ys. sum_among (λ xs. xs) t.sizes P ys s ≤ get_or t.rooms s 0)
+    (append_assoc done (x ∷ []) xs)
+    (fits_from t P xs (done ++ x ∷ []) s (split ∙ sym (append_assoc done (x ∷ []) xs)) due.1
+    (fits_more t P done x xs s split due.0 fits))
+
+-- all that is put on a switch is within its room
+pub hosted_fits : (t : TurnRule) (P : List (List ℕ)) → AreHosted t P → (s : ℕ)
+    → sum_among (λ xs. xs) t.sizes P (range_with_len 0 (length t.keys)) s ≤ get_or t.rooms s 0
+hosted_fits t P hosted s =
+    let due = each_within (IsDue t P) t.keys hosted.hosted (turns t.keys) (turns-within t.keys) in
+    let put : ℕ → ℕ = λ o. cond (list_any (eqb s) (targets_at P o)) (get_or t.sizes o 0) 0 in
+    omega (
+      arith,
+      fits_from t P (turns t.keys) [] s refl due (omega arith),
+      sum-in_order put (is_earlier t.keys) (range_with_len 0 (length t.keys)),
+    )

@@ -31,25 +31,26 @@ load_before sizes placement partition switch =
 
 -- ---- which switches a partition goes to
 
--- the switch has room for so many rules above its load
+-- the switch has room for so many rules above those that it holds
 unfoldable pub has_room : (ℕ → ℕ) → List ℕ → ℕ → ℕ → Bool
-has_room load rooms size switch =
-    nat_lt switch (length rooms) && nat_le (load switch + size) (slice_index rooms switch)
+has_room held rooms size switch =
+    nat_lt switch (length rooms) && nat_le (held switch + size) (slice_index rooms switch)
 
 abbrev pub with_room : (ℕ → ℕ) → List ℕ → ℕ → List ℕ
-with_room load rooms size = filter (has_room load rooms size) (range_with_len 0 (length rooms))
+with_room held rooms size = filter (has_room held rooms size) (range_with_len 0 (length rooms))
 
 -- switches stand by load, then by number
 unfoldable pub is_lighter : (ℕ → ℕ) → ℕ → ℕ → Bool
 is_lighter load a b = nat_lt (load a) (load b) || ((load a == load b) && nat_lt a b)
 
--- of the switches that have room, these are the first: every other one comes after all of them
-pub record AreFirst (load : ℕ → ℕ) (rooms : List ℕ) (size count : ℕ) (targets : List ℕ)
+-- of the switches that have room above what they hold, these are the first by load: every other one
+-- comes after all of them
+pub record AreFirst (held load : ℕ → ℕ) (rooms : List ℕ) (size count : ℕ) (targets : List ℕ)
     : Type 0 where
   pub number : length targets ≡ count
-  pub fit : All (λ s. IsTrue (has_room load rooms size s)) targets
+  pub fit : All (λ s. IsTrue (has_room held rooms size s)) targets
   pub rising : AllPairs (λ a b. IsTrue (is_lighter load a b)) targets
-  pub least : (other : ℕ) → IsTrue (has_room load rooms size other)
+  pub least : (other : ℕ) → IsTrue (has_room held rooms size other)
       → IsFalse (list_any (nat_eq other) targets)
       → All (λ s. IsTrue (is_lighter load s other)) targets
 
@@ -58,8 +59,9 @@ pub record AreFirst (load : ℕ → ℕ) (rooms : List ℕ) (size count : ℕ) (
 -- the partition has the targets that its turn gives it: one and the backups
 abbrev pub HasDueTargets : List ℕ → List ℕ → ℕ → List (List ℕ) → ℕ → Type 0
 HasDueTargets sizes rooms backups placement partition =
-    AreFirst (load_before sizes placement partition) rooms (slice_index sizes partition)
-    (1 + backups) (targets_at placement partition)
+    let load = load_before sizes placement partition in
+    AreFirst load load rooms (slice_index sizes partition) (1 + backups)
+    (targets_at placement partition)
 
 -- each partition has its targets
 pub record IsPlacement (sizes rooms : List ℕ) (backups : ℕ) (placement : List (List ℕ))

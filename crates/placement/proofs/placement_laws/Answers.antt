@@ -1,4 +1,4 @@
-use Rattle.placement.proofs.TurnLemmas.{placement_meets, placement_is, refusal_is}
+use Rattle.placement.proofs.PlacementLemmas.{placement_meets, placement_is, refusal_is}
 use Rattle.placement.proofs.placement_laws.Goals as goal
 
 pub returns : goal.returns

@@ -1,6 +1,6 @@
 use Rattle.std.proofs.Common.{refl, arith}
 use Rattle.std.proofs.lemmas.Iterator.{items_from_collect, YieldsList-from_range}
-use Rattle.placement.proofs.numbers_below.Goals as goal
+use Rattle.placement.proofs.turns.numbers_below.Goals as goal
 
 pub returns : goal.returns
 returns c = items_from_collect _ c.collect.ensures.ran

@@ -3,7 +3,7 @@ use Rattle.std.specs.List.{list_any}
 use Rattle.std.proofs.lemmas.Bool.{cases_eq, eq-eqb, ne_eqb, or_right}
 use Rattle.std.proofs.lemmas.List.{get_or-set_same, get_or-set_other, take_more}
 use Rattle.placement.proofs.OrderLemmas.{not_among_before, among-push}
-use Rattle.placement.proofs.add_load.Goals as goal
+use Rattle.placement.proofs.turns.add_load.Goals as goal
 
 pub overflow_add-loads : goal.overflow_add-loads
 overflow_add-loads c =
@@ -11,7 +11,7 @@ overflow_add-loads c =
     let k = c.loop-switch.switch-index in
     let first = not_among_before targets k c.loop-switch-test.true c.requires.distinct in
     let same = c.loop-switch.invariant (get_or targets k 0)
-    ∙ ap (λ b. get_or c.args.loads.now (get_or targets k 0) 0 + cond b c.args.size 0) first in
+    ∙ ap (λ b. get_or c.args.loads.now (get_or targets k 0) 0 + cond b c.args.more 0) first in
     omega (arith, same, c.requires.fits k 0 c.loop-switch-test.true)
 
 -- one more target
@@ -45,7 +45,7 @@ added_more old loads targets size k before within there distinct s =
 
 pub loop-switch-preserved : goal.loop-switch-preserved
 loop-switch-preserved c =
-    added_more c.args.loads.now c.loop-switch.loads c.args.targets.now c.args.size
+    added_more c.args.loads.now c.loop-switch.loads c.args.targets.now c.args.more
     c.loop-switch.switch-index c.loop-switch.invariant c.loop-switch-test.true
     (omega (
       arith,

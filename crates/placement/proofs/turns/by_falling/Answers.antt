@@ -7,13 +7,13 @@ use Rattle.placement.specs.Order.{in_order}
 use Rattle.placement.specs.Placement.{is_earlier}
 use Rattle.placement.proofs.OrderLemmas.{one_of, count, count-range-le, sum-in_order, rises_from_sorted, rises-in_order, same_rising, lexicographic}
 use Rattle.placement.proofs.FirstLemmas.{earlier_order}
-use Rattle.placement.proofs.by_falling_size.Goals as goal
+use Rattle.placement.proofs.turns.by_falling.Goals as goal
 
 pub returns : goal.returns
 unfolding is_earlier
 returns c =
     let order = c.sort_unstable_by_key.new.self.items in
-    let sizes = c.args.sizes.now in
+    let sizes = c.args.numbers.now in
     let numbers = range_with_len 0 (length sizes) in
     let key : ℕ → Reverse ℕ × ℕ = λ p. (record { 0 = get_or sizes p 0 }, p) in
     let sorted = c.sort_unstable_by_key.ensures.sorted key

@@ -1,8 +1,8 @@
 use Rattle.std.proofs.Common.{ℕ, ◌≡◌, ◌+◌, cond, eqb, get_or, take}
 use Rattle.std.specs.List.{list_any}
-use Rattle.placement.proofs.add_load.Given as goal
+use Rattle.placement.proofs.turns.add_load.Given as goal
 
 abbrev pub invariant-loop-switch : goal.invariant-loop-switch
 invariant-loop-switch l =
     (s : ℕ) → get_or l.loads s 0 ≡ get_or l.initial.loads s 0 + cond
-    (list_any (eqb s) (take l.switch-index l.targets)) l.size 0
+    (list_any (eqb s) (take l.switch-index l.targets)) l.more 0

@@ -1,0 +1,6 @@
+use Rattle.std.proofs.Common.{◌≡◌, take, map}
+use Rattle.switch_table.specs.Tables.{part_of}
+use Rattle.controller.proofs.plan.parts_of.Given as goal
+
+abbrev pub invariant-loop-part : goal.invariant-loop-part
+invariant-loop-part l = l.parts.items ≡ map part_of (take l.part-index l.hosted)

@@ -1,0 +1,108 @@
+ghost use Rattle.std.specs.Prelude.{ℕ, ◌≡◌, ◌+◌, ◌<◌, ◌≤◌, ◌^◌, length, slice_index, take, All, AllPairs, MatchOption, IfOk, IfSome, if◌then◌else◌, nat_eq};
+ghost use Rattle.std.specs.List.{list_any, range_with_len};
+ghost use Rattle.placement.specs.Order.{in_order};
+ghost use Rattle.placement.specs.Placement.{is_earlier, is_lighter, has_room, with_room};
+
+use policy_rules::Targets;
+use std::alloc::{AllocError, Global};
+use std::cmp::Reverse;
+
+/// The places of these numbers, by falling number and then by place.
+///
+/// # Errors
+/// Want of memory alone.
+pub fn by_falling(alloc: Global, numbers: &[u64]) -> Result<Vec<u32>, AllocError>
+    requires { length numbers.now < 2 ^ 32 }
+    ensures { IfOk result (λ order.
+        order.items ≡ in_order (is_earlier numbers.now) (range_with_len 0 (length numbers.now))) }
+{
+    let mut order = numbers_below(alloc, numbers.len() as u32)?;
+    order.sort_unstable_by_key(|place| (Reverse(number_at(numbers, *place)), *place));
+    Ok(order)
+}
+
+/// The switches that have room for so many rules above those that they hold, by load and then by
+/// number.
+///
+/// # Errors
+/// Want of memory alone.
+pub fn by_load(
+    alloc: Global,
+    held: &[u64],
+    loads: &[u64],
+    rooms: &[u32],
+    size: u64,
+) -> Result<Vec<u32>, AllocError>
+    requires { length rooms.now ≤ 64 }
+    ensures { IfOk result (λ switches. let load = slice_index loads.now in
+        switches.items
+        ≡ in_order (is_lighter load) (with_room (slice_index held.now) rooms.now size)) }
+{
+    let mut switches = numbers_below(alloc, rooms.len() as u32)?;
+    switches.retain(|switch| has_room(held, rooms, size, *switch));
+    switches.sort_unstable_by_key(|switch| (number_at(loads, *switch), *switch));
+    Ok(switches)
+}
+
+/// The first of these switches, one and so many backups; `None` exactly where they are fewer.
+pub fn front(switches: &[u32], backups: u32) -> Option<Targets>
+    requires { backups ≤ 3 }
+    ensures targets { IfSome result (λ targets. targets ≡ take (1 + backups) switches.now) }
+    ensures enough { MatchOption result (length switches.now < 1 + backups)
+        (λ targets. 1 + backups ≤ length switches.now) }
+{
+    let count = 1 + backups as usize;
+    if switches.len() < count {
+        return None;
+    }
+    Targets::new(&switches[..count])
+}
+
+/// Adds so much to the loads of these switches.
+pub fn add_load(loads: &mut [u64], targets: &[u32], more: u64)
+    requires there { All (λ s. s < length loads.old) targets.now }
+    requires fits { All (λ s. slice_index loads.old s + more < 2 ^ 64) targets.now }
+    requires distinct { AllPairs (λ a b. a ≡ b → ⊥) targets.now }
+    ensures { (s : ℕ) → slice_index loads.new s
+        ≡ slice_index loads.old s + (if list_any (nat_eq s) targets.now then more else 0) }
+{
+    for switch in targets {
+        loads[*switch as usize] += more;
+    }
+}
+
+/// The number at this place, or 0 past the end.
+pub fn number_at(numbers: &[u64], place: u32) -> u64
+    ensures { result ≡ slice_index numbers.now place }
+{
+    numbers.get(place as usize).copied().unwrap_or(0)
+}
+
+/// The same numbers in 64 bits.
+///
+/// # Errors
+/// Want of memory alone.
+pub fn widened(alloc: Global, numbers: &[u32]) -> Result<Vec<u64>, AllocError>
+    ensures { IfOk result (λ wide. wide.items ≡ numbers.now) }
+{
+    numbers
+        .iter()
+        .map(|number| u64::from(*number))
+        .collect(alloc)
+}
+
+#[tactic(auto, using(crate::proofs::FirstLemmas::capped_within), unfolding(crate::specs::Placement::has_room))]
+fn has_room(held: &[u64], rooms: &[u32], size: u64, switch: u32) -> bool
+    ensures { result ≡ has_room (slice_index held.now) rooms.now size switch }
+{
+    let taken = number_at(held, switch).saturating_add(size);
+    let room = rooms.get(switch as usize).copied().unwrap_or(0);
+    (switch as usize) < rooms.len() && taken <= u64::from(room)
+}
+
+// The numbers from 0 on, as many as this.
+fn numbers_below(alloc: Global, count: u32) -> Result<Vec<u32>, AllocError>
+    ensures { IfOk result (λ numbers. numbers.items ≡ range_with_len 0 count) }
+{
+    (0..count).collect(alloc)
+}

@@ -1,0 +1,4 @@
+mod Sums
+mod LoadLemmas
+mod WeightLemmas
+mod SpreadLemmas

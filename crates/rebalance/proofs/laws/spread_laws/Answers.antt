@@ -1,0 +1,5 @@
+use Rattle.rebalance.proofs.SpreadLemmas.{spread_laws_hold}
+use Rattle.rebalance.proofs.laws.spread_laws.Goals as goal
+
+pub returns : goal.returns
+returns c = spread_laws_hold

@@ -1,0 +1,40 @@
+use Rattle.std.proofs.Common.{ℕ, ◌≡◌, ◌∙◌, ◌+◌, ◌<◌, ◌≤◌, [], length, get_or, ap, sym, arith}
+use Rattle.std.specs.List.{range_with_len, sum_by}
+use Rattle.std.proofs.lemmas.List.{get_or_default}
+use Rattle.rebalance.proofs.LoadLemmas.{carried, carried-step, carried-within, traffic-sum}
+use Rattle.rebalance.proofs.peaks.carry.Goals as goal
+
+pub loop-partition-init : goal.loop-partition-init
+loop-partition-init c = λ s within. c.requires.none s
+
+pub add_first-requires : goal.add_first-requires
+add_first-requires c = λ s d within.
+    omega (
+      arith,
+      get_or_default c.loop-partition.carried s d 0 within,
+      c.loop-partition.invariant s within,
+      carried-within c.args.weights.now c.args.targets.now s c.loop-partition.partition
+          c.loop-partition-test.true,
+      c.requires.small,
+    )
+
+pub loop-partition-preserved : goal.loop-partition-preserved
+loop-partition-preserved c = λ s within.
+    let targets = c.args.targets.now in
+    let k = c.loop-partition.partition in
+    let there : k < length targets = omega (arith, c.loop-partition-test.true, c.requires.each) in
+    let here : s < length c.loop-partition.carried = omega (arith, within, c.add_first.auto.carried)
+    in
+    carried-step c.args.weights.now targets s k _ _ c.index-targets-partition.result
+    (c.index-targets-partition.is
+    ∙ get_or_default targets k c.index-targets-partition.result [] there)
+    (c.loop-partition.invariant s here) (c.add_first.ensures s here)
+
+pub returns : goal.returns
+returns c = λ s within.
+    let weights = c.args.weights.now in
+    let targets = c.args.targets.now in
+    let all : c.loop-partition.partition ≡ length weights = omega arith in
+    c.loop-partition.invariant s (omega (arith, within, c.loop-partition.auto.carried))
+    ∙ ap (λ n. sum_by (carried weights targets s) (range_with_len 0 n)) all
+    ∙ sym (traffic-sum weights targets s)

@@ -1,0 +1,10 @@
+use Rattle.std.proofs.Common.{◌≡◌, ◌∙◌, ◌<◌, length, arith}
+use Rattle.rebalance.proofs.LoadLemmas.{greatest-is}
+use Rattle.rebalance.proofs.peaks.peak.Goals as goal
+
+pub returns : goal.returns
+returns c =
+    let len : length c.carry.new.carried ≡ 64 = omega (arith, c.carry.auto.carried) in
+    c.greatest.ensures
+    ∙ greatest-is 64 c.args.weights.now c.args.targets.now c.carry.new.carried len
+    (λ s within. c.carry.ensures s (omega (arith, within)))

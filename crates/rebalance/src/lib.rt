@@ -1,0 +1,30 @@
+//! A better placement of partitions: it is found by how much each partition was asked in a play.
+//!
+//! A partition's weight is how often its authorities decided a packet by the version that is
+//! current at the end. Of its targets the first one is asked, so the traffic of a switch is the sum
+//! of the weights of the partitions whose first target it is, and the peak of a placement is the
+//! greatest traffic. `spread` promises the defined spread: partitions by falling weight, each on the
+//! switches of least traffic that have room. `spread_laws` says that it fits, that there is at most
+//! one, that no placement that fits has a peak below `bound`, and that what is proposed is never
+//! higher than what is there.
+//!
+//! ```text
+//! let weights = weights(alloc, &journal, 3)?;          // 1, 0, 2
+//! let targets = spread(alloc, &sizes, &weights, &rooms, 0)?;
+//! peak(&weights, &old)     // 3
+//! peak(&weights, &targets) // 2
+//! bound(&weights, &rooms)  // 2
+//! ```
+#![tactic(auto)]
+
+mod laws;
+mod loading;
+mod peaks;
+mod spreading;
+mod weighing;
+
+pub use laws::spread_laws;
+pub use peaks::{bound, peak};
+pub use placement::NoRoom;
+pub use spreading::spread;
+pub use weighing::weights;

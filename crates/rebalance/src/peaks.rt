@@ -1,0 +1,82 @@
+ghost use Rattle.std.specs.Prelude.{ℕ, ◌≡◌, ◌+◌, ◌<◌, ◌^◌, length, slice_index, sum, take, All, if◌then◌else◌, nat_eq};
+ghost use Rattle.std.specs.List.{list_any};
+ghost use Rattle.rebalance.specs.Loads.{bound, greatest, peak, traffic, usable_rooms};
+
+use policy_rules::Targets;
+
+/// There are at most so many switches.
+const SWITCHES: usize = 64;
+
+/// The greatest traffic of a switch, where partitions of these weights have these targets. It takes
+/// no memory.
+pub fn peak(weights: &[u64], targets: &[Targets]) -> u64
+    requires each { length targets.now ≡ length weights.now }
+    requires small { sum weights.now < 2 ^ 63 }
+    ensures { result ≡ peak weights.now targets.now }
+{
+    let mut carried = [0; SWITCHES];
+    carry(&mut carried, weights, targets);
+    greatest(&carried)
+}
+
+/// The peak that no placement goes below which fits these rooms: the greatest weight, or an even
+/// share of all weights for each switch that has any room; 0 where none has. It takes no memory.
+#[tactic(auto, unfolding(crate::specs::Loads::bound))]
+pub fn bound(weights: &[u64], rooms: &[u32]) -> u64
+    requires { sum weights.now < 2 ^ 63 }
+    ensures { result ≡ bound weights.now rooms.now }
+{
+    let usable = usable_rooms(rooms) as u64;
+    if usable == 0 {
+        return 0;
+    }
+    greatest(weights).max(sum(weights).div_ceil(usable))
+}
+
+// Adds the weight of each partition to what its first target carries.
+fn carry(carried: &mut [u64], weights: &[u64], targets: &[Targets])
+    requires none { (s : ℕ) → slice_index carried.old s ≡ 0 }
+    requires each { length targets.now ≡ length weights.now }
+    requires small { sum weights.now < 2 ^ 63 }
+    ensures { (s : ℕ) → s < length carried.old
+        → slice_index carried.new s ≡ traffic weights.now targets.now s }
+{
+    for (partition, weight) in weights.iter().enumerate() {
+        add_first(carried, &targets[partition], *weight);
+    }
+}
+
+// Adds the weight to what the first of the targets carries, if it is there.
+fn add_first(carried: &mut [u64], targets: &Targets, weight: u64)
+    requires { All (λ load. load + weight < 2 ^ 64) carried.old }
+    ensures { (s : ℕ) → s < length carried.old → slice_index carried.new s
+        ≡ slice_index carried.old s
+        + (if list_any (nat_eq s) (take 1 targets.now) then weight else 0) }
+{
+    let first = targets.items()[0] as usize;
+    if first >= carried.len() {
+        return;
+    }
+    carried[first] += weight;
+}
+
+// The greatest of numbers; 0 of none.
+fn greatest(numbers: &[u64]) -> u64
+    ensures { result ≡ greatest numbers.now }
+{
+    numbers.iter().fold(0, |most, number| most.max(*number))
+}
+
+fn sum(numbers: &[u64]) -> u64
+    requires { sum numbers.now < 2 ^ 63 }
+    ensures { result ≡ sum numbers.now }
+{
+    numbers.iter().sum()
+}
+
+// How many of these rooms hold any rule.
+fn usable_rooms(rooms: &[u32]) -> usize
+    ensures { result ≡ usable_rooms rooms.now }
+{
+    rooms.iter().filter(|room| **room != 0).count()
+}

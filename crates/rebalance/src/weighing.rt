@@ -1,0 +1,89 @@
+ghost use Rattle.std.specs.Prelude.{ℕ, ◌≡◌, ◌+◌, ◌<◌, ◌^◌, length, slice_index, count_by, IfOk, nat_eq, option_to_list, unwrap_or, All};
+ghost use Rattle.rebalance.specs.Loads.{asked_in, partition_asked, weights_of};
+ghost use Rattle.update_machine.specs.Marks.{current_mark, gives_current};
+
+use journal::{How, Item, Journal};
+use std::alloc::{AllocError, Global};
+
+/// How often each of so many partitions was asked, by their numbers: the decisions of its
+/// authorities by the version that is current at the end of the journal. Decisions by cached rules
+/// and those by other versions count nowhere.
+///
+/// # Errors
+/// Want of memory alone.
+pub fn weights(alloc: Global, journal: &Journal, parts: u32) -> Result<Vec<u64>, AllocError>
+    ensures { IfOk result (λ weights. weights.items ≡ weights_of journal.now parts) }
+{
+    let items = journal.items();
+    let current = current_at_end(items);
+    let mut weights = vec![in alloc; 0; parts as usize]?;
+    for item in items {
+        add_one(&mut weights, asked_in(item, current));
+    }
+    Ok(weights)
+}
+
+// The version that is current behind the items.
+fn current_at_end(items: &[Item]) -> u32
+    ensures { result ≡ current_mark items.now }
+{
+    let mut current = 1;
+    for item in items {
+        current = current_behind(item, current);
+    }
+    current
+}
+
+// The version that is current behind the item.
+fn current_behind(item: &Item, current: u32) -> u32
+    ensures { result ≡ unwrap_or (gives_current item.now) current }
+{
+    match item {
+        Item::Current { version } => *version,
+        _ => current,
+    }
+}
+
+// The partition whose authority decided a packet by this version, if the item tells of that.
+fn asked_in(item: &Item, version: u32) -> Option<u32>
+    ensures { result ≡ asked_in version item.now }
+{
+    match item {
+        Item::Decided {
+            version: used,
+            how,
+            ..
+        } => {
+            if *used == version {
+                partition_asked(how)
+            } else {
+                None
+            }
+        }
+        _ => None,
+    }
+}
+
+fn partition_asked(how: &How) -> Option<u32>
+    ensures { result ≡ partition_asked how.now }
+{
+    match how {
+        How::Authority { partition, .. } => Some(*partition),
+        How::Cached { .. } => None,
+    }
+}
+
+// Adds one to the number at this place, if a place is given and there.
+fn add_one(numbers: &mut [u64], place: Option<u32>)
+    requires { All (λ number. number + 1 < 2 ^ 64) numbers.old }
+    ensures { (k : ℕ) → k < length numbers.old → slice_index numbers.new k
+        ≡ slice_index numbers.old k + count_by (nat_eq k) (option_to_list place) }
+{
+    let Some(place) = place else {
+        return;
+    };
+    let place = place as usize;
+    if place < numbers.len() {
+        numbers[place] += 1;
+    }
+}
