@@ -92,12 +92,13 @@ impl Controller {
     ///
     /// # Errors
     /// Want of memory alone.
-    pub fn tables(&self, alloc: Global, version: u32, s: u32) -> Result<SharedTables, AllocError>
+    pub fn tables(&self, version: u32, s: u32) -> Result<SharedTables, AllocError>
         requires first { self.now.marks.current ≤ version }
         requires last { version ≤ self.now.marks.count }
         ensures tables { IfOk result (λ tables. kept_tables self.now version s ≡ Some tables) }
         ensures sound { IfOk result AreSoundTables }
     {
+        let alloc = *self.versions.allocator();
         tables_laws();
         let place = version - self.marks.current();
         self.versions[place as usize].tables(alloc, s)
@@ -109,7 +110,7 @@ impl Controller {
     /// # Errors
     /// `TooManyLive` exactly where 8 versions are not retired; otherwise `TooManyVersions` exactly
     /// where there are 64. Nothing changed then.
-    pub fn submit(&mut self, alloc: Global, plan: Plan) -> Result<Sends, Failure<SubmitError>>
+    pub fn submit(&mut self, plan: Plan) -> Result<Sends, Failure<SubmitError>>
         ensures after { OnOk result (SubmitsPlan self.old plan self.new) }
         ensures newest { OnOk result (newest_policy self.new ≡ Some plan.policy) }
         ensures sends { IfOk result (λ sends.
@@ -121,6 +122,7 @@ impl Controller {
         ensures refused { IfErr result (IsLeft self.old plan self.new) }
         ensures rule { StaysController self.old self.new }
     {
+        let alloc = *self.versions.allocator();
         if let Some(error) = self.marks.refusal() {
             return Err(Failure::Refused(error));
         }
@@ -134,7 +136,7 @@ impl Controller {
     ///
     /// # Errors
     /// Want of memory alone; what was told is taken in.
-    pub fn hear(&mut self, alloc: Global, body: &Body) -> Result<Sends, AllocError>
+    pub fn hear(&mut self, body: &Body) -> Result<Sends, AllocError>
         requires { NamesThere body.now self.old.marks }
         ensures after { SettlesWith
             (marks_after body.now self.old.marks) self.old.plans self.new }
@@ -145,6 +147,7 @@ impl Controller {
             → IfOk result (λ sends. sends ≡ []) }
         ensures rule { StaysController self.old self.new }
     {
+        let alloc = *self.versions.allocator();
         match body {
             Body::Hello { switch, boot } => self.hello(alloc, *switch, *boot),
             Body::Installed {
@@ -165,7 +168,7 @@ impl Controller {
     ///
     /// # Errors
     /// Want of memory alone; the switch is over.
-    pub fn over(&mut self, alloc: Global, s: u32) -> Result<Sends, AllocError>
+    pub fn over(&mut self, s: u32) -> Result<Sends, AllocError>
         requires { s < length self.old.marks.switches }
         ensures after { SettlesWith
             (at_switch s after_over self.old.marks) self.old.plans self.new }
@@ -174,6 +177,7 @@ impl Controller {
             sends ≡ settling_acts (at_switch s after_over self.old.marks) self.new.marks) }
         ensures rule { StaysController self.old self.new }
     {
+        let alloc = *self.versions.allocator();
         let settled = self.marks.over(s);
         settled_sends(alloc, &mut self.versions, &self.marks, &settled)
     }
@@ -182,10 +186,11 @@ impl Controller {
     ///
     /// # Errors
     /// Want of memory alone.
-    pub fn resend(&self, alloc: Global, s: u32) -> Result<Sends, AllocError>
+    pub fn resend(&self, s: u32) -> Result<Sends, AllocError>
         requires { s < length self.now.marks.switches }
         ensures { IfOk result (λ sends. sends ≡ resend_acts self.now s) }
     {
+        let alloc = *self.versions.allocator();
         match self.marks.phase(s) {
             Phase::Joining => self.resend_to_joining(alloc, s),
             Phase::Member => self.resend_to_member(alloc, s),

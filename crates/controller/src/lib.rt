@@ -16,11 +16,11 @@
 //!
 //! ```text
 //! let mut controller = Controller::begin(alloc, &net, first)?;
-//! controller.submit(alloc, second)?;  // install 2 to a, install 2 to b
-//! controller.hear(alloc, &installed_by_a)?;  // nothing: b is a member and lacks version 2
-//! controller.hear(alloc, &installed_by_b)?;  // current 2, stamp 2 to a, stamp 2 to b
-//! controller.hear(alloc, &stamped_by_a)?;    // nothing
-//! controller.hear(alloc, &stamped_by_b)?;    // retired 1, collect 1 to a, collect 1 to b
+//! controller.submit(second)?;  // install 2 to a, install 2 to b
+//! controller.hear(&installed_by_a)?;  // nothing: b is a member and lacks version 2
+//! controller.hear(&installed_by_b)?;  // current 2, stamp 2 to a, stamp 2 to b
+//! controller.hear(&stamped_by_a)?;    // nothing
+//! controller.hear(&stamped_by_b)?;    // retired 1, collect 1 to a, collect 1 to b
 //! ```
 #![tactic(auto)]
 

@@ -87,12 +87,15 @@ first_drawn (rows ∷ policies) some = refl
 pub are_drawn : PortLaws → (load : LoadCase) (files : List PolicyFile)
     → 1 ≤ length load.policies → All IsPolicy load.policies → IsPlayable load
     → files ≡ case_files load → AreDrawn load files
-are_drawn laws load files some sound may same = subst (AreDrawn load) (sym same) (record {
-  first = first_drawn load.policies some;
-  sound = all_whole IsPolicyFile load.policies sound;
-  ports = all_whole _ load.policies (λ i d within j e inside.
-      drawn_port laws load.net may.net _ (may.ports i d within j e inside));
-})
+are_drawn laws load files some sound may same =
+    let HasPort : Row → Type 0 =
+    λ row. IsTrue (names_port_of (port_mask load.net.switches) row.action) in
+    subst (AreDrawn load) (sym same) (record {
+      first = first_drawn load.policies some;
+      sound = all_whole IsPolicyFile load.policies sound;
+      ports = all_whole (GivesOnly HasPort) load.policies (λ i d within j e inside.
+          drawn_port laws load.net may.net _ (may.ports i d within j e inside));
+    })
 
 -- ---- the first plan
 

@@ -111,7 +111,8 @@ first_is ports name bytes file is = by_heading (is_change_text bytes) is
     by_heading true is = absurd (cc is)
     by_heading false is =
         let on = went_on (policy_stated ports name bytes) (λ rows. Ok (Whole rows)) file is in
-        ap (on_ok Whole) (policy_is ports name bytes on.0 on.1) ∙ on.2
+        ap (on_ok Whole) (policy_is ports name bytes on.0 on.1)
+        ∙ ap Ok (same_value (Ok (Whole on.0)) (Whole on.0) file refl on.2)
 
 stated_is : (is_first : Bool) (ports : ℕ) (name bytes : List ℕ) (file : PolicyFile)
     → stated_as is_first ports name bytes ≡ Ok file → policy_file_of bytes ≡ Ok file

@@ -59,7 +59,7 @@ pub fn play<M: Meter, K: Sink>(
         report,
     } = inputs;
     answer_laws();
-    let Ok(played) = replay::play(alloc, world, &events, meters, net.port_mask()) else {
+    let Ok(played) = replay::play(world, &events, meters, net.port_mask()) else {
         return Ended {
             status: Status::NoMemory,
             journal: Journal::new(alloc),

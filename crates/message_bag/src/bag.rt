@@ -56,7 +56,7 @@ impl Bag {
     ///
     /// # Errors
     /// Want of memory alone; nothing changes then.
-    pub fn post(&mut self, alloc: Global, message: &Message) -> Result<u32, AllocError>
+    pub fn post(&mut self, message: &Message) -> Result<u32, AllocError>
         requires spelling { HasSpelling message.now }
         requires short { length (form.spell message.now) < 2 ^ 40 }
         requires few { length self.old < 2 ^ 32 - 1 }
@@ -65,6 +65,7 @@ impl Bag {
         ensures posted { OnOk result (self.new ≡ self.old ++ frames message.now ∷ []) }
         ensures unchanged { OnErr result (self.new ≡ self.old) }
     {
+        let alloc = *self.tables.allocator();
         match tables_of(&message.body) {
             None => self.post_alone(message)?,
             Some((boot, tables)) => self.post_tables(alloc, message, boot, tables)?,
@@ -118,12 +119,13 @@ impl Bag {
     ///
     /// # Errors
     /// Want of memory alone.
-    pub fn take(&self, alloc: Global, number: u32) -> Result<Option<Message>, AllocError>
+    pub fn take(&self, number: u32) -> Result<Option<Message>, AllocError>
         ensures none { IfOk result (λ answer.
             IsNone answer ↔ ((number ≡ 0) ⊎ (length self.now < number))) }
         ensures message { IfOk result (λ answer.
             IfSome answer (λ message. IsPosted self.now number message)) }
     {
+        let alloc = *self.tables.allocator();
         if number == 0 {
             return Ok(None);
         }

@@ -18,7 +18,7 @@
 //!
 //! ```text
 //! let mut bag = PostBag::new(alloc);
-//! let number = bag.post(alloc, &message)?;
+//! let number = bag.post(&message)?;
 //! while let Some(number) = bag.next_waiting(1) {
 //!     bag.deliver(number);
 //! }

@@ -44,7 +44,7 @@ impl PostBag {
     ///
     /// # Errors
     /// Want of memory alone; nothing changes then.
-    pub fn post(&mut self, alloc: Global, message: &Message) -> Result<u32, AllocError>
+    pub fn post(&mut self, message: &Message) -> Result<u32, AllocError>
         requires spelling { HasShortSpelling message.now }
         requires few { length self.old < 2 ^ 32 - 1 }
         ensures number { IfOk result (λ number. number ≡ length self.old + 1) }
@@ -52,7 +52,7 @@ impl PostBag {
         ensures unchanged { OnErr result (self.new ≡ self.old) }
     {
         self.deliveries.add()?;
-        match self.frames.post(alloc, message) {
+        match self.frames.post(message) {
             Ok(number) => Ok(number),
             Err(error) => {
                 self.deliveries.take_back();
@@ -73,12 +73,12 @@ impl PostBag {
     ///
     /// # Errors
     /// Want of memory alone.
-    pub fn get(&self, alloc: Global, number: u32) -> Result<Option<Message>, AllocError>
+    pub fn get(&self, number: u32) -> Result<Option<Message>, AllocError>
         ensures found { IfOk result (λ answer. is_some answer ≡ is_post_deliverable self.now number) }
         ensures message { IfOk result (λ answer. IfSome answer (IsMessageOf self.now number)) }
     {
         if self.may_be_delivered(number) {
-            self.frames.take(alloc, number)
+            self.frames.take(number)
         } else {
             Ok(None)
         }

@@ -29,18 +29,14 @@ pub fn message_of_frame(alloc: Global, frame: &[u8]) -> Result<Message, AllocErr
 }
 
 // Feeds the assembler with a frame that it doesn't refuse.
-fn feed(
-    assembler: &mut Assembler,
-    alloc: Global,
-    frame: &[u8],
-) -> Result<Option<Message>, AllocError>
+fn feed(assembler: &mut Assembler, frame: &[u8]) -> Result<Option<Message>, AllocError>
     requires { IsRefusedFrame assembler.old frame.now → ⊥ }
     ensures held { OnOk result (assembler.new ≡ with_frame assembler.old frame.now) }
     ensures some { IfOk result (λ answer.
         IsSome answer ↔ AreAllHeld assembler.new (count_in_frame frame.now)) }
     ensures message { IfOk result (λ answer. IfSome answer (λ m. AreFrames m assembler.new)) }
 {
-    match assembler.feed(alloc, frame) {
+    match assembler.feed(frame) {
         Ok(answer) => Ok(answer),
         Err(WireError::Refused(_)) => unreachable!(),
         Err(WireError::NoMemory) => Err(AllocError),
@@ -55,7 +51,7 @@ fn assembled(alloc: Global, first: &[u8], frames: &Frames) -> Result<Message, Al
     let mut assembler = Assembler::new(alloc);
     let mut frame = first;
     for place in 0..u32::MAX {
-        if let Some(message) = feed(&mut assembler, alloc, frame)? {
+        if let Some(message) = feed(&mut assembler, frame)? {
             return Ok(message);
         }
         frame = match frames.get(place + 1) {

@@ -10,7 +10,6 @@ ghost use Rattle.world.specs.State.{setting_at};
 use crate::noting::note_left;
 use meters::{Board, Meter};
 use packet_laws::{deliveries_rise, drains_end};
-use std::alloc::Global;
 use steps::{Event, Step};
 use world::{StepError, World};
 
@@ -24,7 +23,6 @@ use world::{StepError, World};
 /// world can go on; otherwise want of memory alone, and the journal has first steps of the event and
 /// a part of the next one.
 pub fn take_steps<M: Meter>(
-    alloc: Global,
     world: &mut World,
     board: &mut Board<M>,
     row: u32,
@@ -58,7 +56,7 @@ pub fn take_steps<M: Meter>(
         deliveries_rise();
         world.refines();
         let before = world.journal().items().len();
-        world.step(alloc, row, &next)?;
+        world.step(row, &next)?;
         note_left(board, &world.journal().items()[before..])?;
         is_begun = true;
     }

@@ -77,7 +77,7 @@ pub fn replay<M: Meter>(
 {
     let world = World::begin(alloc, net, files)?;
     world.refines();
-    let played = play(alloc, world, events, meters, net.port_mask())?;
+    let played = play(world, events, meters, net.port_mask())?;
     Ok(played)
 }
 
@@ -87,7 +87,6 @@ pub fn replay<M: Meter>(
 /// # Errors
 /// Want of memory alone.
 pub fn play<M: Meter>(
-    alloc: Global,
     world: World,
     events: &[Event],
     meters: Vec<M>,
@@ -111,7 +110,7 @@ pub fn play<M: Meter>(
     let mut row = 0u32;
     for event in events {
         row += 1;
-        match take_steps(alloc, &mut world, &mut board, row, event) {
+        match take_steps(&mut world, &mut board, row, event) {
             Ok(()) => {}
             Err(Failure::Refused(Full)) => return Ok(ended(world, board, Some(row))),
             Err(Failure::NoMemory) => return Err(AllocError),

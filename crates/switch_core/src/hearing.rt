@@ -22,19 +22,14 @@ impl Switch {
     /// # Errors
     /// Want of memory alone; nothing changes then, and the message is as good as not delivered.
     #[tactic(auto, unfolding(crate::specs::Hearing::with_message, crate::specs::Hearing::replies, crate::specs::Hearing::opening_stamp))]
-    pub fn hear(
-        &mut self,
-        alloc: Global,
-        number: u32,
-        body: &Body,
-        near: u64,
-    ) -> Result<Heard, AllocError>
+    pub fn hear(&mut self, number: u32, body: &Body, near: u64) -> Result<Heard, AllocError>
         requires { IsSoundBody body.now }
         ensures after { OnOk result (self.new ≡ with_message self.old number body.now) }
         ensures replies { IfOk result (λ h. h.replies ≡ replies self.old near body.now) }
         ensures opened { IfOk result (λ h. h.opened ≡ opening_stamp self.old body.now) }
         ensures err { OnErr result (self.new ≡ self.old) }
     {
+        let alloc = *self.tables.allocator();
         if !self.obeys(body) {
             return Ok(Heard {
                 replies: Replies::new(alloc),

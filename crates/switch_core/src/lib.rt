@@ -10,7 +10,7 @@
 //! if let Entered::Seek(mut packet) = switch.enter(1, &header, near, &ports) {
 //!     let hop = switch.hop(&mut packet, near);
 //! }
-//! let heard = switch.hear(alloc, 7, &body, near)?;
+//! let heard = switch.hear(7, &body, near)?;
 //! ```
 #![tactic(auto)]
 

@@ -48,7 +48,7 @@ impl Assembler {
     /// `Malformed` where the frame isn't of 9 to 16,384 bytes, its place isn't below its count, a
     /// held frame has another count, another frame is held at its place, or all frames are there
     /// and are those of no message. An error changes nothing.
-    pub fn feed(&mut self, alloc: Global, frame: &[u8]) -> Result<Option<Message>, WireError>
+    pub fn feed(&mut self, frame: &[u8]) -> Result<Option<Message>, WireError>
         ensures refused { IfErr result (IfRefused (λ _. IsRefusedFrame self.old frame.now)) }
         ensures taken { OnOk result (IsRefusedFrame self.old frame.now → ⊥) }
         ensures held { OnOk result (self.new ≡ with_frame self.old frame.now) }
@@ -57,6 +57,7 @@ impl Assembler {
         ensures message { IfOk result (λ answer. IfSome answer (λ m. AreFrames m self.new)) }
         ensures unchanged { OnErr result (self.new ≡ self.old) }
     {
+        let alloc = *self.frames.allocator();
         feed(&mut self.frames, alloc, frame)
     }
 }

@@ -10,7 +10,7 @@
 //! let frames = split(alloc, &message)?;
 //! let mut assembler = Assembler::new(alloc);
 //! while let Some(frame) = next_frame(&frames) {
-//!     if let Some(message) = assembler.feed(alloc, frame)? {
+//!     if let Some(message) = assembler.feed(frame)? {
 //!         return Ok(message);
 //!     }
 //! }

@@ -33,7 +33,7 @@ pub fn switches_of(
     let count = net.switches.items().len();
     let mut switches = Vec::with_capacity(alloc, count)?;
     for number in 0..count {
-        let tables = controller.tables(alloc, 1, number as u32)?;
+        let tables = controller.tables(1, number as u32)?;
         let base = Database::begin(near, count as u32);
         switches.push(Switch::begin(alloc, number as u32, net.cache, tables, base)?)?;
     }

@@ -33,7 +33,7 @@ impl Parts {
         };
         let newest = plan.clone()?;
         let version = self.controller.marks().count() + 1;
-        let code = match self.controller.submit(alloc, plan) {
+        let code = match self.controller.submit(plan) {
             Ok(sends) => {
                 self.files.set_newest(newest);
                 self.log.journal.push(Item::Submitted { file, version })?;
@@ -58,7 +58,7 @@ impl Parts {
         if self.switches[switch as usize].is_up() {
             return self.log.journal.push(Item::Nothing);
         }
-        let sends = self.controller.over(alloc, switch)?;
+        let sends = self.controller.over(switch)?;
         self.log.journal.push(Item::OverNow { switch })?;
         self.log.note_acts(alloc, sends.into_items())
     }
@@ -77,7 +77,7 @@ impl Parts {
         let count = self.switches.len() as u32;
         let near = self.near[here];
         let messages = adverts_again(alloc, &self.switches[here], switch, count, near)?;
-        let sends = self.controller.resend(alloc, switch)?;
+        let sends = self.controller.resend(switch)?;
         let acts = sends.into_items();
         if are_none(messages.as_slice(), acts.as_slice()) {
             return self.log.journal.push(Item::Nothing);

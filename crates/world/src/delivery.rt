@@ -26,7 +26,7 @@ impl Parts {
         requires { HasBegun (DeliverStep number) self.old }
         ensures { Plays (DeliverStep number) result self.old self.new }
     {
-        let message = match self.log.bag.get(alloc, number)? {
+        let message = match self.log.bag.get(number)? {
             None => return self.log.journal.push(Item::Nothing),
             Some(message) => message,
         };
@@ -44,7 +44,7 @@ impl Parts {
             }
         };
         let near = self.near[switch as usize];
-        let heard = self.switches[switch as usize].hear(alloc, number, &message.body, near)?;
+        let heard = self.switches[switch as usize].hear(number, &message.body, near)?;
         match heard.opened {
             None => self.log.send_all(alloc, heard.replies.into_items()),
             Some(version) => {
@@ -111,6 +111,6 @@ fn deliver_to_controller(
         (hear_acts body.now controller.old.marks controller.new)) log.new.journal) }
     ensures travelling { log.new.travelling ≡ log.old.travelling }
 {
-    let sends = controller.hear(alloc, body)?;
+    let sends = controller.hear(body)?;
     log.note_acts(alloc, sends.into_items())
 }

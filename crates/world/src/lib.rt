@@ -13,9 +13,9 @@
 //!
 //! ```text
 //! let mut world = World::begin(alloc, &net, files)?;   // why the first policy has no plan
-//! world.step(alloc, 1, &Step::Packet { switch, header })?;
+//! world.step(1, &Step::Packet { switch, header })?;
 //! while let Some(packet) = world.next_travelling(1) {
-//!     world.step(alloc, 2, &Step::Hop { packet })?;
+//!     world.step(2, &Step::Hop { packet })?;
 //! }
 //! ```
 #![tactic(auto)]

@@ -107,7 +107,7 @@ impl World {
     /// `Full` exactly where so many messages were sent that no step begins; nothing changes then.
     /// Otherwise want of memory alone: the journal has a part of the step's items then, and each
     /// further step is answered so at once, full or not, and changes nothing.
-    pub fn step(&mut self, alloc: Global, row: u32, step: &Step) -> Result<(), StepError>
+    pub fn step(&mut self, row: u32, step: &Step) -> Result<(), StepError>
         requires may { HasRoom self.old.journal
             → IsStep self.old.net (length self.old.files) step.now }
         requires few { next_packet self.old.journal ≤ 4_000_000_000 }
@@ -132,6 +132,7 @@ impl World {
         ensures so_far { self.old.is_spent ≡ false
             → HoldsSoFar (setting_at self.old) self.new.journal }
     {
+        let alloc = *self.parts.switches.allocator();
         journals_hold_so_far();
         if self.is_spent {
             return Err(Failure::NoMemory);

@@ -36,7 +36,7 @@ impl Log {
         ensures unwritten { OnErr result (self.new.journal ≡ self.old.journal) }
         ensures travelling { self.new.travelling ≡ self.old.travelling }
     {
-        let number = self.bag.post(alloc, &message)?;
+        let number = self.bag.post(&message)?;
         let message = SharedMessage::new(alloc, message)?;
         self.journal.push(Item::Sent { number, message })
     }

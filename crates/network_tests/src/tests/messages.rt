@@ -36,12 +36,8 @@ fn hello() -> Message
 }
 
 // The boot and the version that the message of this number tells.
-fn told(
-    bag: &PostBag,
-    alloc: Global,
-    number: u32,
-) -> Result<Option<(Option<u32>, Option<u32>)>, Fail> {
-    match bag.get(alloc, number)? {
+fn told(bag: &PostBag, number: u32) -> Result<Option<(Option<u32>, Option<u32>)>, Fail> {
+    match bag.get(number)? {
         Some(message) => Ok(Some((message.body.boot(), message.body.version()))),
         None => Ok(None),
     }
@@ -55,7 +51,7 @@ fn post(bag: &mut PostBag, alloc: Global, message: &Message) -> Result<u32, Fail
     if bytes.len() > 1 << 20 || bag.sent() == u32::MAX {
         return Err(Fail::from("too long, or full"));
     }
-    Ok(bag.post(alloc, message)?)
+    Ok(bag.post(message)?)
 }
 
 // Delivers the message, if it may be.
@@ -89,13 +85,13 @@ fn messages_wait_until_they_are_delivered_or_forgotten(rt: HostRuntime) -> Resul
     let alloc = rt.alloc();
     let mut bag = PostBag::new(alloc);
     assert!(rt; posted(alloc, &mut bag)?);
-    assert!(rt; told(&bag, alloc, 0)?.is_none());
-    assert!(rt; told(&bag, alloc, 1)? == Some((Some(2), Some(3))));
+    assert!(rt; told(&bag, 0)?.is_none());
+    assert!(rt; told(&bag, 1)? == Some((Some(2), Some(3))));
     assert!(rt; deliver(&mut bag, 2));
     assert!(rt; bag.next_waiting(0) == Some(1) && bag.next_waiting(2).is_none());
     assert!(rt; deliver(&mut bag, 2) && forget(&mut bag, 1));
-    assert!(rt; told(&bag, alloc, 1)?.is_none());
-    assert!(rt; told(&bag, alloc, 2)? == Some((Some(4), None)));
+    assert!(rt; told(&bag, 1)?.is_none());
+    assert!(rt; told(&bag, 2)? == Some((Some(4), None)));
     assert!(rt; bag.next_waiting(1).is_none());
     Ok(())
 }

@@ -125,7 +125,7 @@ fn two_switches(alloc: Global) -> Result<(Controller, Plan), Fail> {
 }
 
 fn submitted(alloc: Global, controller: &mut Controller, plan: &Plan) -> Result<Vec<Seen>, Fail> {
-    let sends = controller.submit(alloc, plan.clone()?)?;
+    let sends = controller.submit(plan.clone()?)?;
     all_seen(alloc, &sends)
 }
 
@@ -160,7 +160,7 @@ fn heard(
     body: &Body,
 ) -> Result<Vec<Seen>, Fail> {
     assert!(rt; are_there(controller, body));
-    let sends = controller.hear(alloc, body)?;
+    let sends = controller.hear(body)?;
     all_seen(alloc, &sends)
 }
 
@@ -171,7 +171,7 @@ fn over(
     s: u32,
 ) -> Result<Vec<Seen>, Fail> {
     assert!(rt; s < controller.switches());
-    let sends = controller.over(alloc, s)?;
+    let sends = controller.over(s)?;
     all_seen(alloc, &sends)
 }
 
@@ -182,7 +182,7 @@ fn resent(
     s: u32,
 ) -> Result<Vec<Seen>, Fail> {
     assert!(rt; s < controller.switches());
-    let sends = controller.resend(alloc, s)?;
+    let sends = controller.resend(s)?;
     all_seen(alloc, &sends)
 }
 

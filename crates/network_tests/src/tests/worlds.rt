@@ -89,62 +89,56 @@ fn begun(alloc: Global, net: &Net) -> Result<World, Fail>
 
 // Takes the step of the row.
 #[tactic(auto, using(crate::proofs::Few::few_packets))]
-fn take(
-    rt: &impl Abort,
-    alloc: Global,
-    world: &mut World,
-    row: u32,
-    step: &Step,
-) -> Result<(), Fail>
+fn take(rt: &impl Abort, world: &mut World, row: u32, step: &Step) -> Result<(), Fail>
     requires { IsStep world.old.net (length world.old.files) step.now }
     ensures { setting_at world.new ≡ setting_at world.old }
 {
     world.refines();
     assert!(rt; !world.is_spent());
     assert!(rt; world.packets() < 1000);
-    world.step(alloc, row, step)?;
+    world.step(row, step)?;
     Ok(())
 }
 
 // The first packet hops to b, which drops it and sends a cache rule.
-fn sends_a_rule(rt: &impl Abort, alloc: Global, world: &mut World) -> Result<(), Fail>
+fn sends_a_rule(rt: &impl Abort, world: &mut World) -> Result<(), Fail>
     requires { 1 ≤ length world.old.net.switches }
     ensures { setting_at world.new ≡ setting_at world.old }
 {
     let packet = packet(world);
-    take(rt, alloc, world, 1, &packet)?;
-    take(rt, alloc, world, 2, &Step::Hop { packet: 1 })?;
-    take(rt, alloc, world, 3, &Step::Hop { packet: 1 })?;
+    take(rt, world, 1, &packet)?;
+    take(rt, world, 2, &Step::Hop { packet: 1 })?;
+    take(rt, world, 3, &Step::Hop { packet: 1 })?;
     assert_eq!(rt; world.next_travelling(1), None);
     assert_eq!(rt; world.next_waiting(1), Some(1));
     Ok(())
 }
 
 // The rule is cached, decides the second packet, and times out.
-fn caches_it(rt: &impl Abort, alloc: Global, world: &mut World) -> Result<(), Fail>
+fn caches_it(rt: &impl Abort, world: &mut World) -> Result<(), Fail>
     requires { 1 ≤ length world.old.net.switches }
     ensures { setting_at world.new ≡ setting_at world.old }
 {
     let expire = expire(world);
     let packet = packet(world);
-    take(rt, alloc, world, 4, &Step::Deliver { message: 1 })?;
-    take(rt, alloc, world, 5, &packet)?;
-    take(rt, alloc, world, 6, &expire)?;
+    take(rt, world, 4, &Step::Deliver { message: 1 })?;
+    take(rt, world, 5, &packet)?;
+    take(rt, world, 6, &expire)?;
     assert_eq!(rt; world.next_waiting(1), None);
     Ok(())
 }
 
 // The third packet travels until it is lost, and the message is forgotten.
-fn loses_a_packet(rt: &impl Abort, alloc: Global, world: &mut World) -> Result<(), Fail>
+fn loses_a_packet(rt: &impl Abort, world: &mut World) -> Result<(), Fail>
     requires { 1 ≤ length world.old.net.switches }
     ensures { setting_at world.new ≡ setting_at world.old }
 {
     let packet = packet(world);
-    take(rt, alloc, world, 7, &packet)?;
+    take(rt, world, 7, &packet)?;
     assert_eq!(rt; world.next_travelling(1), Some(3));
     assert!(rt; world.travels(3));
-    take(rt, alloc, world, 8, &Step::Lose { packet: 3 })?;
-    take(rt, alloc, world, 9, &Step::Forget { message: 1 })?;
+    take(rt, world, 8, &Step::Lose { packet: 3 })?;
+    take(rt, world, 9, &Step::Forget { message: 1 })?;
     assert_eq!(rt; world.packets(), 3);
     Ok(())
 }
@@ -154,9 +148,9 @@ fn takes_steps_of_packets_and_messages(rt: HostRuntime) -> Result<(), Fail> {
     let alloc = rt.alloc();
     let net = pair(alloc)?;
     let mut world = begun(alloc, &net)?;
-    sends_a_rule(&rt, alloc, &mut world)?;
-    caches_it(&rt, alloc, &mut world)?;
-    loses_a_packet(&rt, alloc, &mut world)?;
+    sends_a_rule(&rt, &mut world)?;
+    caches_it(&rt, &mut world)?;
+    loses_a_packet(&rt, &mut world)?;
     assert_eq!(rt; world.switches().len(), 2);
     assert_eq!(rt; world.controller().switches(), 2);
     assert_eq!(rt; world.journal().items().len(), 24);

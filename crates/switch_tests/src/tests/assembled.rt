@@ -33,13 +33,8 @@ fn one_frame(rt: HostRuntime) -> Result<(), Fail> {
 }
 
 // Whether the frame at this place makes the message whole.
-fn completes(
-    alloc: Global,
-    assembler: &mut Assembler,
-    frames: &Frames,
-    place: u32,
-) -> Result<bool, Fail> {
-    let answer = assembler.feed(alloc, frame(frames, place)?).ok();
+fn completes(assembler: &mut Assembler, frames: &Frames, place: u32) -> Result<bool, Fail> {
+    let answer = assembler.feed(frame(frames, place)?).ok();
     let answer = answer.ok_or("the frame is refused")?;
     Ok(match answer {
         Some(message) => matches!(message.body, Body::Install { boot: 1, .. }),
@@ -59,8 +54,8 @@ fn frames_in_another_order(rt: HostRuntime) -> Result<(), Fail> {
     assert!(rt; frames.get(4).is_none());
     let mut assembler = Assembler::new(alloc);
     for place in [3, 1, 1, 0] {
-        assert!(rt; !completes(alloc, &mut assembler, &frames, place)?);
+        assert!(rt; !completes(&mut assembler, &frames, place)?);
     }
-    assert!(rt; completes(alloc, &mut assembler, &frames, 2)?);
+    assert!(rt; completes(&mut assembler, &frames, 2)?);
     Ok(())
 }

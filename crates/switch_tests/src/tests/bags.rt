@@ -18,16 +18,16 @@ fn post(bag: &mut Bag, alloc: Global, message: &Message) -> Result<u32, Fail>
     if bytes.len() > 1 << 20 || bag.len() >= 1000 {
         return Err(Fail::from("too long, or full"));
     }
-    Ok(bag.post(alloc, message)?)
+    Ok(bag.post(message)?)
 }
 
-fn take(bag: &Bag, alloc: Global, number: u32) -> Result<Message, Fail> {
-    Ok(bag.take(alloc, number)?.ok_or("no such message")?)
+fn take(bag: &Bag, number: u32) -> Result<Message, Fail> {
+    Ok(bag.take(number)?.ok_or("no such message")?)
 }
 
 // The receiver and the boot of the installation of this number, and how many rules it brings.
-fn installed(bag: &Bag, alloc: Global, number: u32) -> Result<Option<(Place, u32, usize)>, Fail> {
-    let Message { to, body } = take(bag, alloc, number)?;
+fn installed(bag: &Bag, number: u32) -> Result<Option<(Place, u32, usize)>, Fail> {
+    let Message { to, body } = take(bag, number)?;
     match body {
         Body::Install { boot, tables } => match tables.tables().auth.items().first() {
             Some(part) => Ok(Some((to, boot, part.rules.items().len()))),
@@ -47,7 +47,7 @@ fn messages_come_out_of_a_bag(rt: HostRuntime) -> Result<(), Fail> {
     assert_eq!(rt; post(&mut bag, alloc, &install(alloc, 0, 0)?)?, 3);
     assert_eq!(rt; post(&mut bag, alloc, &install(alloc, 1038, 12)?)?, 4);
     assert_eq!(rt; post(&mut bag, alloc, &hello())?, 5);
-    let first = take(&bag, alloc, 1)?;
+    let first = take(&bag, 1)?;
     assert!(rt;
         matches!(
             first.body,
@@ -58,12 +58,12 @@ fn messages_come_out_of_a_bag(rt: HostRuntime) -> Result<(), Fail> {
         )
     );
     for (number, rules) in [(2, 1050), (3, 0), (4, 1050)] {
-        let told = installed(&bag, alloc, number)?;
+        let told = installed(&bag, number)?;
         assert!(rt; told == Some((Place::Switch(1), 1, rules)));
     }
-    let last = take(&bag, alloc, 5)?;
+    let last = take(&bag, 5)?;
     assert!(rt; matches!(last.body, Body::Hello { switch: 0, boot: 2 }));
-    assert!(rt; bag.take(alloc, 0)?.is_none() && bag.take(alloc, 6)?.is_none());
+    assert!(rt; bag.take(0)?.is_none() && bag.take(6)?.is_none());
     Ok(())
 }
 
@@ -76,8 +76,8 @@ fn first_rules(tables: &Tables) -> Option<&[Rule]> {
 }
 
 // Whether the installation of this number is this one, whose tables have one partition.
-fn gives(bag: &Bag, alloc: Global, number: u32, message: &Message) -> Result<bool, Fail> {
-    let taken = take(bag, alloc, number)?;
+fn gives(bag: &Bag, number: u32, message: &Message) -> Result<bool, Fail> {
+    let taken = take(bag, number)?;
     match (&taken.body, &message.body) {
         (
             Body::Install { boot, tables },
@@ -129,7 +129,7 @@ fn installations_of_the_same_tables_each_come_out_as_their_own(
         .chain(&INSTALLATIONS)
     {
         let message = install_of(alloc, *version, *switch, *boot, *defaults, *rows)?;
-        assert!(rt; gives(&bag, alloc, *number, &message)?, "{number}");
+        assert!(rt; gives(&bag, *number, &message)?, "{number}");
     }
     Ok(())
 }

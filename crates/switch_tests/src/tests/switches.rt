@@ -155,41 +155,41 @@ fn acknowledged(heard: &Heard) -> Option<(u32, u32)> {
 // Whether it takes tables of this version in.
 fn takes_in(alloc: Global, b: &mut Switch, boot: u32, version: u32) -> Result<bool, Fail> {
     let tables = authority_tables(alloc, version)?;
-    let heard = b.hear(alloc, 1, &Body::Install { boot, tables }, 0b101)?;
+    let heard = b.hear(1, &Body::Install { boot, tables }, 0b101)?;
     Ok(acknowledged(&heard) == Some((boot, version)))
 }
 
 // Whether it stamps with this version from now on.
-fn rises_to(alloc: Global, b: &mut Switch, version: u32) -> Result<bool, Fail> {
-    let heard = b.hear(alloc, 2, &Body::Stamp { boot: 1, version }, 0b101)?;
+fn rises_to(b: &mut Switch, version: u32) -> Result<bool, Fail> {
+    let heard = b.hear(2, &Body::Stamp { boot: 1, version }, 0b101)?;
     Ok(acknowledged(&heard) == Some((1, version)))
 }
 
 // Whether it drops the tables of version 1.
-fn drops_version_one(alloc: Global, b: &mut Switch) -> Result<bool, Fail> {
+fn drops_version_one(b: &mut Switch) -> Result<bool, Fail> {
     let collect = Body::Collect {
         boot: 1,
         version: 1,
     };
-    b.hear(alloc, 3, &collect, 0b101)?;
+    b.hear(3, &collect, 0b101)?;
     Ok(!b.holds_version(1))
 }
 
 // Whether it opens at this version.
-fn opens_at(alloc: Global, b: &mut Switch, boot: u32, version: u32) -> Result<bool, Fail> {
-    let heard = b.hear(alloc, 4, &Body::OpenAt { boot, version }, 0b101)?;
+fn opens_at(b: &mut Switch, boot: u32, version: u32) -> Result<bool, Fail> {
+    let heard = b.hear(4, &Body::OpenAt { boot, version }, 0b101)?;
     Ok(heard.opened == Some(version))
 }
 
 // It hears of a rule for its cache, in a message of this number.
-fn learns(alloc: Global, b: &mut Switch, number: u32, version: u32) -> Result<(), Fail> {
+fn learns(b: &mut Switch, number: u32, version: u32) -> Result<(), Fail> {
     let rule = Body::CacheRule {
         version,
         word: Word::any(),
         rule: Some(100),
         action: Action::Out(2),
     };
-    b.hear(alloc, number, &rule, 0b101)?;
+    b.hear(number, &rule, 0b101)?;
     Ok(())
 }
 
@@ -300,12 +300,12 @@ fn one_version_follows_another(rt: HostRuntime) -> Result<(), Fail> {
     let ports = solo(alloc)?.ports();
     let mut b = authority(alloc)?;
     assert!(rt; takes_in(alloc, &mut b, 1, 2)?);
-    learns(alloc, &mut b, 5, 1)?;
-    assert!(rt; rises_to(alloc, &mut b, 2)?);
-    learns(alloc, &mut b, 6, 2)?;
+    learns(&mut b, 5, 1)?;
+    assert!(rt; rises_to(&mut b, 2)?);
+    learns(&mut b, 6, 2)?;
     assert!(rt; enters(&mut b, &ports, 2, How::Cached { message: 6 }));
     assert_eq!(rt; b.expire(0), Some(6));
-    assert!(rt; drops_version_one(alloc, &mut b)?);
+    assert!(rt; drops_version_one(&mut b)?);
     assert!(rt; arrives_anew(&mut b, &ports)?);
     Ok(())
 }
@@ -318,9 +318,9 @@ fn a_boot_follows_a_crash(rt: HostRuntime) -> Result<(), Fail> {
     b.crash();
     assert!(rt; !b.is_up());
     assert_eq!(rt; b.restart(), 2);
-    assert!(rt; !opens_at(alloc, &mut b, 1, 1)?, "of its old boot");
+    assert!(rt; !opens_at(&mut b, 1, 1)?, "of its old boot");
     assert!(rt; takes_in(alloc, &mut b, 2, 3)?);
-    assert!(rt; opens_at(alloc, &mut b, 2, 3)?);
+    assert!(rt; opens_at(&mut b, 2, 3)?);
     assert!(rt; enters(&mut b, &solo(alloc)?.ports(), 3, by_authority()));
     Ok(())
 }
@@ -343,19 +343,14 @@ fn adverts_of_others_are_sent_on(rt: HostRuntime) -> Result<(), Fail> {
     let of_itself = Body::Advertise {
         advert: advert(1, 9, 0b111),
     };
-    assert!(rt;
-        b.hear(alloc, 1, &of_itself, 0b101)?
-            .replies
-            .items()
-            .is_empty()
-    );
+    assert!(rt; b.hear(1, &of_itself, 0b101)?.replies.items().is_empty());
     assert_eq!(rt; b.known(1), Some(own));
     let news = Body::Advertise {
         advert: advert(2, 2, 0b010),
     };
-    let messages = b.hear(alloc, 2, &news, 0b101)?.replies.into_items();
+    let messages = b.hear(2, &news, 0b101)?.replies.into_items();
     assert_eq!(rt; messages.len(), 2);
     assert_eq!(rt; b.known(2), Some(advert(2, 2, 0b010)));
-    assert!(rt; b.hear(alloc, 3, &news, 0b101)?.replies.items().is_empty());
+    assert!(rt; b.hear(3, &news, 0b101)?.replies.items().is_empty());
     Ok(())
 }
