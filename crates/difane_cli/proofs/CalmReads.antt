@@ -1,4 +1,5 @@
 -- Readings one after another that count no fault.
+use Rattle.std.specs.Prelude.{IsErrAnd}
 use Rattle.std.specs.Option.{ForSome}
 use Rattle.std.proofs.Common.{◌≡◌, ◌⊎◌, ◌∙◌, Option, Some, None, Result, Ok, Err, refl, subst, sym}
 use Rattle.shelf.specs.Shelf.{Files, ShelfState}
@@ -22,9 +23,9 @@ stop_then old middle new why same first calm = λ may.
 
 -- a reading that ends with this stop is as calm
 pub stopped : {V : Type 0} (old new : ShelfState) (why : Stop) (result : Result V Stop)
-    → result ≡ Err why → IsCalmStop old new why → IsCalmRead old new result
-stopped {V} old new why result is calm =
-    subst (λ (r : Result V Stop). IsCalmRead old new r) (sym is) calm
+    → IsErrAnd result (λ stop. stop ≡ why) → IsCalmStop old new why → IsCalmRead old new result
+stopped old new why (Ok value) is calm = absurd is
+stopped old new why (Err stop) is calm = subst (IsCalmStop old new) (sym is) calm
 
 -- none was counted at all
 pub all_calm : {V : Type 0} (old new : ShelfState) (result : Result V Stop)
