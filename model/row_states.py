@@ -10,7 +10,7 @@ def world_of(net, policies):
     """The network before the first row; without a network file it is the switch s0."""
     path = Path(net) if net else None
     text = tomllib.loads(path.read_text("utf-8-sig")) if path else slow_replay.SOLO
-    return slow_replay.World(text, list(map(slow_replay.file_of, policies)))
+    return slow_replay.World(text, policies)
 
 
 def rows_of(schedule):

@@ -1,119 +1,37 @@
 -- In a quiet journal the adverts have spread, so each switch knows the links that can be used.
-use Rattle.std.proofs.Common.{ℕ, ◌≡◌, ◌≢◌, ◌<◌, ◌≤◌, ◌⊎◌, ◌==◌, true, false, if◌then◌else◌, Some, None, List, [], ◌∷◌, ◌++◌, refl, ap, sym, subst, ◌∙◌, arith, inl, inr}
+use Rattle.std.proofs.Common.{ℕ, ◌≡◌, ◌≢◌, ◌<◌, ◌⊎◌, ◌==◌, true, false, if◌then◌else◌, Some, None, List, [], ◌∷◌, refl, ap, sym, subst, ◌∙◌, arith, inl, inr}
 use Rattle.std.specs.Prelude.{IsTrue}
+use Rattle.std.specs.List.{list_any}
 use Rattle.std.proofs.lemmas.Bool.{and_parts, cases_eq, eq-eqb, eqb-true}
 use Rattle.std.proofs.lemmas.Bool.Decides.{nat_tests}
 use Rattle.ctrl_msg.specs.declared.message.Body.{Body}
 use Rattle.ctrl_msg.specs.declared.message.Body.TheVariants.{Advertise}
-use Rattle.ctrl_msg.specs.declared.message.Place.{Place}
 use Rattle.ctrl_msg.specs.declared.message.Place.TheVariants as receiver
-use Rattle.failover.specs.Adverts.{held_advert, is_newer}
+use Rattle.failover.specs.Adverts.{is_newer}
 use Rattle.failover.specs.declared.advert.Advert.{Advert}
 use Rattle.base.specs.Masks.{has}
 use Rattle.net_file.specs.Net.{IsNet}
 use Rattle.journal.specs.declared.item.Item.{Item}
-use Rattle.journal.specs.declared.item.Item.TheVariants as item
 use Rattle.steps.specs.Steps.{HasSwitch}
 use Rattle.update_machine.specs.Adverts.{advert_known, own_advert}
 use Rattle.update_machine.specs.Boots.{boot_of, heard, is_for_boot, is_up}
-use Rattle.update_machine.specs.Deliveries.{advert_to}
+use Rattle.update_machine.specs.Causes.{HaveCauses}
 use Rattle.update_machine.specs.LinkMasks.{near, other_advert}
-use Rattle.update_machine.specs.Messages.{next_message}
-use Rattle.update_machine.specs.Quiet.{IsQuiet, Sending, boot_at, is_later_body, matters, sendings}
+use Rattle.update_machine.specs.Quiet.{IsQuiet, begins_boot, is_later_body}
 use Rattle.update_machine.specs.Setting.{Setting}
-use Rattle.update_machine.specs.Settling.{to_switch}
 use Rattle.update_machine.specs.Links.{serves}
-use Rattle.control_laws.proofs.Facts.{AreKept}
 use Rattle.control_laws.specs.Adverts.{OwnAreNewest}
-use Rattle.control_laws.proofs.NetLinks.{ends_serve, own_origin, second}
+use Rattle.control_laws.proofs.NetLinks.{ends_serve, own_origin}
 use Rattle.convergence_laws.specs.Converged.{LeadsOver, Reaches}
 use Rattle.convergence_laws.specs.News.{IsAsNew}
 use Rattle.convergence_laws.proofs.Changed.{AreEnds, ends_there, newest_held}
 use Rattle.convergence_laws.proofs.Floods.{known_given}
 use Rattle.convergence_laws.proofs.Givens.{HasNews, IsGiven, IsHad, IsToldTo, as_new_itself, as_new_through}
-use Rattle.convergence_laws.proofs.Lists.{IsIn, each_in, in_either, in_filter_map}
+use Rattle.convergence_laws.proofs.Lists.{IsIn, in_filter_map}
 use Rattle.convergence_laws.proofs.Near.{near_both}
 use Rattle.convergence_laws.proofs.News.{Spread}
 use Rattle.convergence_laws.proofs.Received.{IsGot, got, heard_in_boot}
-use Rattle.convergence_laws.proofs.Sendings.{AreTraced, Course, IsInOrder, IsTraced, sendings_more, sent_by, traced_kept}
-
--- ---- later messages are of later boots
-
-pub record InOrder (journal : List Item) : Type 0 where
-  pub traced : AreTraced journal
-  pub boots : (s : ℕ) (x y : Sending) → IsIn x (sendings journal) → IsIn y (sendings journal)
-      → x.message.to ≡ receiver.Switch s → y.message.to ≡ receiver.Switch s
-      → x.number ≤ y.number → x.boot ≤ y.boot
-
-course_to : (journal : List Item) (s : ℕ) (x : Sending) → AreTraced journal
-    → IsIn x (sendings journal) → x.message.to ≡ receiver.Switch s → x.boot ≤ boot_of journal s
-course_to journal s x traced is to =
-    let course = (each_in (IsTraced journal) x (sendings journal) traced.each is).course in
-    by_receiver x.message.to course to
-  where
-    receiver_or : Place → ℕ
-    receiver_or (receiver.Switch t) = t
-    receiver_or receiver.Controller = 0
-
-    by_receiver : (of : Place) → Course journal of x → of ≡ receiver.Switch s
-        → x.boot ≤ boot_of journal s
-    by_receiver (receiver.Switch t) course same =
-        let own : t ≡ s = ap receiver_or same in
-        omega (arith, course.own, ap (boot_of journal) own)
-    by_receiver receiver.Controller course same = absurd cc
-
-record IsNewest (before : List Item) (s : ℕ) (x : Sending) : Type 0 where
-  number : x.number ≡ next_message before
-  boot : x.boot ≡ boot_of before s
-
-sent_newest : (setting : Setting) (before : List Item) (next : Item) (s : ℕ) (x : Sending)
-    → IsInOrder setting before next → IsIn x (sent_by before next)
-    → x.message.to ≡ receiver.Switch s → IsNewest before s x
-sent_newest setting before (item.Sent number message) s x cause (inl same) to = record {
-  number = ap (λ (z : Sending). z.number) (sym same) ∙ cause.second.first;
-  boot = ap (λ (z : Sending). z.boot) (sym same)
-      ∙ ap (boot_at before) (ap (λ (z : Sending). z.message.to) same ∙ to);
-}
-sent_newest setting before (item.Sent number message) s x cause (inr none) to = absurd none
-sent_newest setting before _ s x cause is to = absurd is
-
-pub order_kept : (setting : Setting) → AreKept (IsInOrder setting) InOrder
-order_kept setting before next cause are = record {
-  traced = traced_kept setting before next cause are.traced;
-  boots = λ s x y first second to_one to_other above.
-      by_places s x y (split x first) (split y second) to_one to_other above;
-}
-  where
-    split : (x : Sending) → IsIn x (sendings (before ++ next ∷ []))
-        → IsIn x (sendings before) ⊎ IsIn x (sent_by before next)
-    split x is = in_either x (sendings before) (sent_by before next)
-        (subst (λ xs. IsIn x xs) (sendings_more before next) is)
-
-    by_places : (s : ℕ) (x y : Sending) → IsIn x (sendings before) ⊎ IsIn x (sent_by before next)
-        → IsIn y (sendings before) ⊎ IsIn y (sent_by before next)
-        → x.message.to ≡ receiver.Switch s → y.message.to ≡ receiver.Switch s
-        → x.number ≤ y.number → x.boot ≤ y.boot
-    by_places s x y (inl first) (inl second) one other above =
-        are.boots s x y first second one other above
-    by_places s x y (inl first) (inr new) one other above =
-        omega (
-          arith,
-          course_to before s x are.traced first one,
-          (sent_newest setting before next s y cause new other).boot,
-        )
-    by_places s x y (inr new) (inl second) one other above =
-        absurd (omega (
-          arith,
-          above,
-          (sent_newest setting before next s x cause new one).number,
-          (each_in (IsTraced before) y (sendings before) are.traced.each second).number,
-        ))
-    by_places s x y (inr new) (inr newer) one other above =
-        omega (
-          arith,
-          (sent_newest setting before next s x cause new one).boot,
-          (sent_newest setting before next s y cause newer other).boot,
-        )
+use Rattle.convergence_laws.proofs.Sendings.{IsInOrder, caused_traced}
 
 -- ---- in a quiet journal what was told was heard
 
@@ -142,49 +60,34 @@ pub record IsGivenNew (setting : Setting) (journal : List Item) (s : ℕ) (than 
   pub given : IsGiven setting journal s advert
 
 told_given : (setting : Setting) (journal : List Item) (s : ℕ) (b : Advert)
-    → IsQuiet setting journal → InOrder journal → IsTrue (is_up journal s) → b.origin ≢ s
+    → IsQuiet setting journal → HaveCauses (IsInOrder setting) [] journal
+    → HasSwitch setting.net s → IsTrue (is_up journal s) → b.origin ≢ s
     → IsToldTo journal s b → IsGivenNew setting journal s b
-told_given setting journal s b quiet are up other told = record {
+told_given setting journal s b quiet causes there up other told = record {
   advert = says.0;
   as_new = says.2;
   given = inr (in_filter_map (other_advert s) (Advertise says.0) says.0 (heard journal s)
       (subst (λ body. IsIn body (heard journal s)) says.1 heard_it) told_of);
 }
   where
-    own : ℕ
-    own = boot_of journal s
-
-    x : Sending
-    x = record { number = told.number; message = advert_to s b; boot = own }
-
-    matter : IsTrue (matters journal x)
-    matter =
+    later : IsGot journal (receiver.Switch s) (Advertise b)
+    later = got setting journal s told.number (boot_of journal s) (receiver.Switch s) (Advertise b)
+        quiet causes there told.is refl
+        (λ after since.
         let here : is_up journal s ≡ true = up in
-        let same : (own == own) ≡ true = eq-eqb own own refl in
-        rw (here, same) refl
-
-    later : IsGot journal x
-    later = got setting journal x quiet told.is matter
-
-    y : Sending
-    y = record { number = later.number; message = to_switch s later.body; boot = later.boot }
+        let to : (s == s) ≡ true = eq-eqb s s refl in
+        let same : list_any (begins_boot s) after ≡ false = since in
+        rw (here, to, same) refl)
 
     says : (c : Advert) × (later.body ≡ Advertise c) × IsAsNew c b
     says = later_advert later.body b later.says
-
-    boot : later.boot ≡ own
-    boot = omega (
-      arith,
-      are.boots s x y told.is later.is refl refl later.later,
-      course_to journal s y are.traced later.is refl,
-    )
 
     for_it : IsTrue (is_for_boot later.boot later.body)
     for_it = subst (λ body. IsTrue (is_for_boot later.boot body)) (sym says.1) refl
 
     heard_it : IsIn later.body (heard journal s)
-    heard_it = heard_in_boot journal s later.number later.boot later.body are.traced later.is up
-        boot for_it later.delivered
+    heard_it = heard_in_boot journal s later.number later.boot later.body
+        (caused_traced setting journal causes) later.is up later.own for_it later.delivered
 
     apart : (says.0.origin == s) ≡ false
     apart =
@@ -200,7 +103,7 @@ told_given setting journal s b quiet are up other told = record {
 pub record AreQuiet (setting : Setting) (journal : List Item) : Type 0 where
   pub net : IsNet setting.net
   pub quiet : IsQuiet setting journal
-  pub order : InOrder journal
+  pub causes : HaveCauses (IsInOrder setting) [] journal
   pub spread : Spread setting journal
   pub newest : OwnAreNewest setting journal
 
@@ -212,7 +115,7 @@ HoldsOwn setting journal s origin =
 pub serving_up : (setting : Setting) (journal : List Item) → AreQuiet setting journal → (s : ℕ)
     → serves journal s ≡ true → IsTrue (is_up journal s)
 serving_up setting journal are s serving =
-    (are.order.traced.known.serving s).up serving
+    ((caused_traced setting journal are.causes).known.serving s).up serving
 
 -- of the own advert no other one is as new
 own_alone : (setting : Setting) (journal : List Item) → AreQuiet setting journal
@@ -282,8 +185,8 @@ edge_holds setting journal are at next origin small up linked holds = by_place (
         by_news elsewhere news (inl is) =
             record { advert = news.advert; as_new = news.as_new; given = is }
         by_news elsewhere news (inr told) =
-            let found = told_given setting journal at news.advert are.quiet are.order up_at
-            (λ same. elsewhere (sym news.as_new.origin ∙ same)) told in
+            let found = told_given setting journal at news.advert are.quiet are.causes
+            ends.one up_at (λ same. elsewhere (sym news.as_new.origin ∙ same)) told in
             record {
               advert = found.advert;
               as_new = as_new_through found.advert news.advert own found.as_new news.as_new;

@@ -14,7 +14,8 @@ use Rattle.journal.specs.declared.item.Item.TheVariants as item
 use Rattle.update_machine.specs.Boots.{boot_of, heard, is_up}
 use Rattle.update_machine.specs.Folds.{all_given}
 use Rattle.update_machine.specs.Marks.{controller_heard, first_number, has_acked, installed_in, is_over, known_boot, open_sent, opened_at, raises_known, body_to_controller}
-use Rattle.update_machine.specs.Quiet.{Sending, is_waited_for, sendings, gives_waited_for}
+use Rattle.update_machine.specs.Quiet.{is_waited_for, gives_waited_for}
+use Rattle.update_machine.specs.Sendings.{Sending, sendings}
 use Rattle.update_machine.specs.Setting.{Setting}
 use Rattle.update_machine.specs.Settling.{to_switch}
 use Rattle.update_machine.specs.Versions.{installs_version}

@@ -1,20 +1,22 @@
 -- Where nothing is left to do the network is quiet.
-use Rattle.std.proofs.Common.{ℕ, ◌≡◌, ◌≤◌, ◌<◌, ◌⊎◌, ◌&&◌, Bool, true, false, not, Some, None, List, [], ◌∷◌, refl, ap, sym, ◌∙◌, arith, inl, inr}
+use Rattle.std.proofs.Common.{ℕ, ◌≡◌, ◌≤◌, ◌<◌, ◌⊎◌, ◌&&◌, ◌||◌, Bool, true, false, not, Some, None, List, [], ◌∷◌, ◌++◌, refl, ap, sym, ◌∙◌, append_assoc, arith, inl, inr}
 use Rattle.std.specs.Prelude.{IsTrue, IsFalse, cond, find}
 use Rattle.std.specs.List.{range_with_len}
-use Rattle.std.proofs.lemmas.List.Elements.{All-from_recursion}
+use Rattle.ctrl_msg.specs.declared.message.Message.{Message}
 use Rattle.journal.specs.declared.item.Item.{Item}
+use Rattle.journal.specs.declared.item.Item.TheVariants as item
 use Rattle.update_machine.specs.Causes.{HaveCauses}
 use Rattle.update_machine.specs.Folds.{count_of}
 use Rattle.update_machine.specs.Messages.{is_deliverable, is_forgotten, is_sending, is_waiting, next_message, next_waiting, was_delivered}
-use Rattle.update_machine.specs.Quiet.{IsQuiet, IsReceived, Sending, matters, sendings}
+use Rattle.update_machine.specs.Quiet.{AreReceived, IsQuiet}
+use Rattle.update_machine.specs.Sendings.{Sending, boot_at, sendings}
 use Rattle.update_machine.specs.Setting.{Setting}
 use Rattle.control_laws.specs.Always.{HoldsBehindItems}
 use Rattle.control_laws.proofs.BehindItems.{behind_items}
-use Rattle.control_laws.proofs.Told.{each_weaker}
 use Rattle.convergence_laws.specs.Finished.{IsFinished}
-use Rattle.convergence_laws.proofs.Lists.{IsIn, in_range}
-use Rattle.convergence_laws.proofs.Sendings.{IsInOrder, IsTraced, caused_traced, pieces_in_order}
+use Rattle.convergence_laws.proofs.Lists.{IsIn, each_in, in_range}
+use Rattle.convergence_laws.proofs.Received.{delivered_append, in_sendings}
+use Rattle.convergence_laws.proofs.Sendings.{AreTraced, IsInOrder, IsTraced, caused_traced, pieces_in_order, traced_at_first, traced_kept}
 
 -- what isn't found passes nowhere
 none_found : (test : ℕ → Bool) (x : ℕ) (xs : List ℕ) → find test xs ≡ None → IsIn x xs
@@ -60,16 +62,57 @@ all_delivered setting journal finished x traced =
         sym (ap (λ b. b && true) deliverable) ∙ waits in
         absurd cc
 
+-- an item that sends a message delivers none
+sent_alone : (number n : ℕ) (message : Message)
+    → was_delivered (item.Sent number message ∷ []) n ≡ false
+unfolding was_delivered
+sent_alone number n message = refl
+
+-- where each message was delivered, it was behind its sending
+each_received : (setting : Setting) (journal front items : List Item) → journal ≡ front ++ items
+    → ((x : Sending) → IsIn x (sendings journal) → IsTrue (was_delivered journal x.number))
+    → AreTraced front → HaveCauses (IsInOrder setting) front items
+    → AreReceived setting journal items
+each_received setting journal front [] is all traced have = tt
+each_received setting journal front (item.Sent number message ∷ items) is all traced have = (
+  λ s there matter. inl (by_test (was_delivered front number) refl),
+  each_received setting journal (front ++ next ∷ []) items
+      (is ∙ sym (append_assoc front (next ∷ []) items)) all
+      (traced_kept setting front next have.0 traced) have.1,
+)
+  where
+    next : Item
+    next = item.Sent number message
+
+    whole : (was_delivered front number
+        || (was_delivered (next ∷ []) number || was_delivered items number)) ≡ true
+    whole = ap (λ b. was_delivered front number || b)
+        (sym (delivered_append (next ∷ []) items number))
+        ∙ sym (delivered_append front (next ∷ items) number)
+        ∙ ap (λ js. was_delivered js number) (sym is)
+        ∙ all (record { number = number; message = message; boot = boot_at front message.to })
+        (in_sendings journal front number message items is)
+
+    by_test : (b : Bool) → was_delivered front number ≡ b
+        → IsTrue (was_delivered items number)
+    by_test true e =
+        let takes : number ≡ next_message front = have.0.second.first in
+        absurd (omega (arith, traced.delivered number e, takes))
+    by_test false e = rw (e, sent_alone number number message) at whole
+each_received setting journal front (next ∷ items) is all traced have =
+    each_received setting journal (front ++ next ∷ []) items
+    (is ∙ sym (append_assoc front (next ∷ []) items)) all
+    (traced_kept setting front next have.0 traced) have.1
+
 finished_quiet : (setting : Setting) (journal : List Item)
     → HaveCauses (IsInOrder setting) [] journal → IsFinished setting journal
     → IsQuiet setting journal
 finished_quiet setting journal have finished = record {
   switches = finished.switches;
-  messages = All-from_recursion (λ x. IsTrue (matters journal x) → IsReceived journal x)
-      (sendings journal)
-      (each_weaker (IsTraced journal) (λ x. IsTrue (matters journal x) → IsReceived journal x)
-      (λ x traced matter. inl (all_delivered setting journal finished x traced))
-      (sendings journal) (caused_traced setting journal have).each);
+  messages = each_received setting journal [] journal refl
+      (λ x is. all_delivered setting journal finished x
+      (each_in (IsTraced journal) x (sendings journal) (caused_traced setting journal have).each
+      is)) traced_at_first have;
 }
 
 pub finished_behind :

@@ -20,7 +20,7 @@ use Rattle.update_machine.specs.Deliveries.{advert_to}
 use Rattle.update_machine.specs.Laws.{LinksKeep}
 use Rattle.update_machine.specs.LinkMasks.{near, adverts_begun, adverts_heard, other_advert}
 use Rattle.update_machine.specs.Messages.{next_message, send_items, sent_from}
-use Rattle.update_machine.specs.Quiet.{boot_at, sendings}
+use Rattle.update_machine.specs.Sendings.{boot_at, sendings}
 use Rattle.update_machine.specs.Setting.{Setting}
 use Rattle.update_machine.proofs.CallerLemmas.{links_keep}
 use Rattle.control_laws.proofs.Facts.{AreKept, fact_on}

@@ -21,7 +21,7 @@ use Rattle.update_machine.specs.Folds.{count_of}
 use Rattle.update_machine.specs.Marks.{controller_heard, body_to_controller}
 use Rattle.update_machine.specs.Messages.{is_deliverable, is_delivery, is_forgotten, is_sending, next_message, send_items, sent_from, was_delivered}
 use Rattle.update_machine.specs.Numbers.{TakesNext}
-use Rattle.update_machine.specs.Quiet.{Sending, boot_at, changes_sendings, sendings}
+use Rattle.update_machine.specs.Sendings.{Sending, boot_at, changes_sendings, sendings}
 use Rattle.update_machine.specs.Setting.{Setting}
 use Rattle.update_machine.specs.Settling.{to_switch}
 use Rattle.update_machine.specs.Links.{message_of}

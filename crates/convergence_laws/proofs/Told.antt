@@ -14,7 +14,8 @@ use Rattle.update_machine.specs.Answers.{StepOfRow, after_steps}
 use Rattle.update_machine.specs.Boots.{boot_of, is_up}
 use Rattle.update_machine.specs.Causes.{HaveCauses}
 use Rattle.update_machine.specs.LinkMasks.{near}
-use Rattle.update_machine.specs.Quiet.{IsQuiet, sendings}
+use Rattle.update_machine.specs.Quiet.{IsQuiet}
+use Rattle.update_machine.specs.Sendings.{sendings}
 use Rattle.update_machine.specs.Setting.{Setting}
 use Rattle.update_machine.specs.Links.{serves}
 use Rattle.update_machine.proofs.CallerLemmas.{known_link_laws, start_laws}
@@ -34,7 +35,7 @@ use Rattle.convergence_laws.specs.Converged.{HasConverged}
 use Rattle.convergence_laws.specs.Stuck.{GetStuckApart}
 use Rattle.convergence_laws.specs.News.{HoldsAsNew, IsSentAsNew, NewsSpreads}
 use Rattle.convergence_laws.proofs.Changed.{AreEnds, ends_there, newest_held, own_held, serving_turns}
-use Rattle.convergence_laws.proofs.Converged.{AreQuiet, InOrder, order_kept}
+use Rattle.convergence_laws.proofs.Converged.{AreQuiet}
 use Rattle.convergence_laws.proofs.Stuck.{stuck_reaches_none}
 use Rattle.convergence_laws.proofs.Floods.{known_given, spread_at_ends}
 use Rattle.convergence_laws.proofs.Givens.{HasNews, IsGiven, IsHad, IsToldTo, as_new_itself, as_new_through}
@@ -42,7 +43,7 @@ use Rattle.convergence_laws.proofs.KnownLinks.{quiet_converged}
 use Rattle.convergence_laws.proofs.Lists.{IsIn}
 use Rattle.convergence_laws.proofs.Near.{near_both}
 use Rattle.convergence_laws.proofs.News.{Spread}
-use Rattle.convergence_laws.proofs.Sendings.{IsInOrder, pieces_in_order, traced_at_first}
+use Rattle.convergence_laws.proofs.Sendings.{IsInOrder, pieces_in_order}
 
 -- ---- a switch that has a link told its own advert
 
@@ -209,13 +210,6 @@ news_at_ends = at_ends (λ setting journal. IsNet setting.net → NewsSpreads se
     news_spread setting (after_steps setting [] steps) net (spread_at_ends setting steps net)
     (newest_stepped setting steps) ((behind_both TellsOwn caused_tells).ends.stepped setting steps))
 
-order_at_first : InOrder []
-order_at_first = record {
-  traced = traced_at_first;
-  boots = λ s x y first second one other above.
-      let none : IsIn x [] = subst (λ xs. IsIn x xs) start_laws.sent first in absurd none;
-}
-
 ends_quiet : (setting : Setting) (steps : List StepOfRow) → IsNet setting.net
     → IsQuiet setting (after_steps setting [] steps)
     → AreQuiet setting (after_steps setting [] steps)
@@ -224,9 +218,7 @@ ends_quiet setting steps net quiet =
     record {
       net = net;
       quiet = quiet;
-      order = fact_on (IsInOrder setting) InOrder (order_kept setting) [] journal
-          (steps_have (IsInOrder setting) setting (pieces_in_order setting) [] steps tt)
-          order_at_first;
+      causes = steps_have (IsInOrder setting) setting (pieces_in_order setting) [] steps tt;
       spread = spread_at_ends setting steps net;
       newest = newest_stepped setting steps;
     }

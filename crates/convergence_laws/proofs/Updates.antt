@@ -39,7 +39,7 @@ use Rattle.convergence_laws.proofs.Downs.{AreRecorded, caused_recorded}
 use Rattle.convergence_laws.proofs.Installs.{AllInstalled, installs_at_first, piece_installs}
 use Rattle.convergence_laws.proofs.Lists.{IsIn, all_in, each_of_in, in_filter_map, in_range, in_right, of_filter, of_range}
 use Rattle.convergence_laws.proofs.Received.{WasHeard, heard_of, told_of}
-use Rattle.convergence_laws.proofs.Sendings.{AreTraced, IsInOrder, IsSent, caused_traced, pieces_in_order}
+use Rattle.convergence_laws.proofs.Sendings.{IsInOrder, IsSent, pieces_in_order}
 use Rattle.convergence_laws.proofs.Stamps.{HaveStamps, piece_stamps, stamps_at_first}
 
 -- ---- greatest and least numbers
@@ -84,7 +84,7 @@ all_true test (x ∷ xs) all =
 -- ---- what is known at the end of a step
 
 pub record AreReady (setting : Setting) (journal : List Item) : Type 0 where
-  pub traced : AreTraced journal
+  pub causes : HaveCauses (IsInOrder setting) [] journal
   pub recorded : AreRecorded journal
   pub bounds : MarksAreBounded setting journal
   pub settled : AreSettled setting journal
@@ -132,7 +132,7 @@ steps_ready setting steps =
     }) in
     let caused = items_caused setting journal stand.causes in
     record {
-      traced = caused_traced setting journal stand.causes;
+      causes = stand.causes;
       recorded = caused_recorded setting journal caused;
       bounds = bounded setting journal caused;
       settled = settled_at_ends.stepped setting steps;
@@ -175,9 +175,9 @@ hello_known journal s boot is =
 
 -- the controller knows the boot of each switch that is up
 known_own : (setting : Setting) (journal : List Item) → AreReady setting journal
-    → IsQuiet setting journal → (s : ℕ) → IsTrue (is_up journal s)
-    → known_boot journal s ≡ boot_of journal s
-known_own setting journal are quiet s up =
+    → IsQuiet setting journal → (s : ℕ) → s < length setting.net.switches
+    → IsTrue (is_up journal s) → known_boot journal s ≡ boot_of journal s
+known_own setting journal are quiet s there up =
     let below : known_boot journal s ≤ boot_of journal s =
     are.recorded.known.boots.known s in
     elim (are.spoken.hellos.each s up) [
@@ -185,8 +185,8 @@ known_own setting journal are quiet s up =
       | inr said ↦ elim said [
         | inl first ↦ omega (arith, below, first, known_first journal s)
         | inr sent ↦
-            let heard = told_of setting journal s (Hello s (boot_of journal s)) quiet are.traced
-            sent up refl refl in
+            let heard = told_of setting journal s (Hello s (boot_of journal s)) quiet are.causes
+            there sent up refl refl in
             let told : boot_of journal s ≤ known_boot journal s =
             hello_known journal s (boot_of journal s)
             (was_itself (controller_heard journal) (Hello s (boot_of journal s)) refl heard) in
@@ -237,8 +237,8 @@ all_installed setting journal are quiet s version there up above below =
         | inr sent ↦
             let tables : Tables = sent.tables in
             let body : Body = Install (known_boot journal s) tables in
-            let heard_it = heard_of setting journal s body quiet are.traced sent.sent up
-            (ap Some own)
+            let heard_it = heard_of setting journal s body quiet are.causes there sent.sent
+            up (ap Some own)
             (not_below tables.version (current_mark journal) (omega (arith, sent.of, above))) in
             elim (are.spoken.answers.each s body
             (was_itself (heard journal s) body refl heard_it)) [
@@ -248,7 +248,7 @@ all_installed setting journal are quiet s version there up above below =
                   (was_itself (controller_heard journal)
                   (Installed s (known_boot journal s) tables.version) refl
                   (told_of setting journal s (Installed s (known_boot journal s) tables.version)
-                  quiet are.traced answer up (ap (λ b. Some (s, b)) own)
+                  quiet are.causes there answer up (ap (λ b. Some (s, b)) own)
                   (not_below tables.version (current_mark journal)
                   (omega (arith, sent.of, above))))))
             ]
@@ -256,7 +256,7 @@ all_installed setting journal are quiet s version there up above below =
     ]
   where
     own : known_boot journal s ≡ boot_of journal s
-    own = known_own setting journal are quiet s up
+    own = known_own setting journal are quiet s there up
 
 -- in the first boot a switch is opened at the first version
 opened_first : (journal : List Item) (s : ℕ) → known_boot journal s ≡ 1
@@ -332,7 +332,7 @@ up_member setting journal are quiet s there up = by_member (is_member journal s)
     by_member : (b : Bool) → is_member journal s ≡ b → IsTrue (is_member journal s)
     by_member true e = e
     by_member false e =
-        let own = known_own setting journal are quiet s up in
+        let own = known_own setting journal are quiet s there up in
         let not_over : is_over journal s ≡ false =
         (are.recorded.known.serving s).not_over up own in
         let none : IsFalse (has_acked journal s (current_mark journal)) =
@@ -351,17 +351,17 @@ up_member setting journal are quiet s there up = by_member (is_member journal s)
 
 -- the version at which it was opened it heard, but for the first boot
 opening_heard : (setting : Setting) (journal : List Item) → AreReady setting journal
-    → IsQuiet setting journal → (s version : ℕ) → IsTrue (is_up journal s)
-    → opened_at journal s ≡ Some version
+    → IsQuiet setting journal → (s version : ℕ) → s < length setting.net.switches
+    → IsTrue (is_up journal s) → opened_at journal s ≡ Some version
     → (boot_of journal s ≡ 1) ⊎ IsIn (OpenAt (boot_of journal s) version) (heard journal s)
-opening_heard setting journal are quiet s version up opened =
-    let own = known_own setting journal are quiet s up in
+opening_heard setting journal are quiet s version there up opened =
+    let own = known_own setting journal are quiet s there up in
     elim (are.recorded.openings s (boot_of journal s) version
     (ap (opened_in journal s) (sym own) ∙ sym (opened_is journal s) ∙ opened)) [
       | inl first ↦ inl first
       | inr sent ↦ inr (was_itself (heard journal s) (OpenAt (boot_of journal s) version) refl
-          (heard_of setting journal s (OpenAt (boot_of journal s) version) quiet are.traced sent up
-          refl refl))
+          (heard_of setting journal s (OpenAt (boot_of journal s) version) quiet are.causes there
+          sent up refl refl))
     ]
 
 some_opening : (journal : List Item) (s : ℕ) → IsTrue (is_member journal s)
@@ -379,7 +379,7 @@ up_serves : (setting : Setting) (journal : List Item) → AreReady setting journ
     → IsTrue (is_up journal s) → IsTrue (serves journal s)
 up_serves setting journal are quiet s there up =
     let opening = some_opening journal s (up_member setting journal are quiet s there up) in
-    elim (opening_heard setting journal are quiet s opening.0 up opening.1) [
+    elim (opening_heard setting journal are quiet s opening.0 there up opening.1) [
       | inl first ↦ are.recorded.first s up first
       | inr told ↦ elim (are.spoken.answers.each s (OpenAt (boot_of journal s) opening.0) told) [
         | inl none ↦ absurd none
@@ -446,10 +446,11 @@ record StampsIt (journal : List Item) (s : ℕ) : Type 0 where
   known : current_mark journal ≤ acked_stamp journal s
 
 opened_stamps : (setting : Setting) (journal : List Item) → AreReady setting journal
-    → IsQuiet setting journal → (s : ℕ) → IsTrue (is_up journal s)
-    → opened_at journal s ≡ Some (current_mark journal) → StampsIt journal s
-opened_stamps setting journal are quiet s up opened = record {
-  own = elim (opening_heard setting journal are quiet s (current_mark journal) up opened) [
+    → IsQuiet setting journal → (s : ℕ) → s < length setting.net.switches
+    → IsTrue (is_up journal s) → opened_at journal s ≡ Some (current_mark journal)
+    → StampsIt journal s
+opened_stamps setting journal are quiet s there up opened = record {
+  own = elim (opening_heard setting journal are quiet s (current_mark journal) there up opened) [
     | inl first ↦ by_first first
     | inr told ↦ heard_stamp journal s (current_mark journal)
         (OpenAt (boot_of journal s) (current_mark journal)) told refl
@@ -464,16 +465,17 @@ opened_stamps setting journal are quiet s up opened = record {
     by_first : boot_of journal s ≡ 1 → current_mark journal ≤ stamp_of journal s
     by_first first =
         let known : known_boot journal s ≡ 1 =
-        known_own setting journal are quiet s up ∙ first in
+        known_own setting journal are quiet s there up ∙ first in
         let one : opened_at journal s ≡ Some 1 = opened_first journal s known in
         let same : Some 1 ≡ Some (current_mark journal) = sym one ∙ opened in
         let is : 1 ≡ current_mark journal = ap (λ o. unwrap_or o 0) same in
         omega (arith, is, first_stamped journal s up first)
 
 told_stamps : (setting : Setting) (journal : List Item) → AreReady setting journal
-    → IsQuiet setting journal → (s : ℕ) → IsTrue (is_up journal s)
-    → IsSent journal (stamp_for journal (current_mark journal) s) → StampsIt journal s
-told_stamps setting journal are quiet s up sent =
+    → IsQuiet setting journal → (s : ℕ) → s < length setting.net.switches
+    → IsTrue (is_up journal s) → IsSent journal (stamp_for journal (current_mark journal) s)
+    → StampsIt journal s
+told_stamps setting journal are quiet s there up sent =
     record {
       own = omega (
         arith,
@@ -494,11 +496,11 @@ told_stamps setting journal are quiet s up sent =
     known = known_boot journal s
 
     own : known ≡ boot_of journal s
-    own = known_own setting journal are quiet s up
+    own = known_own setting journal are quiet s there up
 
     was : WasHeard (heard journal s) (Stamp known (current_mark journal))
-    was = heard_of setting journal s (Stamp known (current_mark journal)) quiet are.traced sent up
-        (ap Some own) refl
+    was = heard_of setting journal s (Stamp known (current_mark journal)) quiet are.causes there sent
+        up (ap Some own) refl
 
     later : (v : ℕ) × (was.body ≡ Stamp known v) × (current_mark journal ≤ v)
     later = later_stamp was.body known (current_mark journal) was.says
@@ -511,7 +513,7 @@ told_stamps setting journal are quiet s up sent =
         ]
 
     told : WasHeard (controller_heard journal) (Stamped s known later.0)
-    told = told_of setting journal s (Stamped s known later.0) quiet are.traced answer up
+    told = told_of setting journal s (Stamped s known later.0) quiet are.causes there answer up
         (ap (λ b. Some (s, b)) own) refl
 
     more : (v : ℕ) × (told.body ≡ Stamped s known v) × (later.0 ≤ v)
@@ -522,8 +524,8 @@ stamps_it : (setting : Setting) (journal : List Item) → AreReady setting journ
     → IsTrue (is_up journal s) → StampsIt journal s
 stamps_it setting journal are quiet s there up =
     elim (are.stamps.each s there (up_member setting journal are quiet s there up)) [
-      | inl opened ↦ opened_stamps setting journal are quiet s up opened
-      | inr sent ↦ told_stamps setting journal are quiet s up sent
+      | inl opened ↦ opened_stamps setting journal are quiet s there up opened
+      | inr sent ↦ told_stamps setting journal are quiet s there up sent
     ]
 
 -- ---- retired

@@ -10,7 +10,7 @@ use Rattle.update_machine.specs.Adverts.{advert_known}
 use Rattle.update_machine.specs.Boots.{boot_of}
 use Rattle.update_machine.specs.Deliveries.{advert_to}
 use Rattle.update_machine.specs.LinkMasks.{near}
-use Rattle.update_machine.specs.Quiet.{sendings}
+use Rattle.update_machine.specs.Sendings.{sendings}
 use Rattle.update_machine.specs.Setting.{Setting}
 
 -- of the same origin, and at least as new

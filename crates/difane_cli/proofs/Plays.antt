@@ -6,10 +6,8 @@ use Rattle.std.specs.Option.{ForSome}
 use Rattle.journal.specs.declared.item.Item.{Item}
 use Rattle.meters.specs.Seen.{Seen}
 use Rattle.net_file.specs.declared.net.Net.{Net}
-use Rattle.journal_reports.specs.Plain.{IsPlain}
 use Rattle.update_machine.specs.Full.{IsPlay}
 use Rattle.packet_laws.specs.OnTheWay.{HeldOnTheWay, HoldsSoFar}
-use Rattle.packet_laws.proofs.StepsOfPlays.{play_begins}
 use Rattle.update_machine.specs.Setting.{Setting}
 use Rattle.difane_cli.specs.Tasks.{Inputs, Play}
 use Rattle.shelf.specs.Shelf.{Files}
@@ -57,15 +55,11 @@ pub judged : AnswerLaws → (command : Command) (files : Option Files) (inputs :
     (journal : List Item) (full : Option ℕ) (net : Net) (given : Option Bool)
     → IsAnswer command files inputs journal full → inputs.setting.net ≡ net
     → is_some given ≡ is_asked (asks_quiet inputs.report) full
-    → ((setting : Setting) → setting.net ≡ net → IsPlain setting journal
-    → IsWhetherQuiet setting journal given)
+    → ((setting : Setting) → setting.net ≡ net → IsWhetherQuiet setting journal given)
     → IsVerdict (asks_quiet inputs.report) inputs.setting journal full given
 judged laws command files inputs journal full net given answer own asked decides =
-    let sound = answer.sound.setting.net in
     verdict laws.quiet (asks_quiet inputs.report) inputs.setting inputs.events journal full given
-    sound answer.play asked
-    (decides inputs.setting own (laws.plain.begun inputs.setting inputs.events journal
-    answer.sound.events (play_begins inputs.setting inputs.events journal full answer.play) sound))
+    answer.sound.setting.net answer.play asked (decides inputs.setting own)
 
 -- memory ran out before an answer was given, and nothing was written
 pub unjudged : (command : Command) (files : Option Files) (takes_memory : Bool) (inputs : Inputs)

@@ -1,10 +1,9 @@
 -- What follows behind steps of the network, and at the end of a play.
 use Rattle.std.specs.Prelude.{ℕ, Option, List}
-use Rattle.control_laws.specs.Always.{HoldsAtEnds, HoldsReached}
+use Rattle.control_laws.specs.Always.{HoldsAtEnds}
 use Rattle.packet_laws.specs.Entries.{AreEntered, rows_played}
 use Rattle.journal.specs.declared.item.Item.{Item}
 use Rattle.net_file.specs.Net.{IsNet}
-use Rattle.journal_reports.specs.Plain.{IsPlain}
 use Rattle.convergence_laws.specs.Converged.{HasConverged}
 use Rattle.convergence_laws.specs.Stuck.{GetStuckApart}
 use Rattle.convergence_laws.specs.Updated.{IsUpdated}
@@ -26,5 +25,4 @@ pub record QuietLaws : Type 0 where
 pub record AnswerLaws : Type 0 where
   pub entered : (setting : Setting) (events : List Event) (journal : List Item) (full : Option ℕ)
       → IsPlay setting events journal full → AreEntered (rows_played full events) journal
-  pub plain : HoldsReached (λ setting journal. IsNet setting.net → IsPlain setting journal)
   pub quiet : QuietLaws

@@ -19,7 +19,7 @@ use convergence_laws::{
     packets_get_stuck_apart, quiet_networks_are_updated, quiet_networks_have_converged,
 };
 use journal::Journal;
-use journal_reports::{answers_are_plain, summarize, summary_text};
+use journal_reports::{summarize, summary_text};
 use journal_text::write_text;
 use meters::Meter;
 use net_file::Net;
@@ -86,7 +86,6 @@ fn answer_laws()
     ensures { AnswerLaws }
 {
     packet_rows_are_entered();
-    answers_are_plain();
     quiet_networks_have_converged();
     packets_get_stuck_apart();
     quiet_networks_are_updated();

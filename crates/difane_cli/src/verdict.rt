@@ -1,7 +1,6 @@
 //! Whether the network of a play is quiet, and the line that says so.
 ghost use Rattle.std.specs.Prelude.{◌≡◌, [], IfOk, IfErr, IsTrue, is_some};
 ghost use Rattle.net_file.specs.Net.{IsNet};
-ghost use Rattle.journal_reports.specs.Plain.{IsPlain};
 ghost use Rattle.shelf.specs.SinkWrites.{IsAfterWrite};
 ghost use Rattle.update_machine.specs.Setting.{Setting};
 ghost use Rattle.difane_cli.specs.Exports.{IsWhetherQuiet, is_asked, quiet_line};
@@ -26,7 +25,7 @@ pub fn judge<M: Meter>(
     ensures asked { IfOk result (λ answer. is_some answer ≡ is_asked asked played.now.full) }
     ensures wants { IfErr result (λ _. IsTrue (is_asked asked played.now.full)) }
     ensures decides { IfOk result (λ answer. (setting : Setting) → setting.net ≡ net.now
-        → IsPlain setting played.now.journal → IsWhetherQuiet setting played.now.journal answer) }
+        → IsWhetherQuiet setting played.now.journal answer) }
 {
     if !asked || played.full.is_some() {
         return Ok(None);

@@ -1,19 +1,19 @@
 -- What the buckets of a switch hold.
-use Rattle.std.proofs.Common.{ℕ, suc, ◌≡◌, ◌≢◌, ◌+◌, ◌<◌, ◌&&◌, ◌||◌, ◌==◌, Bool, true, false, not, if◌then◌else◌, List, [], ◌∷◌, ◌++◌, length, get_or, set, refl, ap, sym, ◌∙◌, append-nil, arith, inl, inr, ne_eqb}
-use Rattle.std.specs.Prelude.{filter, nat_lt}
+use Rattle.std.proofs.Common.{ℕ, ◌≡◌, ◌≢◌, ◌+◌, ◌≤◌, ◌<◌, ◌⊎◌, ◌==◌, Bool, true, false, if◌then◌else◌, List, [], ◌∷◌, ◌++◌, length, get_or, set, take, drop, refl, ap, sym, subst, ◌∙◌, arith, inl, inr}
+use Rattle.std.specs.Prelude.{◌↔◌, nat_lt}
+use Rattle.std.specs.Option.{option_map_or}
 use Rattle.std.proofs.lemmas.Bool.{and_parts, cases_lt, eq-eqb, eqb-true}
 use Rattle.std.proofs.lemmas.Bool.Decides.{nat_tests}
-use Rattle.std.proofs.lemmas.List.{get_or-set_other, get_or-set_same, get_or_append_left, get_or_push, length-set}
-use Rattle.std.proofs.lemmas.List.Elements.{filter-append}
-use Rattle.std.proofs.lemmas.List.Folds.{list_all_at}
+use Rattle.std.proofs.lemmas.List.{get_or-set_other, get_or-set_same, get_or_append_left, get_or_push, length-set, take-append-drop, take_more}
+use Rattle.std.proofs.lemmas.Option.{slice_get-get_or, slice_get_cases, slice_get_past}
 use Rattle.ctrl_msg.specs.declared.message.Body.{Body}
 use Rattle.ctrl_msg.specs.declared.message.Body.TheVariants.{Install, OpenAt, Stamp, Collect, Advertise, Hello, Installed, Stamped}
 use Rattle.ctrl_msg.specs.declared.message.Message.{Message}
 use Rattle.failover.specs.declared.advert.Advert.{Advert}
 use Rattle.journal_reports.specs.declared.bucket.Bucket.{Bucket}
-use Rattle.journal_reports.specs.Judging.{is_replaced, is_same, let_go, waiting_with, replaces_message, replaces_body}
-use Rattle.journal_reports.specs.Buckets.{AreBuckets, are_empty, in_bucket, bucket_of, subject}
-use Rattle.journal_reports.proofs.Replacing.{advert_means}
+use Rattle.journal_reports.specs.Judging.{SaysAsMuch, is_same, replaces_body}
+use Rattle.journal_reports.specs.Buckets.{AreEmpty, HasSaying, IsKept, bucket_of, messages_in, messages_of, subject}
+use Rattle.journal_reports.proofs.SayingAsMuch.{advert_means, says_through}
 
 -- ---- what says as much is in the same bucket
 
@@ -34,13 +34,13 @@ says_subject (Installed s boot version) (Installed t of earlier) says =
 says_subject (Stamped s boot version) (Stamped t of earlier) says = refl
 says_subject later earlier says = absurd cc
 
-says_bucket : (later earlier : Message) → replaces_message later earlier ≡ true
+says_bucket : (later earlier : Message) → SaysAsMuch later earlier
     → bucket_of later.body ≡ bucket_of earlier.body
 says_bucket later earlier says =
     ap (λ n. if nat_lt n 64 then n else 0)
-    (says_subject later.body earlier.body (and_parts _ _ says).1)
+    (says_subject later.body earlier.body (and_parts _ _ says.message).1)
 
-bucket_below : (body : Body) → bucket_of body < 64
+pub bucket_below : (body : Body) → bucket_of body < 64
 bucket_below body = by_test (nat_lt (subject body) 64) refl
   where
     by_test : (b : Bool) → nat_lt (subject body) 64 ≡ b
@@ -48,161 +48,168 @@ bucket_below body = by_test (nat_lt (subject body) 64) refl
     by_test true e = grind (arith, nat_tests)
     by_test false e = omega arith
 
--- ---- one more message
+-- ---- among messages
 
-filters_swap : (p q : Message → Bool) (messages : List Message)
-    → filter p (filter q messages) ≡ filter q (filter p messages)
-filters_swap p q [] = refl
-filters_swap p q (message ∷ messages) =
-    by_tests (p message) (q message) refl refl (filters_swap p q messages)
+pub has_left : (xs ys : List Message) (message : Message) → HasSaying xs message
+    → HasSaying (xs ++ ys) message
+has_left [] ys message has = absurd has
+has_left (x ∷ xs) ys message has = elim has [
+  | inl here ↦ inl here
+  | inr later ↦ inr (has_left xs ys message later)
+]
+
+has_right : (xs ys : List Message) (message : Message) → HasSaying ys message
+    → HasSaying (xs ++ ys) message
+has_right [] ys message has = has
+has_right (x ∷ xs) ys message has = inr (has_right xs ys message has)
+
+has_either : (xs ys : List Message) (message : Message) → HasSaying (xs ++ ys) message
+    → HasSaying xs message ⊎ HasSaying ys message
+has_either [] ys message has = inr has
+has_either (x ∷ xs) ys message has = elim has [
+  | inl here ↦ inl (inl here)
+  | inr later ↦ elim (has_either xs ys message later) [
+    | inl first ↦ inl (inr first)
+    | inr second ↦ inr second
+  ]
+]
+
+-- with one more at the end
+has_more : (messages : List Message) (next message : Message)
+    → HasSaying (messages ++ next ∷ []) message
+    ↔ (HasSaying messages message ⊎ SaysAsMuch next message)
+has_more messages next message = (
+  λ has. elim (has_either messages (next ∷ []) message has) [
+    | inl first ↦ inl first
+    | inr last ↦ elim last [ inl here ↦ inr here | inr none ↦ absurd none ]
+  ],
+  λ either. elim either [
+    | inl first ↦ has_left messages (next ∷ []) message first
+    | inr here ↦ has_right messages (next ∷ []) message (inl here)
+  ],
+)
+
+-- one more of a list was tested, and doesn't say as much
+pub none_more : (messages : List Message) (i : ℕ) (next message : Message) → i < length messages
+    → next ≡ get_or messages i next → (HasSaying (take i messages) message → ⊥)
+    → (SaysAsMuch next message → ⊥) → HasSaying (take (i + 1) messages) message → ⊥
+none_more messages i next message within is none not has =
+    elim ((has_more (take i messages) next message).0
+    (subst (λ ms. HasSaying ms message)
+    (take_more messages i next within ∙ ap (λ x. take i messages ++ x ∷ []) (sym is)) has)) [
+      | inl first ↦ none first
+      | inr here ↦ not here
+    ]
+
+-- or does
+pub some_at : (messages : List Message) (i : ℕ) (next message : Message) → i < length messages
+    → next ≡ get_or messages i next → SaysAsMuch next message → HasSaying messages message
+some_at messages i next message within is says =
+    subst (λ ms. HasSaying ms message) (take-append-drop (i + 1) messages)
+    (has_left (take (i + 1) messages) (drop (i + 1) messages) message
+    (subst (λ ms. HasSaying ms message)
+    (sym (take_more messages i next within ∙ ap (λ x. take i messages ++ x ∷ []) (sym is)))
+    ((has_more (take i messages) next message).1 (inr says))))
+
+has_through : (messages : List Message) (next message : Message) → HasSaying messages next
+    → SaysAsMuch next message → HasSaying messages message
+has_through [] next message has says = absurd has
+has_through (kept ∷ messages) next message has says = elim has [
+  | inl here ↦ inl (says_through kept next message here says)
+  | inr later ↦ inr (has_through messages next message later says)
+]
+
+-- ---- in buckets
+
+in_got : (buckets : List Bucket) (c : ℕ) (d : Bucket) → c < length buckets
+    → messages_in buckets c ≡ (get_or buckets c d).messages.items
+in_got buckets c d there =
+    ap (λ o. option_map_or messages_of o []) (slice_get-get_or buckets c d there)
+
+-- the bucket alone tells
+pub kept_in_bucket : (buckets : List Bucket) (c : ℕ) (bucket : Bucket) (message : Message)
+    → c ≡ bucket_of message.body → c < length buckets → bucket ≡ get_or buckets c bucket
+    → HasSaying bucket.messages.items message ↔ IsKept buckets message
+kept_in_bucket buckets c bucket message at there is =
+    let same : bucket.messages.items ≡ messages_in buckets (bucket_of message.body) =
+    ap messages_of is ∙ sym (in_got buckets c bucket there) ∙ ap (messages_in buckets) at in (
+      λ has. subst (λ ms. HasSaying ms message) same has,
+      λ kept. subst (λ ms. HasSaying ms message) (sym same) kept,
+    )
+
+pub kept_nowhere : (buckets : List Bucket) (c : ℕ) (message : Message)
+    → c ≡ bucket_of message.body → length buckets ≤ c → IsKept buckets message → ⊥
+kept_nowhere buckets c message at past kept =
+    subst (λ ms. HasSaying ms message)
+    (ap (messages_in buckets) (sym at)
+    ∙ ap (λ o. option_map_or messages_of o []) (slice_get_past buckets c past)) kept
+
+pub kept_through : (buckets : List Bucket) (next message : Message) → IsKept buckets next
+    → SaysAsMuch next message → IsKept buckets message
+kept_through buckets next message kept says =
+    subst (λ c. HasSaying (messages_in buckets c) message) (says_bucket next message says)
+    (has_through (messages_in buckets (bucket_of next.body)) next message kept says)
+
+-- one more is put into its bucket
+pub kept_more : (before after : List Bucket) (place : ℕ) (old bucket : Bucket)
+    (next message : Message) → place < length before → place ≡ bucket_of next.body
+    → old ≡ get_or before place old → after ≡ set before place bucket
+    → bucket.messages.items ≡ old.messages.items ++ next ∷ [] → length before ≡ 64
+    → IsKept after message ↔ (IsKept before message ⊎ SaysAsMuch next message)
+kept_more before after place old bucket next message there at was is now count =
+    by_test (place == bucket_of message.body) refl
   where
-    by_tests : (a b : Bool) → p message ≡ a → q message ≡ b
-        → filter p (filter q messages) ≡ filter q (filter p messages)
-        → filter p (if b then message ∷ filter q messages else filter q messages)
-        ≡ filter q (if a then message ∷ filter p messages else filter p messages)
-    by_tests true true e f rest = rw (e, f) (ap (λ ms. message ∷ ms) rest)
-    by_tests true false e f rest = rw f rest
-    by_tests false true e f rest = rw e rest
-    by_tests false false e f rest = rest
+    own : ℕ
+    own = bucket_of message.body
 
-let_go_other : (c : ℕ) (next : Message) (waiting : List Message)
-    → (bucket_of next.body == c) ≡ false → in_bucket c (let_go next waiting) ≡ in_bucket c waiting
-let_go_other c next [] other = refl
-let_go_other c next (message ∷ waiting) other =
-    by_test (replaces_message next message) refl (let_go_other c next waiting other)
-  where
-    by_test : (b : Bool) → replaces_message next message ≡ b
-        → in_bucket c (let_go next waiting) ≡ in_bucket c waiting
-        → in_bucket c (if not b then message ∷ let_go next waiting else let_go next waiting)
-        ≡ (if bucket_of message.body == c then message ∷ in_bucket c waiting
-        else in_bucket c waiting)
-    by_test true e rest =
-        let none : (bucket_of message.body == c) ≡ false =
-        ap (λ n. n == c) (sym (says_bucket next message e)) ∙ other in
-        rw none rest
-    by_test false e rest =
-        ap (λ ms. if bucket_of message.body == c then message ∷ ms else ms) rest
+    within : own < length before
+    within = omega (arith, bucket_below message.body, count)
 
-said_in_bucket : (c : ℕ) (next : Message) (waiting : List Message)
-    → (bucket_of next.body == c) ≡ true → is_replaced next waiting
-    ≡ is_replaced next (in_bucket c waiting)
-said_in_bucket c next [] here = refl
-said_in_bucket c next (message ∷ waiting) here =
-    by_tests (replaces_message message next) (bucket_of message.body == c) refl refl
-    (said_in_bucket c next waiting here)
-  where
-    by_tests : (a b : Bool) → replaces_message message next ≡ a → (bucket_of message.body == c) ≡ b
-        → is_replaced next waiting ≡ is_replaced next (in_bucket c waiting)
-        → (a || is_replaced next waiting)
-        ≡ is_replaced next (if b then message ∷ in_bucket c waiting else in_bucket c waiting)
-    by_tests true true e f rest = rw e refl
-    by_tests true false e f rest =
-        let clash : false ≡ true =
-        sym f ∙ ap (λ n. n == c) (says_bucket message next e) ∙ here in
-        absurd cc
-    by_tests false true e f rest = rw e rest
-    by_tests false false e f rest = rest
+    both : length after ≡ length before
+    both = ap (λ (buckets : List Bucket). length buckets) is ∙ length-set before place bucket
 
-noted_parts : (c : ℕ) (m d : Bool) (next : Message) (waiting : List Message)
-    → in_bucket c (waiting_with m d next waiting)
-    ≡ in_bucket c (if m || d then let_go next waiting else waiting)
-    ++ in_bucket c (if m && not d && not (is_replaced next (let_go next waiting)) then next ∷ []
-    else [])
-noted_parts c m d next waiting =
-    filter-append (λ message. bucket_of message.body == c)
-    (if m || d then let_go next waiting else waiting)
-    (if m && not d && not (is_replaced next (let_go next waiting)) then next ∷ [] else [])
+    after_is : messages_in after own ≡ (get_or (set before place bucket) own old).messages.items
+    after_is = in_got after own old (omega (arith, within, both))
+        ∙ ap (λ (buckets : List Bucket). (get_or buckets own old).messages.items) is
 
-noted_here : (c : ℕ) (m d : Bool) (next : Message) (waiting : List Message)
-    → (bucket_of next.body == c) ≡ true
-    → in_bucket c (waiting_with m d next waiting) ≡ waiting_with m d next (in_bucket c waiting)
-noted_here c m d next waiting here =
-    noted_parts c m d next waiting
-    ∙ ap (λ ms. ms ++ in_bucket c
-    (if m && not d && not (is_replaced next (let_go next waiting)) then next ∷ [] else []))
-    (left (m || d))
-    ∙ ap (λ ms. (if m || d then let_go next (in_bucket c waiting) else in_bucket c waiting) ++ ms)
-    (added (m && not d && not (is_replaced next (let_go next waiting))))
-    ∙ ap (λ said. (if m || d then let_go next (in_bucket c waiting) else in_bucket c waiting)
-    ++ (if m && not d && not said then next ∷ [] else [])) said
-  where
-    swap : in_bucket c (let_go next waiting) ≡ let_go next (in_bucket c waiting)
-    swap = filters_swap (λ message. bucket_of message.body == c)
-        (λ earlier. not (replaces_message next earlier)) waiting
-
-    left : (b : Bool) → in_bucket c (if b then let_go next waiting else waiting)
-        ≡ (if b then let_go next (in_bucket c waiting) else in_bucket c waiting)
-    left true = swap
-    left false = refl
-
-    added : (b : Bool) → in_bucket c (if b then next ∷ [] else [])
-        ≡ (if b then next ∷ [] else [])
-    added true = rw here refl
-    added false = refl
-
-    said : is_replaced next (let_go next waiting)
-        ≡ is_replaced next (let_go next (in_bucket c waiting))
-    said = said_in_bucket c next (let_go next waiting) here ∙ ap (is_replaced next) swap
-
-noted_other : (c : ℕ) (m d : Bool) (next : Message) (waiting : List Message)
-    → (bucket_of next.body == c) ≡ false → in_bucket c (waiting_with m d next waiting)
-    ≡ in_bucket c waiting
-noted_other c m d next waiting other =
-    noted_parts c m d next waiting
-    ∙ ap (λ ms. ms ++ in_bucket c
-    (if m && not d && not (is_replaced next (let_go next waiting)) then next ∷ [] else []))
-    (left (m || d))
-    ∙ ap (λ ms. in_bucket c waiting ++ ms)
-    (added (m && not d && not (is_replaced next (let_go next waiting))))
-    ∙ append-nil (in_bucket c waiting)
-  where
-    left : (b : Bool) → in_bucket c (if b then let_go next waiting else waiting)
-        ≡ in_bucket c waiting
-    left true = let_go_other c next waiting other
-    left false = refl
-
-    added : (b : Bool) → in_bucket c (if b then next ∷ [] else []) ≡ []
-    added true = rw other refl
-    added false = refl
-
--- one bucket changes
-pub noted_in_bucket : (m d : Bool) (next : Message) (waiting : List Message)
-    (before after : List Bucket) (place : ℕ) (old bucket : Bucket) → AreBuckets waiting before
-    → place ≡ bucket_of next.body → old ≡ get_or before place old
-    → after ≡ set before place bucket
-    → bucket.messages.items ≡ waiting_with m d next old.messages.items
-    → AreBuckets (waiting_with m d next waiting) after
-noted_in_bucket m d next waiting before after place old bucket was at old_is is now = record {
-  count = ap (λ (buckets : List Bucket). length buckets) is ∙ length-set before place bucket
-      ∙ was.count;
-  each = λ c other within. by_test c other within (bucket_of next.body == c) refl;
-}
-  where
-    by_test : (c : ℕ) (other : Bucket) → c < 64 → (b : Bool) → (bucket_of next.body == c) ≡ b
-        → (get_or after c other).messages.items ≡ in_bucket c (waiting_with m d next waiting)
-    by_test c other within true e =
-        let same : place ≡ c = at ∙ eqb-true (bucket_of next.body) c e in
-        let there : c < length before = omega (arith, within, was.count) in
-        let mine : get_or after c other ≡ bucket =
-        ap (λ (buckets : List Bucket). get_or buckets c other) is
-        ∙ ap (λ p. get_or (set before p bucket) c other) same
-        ∙ get_or-set_same before c bucket other there in
-        ap (λ (l : Bucket). l.messages.items) mine ∙ now
-        ∙ ap (λ (l : Bucket). waiting_with m d next l.messages.items)
-        (old_is ∙ ap (λ p. get_or before p old) same)
-        ∙ ap (waiting_with m d next) (was.each c old within)
-        ∙ sym (noted_here c m d next waiting e)
-    by_test c other within false e =
-        let apart : c ≢ place =
-        λ same. absurd (clash (sym (eq-eqb (bucket_of next.body) c (sym at ∙ sym same)) ∙ e)) in
-        ap (λ (buckets : List Bucket). (get_or buckets c other).messages.items) is
-        ∙ ap (λ (l : Bucket). l.messages.items) (get_or-set_other before place c bucket other apart)
-        ∙ was.each c other within ∙ sym (noted_other c m d next waiting e)
+    by_test : (b : Bool) → (place == bucket_of message.body) ≡ b
+        → IsKept after message ↔ (IsKept before message ⊎ SaysAsMuch next message)
+    by_test true e =
+        let same : own ≡ place = sym (eqb-true place own e) in
+        let here : messages_in after own ≡ old.messages.items ++ next ∷ [] =
+        after_is
+        ∙ ap (λ n. (get_or (set before place bucket) n old).messages.items) same
+        ∙ ap messages_of (get_or-set_same before place bucket old there) ∙ now in
+        let mine : old.messages.items ≡ messages_in before own =
+        ap messages_of was ∙ ap (λ n. (get_or before n old).messages.items) (sym same)
+        ∙ sym (in_got before own old within) in
+        let more = has_more old.messages.items next message in (
+          λ kept. elim (more.0 (subst (λ ms. HasSaying ms message) here kept)) [
+            | inl first ↦ inl (subst (λ ms. HasSaying ms message) mine first)
+            | inr says ↦ inr says
+          ],
+          λ either. subst (λ ms. HasSaying ms message) (sym here) (more.1 (elim either [
+            | inl first ↦ inl (subst (λ ms. HasSaying ms message) (sym mine) first)
+            | inr says ↦ inr says
+          ])),
+        )
+    by_test false e =
+        let apart : own ≢ place =
+        λ same. absurd (clash (sym (eq-eqb place own (sym same)) ∙ e)) in
+        let stays : messages_in after own ≡ messages_in before own =
+        after_is ∙ ap messages_of (get_or-set_other before place own bucket old apart)
+        ∙ sym (in_got before own old within) in (
+          λ kept. inl (subst (λ ms. HasSaying ms message) stays kept),
+          λ either. elim either [
+            | inl first ↦ subst (λ ms. HasSaying ms message) (sym stays) first
+            | inr says ↦ absurd (apart (sym (at ∙ says_bucket next message says)))
+          ],
+        )
       where
         clash : true ≡ false → ⊥
         clash e = absurd cc
 
--- ---- no message waits
+-- ---- no message is kept
 
 pub empty_more : (buckets : List Bucket) (next : Bucket) (n : ℕ) → length buckets ≡ n
     → ((i : ℕ) (d : Bucket) → i < n → (get_or buckets i d).messages.items ≡ [])
@@ -221,37 +228,13 @@ empty_more buckets next n count were none i d below =
           ∙ none
     ]
 
-each_empty : (buckets : List Bucket)
-    → ((i : ℕ) (d : Bucket) → i < length buckets → (get_or buckets i d).messages.items ≡ [])
-    → are_empty buckets ≡ true
-each_empty [] none = refl
-each_empty (bucket ∷ buckets) none =
-    let first : (length bucket.messages.items == 0) ≡ true =
-    ap (λ (ms : List Message). length ms == 0) (none 0 bucket (omega arith)) in
-    let rest : are_empty buckets ≡ true =
-    each_empty buckets (λ i d there. none (suc i) d (omega (arith, there))) in
-    rw (first, rest) refl
-
-pub none_in_buckets : (waiting : List Message) (buckets : List Bucket) → AreBuckets waiting buckets
-    → are_empty buckets ≡ (length waiting == 0)
-none_in_buckets [] buckets are =
-    each_empty buckets (λ i d there. are.each i d (omega (arith, there, are.count)))
-none_in_buckets (message ∷ waiting) [] are = absurd (omega (arith, are.count))
-none_in_buckets (message ∷ waiting) (bucket ∷ buckets) are =
-    list_all_at (λ (l : Bucket). length l.messages.items == 0) (bucket ∷ buckets)
-    (bucket_of message.body) bucket (omega (arith, bucket_below message.body, are.count)) some
-    ∙ sym (ne_eqb (length (message ∷ waiting)) 0 (λ same. absurd (omega (arith, same))))
-  where
-    itself : (bucket_of message.body == bucket_of message.body) ≡ true
-    itself = eq-eqb _ _ refl
-
-    holds : in_bucket (bucket_of message.body) (message ∷ waiting)
-        ≡ message ∷ in_bucket (bucket_of message.body) waiting
-    holds = rw itself refl
-
-    some : (length (get_or (bucket ∷ buckets) (bucket_of message.body) bucket).messages.items == 0)
-        ≡ false
-    some = ap (λ (ms : List Message). length ms == 0)
-        (are.each (bucket_of message.body) bucket (bucket_below message.body) ∙ holds)
-        ∙ ne_eqb (length (message ∷ in_bucket (bucket_of message.body) waiting)) 0
-        (λ same. absurd (omega (arith, same)))
+pub none_kept : (buckets : List Bucket) (message : Message) → AreEmpty buckets
+    → IsKept buckets message → ⊥
+none_kept buckets message are kept =
+    elim (slice_get_cases buckets (bucket_of message.body)).1 [
+      | inl some ↦ subst (λ ms. HasSaying ms message)
+          (ap (λ o. option_map_or messages_of o []) some.2 ∙ ap messages_of (sym some.3)
+          ∙ are.each (bucket_of message.body) some.0 (bucket_below message.body)) kept
+      | inr past ↦ subst (λ ms. HasSaying ms message)
+          (ap (λ o. option_map_or messages_of o []) past.1) kept
+    ]

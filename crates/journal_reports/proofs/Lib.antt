@@ -1,8 +1,6 @@
 pub mod Counts
-pub mod Counting
-mod Replacing
+mod SayingAsMuch
 mod Lives
-mod Concerned
 mod Buckets
+mod Reading
 mod Judging
-mod Plain

@@ -1,9 +1,10 @@
--- The messages of a switch that wait, by buckets.
-use Rattle.std.specs.Prelude.{ℕ, ◌≡◌, ◌<◌, Bool, ◌==◌, nat_lt, if◌then◌else◌, List, filter, get_or, length}
-use Rattle.std.specs.List.{list_all}
+-- Messages of a switch that are kept, by buckets.
+use Rattle.std.specs.Prelude.{ℕ, ◌≡◌, ◌⊎◌, ◌<◌, nat_lt, if◌then◌else◌, List, [], ◌∷◌, length, get_or, slice_get}
+use Rattle.std.specs.Option.{option_map_or}
 use Rattle.ctrl_msg.specs.declared.message.Body.{Body}
 use Rattle.ctrl_msg.specs.declared.message.Body.TheVariants.{Install, OpenAt, Advertise, Installed}
 use Rattle.ctrl_msg.specs.declared.message.Message.{Message}
+use Rattle.journal_reports.specs.Judging.{SaysAsMuch}
 use Rattle.journal_reports.specs.declared.bucket.Bucket.{Bucket}
 
 -- the origin of an advert, or the version of tables; what says as much has the same
@@ -18,15 +19,22 @@ subject _ = 0
 abbrev pub bucket_of : Body → ℕ
 bucket_of body = if nat_lt (subject body) 64 then subject body else 0
 
-abbrev pub in_bucket : ℕ → List Message → List Message
-in_bucket c messages = filter (λ message. bucket_of message.body == c) messages
+abbrev pub messages_of : Bucket → List Message
+messages_of bucket = bucket.messages.items
 
--- the buckets hold these messages, each its own, in their order
-pub record AreBuckets (messages : List Message) (buckets : List Bucket) : Type 0 where
+abbrev pub messages_in : List Bucket → ℕ → List Message
+messages_in buckets c = option_map_or messages_of (slice_get buckets c) []
+
+-- one of the messages says as much as this one
+abbrev pub HasSaying : List Message → Message → Type 0
+HasSaying [] message = ⊥
+HasSaying (kept ∷ messages) message = SaysAsMuch kept message ⊎ HasSaying messages message
+
+-- so does one in its bucket
+abbrev pub IsKept : List Bucket → Message → Type 0
+IsKept buckets message = HasSaying (messages_in buckets (bucket_of message.body)) message
+
+-- all buckets, and no message is in them
+pub record AreEmpty (buckets : List Bucket) : Type 0 where
   pub count : length buckets ≡ 64
-  pub each : (c : ℕ) (d : Bucket) → c < 64
-      → (get_or buckets c d).messages.items ≡ in_bucket c messages
-
--- no message waits in them
-abbrev pub are_empty : List Bucket → Bool
-are_empty buckets = list_all (λ bucket. length bucket.messages.items == 0) buckets
+  pub each : (c : ℕ) (d : Bucket) → c < 64 → (get_or buckets c d).messages.items ≡ []

@@ -1,7 +1,6 @@
--- How the judge of a quiet network counts: what is left of the messages that matter to a switch, as
--- one after another was sent. That this decides whether the network is quiet is its contract.
-use Rattle.std.specs.Prelude.{ℕ, ◌≡◌, Bool, true, false, not, ◌&&◌, ◌||◌, ◌==◌, nat_lt, nat_le, if◌then◌else◌, Option, Some, None, unwrap_or, option_map, List, [], ◌∷◌, ◌++◌, filter, length, slice_index_or}
-use Rattle.std.specs.List.{list_any}
+-- How the judge of a quiet network tests a message: whether it matters to a switch, and whether it
+-- replaces another one. That this decides whether the network is quiet is its contract.
+use Rattle.std.specs.Prelude.{⊤, ℕ, ◌≡◌, Bool, true, false, not, ◌&&◌, ◌||◌, ◌==◌, nat_le, Option, Some, None, unwrap_or, option_map, List, [], ◌∷◌, IsTrue, slice_index_or}
 use Rattle.std.specs.Option.{option_map_or}
 use Rattle.ctrl_msg.specs.declared.message.Body.{Body}
 use Rattle.ctrl_msg.specs.declared.message.Body.TheVariants.{Install, OpenAt, Stamp, Collect, Advertise, Hello, Installed, Stamped}
@@ -14,7 +13,7 @@ use Rattle.journal.specs.declared.item.Item.{Item}
 use Rattle.journal.specs.declared.item.Item.TheVariants as item
 use Rattle.update_machine.specs.Boots.{boot_of, is_up, gives_boot, gives_up}
 use Rattle.update_machine.specs.Marks.{current_mark, gives_current}
-use Rattle.update_machine.specs.Quiet.{Sending, carries_boot, is_advert, is_waited_for, sendings, speaker, gives_waited_for}
+use Rattle.update_machine.specs.Quiet.{are_old_tables, carries_boot, is_advert, is_of_boot, is_old_answer, is_waited_for, speaker, gives_waited_for}
 use Rattle.journal_reports.specs.declared.status.SwitchStatus.{SwitchStatus}
 
 -- ---- marks of delivered messages
@@ -55,26 +54,18 @@ status_in journal s = record {
 
 -- ---- which messages matter
 
--- tables of a version below the current one, or their acknowledgement
-abbrev pub is_old : Body → ℕ → Bool
-is_old (Install boot tables) current = nat_lt tables.version current
-is_old (Installed s boot version) current = nat_lt version current
-is_old _ current = false
-
-abbrev pub is_of_boot : SwitchStatus → ℕ × ℕ → Bool
-is_of_boot status (s, boot) = s == status.switch && boot == status.boot
-
--- a message to the switch, or of it, that matters in this status if it was sent in this boot; none
--- does where the switch is down
-abbrev pub matters_to : SwitchStatus → ℕ → Message → Bool
-matters_to status boot message = elim message.to [
-  | receiver.Switch s ↦
-      status.is_up && s == status.switch && boot == status.boot
-      && (is_advert message.body || carries_boot status.boot message.body)
-      && not (is_old message.body status.current)
+-- a message to the switch, or of it, that matters in this status, if none of its boots began since
+-- it was sent to it; none does where the switch is down
+abbrev pub matters_to : SwitchStatus → Bool → Message → Bool
+matters_to status in_boot message = elim message.to [
   | receiver.Controller ↦
-      status.is_up && option_map_or (is_of_boot status) (speaker message.body) false
-      && not (is_old message.body status.current)
+      status.is_up
+      && option_map_or (is_of_boot status.switch status.boot) (speaker message.body) false
+      && not (is_old_answer status.current message.body)
+  | receiver.Switch to ↦
+      status.is_up && to == status.switch && in_boot
+      && (is_advert message.body || carries_boot status.boot message.body)
+      && not (are_old_tables status.current message.body)
 ]
 
 -- ---- which messages replace others
@@ -84,7 +75,7 @@ is_same one other = one.origin == other.origin && one.boot == other.boot && one.
     && one.up == other.up
 
 -- the body says what the other one does, of the same or a greater version, or of the same or a
--- newer advert; tables are known by their version
+-- newer advert; of tables the version alone is compared
 abbrev pub replaces_body : Body → Body → Bool
 replaces_body (Install boot tables) (Install of earlier) =
     boot == of && tables.version == earlier.version
@@ -109,44 +100,18 @@ abbrev pub replaces_message : Message → Message → Bool
 replaces_message later earlier =
     is_same_receiver later.to earlier.to && replaces_body later.body earlier.body
 
--- ---- which messages wait
+-- both have the same tables, if both have any
+abbrev pub HaveSameTables : Body → Body → Type 0
+HaveSameTables (Install boot one) (Install of other) = one ≡ other
+HaveSameTables _ _ = ⊤
 
--- one of those that wait says as much: what replaces it replaces this message too
-abbrev pub is_replaced : Message → List Message → Bool
-is_replaced next waiting = list_any (λ earlier. replaces_message earlier next) waiting
-
-abbrev pub let_go : Message → List Message → List Message
-let_go next waiting = filter (λ earlier. not (replaces_message next earlier)) waiting
-
--- what is left of those that waited, once the next message was sent; it waits itself where it
--- matters, isn't delivered, and none that waits says as much
-abbrev pub waiting_with : Bool → Bool → Message → List Message → List Message
-waiting_with matters is_delivered next waiting =
-    (if matters || is_delivered then let_go next waiting else waiting)
-    ++ (if matters && not is_delivered && not (is_replaced next (let_go next waiting)) then next
-    ∷ []
-    else [])
+-- the later one says as much: it replaces the earlier one, if that is no cache rule
+pub record SaysAsMuch (later earlier : Message) : Type 0 where
+  pub message : IsTrue (replaces_message later earlier)
+  pub tables : HaveSameTables later.body earlier.body
 
 abbrev pub has_mark : List Bool → ℕ → Bool
 has_mark marks number = slice_index_or marks number false
-
--- and once all of these were sent, one after another
-abbrev pub waiting_of : SwitchStatus → List Bool → List Message → List Sending → List Message
-waiting_of status marks waiting [] = waiting
-waiting_of status marks waiting (next ∷ later) =
-    waiting_of status marks
-    (waiting_with (matters_to status next.boot next.message) (has_mark marks next.number)
-    next.message
-    waiting) later
-
--- the same behind one more item, where the switch is in this boot
-abbrev pub waiting_after : SwitchStatus → List Bool → ℕ → Item → List Message → List Message
-waiting_after status marks boot (item.Sent number message) waiting =
-    waiting_with (matters_to status boot message) (has_mark marks number) message waiting
-waiting_after status marks boot item waiting = waiting
-
-abbrev pub boot_after : ℕ → Item → ℕ → ℕ
-boot_after s item boot = unwrap_or (gives_boot s item) boot
 
 -- ---- which switch an item concerns
 
@@ -170,14 +135,8 @@ concerned_switch item = None
 abbrev pub is_named : ℕ → Option ℕ → Bool
 is_named s who = option_map_or (λ t. t == s) who false
 
--- ---- which switches are settled
+-- ---- which switches are missed
 
 -- the switch is down, and the controller waits for it
 abbrev pub is_missed : SwitchStatus → Bool
 is_missed status = not status.is_up && status.is_waited_for
-
--- the switch isn't missed, and no message waits that is to it or of it
-abbrev pub is_settled : List Item → ℕ → List Bool → Bool
-is_settled journal s marks =
-    not (is_missed (status_in journal s))
-    && length (waiting_of (status_in journal s) marks [] (sendings journal)) == 0

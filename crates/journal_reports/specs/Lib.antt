@@ -1,5 +1,4 @@
 pub mod Summary
-pub mod Plain
 pub mod Judging
 pub mod Buckets
-pub mod Pending
+pub mod Traffic

@@ -1,23 +1,26 @@
-//! The messages of a switch that wait, by buckets: what says as much as a message is in its bucket.
-ghost use Rattle.std.specs.Prelude.{◌≡◌, [], IfOk};
-ghost use Rattle.journal_reports.specs.Buckets.{AreBuckets, are_empty, bucket_of, subject};
+//! Messages of a switch that are kept, by buckets: what says as much as a message is in its bucket.
+ghost use Rattle.std.specs.Prelude.{◌≡◌, ◌↔◌, ◌⊎◌, length, IfOk, IsTrue, OnOk};
+ghost use Rattle.ctrl_msg.specs.declared.message.Message.{Message};
+ghost use Rattle.journal_reports.specs.Buckets.{AreEmpty, HasSaying, IsKept, bucket_of, subject};
+ghost use Rattle.journal_reports.specs.Judging.{SaysAsMuch};
 
-use journal::{Body, SharedMessage};
+use crate::replacing::says_as_much;
+use journal::{Body, Message, SharedMessage};
 use std::alloc::{AllocError, Global};
 
-/// The messages that wait in one bucket.
+/// The messages of one bucket.
 #[derive(Drop)]
 pub struct Bucket {
     pub messages: Vec<SharedMessage>,
 }
 
 /// The 64 buckets, as many as a network has switches at most; the last of the 64 versions that a
-/// play may have is in the first. No message waits in them.
+/// play may have is in the first. No message is in them.
 ///
 /// # Errors
 /// Want of memory alone.
 pub fn empty_buckets(alloc: Global) -> Result<Vec<Bucket>, AllocError>
-    ensures { IfOk result (λ buckets. AreBuckets [] buckets.items) }
+    ensures { IfOk result (λ buckets. AreEmpty buckets.items) }
 {
     let mut buckets = Vec::new(alloc);
     for bucket in 0..64_u32 {
@@ -28,15 +31,46 @@ pub fn empty_buckets(alloc: Global) -> Result<Vec<Bucket>, AllocError>
     Ok(buckets)
 }
 
-/// Whether no message waits in any of them.
-pub fn are_empty(buckets: &[Bucket]) -> bool
-    ensures { result ≡ are_empty buckets.now }
+/// Whether one of the messages in the buckets says as much as this one.
+pub fn is_kept(buckets: &[Bucket], message: &Message) -> bool
+    ensures { IsTrue result ↔ IsKept buckets.now message.now }
 {
-    buckets.iter().all(|bucket| bucket.messages.is_empty())
+    let bucket = bucket_of(&message.body) as usize;
+    bucket < buckets.len() && is_said(&buckets[bucket].messages, message)
+}
+
+// Whether one of the messages says as much as this one.
+fn is_said(messages: &[SharedMessage], message: &Message) -> bool
+    ensures { IsTrue result ↔ HasSaying messages.now message.now }
+{
+    for kept in messages {
+        if says_as_much(kept.get(), message) {
+            return true;
+        }
+    }
+    false
+}
+
+/// Puts the message into its bucket.
+///
+/// # Errors
+/// Want of memory alone.
+pub fn keep(buckets: &mut Vec<Bucket>, message: &SharedMessage) -> Result<(), AllocError>
+    ensures count { OnOk result (length buckets.new.items ≡ length buckets.old.items) }
+    ensures kept { OnOk result (length buckets.old.items ≡ 64 → (other : Message) →
+        IsKept buckets.new.items other
+        ↔ (IsKept buckets.old.items other ⊎ SaysAsMuch message.now other)) }
+{
+    let bucket = bucket_of(&message.get().body) as usize;
+    if bucket >= buckets.len() {
+        return Ok(());
+    }
+    buckets[bucket].messages.push(message.clone()?)?;
+    Ok(())
 }
 
 /// The bucket of a message that says this. In a journal of steps each origin and each version has
-/// one of its own, so that few messages wait in a bucket.
+/// one of its own, so that few messages are kept in a bucket.
 pub fn bucket_of(body: &Body) -> u32
     ensures { result ≡ bucket_of body.now }
 {

@@ -1,25 +1,16 @@
-//! Which messages were delivered, by their numbers.
-ghost use Rattle.std.specs.Prelude.{ℕ, ◌≡◌, ◌||◌, false, IfOk, OnOk, slice_index_or};
-ghost use Rattle.update_machine.specs.Messages.{is_delivery, was_delivered};
+//! Which messages were delivered, by their numbers: those behind the last place were not.
+ghost use Rattle.std.specs.Prelude.{ℕ, ◌≡◌, ◌||◌, false, OnOk, slice_index_or};
+ghost use Rattle.update_machine.specs.Messages.{is_delivery};
 ghost use Rattle.journal_reports.specs.Judging.{MarksOneMore};
 
 use journal::Item;
-use std::alloc::{AllocError, Global};
+use std::alloc::AllocError;
 
-/// For each number whether its message was delivered; those behind the last place were not.
-pub fn deliveries(alloc: Global, items: &[Item]) -> Result<Vec<bool>, AllocError>
-    ensures { IfOk result (λ marks. (n : ℕ)
-        → slice_index_or marks.items n false ≡ was_delivered items.now n) }
-{
-    let mut marks = Vec::new(alloc);
-    for item in items {
-        take_item(&mut marks, item)?;
-    }
-    Ok(marks)
-}
-
-// What one more item makes of the marks.
-fn take_item(marks: &mut Vec<bool>, item: &Item) -> Result<(), AllocError>
+/// What one more item makes of the marks.
+///
+/// # Errors
+/// Want of memory alone.
+pub fn mark_item(marks: &mut Vec<bool>, item: &Item) -> Result<(), AllocError>
     ensures { OnOk result ((n : ℕ) → slice_index_or marks.new.items n false
         ≡ (is_delivery n item.now || slice_index_or marks.old.items n false)) }
 {

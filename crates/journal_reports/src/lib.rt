@@ -3,10 +3,10 @@
 //!
 //! `summarize` counts what became of the packets, how many decisions cached rules made, and what
 //! was sent, and takes the marks of the versions at the end; `summary_text` gives the eleven lines
-//! that the load generator prints. `quiet` answers exactly whether the network is quiet, for each
-//! journal of steps of the network (`answers_are_plain`): it goes over the items once for all
-//! switches, and keeps for each the messages that still matter and that nothing delivered replaces.
-//! In a quiet network all has converged, by the laws of `convergence_laws`.
+//! that the load generator prints. `quiet` answers exactly whether the network is quiet, for any
+//! journal: it goes over the items once for all switches, from the last one on, and keeps for each
+//! the messages that were delivered and may replace others. In a quiet network all has converged,
+//! by the laws of `convergence_laws`.
 //!
 //! ```text
 //! let is_quiet = quiet(alloc, &played.journal, &net)?; // Err: want of memory alone
@@ -17,16 +17,15 @@
 mod bucket;
 mod deliveries;
 mod judge;
-mod laws;
-mod pending;
+mod replacing;
+mod same;
 mod status;
 mod summary;
 mod text;
-mod waiting;
+mod traffic;
 
 pub use journal::Journal;
 pub use judge::quiet;
-pub use laws::answers_are_plain;
 pub use net_file::Net;
 pub use summary::{Summary, summarize};
 pub use text::summary_text;

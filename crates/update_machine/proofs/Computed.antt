@@ -16,7 +16,7 @@ use Rattle.update_machine.specs.Messages.{next_message, is_forgotten, was_delive
 use Rattle.update_machine.specs.Moves.{leg_items, end_items, cache_items, authority_items, lookup_items, arrive_items, reroute_items, move_items}
 use Rattle.update_machine.specs.Packets.{next_packet, header_in, standing, decision_of}
 use Rattle.update_machine.specs.Pieces.{packet_items, hop_items, lose_items, deliver_items, forget_items, expire_items, update_items, link_items, crash_items, restart_items, confirm_items, resend_items, piece}
-use Rattle.update_machine.specs.Quiet.{sendings}
+use Rattle.update_machine.specs.Sendings.{sendings}
 use Rattle.update_machine.specs.Settling.{current_items, open_items, retired_items, settling, installs_to, installs_to_all, resent_by_controller}
 use Rattle.update_machine.specs.Steps.{steps_in}
 use Rattle.update_machine.specs.Versions.{version_count, stamp_of, holds_version, next_policy, plan_at}

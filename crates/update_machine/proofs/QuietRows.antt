@@ -1,17 +1,18 @@
 -- Quiet networks and others, computed.
-use Rattle.std.proofs.Common.{ℕ, ◌≡◌, ◌<◌, ◌≤◌, ◌++◌, ap, length, inl, inr, List, [], ◌∷◌, refl, sym, true≢false, arith}
-use Rattle.std.specs.Prelude.{◌||◌, not, IsTrue, slice_index_or}
+use Rattle.std.proofs.Common.{ℕ, zero, suc, ◌≡◌, ◌<◌, ◌++◌, inl, inr, List, [], ◌∷◌, refl, sym, true≢false, arith}
+use Rattle.std.specs.Prelude.{◌||◌, not, IsTrue}
 use Rattle.std.specs.List.{AllByRecursion}
 use Rattle.std.proofs.lemmas.List.Elements.{All-from_recursion}
 use Rattle.ctrl_msg.specs.declared.message.Body.TheVariants as body
 use Rattle.ctrl_msg.specs.declared.message.Message.{Message}
+use Rattle.switch_table.specs.declared.tables.Tables.{Tables}
 use Rattle.steps.specs.declared.step.Step.TheVariants as step
 use Rattle.journal.specs.declared.item.Item.{Item}
 use Rattle.journal.specs.declared.item.Item.TheVariants as item
 use Rattle.update_machine.specs.Boots.{boot_of, is_up}
 use Rattle.update_machine.specs.Marks.{current_mark}
 use Rattle.update_machine.specs.Messages.{was_delivered}
-use Rattle.update_machine.specs.Quiet.{IsQuiet, IsReceived, Sending, is_waited_for, matters, sendings}
+use Rattle.update_machine.specs.Quiet.{AreReceived, IsQuiet, is_waited_for}
 use Rattle.update_machine.specs.SwitchNumbers.{switches_of}
 use Rattle.update_machine.proofs.Examples.{advert, open_net, plan_q, tables_of, to, to_controller}
 use Rattle.update_machine.proofs.UpdateRows.{updated}
@@ -19,47 +20,35 @@ use Rattle.update_machine.proofs.UpdateRows.{updated}
 by_parts : (journal : List Item)
     → AllByRecursion (λ s. IsTrue (is_up journal s || not (is_waited_for journal s)))
     (switches_of open_net)
-    → AllByRecursion
-    (λ one. IsTrue (matters journal one) → IsReceived journal one) (sendings journal)
-    → IsQuiet open_net journal
+    → AreReceived open_net journal journal → IsQuiet open_net journal
 by_parts journal switches messages = record {
   switches =
       All-from_recursion (λ s. IsTrue (is_up journal s || not (is_waited_for journal s)))
       (switches_of open_net) switches;
-  messages =
-      All-from_recursion (λ one. IsTrue (matters journal one) → IsReceived journal one)
-      (sendings journal) messages;
+  messages = messages;
 }
 
-abbrev sending : ℕ → Message → ℕ → Sending
-sending number message boot = record { number = number; message = message; boot = boot }
-
--- what has at most this number replaces nothing that has it
-none_later : (sent : List Sending) (n : ℕ) → AllByRecursion (λ one. one.number ≤ n) sent
-    → (k : ℕ) (later : Sending) → k < length sent → slice_index_or sent k later ≡ later
-    → n < later.number → ⊥
-none_later sent n below k later few is more =
-    let its : (slice_index_or sent k later).number ≤ n =
-    All-from_recursion (λ one. one.number ≤ n) sent below k later few in
-    let same : (slice_index_or sent k later).number ≡ later.number =
-    ap (λ (one : Sending). one.number) is in
-    omega (arith, its, same, more)
+-- what holds of a and of b holds of each switch
+of_both : (P : ℕ → Type 0) → P 0 → P 1 → (s : ℕ) → s < 2 → P s
+of_both P a b zero there = a
+of_both P a b (suc zero) there = b
+of_both P a b (suc (suc s)) there = absurd (omega arith)
 
 -- ---- switches
 
 pub quiet_at_first : IsQuiet open_net []
-unfolding sendings was_delivered is_up boot_of current_mark
+unfolding was_delivered is_up boot_of current_mark
 quiet_at_first = by_parts _ (refl, (refl, tt)) tt
 
 -- a is down, and waited for until it is confirmed
 pub waits_for_a : IsQuiet open_net (item.Row 1 (step.Crash 0) ∷ item.Down 0 ∷ []) → ⊥
-unfolding sendings was_delivered is_up boot_of current_mark
+unfolding was_delivered is_up boot_of current_mark
 waits_for_a quiet = true≢false (sym (quiet.switches 0 0 (omega arith)))
 
 pub quiet_without_a :
     IsQuiet open_net
     (item.Row 1 (step.Crash 0) ∷ item.Down 0 ∷ item.Row 2 (step.Confirm 0) ∷ item.OverNow 0 ∷ [])
-unfolding sendings was_delivered is_up boot_of current_mark
+unfolding was_delivered is_up boot_of current_mark
 quiet_without_a = by_parts _ (refl, (refl, tt)) tt
 
 -- ---- messages
@@ -70,39 +59,42 @@ pub update_waits :
     (item.Row 1 (step.Update 2) ∷ item.Submitted 2 2
     ∷ item.Sent 1 (to 0 (body.Install 1 (tables_of plan_q 2 0)))
     ∷ item.Sent 2 (to 1 (body.Install 1 (tables_of plan_q 2 1))) ∷ []) → ⊥
-unfolding sendings was_delivered is_up boot_of current_mark
+unfolding was_delivered is_up boot_of current_mark
 update_waits quiet =
-    elim (quiet.messages 0 (sending 1 (to 0 (body.Install 1 (tables_of plan_q 2 0))) 1)
-    (omega arith) refl) [
+    elim (quiet.messages.0 0 (omega arith) refl) [
       | inl delivered ↦ true≢false (sym delivered)
-      | inr others ↦ true≢false (sym others.4.1)
+      | inr replaced ↦ elim replaced [
+        | inl other ↦ true≢false (sym other.1)
+        | inr none ↦ absurd none
+      ]
     ]
 
 -- all but a cache rule was, which doesn't matter
 pub quiet_once_updated : IsQuiet open_net updated
-unfolding sendings was_delivered is_up boot_of current_mark
+unfolding was_delivered is_up boot_of current_mark
 quiet_once_updated = by_parts _ (refl, (refl, tt)) (
-  λ m. inl refl,
+  λ s there m. inl refl,
   (
-    λ m. inl refl,
+    λ s there m. inl refl,
     (
-      λ m. inl refl,
+      λ s there m. inl refl,
       (
-        λ m. inl refl,
+        λ s there m. inl refl,
         (
-          λ m. inl refl,
+          λ s there m. inl refl,
           (
-            λ m. inl refl,
+            λ s there m. inl refl,
             (
-              λ m. inl refl,
+              λ s there m. inl refl,
               (
-                λ m. inl refl,
+                λ s there m. inl refl,
                 (
-                  λ m. inl refl,
+                  λ s there m. inl refl,
                   (
-                    λ m. inl refl,
+                    λ s there m. inl refl,
                     (
-                      λ m. absurd (true≢false (sym m)),
+                      of_both _ (λ m. absurd (true≢false (sym m)))
+                          (λ m. absurd (true≢false (sym m))),
                       tt,
                     ),
                   ),
@@ -127,17 +119,17 @@ restarted =
     ∷ item.Sent 4 (to 0 (body.Stamp 1 1)) ∷ item.Sent 5 (to_controller (body.Stamped 0 1 1)) ∷ []
 
 pub quiet_in_boot_2 : IsQuiet open_net restarted
-unfolding sendings was_delivered is_up boot_of current_mark
+unfolding was_delivered is_up boot_of current_mark
 quiet_in_boot_2 = by_parts _ (refl, (refl, tt)) (
-  λ m. absurd (true≢false (sym m)),
+  of_both _ (λ m. absurd (true≢false (sym m))) (λ m. absurd (true≢false (sym m))),
   (
-    λ m. absurd (true≢false (sym m)),
+    of_both _ (λ m. absurd (true≢false (sym m))) (λ m. absurd (true≢false (sym m))),
     (
-      λ m. inl refl,
+      λ s there m. inl refl,
       (
-        λ m. absurd (true≢false (sym m)),
+        of_both _ (λ m. absurd (true≢false (sym m))) (λ m. absurd (true≢false (sym m))),
         (
-          λ m. absurd (true≢false (sym m)),
+          of_both _ (λ m. absurd (true≢false (sym m))) (λ m. absurd (true≢false (sym m))),
           tt,
         ),
       ),
@@ -146,48 +138,46 @@ quiet_in_boot_2 = by_parts _ (refl, (refl, tt)) (
 )
 
 -- an advert that was sent since does matter
-abbrev told : List Item
-told = restarted ++ item.Sent 6 (to 0 (advert 1 1 2 1)) ∷ []
-
-pub advert_waits : IsQuiet open_net told → ⊥
-unfolding sendings was_delivered is_up boot_of current_mark
+pub advert_waits : IsQuiet open_net (restarted ++ item.Sent 6 (to 0 (advert 1 1 2 1)) ∷ []) → ⊥
+unfolding was_delivered is_up boot_of current_mark
 advert_waits quiet =
-    elim (quiet.messages 5 (sending 6 (to 0 (advert 1 1 2 1)) 2) (omega arith) refl) [
+    elim (quiet.messages.1.1.1.1.1.0 0 (omega arith) refl) [
       | inl delivered ↦ true≢false (sym delivered)
-      | inr others ↦ none_later (sendings told) 6 (
-        omega arith,
-        (
-          omega arith,
-          (
-            omega arith,
-            (
-              omega arith,
-              (
-                omega arith,
-                (
-                  omega arith,
-                  tt,
-                ),
-              ),
-            ),
-          ),
-        ),
-      ) others.0 others.1 others.2 others.3 others.4.0.sent_later
+      | inr none ↦ absurd none
     ]
+
+-- nor does what was sent before a boot began that has the number of the one before
+pub boot_begins :
+    IsQuiet open_net (item.Sent 1 (to 0 (body.Stamp 1 1)) ∷ item.Booted 0 1 ∷ [])
+unfolding was_delivered is_up boot_of current_mark
+boot_begins = by_parts _ (refl, (refl, tt)) (
+  of_both _ (λ m. absurd (true≢false (sym m))) (λ m. absurd (true≢false (sym m))),
+  tt,
+)
 
 -- tables of a version below the current one, and their acknowledgement, don't matter
 pub quiet_without_old_tables :
     IsQuiet open_net
     (item.Sent 1 (to 0 (body.Install 1 (tables_of plan_q 1 0)))
     ∷ item.Sent 2 (to_controller (body.Installed 0 1 1)) ∷ item.Current 2 ∷ [])
-unfolding sendings was_delivered is_up boot_of current_mark
+unfolding was_delivered is_up boot_of current_mark
 quiet_without_old_tables = by_parts _ (refl, (refl, tt)) (
-  λ m. absurd (true≢false (sym m)),
+  of_both _ (λ m. absurd (true≢false (sym m))) (λ m. absurd (true≢false (sym m))),
   (
-    λ m. absurd (true≢false (sym m)),
+    of_both _ (λ m. absurd (true≢false (sym m))) (λ m. absurd (true≢false (sym m))),
     tt,
   ),
 )
+
+-- a delivery before its sending delivers nothing
+pub delivered_too_early :
+    IsQuiet open_net (item.Delivered 1 ∷ item.Sent 1 (to_controller (body.Hello 0 1)) ∷ []) → ⊥
+unfolding was_delivered is_up boot_of current_mark
+delivered_too_early quiet =
+    elim (quiet.messages.0 0 (omega arith) refl) [
+      | inl delivered ↦ true≢false (sym delivered)
+      | inr none ↦ absurd none
+    ]
 
 -- ---- replaced messages
 
@@ -198,46 +188,19 @@ pub quiet_by_later :
     ∷ item.Sent 3 (to 0 (advert 1 1 1 1)) ∷ item.Sent 4 (to_controller (body.Hello 1 1))
     ∷ item.Sent 5 (to 0 (body.Stamp 1 3)) ∷ item.Sent 6 (to 0 (advert 1 1 2 0))
     ∷ item.Delivered 4 ∷ item.Delivered 5 ∷ item.Delivered 6 ∷ [])
-unfolding sendings was_delivered is_up boot_of current_mark
+unfolding was_delivered is_up boot_of current_mark
 quiet_by_later = by_parts _ (refl, (refl, tt)) (
-  λ m. inr (
-    3,
-    sending 4 (to_controller (body.Hello 1 1)) 0,
-    omega arith,
-    refl,
-    (
-      record { sent_later = omega arith; receiver = refl; says = inl refl },
-      refl,
-    ),
-  ),
+  λ s there m. inr (inr (inr (inl (record { receiver = refl; says = inl refl }, refl)))),
   (
-    λ m. inr (
-      4,
-      sending 5 (to 0 (body.Stamp 1 3)) 1,
-      omega arith,
-      refl,
-      (
-        record { sent_later = omega arith; receiver = refl; says = inr refl },
-        refl,
-      ),
-    ),
+    λ s there m. inr (inr (inr (inl (record { receiver = refl; says = inr refl }, refl)))),
     (
-      λ m. inr (
-        5,
-        sending 6 (to 0 (advert 1 1 2 0)) 1,
-        omega arith,
-        refl,
-        (
-          record { sent_later = omega arith; receiver = refl; says = inr refl },
-          refl,
-        ),
-      ),
+      λ s there m. inr (inr (inr (inl (record { receiver = refl; says = inr refl }, refl)))),
       (
-        λ m. inl refl,
+        λ s there m. inl refl,
         (
-          λ m. inl refl,
+          λ s there m. inl refl,
           (
-            λ m. inl refl,
+            λ s there m. inl refl,
             tt,
           ),
         ),
@@ -252,14 +215,29 @@ abbrev hello : Message
 hello = to_controller (body.Hello 1 1)
 
 -- the earlier of two equal messages doesn't replace the later one
-abbrev greeted : List Item
-greeted = item.Sent 1 hello ∷ item.Sent 2 hello ∷ item.Delivered 1 ∷ []
-
-pub later_waits : IsQuiet open_net greeted → ⊥
-unfolding sendings was_delivered is_up boot_of current_mark
+pub later_waits :
+    IsQuiet open_net (item.Sent 1 hello ∷ item.Sent 2 hello ∷ item.Delivered 1 ∷ []) → ⊥
+unfolding was_delivered is_up boot_of current_mark
 later_waits quiet =
-    elim (quiet.messages 1 (sending 2 hello 0) (omega arith) refl) [
+    elim (quiet.messages.1.0 1 (omega arith) refl) [
       | inl delivered ↦ true≢false (sym delivered)
-      | inr others ↦ none_later (sendings greeted) 2 (omega arith, (omega arith, tt)) others.0
-          others.1 others.2 others.3 others.4.0.sent_later
+      | inr none ↦ absurd none
+    ]
+
+-- other tables of the same version don't replace those before them
+pub other_tables_wait : (one other : Tables) → one.version ≡ 1 → (one ≡ other → ⊥)
+    → IsQuiet open_net
+    (item.Sent 1 (to 0 (body.Install 1 one)) ∷ item.Sent 2 (to 0 (body.Install 1 other))
+    ∷ item.Delivered 2 ∷ []) → ⊥
+unfolding was_delivered is_up boot_of current_mark
+other_tables_wait one other version apart quiet =
+    elim (quiet.messages.0 0 (omega arith) (rw version refl)) [
+      | inl delivered ↦ true≢false (sym delivered)
+      | inr replaced ↦ elim replaced [
+        | inl later ↦ elim later.0.says [
+          | inl same ↦ apart (let equal : other ≡ one = cc in sym equal)
+          | inr more ↦ true≢false (sym more)
+        ]
+        | inr none ↦ absurd none
+      ]
     ]

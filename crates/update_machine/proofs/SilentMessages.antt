@@ -11,7 +11,7 @@ use Rattle.update_machine.specs.Folds.{count_of}
 use Rattle.update_machine.specs.Laws.{MessageKeeps, MessagesKeep, PacketsKeep}
 use Rattle.update_machine.specs.Messages.{is_deliverable, is_delivery, is_forgetting, is_forgotten, is_sending, is_waiting, next_message, next_waiting, was_delivered}
 use Rattle.update_machine.specs.Packets.{is_packet, next_packet}
-use Rattle.update_machine.specs.Quiet.{changes_sendings, sendings}
+use Rattle.update_machine.specs.Sendings.{changes_sendings, sendings}
 use Rattle.update_machine.specs.Causes.{present_step, gives_step}
 use Rattle.update_machine.specs.Links.{message_of, gives_message}
 use Rattle.update_machine.specs.Travels.{next_travelling, gives_travelling, travels}

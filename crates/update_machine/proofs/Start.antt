@@ -20,7 +20,7 @@ use Rattle.update_machine.specs.Links.{is_link_up, is_usable, serves, message_of
 use Rattle.update_machine.specs.Marks.{acked_stamp, controller_heard, current_mark, has_acked, is_member, is_over, known_boot, opened_at, retired_mark}
 use Rattle.update_machine.specs.Messages.{is_deliverable, is_forgotten, next_message, next_waiting, was_delivered}
 use Rattle.update_machine.specs.Packets.{decision_of, header_in, next_packet, standing}
-use Rattle.update_machine.specs.Quiet.{sendings}
+use Rattle.update_machine.specs.Sendings.{sendings}
 use Rattle.update_machine.specs.Setting.{Setting, file_of}
 use Rattle.update_machine.specs.SwitchNumbers.{switches_of}
 use Rattle.update_machine.specs.Steps.{steps_in}

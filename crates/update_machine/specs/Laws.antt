@@ -21,7 +21,8 @@ use Rattle.update_machine.specs.Marks.{acked_stamp, controller_heard, current_ma
 use Rattle.update_machine.specs.Messages.{is_deliverable, is_forgotten, next_message, next_waiting, was_delivered}
 use Rattle.update_machine.specs.Moves.{end_items, stuck_on}
 use Rattle.update_machine.specs.Packets.{decision_of, header_in, next_packet, standing}
-use Rattle.update_machine.specs.Quiet.{is_waited_for, sendings}
+use Rattle.update_machine.specs.Quiet.{is_waited_for}
+use Rattle.update_machine.specs.Sendings.{sendings}
 use Rattle.update_machine.specs.Setting.{Setting, file_of, policy_in}
 use Rattle.update_machine.specs.SwitchNumbers.{switches_of}
 use Rattle.update_machine.specs.Causes.{present_step}

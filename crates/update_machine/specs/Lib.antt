@@ -24,6 +24,7 @@ pub mod Machine
 pub mod Causes
 pub mod ExactCauses
 pub mod Quiet
+pub mod Sendings
 pub mod Numbers
 pub mod Concerns
 pub mod Laws

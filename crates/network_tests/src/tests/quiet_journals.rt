@@ -5,9 +5,11 @@ ghost use Rattle.net_file.specs.Net.{IsNet};
 use journal::{Advert, Body, Item, Journal, Message, Place, SharedMessage, SharedTables};
 use journal_reports::quiet;
 use net_file::{Net, read_net, solo};
+use policy_rules::{Partition, Rules};
 use std::alloc::Global;
 use std::test::Fail;
 use switch_table::{PartRows, Partitions, Tables};
+use ternary::Word;
 
 fn two_switches(alloc: Global) -> Result<Net, Fail>
     ensures { IfOk result IsNet }
@@ -29,12 +31,20 @@ fn sent(alloc: Global, number: u32, to: Place, body: Body) -> Result<Item, Fail>
     Ok(Item::Sent { number, message })
 }
 
-// The message of this number is an Install of version 2.
-fn install(alloc: Global, number: u32) -> Result<Item, Fail> {
+// The message of this number is an Install of version 2, with so many partitions without rules.
+fn install(alloc: Global, number: u32, partitions: u32) -> Result<Item, Fail> {
+    let mut auth = Vec::new(alloc);
+    for partition in 0..partitions {
+        auth.push(Partition {
+            number: partition,
+            region: Word::any(),
+            rules: Rules::new(Vec::new(alloc))?,
+        })?;
+    }
     let tables = Tables {
         version: 2,
         parts: PartRows::new(Vec::new(alloc))?,
-        auth: Partitions::new(Vec::new(alloc))?,
+        auth: Partitions::new(auth)?,
     };
     let tables = SharedTables::new(alloc, tables)?;
     sent(
@@ -85,9 +95,9 @@ fn crashes_are_confirmed(rt: HostRuntime) -> Result<(), Fail> {
 
 // The first message of an update was forgotten, and sent again.
 fn push_update(alloc: Global, journal: &mut Journal) -> Result<(), Fail> {
-    push(journal, install(alloc, 1)?)?;
+    push(journal, install(alloc, 1, 1)?)?;
     push(journal, Item::Forgotten { number: 1 })?;
-    push(journal, install(alloc, 2)?)
+    push(journal, install(alloc, 2, 1)?)
 }
 
 /// An update is answered though its first message was forgotten: it was sent again.
@@ -157,5 +167,35 @@ fn later_adverts_replace(rt: HostRuntime) -> Result<(), Fail> {
     assert!(rt; !is_quiet_with(alloc, &net, 1, 2, 1)?);
     assert!(rt; !is_quiet_with(alloc, &net, 2, 2, 1)?);
     assert!(rt; !is_quiet_with(alloc, &net, 2, 1, 1)?);
+    Ok(())
+}
+
+/// Other tables of the same version don't replace those before them.
+#[test]
+fn other_tables_wait(rt: HostRuntime) -> Result<(), Fail> {
+    let alloc = rt.alloc();
+    let net = one_switch(alloc)?;
+    let mut journal = Journal::new(alloc);
+    push(&mut journal, install(alloc, 1, 1)?)?;
+    push(&mut journal, install(alloc, 2, 2)?)?;
+    push(&mut journal, Item::Delivered { number: 2 })?;
+    assert!(rt; !is_quiet(alloc, &journal, &net)?);
+    push(&mut journal, Item::Delivered { number: 1 })?;
+    assert!(rt; is_quiet(alloc, &journal, &net)?);
+    Ok(())
+}
+
+/// A delivery that stands before the sending delivers nothing.
+#[test]
+fn deliveries_stand_behind(rt: HostRuntime) -> Result<(), Fail> {
+    let alloc = rt.alloc();
+    let net = one_switch(alloc)?;
+    let mut journal = Journal::new(alloc);
+    push(&mut journal, Item::Delivered { number: 1 })?;
+    let hello = Body::Hello { switch: 0, boot: 1 };
+    send(alloc, &mut journal, 1, Place::Controller, hello)?;
+    assert!(rt; !is_quiet(alloc, &journal, &net)?);
+    push(&mut journal, Item::Delivered { number: 1 })?;
+    assert!(rt; is_quiet(alloc, &journal, &net)?);
     Ok(())
 }

@@ -165,3 +165,31 @@ fn changes_the_newest_version(rt: HostRuntime) -> Result<(), Fail> {
     assert!(rt; ended(&ran, 0, VERSIONS, ""));
     Ok(())
 }
+
+const CHANGED_TWICE: &str = "event,arguments\n\
+    update,2\nupdate,2\nflush\npacket,s0,10.1.1.1,9.9.9.9,5000,443,tcp\n";
+
+/// The second update finds no row 100 in the newest policy.
+const SUBMITTED_ONCE: &[u8] = b"row 1: update 2\n\
+    \x20 submitted file 2 version 2\n\
+    \x20 sent 1 s0 install boot 1 version 2\n\
+    row 2: update 2\n\
+    \x20 refused file 2 code 24\n";
+
+const DECIDED: &[u8] = b"row 4: packet s0 10.1.1.1 9.9.9.9 5000 443 tcp\n\
+    \x20 entered 1 s0\n\
+    \x20 decided 1 v2 rule 90 out:4 authority s0 part 0\n\
+    \x20 out 1 port 4\n";
+
+#[test]
+fn decides_by_what_a_change_made(rt: HostRuntime) -> Result<(), Fail> {
+    let files = [
+        ("s.csv", CHANGED_TWICE),
+        ("p.csv", POLICY),
+        ("c.csv", OTHER),
+    ];
+    let (status, out, _) = run_over(rt.alloc(), &["replay", "s.csv", "p.csv", "c.csv"], &files)?;
+    let text = out.bytes();
+    assert!(rt; status == 0 && text.starts_with(SUBMITTED_ONCE) && text.ends_with(DECIDED));
+    Ok(())
+}

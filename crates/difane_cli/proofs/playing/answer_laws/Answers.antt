@@ -3,7 +3,6 @@ use Rattle.difane_cli.proofs.playing.answer_laws.Goals as goal
 pub returns : goal.returns
 returns c = record {
   entered = c.packet_rows_are_entered.ensures;
-  plain = c.answers_are_plain.ensures;
   quiet = record {
     converged = c.quiet_networks_have_converged.ensures;
     apart = c.packets_get_stuck_apart.ensures;

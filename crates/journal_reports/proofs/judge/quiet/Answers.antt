@@ -1,16 +1,102 @@
-use Rattle.std.proofs.Common.{length, List, ap, arith}
+use Rattle.std.proofs.Common.{ℕ, ◌≡◌, ◌-◌, ◌∙◌, Bool, true, false, not, List, [], length, drop, ap, sym, subst, arith, true≢false}
+use Rattle.std.specs.List.{list_all}
 use Rattle.net_file.specs.declared.net.Net.{Net}
 use Rattle.net_file.specs.declared.net.SwitchRow.{SwitchRow}
-use Rattle.journal_reports.proofs.Judging.{answer}
+use Rattle.update_machine.specs.Messages.{was_delivered}
+use Rattle.update_machine.specs.Quiet.{IsQuiet}
+use Rattle.journal_reports.specs.Judging.{has_mark, is_missed}
+use Rattle.journal_reports.specs.Traffic.{AreTraffic}
+use Rattle.journal_reports.specs.declared.traffic.Traffic.{Traffic}
+use Rattle.journal_reports.proofs.Judging.{marks_at_end, marks_before, missed_answer, received_at_end, received_before, rows_at_end, rows_before, switches_found, waiting_answer}
 use Rattle.journal_reports.proofs.judge.quiet.Goals as goal
 
-pub returns : goal.returns
-returns c = λ setting net plain.
-    let same = c.items-items.ensures in
-    let count = ap (λ (rows : List SwitchRow). length rows) c.items.ensures in
-    let of_net = ap (λ (of : Net). length of.switches) net in
-    rw (c.are_settled.ensures, c.deref-2.ensures.value)
-    (answer setting c.args.journal.now c.in_ok-delivered.delivered.items c.in_ok-rows.rows.items
-    plain (rw same at c.in_ok-delivered.ensures)
-    (rw (same, c.deref.ensures.value) at c.in_ok-rows.ensures.each)
-    (omega (arith, c.in_ok-rows.ensures.count, count, of_net)))
+pub returns-then-not-none_missed : goal.returns-then-not-none_missed
+returns-then-not-none_missed c = λ setting net.
+    let rows = c.in_ok-rows.rows.items in
+    let count = ap (λ (of : Net). length of.switches) net
+    ∙ sym (ap (λ (rows : List SwitchRow). length rows) c.items.ensures)
+    ∙ sym c.in_ok-rows.ensures.count in
+    let some = sym (c.none_missed.ensures
+    ∙ ap (λ (rows : List Traffic). list_all (λ row. not (is_missed row.status)) rows)
+    c.deref.ensures.value)
+    ∙ c.if-not-none_missed.true in (
+      λ answer. absurd (true≢false (sym answer)),
+      λ quiet. absurd (missed_answer setting c.args.journal.now rows
+          (subst (λ js. AreTraffic js [] rows) c.items-items.ensures c.in_ok-rows.ensures.each)
+          count some quiet),
+    )
+
+pub loop-place-init : goal.loop-place-init
+loop-place-init c =
+    let items = c.items-items.result.now in
+    let rows = c.in_ok-rows.rows.items in
+    let none = sym (c.none_missed.ensures
+    ∙ ap (λ (rows : List Traffic). list_all (λ row. not (is_missed row.status)) rows)
+    c.deref.ensures.value)
+    ∙ c.if-not-none_missed.false in record {
+      within = omega arith;
+      marks = λ n. marks_at_end items (length items) n c.new-delivered.result.items (omega arith)
+          c.new-delivered.ensures.items;
+      count = c.in_ok-rows.ensures.count;
+      rows = rows_at_end items (length items) rows (omega arith) c.in_ok-rows.ensures.each;
+      received = λ setting count. received_at_end setting items (length items) (omega arith);
+      switches = λ setting count. (switches_found setting items rows c.in_ok-rows.ensures.each
+          (count ∙ sym c.in_ok-rows.ensures.count)).0 none;
+    }
+
+pub returns-then-not-branch : goal.returns-then-not-branch
+returns-then-not-branch c = λ setting net.
+    let items = c.items-items.result.now in
+    let from = c.loop-place.place in
+    let place = from - 1 in
+    let next = c.index-items-place.result in
+    let rows = c.loop-place.rows.items in
+    let marks = c.deref-in-loop-place.result.now in
+    let right : (n : ℕ) → has_mark marks n ≡ was_delivered (drop place items) n = λ n.
+    ap (λ (marks : List Bool). has_mark marks n) c.deref-in-loop-place.ensures.value
+    ∙ marks_before items place from n next c.loop-place.delivered.items
+    c.mark_item.new.marks.items (omega arith) (omega arith) c.index-items-place.is
+    (c.loop-place.invariant.marks n) (c.in_ok-mark_item.ensures n) in
+    let count = ap (λ (of : Net). length of.switches) net
+    ∙ sym (ap (λ (rows : List SwitchRow). length rows) c.items.ensures)
+    ∙ sym c.loop-place.invariant.count in (
+      λ answer. absurd (true≢false (sym answer)),
+      λ quiet. absurd (waiting_answer setting items place from next marks rows
+          c.take_item.new.rows.items c.in_ok-take_item.field-0 (omega arith) (omega arith)
+          c.index-items-place.is count right c.loop-place.invariant.rows
+          c.in_ok-take_item.ensures.concerned
+          (c.in_ok-take_item.ensures.some c.if-not-branch.true) c.if-not-branch.true
+          (subst (IsQuiet setting) (sym c.items-items.ensures) quiet)),
+    )
+
+pub loop-place-preserved : goal.loop-place-preserved
+loop-place-preserved c =
+    let items = c.items-items.result.now in
+    let from = c.loop-place.place in
+    let place = from - 1 in
+    let next = c.index-items-place.result in
+    let rows = c.loop-place.rows.items in
+    let now = c.take_item.new.rows.items in
+    let marks = c.deref-in-loop-place.result.now in
+    let own : (n : ℕ) → has_mark c.mark_item.new.marks.items n
+    ≡ was_delivered (drop place items) n = λ n.
+    marks_before items place from n next c.loop-place.delivered.items
+    c.mark_item.new.marks.items (omega arith) (omega arith) c.index-items-place.is
+    (c.loop-place.invariant.marks n) (c.in_ok-mark_item.ensures n) in
+    let right : (n : ℕ) → has_mark marks n ≡ was_delivered (drop place items) n = λ n.
+    ap (λ (marks : List Bool). has_mark marks n) c.deref-in-loop-place.ensures.value ∙ own n in
+    record {
+      within = omega arith;
+      marks = own;
+      count = c.in_ok-take_item.ensures.count ∙ c.loop-place.invariant.count;
+      rows = rows_before items place from next marks rows now c.in_ok-take_item.field-0
+          (omega arith) (omega arith) c.index-items-place.is right c.loop-place.invariant.rows
+          c.in_ok-take_item.ensures.count c.in_ok-take_item.ensures.concerned
+          c.in_ok-take_item.ensures.others;
+      received = λ setting count. received_before setting items place from next marks rows now
+          c.in_ok-take_item.field-0 (omega arith) (omega arith) c.index-items-place.is
+          (count ∙ sym c.loop-place.invariant.count) right c.loop-place.invariant.rows
+          c.in_ok-take_item.ensures.concerned c.if-not-branch.false
+          (c.loop-place.invariant.received setting count);
+      switches = c.loop-place.invariant.switches;
+    }

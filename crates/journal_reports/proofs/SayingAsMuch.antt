@@ -1,9 +1,10 @@
 -- What says as much as another message.
-use Rattle.std.proofs.Common.{ℕ, ◌≡◌, ◌⊎◌, ◌&&◌, ◌||◌, ◌==◌, Bool, true, false, refl, ap, sym, subst, ◌∙◌, arith, inl, inr}
-use Rattle.std.specs.Prelude.{IsTrue, IsFalse, nat_le}
+use Rattle.std.proofs.Common.{ℕ, ◌≡◌, ◌⊎◌, Some, ◌&&◌, ◌||◌, ◌==◌, Bool, true, false, refl, ap, sym, subst, ◌∙◌, arith, inl, inr}
+use Rattle.std.specs.Prelude.{IsTrue, IsFalse, nat_le, nat_lt}
 use Rattle.std.proofs.lemmas.Bool.{and_parts, eq-eqb, eqb-true, or_right}
 use Rattle.std.proofs.lemmas.Bool.Decides.{nat_tests}
 use Rattle.control_laws.proofs.Facts.{own}
+use Rattle.ctrl_msg.specs.Bodies.{body_boot}
 use Rattle.ctrl_msg.specs.declared.message.Body.{Body}
 use Rattle.ctrl_msg.specs.declared.message.Body.TheVariants.{Install, OpenAt, Stamp, Collect, CacheRule, Advertise, Hello, Installed, Stamped}
 use Rattle.ctrl_msg.specs.declared.message.Message.{Message}
@@ -13,8 +14,9 @@ use Rattle.failover.specs.Adverts.{is_newer}
 use Rattle.failover.specs.declared.advert.Advert.{Advert}
 use Rattle.failover.proofs.Newest.{newer_through}
 use Rattle.switch_table.specs.declared.tables.Tables.{Tables}
-use Rattle.update_machine.specs.Quiet.{is_later_body}
-use Rattle.journal_reports.specs.Judging.{is_same, is_same_receiver, replaces_message, replaces_body}
+use Rattle.update_machine.specs.Quiet.{Replaces, are_old_tables, is_advert, is_later_body, is_old_answer, speaker}
+use Rattle.journal_reports.specs.declared.status.SwitchStatus.{SwitchStatus}
+use Rattle.journal_reports.specs.Judging.{HaveSameTables, SaysAsMuch, is_same, is_same_receiver, matters_to, replaces_message, replaces_body}
 
 -- ---- of three messages
 
@@ -93,9 +95,9 @@ receiver_through (receiver.Switch s) (receiver.Switch t) (receiver.Switch r) fir
 receiver_through receiver.Controller receiver.Controller receiver.Controller first second = refl
 receiver_through one two three first second = absurd cc
 
-pub says_through : (one two three : Message) → replaces_message one two ≡ true
+message_through : (one two three : Message) → replaces_message one two ≡ true
     → replaces_message two three ≡ true → replaces_message one three ≡ true
-says_through one two three first second =
+message_through one two three first second =
     let a = and_parts _ _ first in
     let b = and_parts _ _ second in
     let to : is_same_receiver one.to three.to ≡ true =
@@ -104,10 +106,26 @@ says_through one two three first second =
     body_through one.body two.body three.body a.1 b.1 in
     rw (to, body) refl
 
+tables_through : (one two three : Body) → replaces_body one two ≡ true
+    → HaveSameTables one two → HaveSameTables two three → HaveSameTables one three
+tables_through (Install boot one) (Install of two) (Install own three) says first second =
+    first ∙ second
+tables_through (Install boot one) (Install of two) three says first second = tt
+tables_through (Install boot one) two three says first second = absurd cc
+tables_through one two three says first second = tt
+
+pub says_through : (one two three : Message) → SaysAsMuch one two → SaysAsMuch two three
+    → SaysAsMuch one three
+says_through one two three first second = record {
+  message = message_through one two three first.message second.message;
+  tables = tables_through one.body two.body three.body (and_parts _ _ first.message).1
+      first.tables second.tables;
+}
+
 -- ---- what it says is the same or more
 
 -- tables of one version are the same
-abbrev pub Agree : Body → Body → Type 0
+abbrev Agree : Body → Body → Type 0
 Agree later earlier = (boot of : ℕ) (one other : Tables) → later ≡ Install boot one
     → earlier ≡ Install of other → one.version ≡ other.version → one ≡ other
 
@@ -137,7 +155,7 @@ receiver_means (receiver.Switch s) (receiver.Switch t) same = ap receiver.Switch
 receiver_means receiver.Controller receiver.Controller same = refl
 receiver_means later earlier same = absurd cc
 
-pub says_means : (later earlier : Message)
+says_means : (later earlier : Message)
     → ((boot of : ℕ) (one other : Tables) → later.to ≡ earlier.to → later.body ≡ Install boot one
     → earlier.body ≡ Install of other → one.version ≡ other.version → one ≡ other)
     → replaces_message later earlier ≡ true
@@ -187,7 +205,7 @@ receiver_itself : (to : Place) → is_same_receiver to to ≡ true
 receiver_itself (receiver.Switch s) = own s
 receiver_itself receiver.Controller = refl
 
-pub means_says : (later earlier : Message) → IsFalse (is_cache_rule earlier.body)
+means_says : (later earlier : Message) → IsFalse (is_cache_rule earlier.body)
     → later.to ≡ earlier.to
     → (later.body ≡ earlier.body) ⊎ IsTrue (is_later_body later.body earlier.body)
     → replaces_message later earlier ≡ true
@@ -200,3 +218,157 @@ means_says later earlier plain to says =
       | inr later_is ↦ later_says later.body earlier.body later_is
     ] in
     rw (same, body) refl
+
+-- ---- so it replaces the other one, and what replaces it says as much
+
+same_of : (later earlier : Body) (boot of : ℕ) (one other : Tables)
+    → HaveSameTables later earlier → later ≡ Install boot one → earlier ≡ Install of other
+    → one ≡ other
+same_of later earlier boot of one other same mine its =
+    subst (λ body. HaveSameTables body (Install of other)) mine
+    (subst (HaveSameTables later) its same)
+
+pub replaces_of : (later earlier : Message) → SaysAsMuch later earlier → Replaces later earlier
+replaces_of later earlier says =
+    let means = says_means later earlier
+    (λ boot of one other to mine its versions.
+    same_of later.body earlier.body boot of one other says.tables mine its)
+    says.message in
+    record { receiver = means.0; says = means.1 }
+
+same_itself : (body : Body) → HaveSameTables body body
+same_itself (Install boot tables) = refl
+same_itself body = tt
+
+later_tables : (later earlier : Body) → IsTrue (is_later_body later earlier)
+    → HaveSameTables later earlier
+later_tables (Install boot one) (Install of other) more = absurd cc
+later_tables later earlier more = tt
+
+pub says_of : (later earlier : Message) → IsFalse (is_cache_rule earlier.body)
+    → Replaces later earlier → SaysAsMuch later earlier
+says_of later earlier plain replaces = record {
+  message = means_says later earlier plain replaces.receiver replaces.says;
+  tables = elim replaces.says [
+    | inl same ↦ subst (λ body. HaveSameTables body earlier.body) (sym same)
+        (same_itself earlier.body)
+    | inr more ↦ later_tables later.body earlier.body more
+  ];
+}
+
+-- ---- what says as much as a message that matters does too
+
+record AreAlike (current : ℕ) (later earlier : Body) : Type 0 where
+  advert : is_advert later ≡ is_advert earlier
+  boot : body_boot later ≡ body_boot earlier
+  speaks : speaker later ≡ speaker earlier
+  tables : are_old_tables current later ≡ are_old_tables current earlier
+  answer : is_old_answer current later ≡ is_old_answer current earlier
+
+alike : (current : ℕ) (later earlier : Body) → replaces_body later earlier ≡ true
+    → AreAlike current later earlier
+alike current (Install boot tables) (Install of earlier) says =
+    let parts = and_parts _ _ says in
+    let version : tables.version ≡ earlier.version = eqb-true _ _ parts.1 in
+    record {
+      advert = refl;
+      boot = ap Some (eqb-true boot of parts.0);
+      speaks = refl;
+      tables = ap (λ v. nat_lt v current) version;
+      answer = refl;
+    }
+alike current (OpenAt boot version) (OpenAt of earlier) says = record {
+  advert = refl;
+  boot = ap Some (eqb-true boot of (and_parts _ _ says).0);
+  speaks = refl;
+  tables = refl;
+  answer = refl;
+}
+alike current (Stamp boot version) (Stamp of earlier) says = record {
+  advert = refl;
+  boot = ap Some (eqb-true boot of (and_parts _ _ says).0);
+  speaks = refl;
+  tables = refl;
+  answer = refl;
+}
+alike current (Collect boot version) (Collect of earlier) says = record {
+  advert = refl;
+  boot = ap Some (eqb-true boot of (and_parts _ _ says).0);
+  speaks = refl;
+  tables = refl;
+  answer = refl;
+}
+alike current (Advertise advert) (Advertise earlier) says = record {
+  advert = refl;
+  boot = refl;
+  speaks = refl;
+  tables = refl;
+  answer = refl;
+}
+alike current (Hello s boot) (Hello t of) says =
+    let parts = and_parts _ _ says in
+    let own : boot ≡ of = eqb-true boot of parts.1 in
+    record {
+      advert = refl;
+      boot = ap Some own;
+      speaks = ap (λ u. Some (u, boot)) (eqb-true s t parts.0) ∙ ap (λ b. Some (t, b)) own;
+      tables = refl;
+      answer = refl;
+    }
+alike current (Installed s boot version) (Installed t of earlier) says =
+    let parts = and_parts _ _ says in
+    let who = and_parts _ _ parts.0 in
+    let own : boot ≡ of = eqb-true boot of who.1 in
+    record {
+      advert = refl;
+      boot = ap Some own;
+      speaks = ap (λ u. Some (u, boot)) (eqb-true s t who.0) ∙ ap (λ b. Some (t, b)) own;
+      tables = refl;
+      answer = ap (λ v. nat_lt v current) (eqb-true version earlier parts.1);
+    }
+alike current (Stamped s boot version) (Stamped t of earlier) says =
+    let who = and_parts _ _ (and_parts _ _ says).0 in
+    let own : boot ≡ of = eqb-true boot of who.1 in
+    record {
+      advert = refl;
+      boot = ap Some own;
+      speaks = ap (λ u. Some (u, boot)) (eqb-true s t who.0) ∙ ap (λ b. Some (t, b)) own;
+      tables = refl;
+      answer = refl;
+    }
+alike current later earlier says = absurd cc
+
+pub matters_too : (status : SwitchStatus) (in_boot : Bool) (later earlier : Message)
+    → SaysAsMuch later earlier → matters_to status in_boot earlier ≡ true
+    → matters_to status in_boot later ≡ true
+matters_too status in_boot later earlier says matter =
+    let parts = and_parts _ _ says.message in
+    by_receiver later.to later.body earlier.body
+    (alike status.current later.body earlier.body parts.1)
+    (subst (λ to. matters_to status in_boot (record { to = to; body = earlier.body }) ≡ true)
+    (sym (receiver_means later.to earlier.to parts.0)) matter)
+  where
+    by_receiver : (to : Place) (later earlier : Body) → AreAlike status.current later earlier
+        → matters_to status in_boot (record { to = to; body = earlier }) ≡ true
+        → matters_to status in_boot (record { to = to; body = later }) ≡ true
+    by_receiver (receiver.Switch s) later earlier same matter =
+        rw (same.advert, same.boot, same.tables) matter
+    by_receiver receiver.Controller later earlier same matter =
+        rw (same.speaks, same.answer) matter
+
+-- a cache rule never matters
+pub no_cache_rule : (status : SwitchStatus) (in_boot : Bool) (message : Message)
+    → matters_to status in_boot message ≡ true → IsFalse (is_cache_rule message.body)
+no_cache_rule status in_boot message matter = by_body message.to message.body matter
+  where
+    false_true : {X : Type 0} → false ≡ true → X
+    false_true e = absurd cc
+
+    by_body : (to : Place) (body : Body)
+        → matters_to status in_boot (record { to = to; body = body }) ≡ true
+        → IsFalse (is_cache_rule body)
+    by_body (receiver.Switch s) (CacheRule version word rule action) matter =
+        false_true (and_parts _ _ (and_parts _ _ matter).0).1
+    by_body receiver.Controller (CacheRule version word rule action) matter =
+        false_true (and_parts _ _ (and_parts _ _ matter).0).1
+    by_body to body matter = refl

@@ -1,0 +1,27 @@
+use Rattle.std.proofs.Common.{ℕ, ◌≡◌, ◌≤◌, drop, length}
+use Rattle.std.specs.Prelude.{All, IsTrue, not, ◌||◌}
+use Rattle.update_machine.specs.Boots.{is_up}
+use Rattle.update_machine.specs.Messages.{was_delivered}
+use Rattle.update_machine.specs.Quiet.{AreReceived, is_waited_for}
+use Rattle.update_machine.specs.Setting.{Setting}
+use Rattle.update_machine.specs.SwitchNumbers.{switches_of}
+use Rattle.journal_reports.specs.Judging.{has_mark}
+use Rattle.journal_reports.specs.Traffic.{AreTraffic}
+use Rattle.journal_reports.proofs.judge.quiet.Given as goal
+
+-- the items from the place on were read
+abbrev pub invariant-loop-place : goal.invariant-loop-place
+invariant-loop-place l = record {
+  within : l.place ≤ length l.items;
+  marks : (n : ℕ) → has_mark l.delivered.items n ≡ was_delivered (drop l.place l.items) n;
+  count : length l.rows.items ≡ l.count;
+  rows : AreTraffic l.items (drop l.place l.items) l.rows.items;
+  received : (setting : Setting) → length setting.net.switches ≡ l.count
+      → AreReceived setting l.items (drop l.place l.items);
+  switches : (setting : Setting) → length setting.net.switches ≡ l.count
+      → All (λ s. IsTrue (is_up l.items s || not (is_waited_for l.items s)))
+      (switches_of setting);
+}
+
+abbrev pub decreases-loop-place : goal.decreases-loop-place
+decreases-loop-place l = l.place

@@ -1,0 +1,18 @@
+use Rattle.std.proofs.Common.{subst, sym}
+use Rattle.std.specs.Prelude.{IfOk}
+use Rattle.journal.specs.declared.item.Item.{Item}
+use Rattle.journal_reports.specs.Traffic.{IsAfter}
+use Rattle.journal_reports.proofs.Reading.{after_sent}
+use Rattle.journal_reports.proofs.traffic.Traffic.take_item.Goals as goal
+
+pub returns-in-Sent : goal.returns-in-Sent
+returns-in-Sent c =
+    let marks = c.args.delivered.now in
+    let row = c.args.self.now in
+    let now = c.take_message.new.self in
+    subst (λ (next : Item). IfOk c.take_message.result (λ answer. IsAfter marks next row now answer))
+    (sym c.in-Sent.is)
+    (after_sent marks c.in-Sent.number c.in-Sent.message row now c.is_marked-is_delivered.result
+    c.take_message.result c.is_marked-is_delivered.ensures c.take_message.ensures.status
+    c.take_message.ensures.in_boot c.take_message.ensures.count c.take_message.ensures.kept
+    c.take_message.ensures.received)

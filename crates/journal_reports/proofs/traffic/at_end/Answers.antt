@@ -1,0 +1,29 @@
+use Rattle.std.proofs.Common.{◌≡◌, ◌+◌, ◌∙◌, ◌++◌, true, List, [], ◌∷◌, length, ap, length-append, refl, subst, sym}
+use Rattle.journal.specs.declared.item.Item.{Item}
+use Rattle.journal_reports.specs.Judging.{status_in}
+use Rattle.journal_reports.specs.Traffic.{AreTraffic}
+use Rattle.journal_reports.specs.declared.traffic.Traffic.{Traffic}
+use Rattle.journal_reports.proofs.Reading.{traffic_at_end}
+use Rattle.journal_reports.proofs.traffic.at_end.Goals as goal
+
+pub loop-switch-preserved : goal.loop-switch-preserved
+loop-switch-preserved c =
+    let s = c.loop-switch.switch in
+    let rows = c.loop-switch.rows.items in
+    let next : Traffic = record {
+      status = c.of.result;
+      is_in_boot = true;
+      buckets
+          = c.in_ok-buckets.buckets;
+    } in
+    let is : c.push.new.self.items ≡ rows ++ next ∷ [] = c.in_ok-push.ensures.items in
+    record {
+      count = ap (λ (rows : List Traffic). length rows) is ∙ length-append rows (next ∷ [])
+          ∙ ap (λ n. n + 1) c.loop-switch.invariant.count;
+      each = subst (AreTraffic c.args.items.now []) (sym is)
+          (traffic_at_end c.args.items.now rows next s c.loop-switch.invariant.count
+          c.loop-switch.invariant.each
+          (c.of.ensures ∙ ap (λ (js : List Item). status_in js s) c.deref.ensures.value
+          ∙ c.in_ok-told.ensures s)
+          refl c.in_ok-buckets.ensures);
+    }

@@ -1,0 +1,62 @@
+-- What is read of each switch and of its messages, from the end of a journal on.
+use Rattle.std.specs.Prelude.{⊤, ℕ, ◌≡◌, ◌<◌, ◌⊎◌, ◌↔◌, ◌&&◌, Bool, true, not, List, get_or, length, IsTrue}
+use Rattle.std.specs.List.{list_any}
+use Rattle.ctrl_msg.specs.declared.message.Message.{Message}
+use Rattle.journal.specs.declared.item.Item.{Item}
+use Rattle.journal.specs.declared.item.Item.TheVariants as item
+use Rattle.update_machine.specs.Quiet.{IsReplaced, begins_boot, matters}
+use Rattle.journal_reports.specs.declared.traffic.Traffic.{Traffic}
+use Rattle.journal_reports.specs.Judging.{SaysAsMuch, concerned_switch, has_mark, is_named, matters_to, status_in}
+use Rattle.journal_reports.specs.Buckets.{IsKept}
+
+-- the switch's status at the end of the journal; whether these last items of it begin none of its
+-- boots; and what replaces a message that matters is among the kept ones where they send such a
+-- message and deliver it behind that
+pub record IsTraffic (journal after : List Item) (s : ℕ) (row : Traffic) : Type 0 where
+  pub status : row.status ≡ status_in journal s
+  pub in_boot : row.is_in_boot ≡ not (list_any (begins_boot s) after)
+  pub count : length row.buckets.items ≡ 64
+  pub kept : (message : Message) → IsTrue (matters journal s message after)
+      → IsKept row.buckets.items message ↔ IsReplaced message after
+
+-- these are the switches, by their numbers
+abbrev pub AreTraffic : List Item → List Item → List Traffic → Type 0
+AreTraffic journal after rows = (s : ℕ) (d : Traffic) → s < length rows
+    → IsTraffic journal after s (get_or rows s d)
+
+-- a message that matters and was delivered is kept, and says as much as the other one
+pub record IsAdded (row : Traffic) (delivered : Bool) (message other : Message) : Type 0 where
+  pub matters : IsTrue (matters_to row.status row.is_in_boot message)
+  pub is_delivered : IsTrue delivered
+  pub says : SaysAsMuch message other
+
+-- the item adds such a message
+abbrev pub Adds : List Bool → Traffic → Item → Message → Type 0
+Adds marks row (item.Sent number message) other =
+    IsAdded row (has_mark marks number) message other
+Adds marks row _ other = ⊥
+
+-- the item sends no message that matters, or that was received
+abbrev pub IsMet : List Bool → Traffic → Item → Type 0
+IsMet marks row (item.Sent number message) =
+    IsTrue (matters_to row.status row.is_in_boot message)
+    → IsTrue (has_mark marks number) ⊎ IsKept row.buckets.items message
+IsMet marks row _ = ⊤
+
+-- what one item before them makes of a switch, and the answer to it
+pub record IsAfter (marks : List Bool) (item : Item) (before after : Traffic) (answer : Bool)
+    : Type 0 where
+  pub status : after.status ≡ before.status
+  pub in_boot : after.is_in_boot
+      ≡ (before.is_in_boot && not (begins_boot before.status.switch item))
+  pub count : length after.buckets.items ≡ length before.buckets.items
+  pub kept : length before.buckets.items ≡ 64 → (other : Message)
+      → IsKept after.buckets.items other
+      ↔ (IsKept before.buckets.items other ⊎ Adds marks before item other)
+  pub met : IsTrue answer ↔ IsMet marks before item
+
+-- the item concerns one of the switches
+pub record ConcernsOne (rows : List Traffic) (item : Item) : Type 0 where
+  pub switch : ℕ
+  pub there : switch < length rows
+  pub concerned : is_named switch (concerned_switch item) ≡ true

@@ -1,0 +1,172 @@
+//! Which messages replace others, and which matter.
+ghost use Rattle.std.specs.Prelude.{◌≡◌, ◌↔◌, ◌||◌, false, IsTrue};
+ghost use Rattle.std.specs.Option.{option_map_or};
+ghost use Rattle.update_machine.specs.Quiet.{are_old_tables, carries_boot, is_advert, is_of_boot, is_old_answer, speaker};
+ghost use Rattle.journal_reports.specs.Judging.{HaveSameTables, SaysAsMuch, matters_to, replaces_message, replaces_body};
+
+use crate::same::are_same_tables;
+use crate::status::SwitchStatus;
+use journal::{Body, Message, Place};
+
+/// Whether the message is one to the switch or of it that matters: one to it, where the boot that
+/// it is in at the end didn't begin since.
+pub fn matters(message: &Message, status: &SwitchStatus, is_in_boot: bool) -> bool
+    ensures { result ≡ matters_to status.now is_in_boot message.now }
+{
+    if !status.is_up {
+        return false;
+    }
+    match message.to {
+        Place::Switch(to) => {
+            to == status.switch
+                && is_in_boot
+                && is_for(&message.body, status.boot)
+                && !are_old_tables(&message.body, status.current)
+        }
+        Place::Controller => {
+            is_of_boot(&message.body, status) && !is_old_answer(&message.body, status.current)
+        }
+    }
+}
+
+// An advert, or a body that carries this boot.
+fn is_for(body: &Body, boot: u32) -> bool
+    ensures { result ≡ (is_advert body.now || carries_boot boot body.now) }
+{
+    match body {
+        Body::Advertise { .. } => true,
+        other => other.boot() == Some(boot),
+    }
+}
+
+// What the switch says in its boot.
+fn is_of_boot(body: &Body, status: &SwitchStatus) -> bool
+    ensures { result
+        ≡ option_map_or (is_of_boot status.now.switch status.now.boot) (speaker body.now) false }
+{
+    match body {
+        Body::Hello { switch, boot }
+        | Body::Installed { switch, boot, .. }
+        | Body::Stamped { switch, boot, .. } => *switch == status.switch && *boot == status.boot,
+        _ => false,
+    }
+}
+
+// Tables of a version before the current one.
+fn are_old_tables(body: &Body, current: u32) -> bool
+    ensures { result ≡ are_old_tables current body.now }
+{
+    match body {
+        Body::Install { tables, .. } => tables.tables().version < current,
+        _ => false,
+    }
+}
+
+// The acknowledgement of such.
+fn is_old_answer(body: &Body, current: u32) -> bool
+    ensures { result ≡ is_old_answer current body.now }
+{
+    match body {
+        Body::Installed { version, .. } => *version < current,
+        _ => false,
+    }
+}
+
+/// Whether the later message says as much as the earlier one: it replaces it, if that matters.
+pub fn says_as_much(later: &Message, earlier: &Message) -> bool
+    ensures { IsTrue result ↔ SaysAsMuch later.now earlier.now }
+{
+    replaces_message(later, earlier) && have_same_tables(&later.body, &earlier.body)
+}
+
+// Whether both have the same tables, if both have any.
+fn have_same_tables(one: &Body, other: &Body) -> bool
+    ensures { IsTrue result ↔ HaveSameTables one.now other.now }
+{
+    match (one, other) {
+        (Body::Install { tables, .. }, Body::Install { tables: old, .. }) => {
+            are_same_tables(tables.tables(), old.tables())
+        }
+        _ => true,
+    }
+}
+
+// Whether it is to the same receiver and says the same or more, but for rows and partitions of
+// tables.
+fn replaces_message(later: &Message, earlier: &Message) -> bool
+    ensures { result ≡ replaces_message later.now earlier.now }
+{
+    later.to == earlier.to && replaces_body(&later.body, &earlier.body)
+}
+
+// The body says what the other one does, or the same of a greater version or of a newer advert, but
+// for rows and partitions of tables.
+fn replaces_body(later: &Body, earlier: &Body) -> bool
+    ensures { result ≡ replaces_body later.now earlier.now }
+{
+    match (later, earlier) {
+        (
+            Body::Install { boot, tables },
+            Body::Install {
+                boot: of,
+                tables: old,
+            },
+        ) => boot == of && tables.tables().version == old.tables().version,
+        (
+            Body::OpenAt { boot, version },
+            Body::OpenAt {
+                boot: of,
+                version: old,
+            },
+        ) => boot == of && version == old,
+        (
+            Body::Stamp { boot, version },
+            Body::Stamp {
+                boot: of,
+                version: old,
+            },
+        )
+        | (
+            Body::Collect { boot, version },
+            Body::Collect {
+                boot: of,
+                version: old,
+            },
+        ) => boot == of && old <= version,
+        (Body::Advertise { advert }, Body::Advertise { advert: old }) => {
+            advert == old || (advert.origin == old.origin && advert.is_newer(old))
+        }
+        (
+            Body::Hello { switch, boot },
+            Body::Hello {
+                switch: who,
+                boot: of,
+            },
+        ) => switch == who && boot == of,
+        (
+            Body::Installed {
+                switch,
+                boot,
+                version,
+            },
+            Body::Installed {
+                switch: who,
+                boot: of,
+                version: old,
+            },
+        ) => switch == who && boot == of && version == old,
+        (
+            Body::Stamped {
+                switch,
+                boot,
+                version,
+            },
+            Body::Stamped {
+                switch: who,
+                boot: of,
+                version: old,
+            },
+        ) => switch == who && boot == of && old <= version,
+        _ => false,
+    }
+}

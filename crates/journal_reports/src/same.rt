@@ -1,0 +1,56 @@
+//! Whether tables are the same, value by value.
+ghost use Rattle.std.specs.Prelude.{◌≡◌, ◌↔◌, IsTrue};
+
+use policy_rules::{Partition, Rule};
+use switch_table::{PartRow, Tables};
+
+/// Whether they are the same tables.
+pub fn are_same_tables(one: &Tables, other: &Tables) -> bool
+    ensures { IsTrue result ↔ (one.now ≡ other.now) }
+{
+    one.version == other.version
+        && are_same(one.auth.items(), other.auth.items())
+        && are_same(one.parts.items(), other.parts.items())
+}
+
+// A part of tables.
+trait Same {
+    // Whether they are the same value.
+    fn is_same(&self, other: &Self) -> bool
+        ensures { IsTrue result ↔ (self.now ≡ other.now) };
+}
+
+impl Same for Partition {
+    fn is_same(&self, other: &Partition) -> bool {
+        self.number == other.number
+            && self.region == other.region
+            && are_same(self.rules.items(), other.rules.items())
+    }
+}
+
+impl Same for Rule {
+    fn is_same(&self, other: &Rule) -> bool {
+        self == other
+    }
+}
+
+impl Same for PartRow {
+    fn is_same(&self, other: &PartRow) -> bool {
+        self.region == other.region && self.targets.items() == other.targets.items()
+    }
+}
+
+// Whether they are the same values, in the same order.
+fn are_same<T: Same>(one: &[T], other: &[T]) -> bool
+    ensures { IsTrue result ↔ (one.now ≡ other.now) }
+{
+    if one.len() != other.len() {
+        return false;
+    }
+    for place in 0..one.len() {
+        if !one[place].is_same(&other[place]) {
+            return false;
+        }
+    }
+    true
+}

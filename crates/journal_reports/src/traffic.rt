@@ -1,0 +1,164 @@
+//! What is read of each switch and of its messages, from the end of a journal on.
+ghost use Rattle.std.specs.Prelude.{ℕ, ◌≡◌, ◌<◌, ◌⊎◌, ◌↔◌, true, false, not, [], get_or, length, IfOk, IsFalse, IsTrue, OnOk};
+ghost use Rattle.std.specs.List.{list_all};
+ghost use Rattle.ctrl_msg.specs.declared.message.Message.{Message};
+ghost use Rattle.journal_reports.specs.declared.traffic.Traffic.{Traffic};
+ghost use Rattle.journal_reports.specs.Buckets.{IsKept};
+ghost use Rattle.journal_reports.specs.Judging.{concerned_switch, is_missed, is_named, matters_to, speaking_switch, switch_of_message};
+ghost use Rattle.journal_reports.specs.Traffic.{AreTraffic, ConcernsOne, IsAdded, IsAfter};
+
+use crate::bucket::{Bucket, empty_buckets, is_kept, keep};
+use crate::deliveries::is_marked;
+use crate::replacing::matters;
+use crate::status::{SwitchStatus, status_items};
+use journal::{Body, Item, Message, Place, SharedMessage};
+use std::alloc::{AllocError, Global};
+
+/// A switch at the end of a journal; and of the items from some place on whether they begin no boot
+/// of it, and the messages to it or of it that matter and that they send and deliver behind that;
+/// but of two that say as much one alone.
+#[derive(Drop)]
+pub struct Traffic {
+    pub status: SwitchStatus,
+    pub is_in_boot: bool,
+    pub buckets: Vec<Bucket>,
+}
+
+impl Traffic {
+    // One item before them, which concerns the switch: whether its message, if it sends one that
+    // matters, was received.
+    fn take_item(&mut self, item: &Item, delivered: &[bool]) -> Result<bool, AllocError>
+        ensures { IfOk result (λ answer. IsAfter delivered.now item.now self.old self.new answer) }
+    {
+        match item {
+            Item::Booted { switch, .. } => {
+                if *switch == self.status.switch {
+                    self.is_in_boot = false;
+                }
+                Ok(true)
+            }
+            Item::Sent { number, message } => {
+                let is_delivered = is_marked(delivered, *number);
+                self.take_message(message, is_delivered)
+            }
+            _ => Ok(true),
+        }
+    }
+
+    // The message of the item before them.
+    fn take_message(
+        &mut self,
+        message: &SharedMessage,
+        is_delivered: bool,
+    ) -> Result<bool, AllocError>
+        ensures status { OnOk result (self.new.status ≡ self.old.status) }
+        ensures in_boot { OnOk result (self.new.is_in_boot ≡ self.old.is_in_boot) }
+        ensures count { OnOk result
+            (length self.new.buckets.items ≡ length self.old.buckets.items) }
+        ensures kept { OnOk result (length self.old.buckets.items ≡ 64 → (other : Message) →
+            IsKept self.new.buckets.items other
+            ↔ (IsKept self.old.buckets.items other
+            ⊎ IsAdded self.old is_delivered message.now other)) }
+        ensures received { IfOk result (λ answer. IsTrue answer
+            ↔ (IsTrue (matters_to self.old.status self.old.is_in_boot message.now)
+            → IsTrue is_delivered ⊎ IsKept self.old.buckets.items message.now)) }
+    {
+        if !matters(message.get(), &self.status, self.is_in_boot) {
+            return Ok(true);
+        }
+        if is_kept(&self.buckets, message.get()) {
+            return Ok(true);
+        }
+        if is_delivered {
+            keep(&mut self.buckets, message)?;
+        }
+        Ok(is_delivered)
+    }
+}
+
+/// Whether the controller misses none of the switches.
+pub fn none_missed(rows: &[Traffic]) -> bool
+    ensures { result ≡ list_all (λ row. not (is_missed row.status)) rows.now }
+{
+    rows.iter().all(|row| !row.status.is_missed())
+}
+
+/// So many switches at the end of the journal, before any item is read.
+///
+/// # Errors
+/// Want of memory alone.
+pub fn at_end(alloc: Global, items: &[Item], count: u32) -> Result<Vec<Traffic>, AllocError>
+    ensures count { IfOk result (λ rows. length rows.items ≡ count) }
+    ensures each { IfOk result (λ rows. AreTraffic items.now [] rows.items) }
+{
+    let told = status_items(alloc, items)?;
+    let mut rows = Vec::new(alloc);
+    for switch in 0..count {
+        let buckets = empty_buckets(alloc)?;
+        rows.push(Traffic {
+            status: SwitchStatus::of(&told, switch),
+            is_in_boot: true,
+            buckets,
+        })?;
+    }
+    Ok(rows)
+}
+
+/// One item before those that were read goes to the switch that it concerns alone: whether its
+/// message, if it sends one that matters, was received.
+///
+/// # Errors
+/// Want of memory alone.
+pub fn take_item(
+    rows: &mut Vec<Traffic>,
+    item: &Item,
+    delivered: &[bool],
+) -> Result<bool, AllocError>
+    ensures count { OnOk result (length rows.new.items ≡ length rows.old.items) }
+    ensures concerned { IfOk result (λ answer. (s : ℕ) (d : Traffic) → s < length rows.old.items
+        → is_named s (concerned_switch item.now) ≡ true
+        → IsAfter delivered.now item.now (get_or rows.old.items s d) (get_or rows.new.items s d)
+        answer) }
+    ensures others { OnOk result ((s : ℕ) (d : Traffic) → is_named s (concerned_switch item.now)
+        ≡ false
+        → get_or rows.new.items s d ≡ get_or rows.old.items s d) }
+    ensures some { IfOk result (λ answer. IsFalse answer → ConcernsOne rows.old.items item.now) }
+{
+    match concerned(item) {
+        Some(s) if (s as usize) < rows.len() => rows[s as usize].take_item(item, delivered),
+        _ => Ok(true),
+    }
+}
+
+// The switch for which the item makes a difference, if any.
+fn concerned(item: &Item) -> Option<u32>
+    ensures { result ≡ concerned_switch item.now }
+{
+    match item {
+        Item::Booted { switch, .. } => Some(*switch),
+        Item::Sent { message, .. } => party(message.get()),
+        _ => None,
+    }
+}
+
+// The switch that a message is to, or of.
+fn party(message: &Message) -> Option<u32>
+    ensures { result ≡ switch_of_message message.now }
+{
+    match message.to {
+        Place::Switch(to) => Some(to),
+        Place::Controller => speaks(&message.body),
+    }
+}
+
+// The switch that says this to the controller.
+fn speaks(body: &Body) -> Option<u32>
+    ensures { result ≡ speaking_switch body.now }
+{
+    match body {
+        Body::Hello { switch, .. }
+        | Body::Installed { switch, .. }
+        | Body::Stamped { switch, .. } => Some(*switch),
+        _ => None,
+    }
+}

@@ -1,0 +1,32 @@
+-- The messages that were sent in a journal, in order, with the boots of their receivers.
+use Rattle.std.specs.Prelude.{ℕ, List, [], ◌∷◌, ◌++◌}
+use Rattle.ctrl_msg.specs.declared.message.Message.{Message}
+use Rattle.ctrl_msg.specs.declared.message.Place.{Place}
+use Rattle.ctrl_msg.specs.declared.message.Place.TheVariants as receiver
+use Rattle.journal.specs.declared.item.Item.{Item}
+use Rattle.journal.specs.declared.item.Item.TheVariants as item
+use Rattle.update_machine.specs.Boots.{boot_of}
+use Rattle.update_machine.specs.Folds.{folded_value}
+
+-- a message, its number, and the boot of its receiver as it was sent; 0 is the controller's
+pub record Sending : Type 0 where
+  pub number : ℕ
+  pub message : Message
+  pub boot : ℕ
+
+abbrev pub boot_at : List Item → Place → ℕ
+boot_at before (receiver.Switch s) = boot_of before s
+boot_at before receiver.Controller = 0
+
+abbrev pub changes_sendings : List Item → List Sending → Item → List Sending
+changes_sendings before sendings (item.Sent number message) =
+    sendings ++ record {
+      number = number;
+      message = message;
+      boot = boot_at before message.to;
+    } ∷ []
+changes_sendings before sendings _ = sendings
+
+-- all that was sent, in order
+unfoldable pub sendings : List Item → List Sending
+sendings journal = folded_value changes_sendings [] journal
