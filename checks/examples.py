@@ -19,7 +19,7 @@ sys.path.insert(0, str(HOME / "model"))
 
 import refusals
 
-MODELS = {"compile": "plan_model.py", "show": "plan_model.py", "replay": "slow_replay.py"}
+MODELS = {"compile": "plan_model.py", "show": "plan_model.py", "replay": "slow_replay.py", "flows": "slow_replay.py"}
 
 
 def wrong_refusals():
@@ -32,15 +32,30 @@ def wrong_refusals():
         yield f"{TOLD} has no refused commands"
 
 
+def wrong_records():
+    """Whether the records of a day aren't those that are imported, or other packets than its meters
+    note."""
+    script = [str(FOLDER / "flows/nfdump"), str(FOLDER / "flows/records.txt")]
+    made = subprocess.run(script, capture_output=True).stdout
+    if made != (FOLDER / "flows/records.csv").read_bytes():
+        yield "flows/records.csv has other records than flows/nfdump makes"
+    totals = subprocess.run([*script, "--totals"], capture_output=True, text=True).stdout
+    noted = re.findall(r"^meter port .*\n", (FOLDER / "day/journal.txt").read_text(), re.M)
+    if totals.splitlines(True) != noted:
+        yield "flows/records.txt has other packets than the meters of day/journal.txt note"
+
+
 def main():
     wrong = list(wrong_refusals())
     for line in (FOLDER / "index.txt").read_text().splitlines():
         name, command, *args = line.replace("--net=", "--net ").split(" ")
         if name != "-":
-            model = [sys.executable, str(HOME / "model" / MODELS[command]), *args]
+            options = ["--flows"] if command == "flows" else []
+            model = [sys.executable, str(HOME / "model" / MODELS[command]), *args, *options]
             done = subprocess.run(model, cwd=FOLDER, capture_output=True)
             if done.returncode != 0 or done.stdout != (FOLDER / name).read_bytes():
                 wrong.append(f"{name} is another text than the model's")
+    wrong += wrong_records()
     drawn = subprocess.run([str(FOLDER / "draw"), "campus", "1"], capture_output=True)
     if drawn.stdout != (HOME / "docs/campus.svg").read_bytes():
         wrong.append("docs/campus.svg is another picture than `examples/draw campus 1`")

@@ -32,6 +32,8 @@ STOPS = {
     "GivesOnly": "what holds of each policy",
     "PrintOutcome": "plans and tables in print",
     "kept_by": "meters",
+    "gone_by": "flow records",
+    "flows_text": "flow records",
     "HeldOnTheWay": "what held on the way",
     "AreWithinLimits": "limits of files",
     "IsVerdict": "quiet networks",

@@ -21,6 +21,7 @@ WORDS = "difane: words"
 MOST_BYTES, MOST_POLICIES, MOST_LOAD = 16_777_216, 64, 1000
 POLICY_HEADING = ["priority", "src", "dst", "sport", "dport", "proto", "action"]
 CHANGE_HEADING = ["op", *POLICY_HEADING]
+PLAYS = "replay", "flows"
 MOST_ROWS, MOST_EVENTS, MOST_NUMBER = 2000, 100_000, 999_999_999
 NO_SWITCH, TOO_LARGE = 21, 20
 NO_EDIT, FIRST_CHANGE = 22, 23
@@ -355,8 +356,8 @@ def takes(command, line):
     if command == "load":
         plain = line.net is None and not line.quiet
         return plain and count == 1 and is_number(line.names[0], 1, MOST_LOAD)
-    if command == "replay":
-        return 2 <= count <= 1 + MOST_POLICIES
+    if command in PLAYS:
+        return 2 <= count <= 1 + MOST_POLICIES and not (line.quiet and command == "flows")
     return count == {"compile": 1, "show": 2}.get(command) and not line.quiet
 
 
@@ -392,14 +393,14 @@ class Files:
     def check(self, command, line):
         """All that the command reads, in its order."""
         network = self.network(line.net)
-        policies = line.names[1:] if command == "replay" else line.names[:1]
+        policies = line.names[1:] if command in PLAYS else line.names[:1]
         if command == "show":
             self.name = line.names[1]
             if self.name not in network.names:
                 raise Refusal(NO_SWITCH)
-        if command == "replay":
+        if command in PLAYS:
             check_schedule(records(self.read(line.names[0])), network, len(policies))
-        first = self.policy(policies[0], network, FIRST_CHANGE if command == "replay" else 1)
+        first = self.policy(policies[0], network, FIRST_CHANGE if command in PLAYS else 1)
         for name in policies[1:]:
             self.policy(name, network, None)
         self.plan(policies[0], first, network)

@@ -1,9 +1,10 @@
 #!/usr/bin/env python3
 """The output of `replay`, worked out anew from its definitions and slowly.
 
-usage: model/slow_replay.py SCHEDULE POLICY.. [--net NET] [--quiet]
+usage: model/slow_replay.py SCHEDULE POLICY.. [--net NET] [--quiet | --flows]
 
-A POLICY behind the first may be a change: rows to remove and to add.
+A POLICY behind the first may be a change: rows to remove and to add. With `--flows` it is the output
+of `flows`.
 
 It shares nothing with the program: the plans are those of `model/plan_model.py`, and all that
 happens is written from the definitions in words, in sets and lists. `model/fuzz.py` compares it
@@ -22,6 +23,7 @@ EXACT = 2**plan_model.BITS - 1
 MOST_ROWS, MOST_WORDS, MOST_PARTS, MOST_LIVE, MOST_VERSIONS = 2000, 4096, 512, 8, 64
 TOO_MANY_WORDS, TOO_MANY_PARTS, NO_ROOM, TOO_MANY_LIVE, TOO_MANY_VERSIONS = 12, 14, 15, 16, 17
 ABSENT, TAKEN, TOO_MANY_ROWS = 24, 25, 26
+MOST_HEADERS = 4096
 CHANGE_HEADING = ["op", "priority", "src", "dst", "sport", "dport", "proto", "action"]
 
 
@@ -34,6 +36,14 @@ def holds(word, header):
 
 def covers(wide, narrow):
     return wide[1] & ~narrow[1] == 0 and holds(wide, narrow[0])
+
+
+def header_text(header):
+    """The fields of a header, as lines have them."""
+    src, dst = (".".join(map(str, (header >> at & 0xFFFFFFFF).to_bytes(4))) for at in (72, 40))
+    proto = header % 2**8
+    name = {1: "icmp", 6: "tcp", 17: "udp"}.get(proto, proto)
+    return f"{src} {dst} {header >> 24 & 65535} {header >> 8 & 65535} {name}"
 
 
 def word_text(word):
@@ -208,7 +218,7 @@ class Journal:
     def __init__(self, network):
         self.network = network
         self.lines = []
-        self.ports_left_by = []
+        self.leavings = []
         self.messages = []
         self.boots = []
         self.switches = []
@@ -228,8 +238,23 @@ class Journal:
 
     def meter_lines(self):
         """How many packets left by each port, of which none has fewer than one."""
-        counts = sorted(Counter(self.ports_left_by).items())
+        counts = sorted(Counter(port for port, _ in self.leavings).items())
         return [f"meter port {port} notes {count}" for port, count in counts]
+
+    def flow_lines(self):
+        """How many packets of each header left by each port: of the ports whose meter left, as each
+        had its last header; and then of the others."""
+        gone, ports = [], {port: Counter() for port in sorted(self.network.owner)}
+        for port, header in self.leavings:
+            if port in ports:
+                ports[port][header] += 1
+                if len(ports[port]) == MOST_HEADERS:
+                    gone.append((port, ports.pop(port)))
+        return [
+            f"flow port {port} {header_text(header)} packets {count}"
+            for port, counts in [*gone, *ports.items()]
+            for header, count in counts.items()
+        ]
 
     def has(self, message):
         """A message that was sent can be delivered, late or again, until it is forgotten."""
@@ -606,7 +631,7 @@ class World:
 
     def go_out(self, packet, port):
         self.say(f"out {packet.number} port {port}")
-        self.journal.ports_left_by.append(port)
+        self.journal.leavings.append((port, packet.header))
         packet.travels = False
 
     def arrive(self, packet):
@@ -906,8 +931,8 @@ class World:
 
 def main():
     args, net = sys.argv[1:], SOLO
-    quiet = "--quiet" in args
-    args = [arg for arg in args if arg != "--quiet"]
+    quiet, flows = "--quiet" in args, "--flows" in args
+    args = [arg for arg in args if arg not in ("--quiet", "--flows")]
     if "--net" in args:
         at = args.index("--net")
         with open(args[at + 1], "rb") as file:
@@ -923,6 +948,8 @@ def main():
     with open(schedule, newline="") as file:
         world.play([row for row in csv.reader(file) if row][1:])
     lines = [*world.journal.lines, *world.journal.meter_lines()]
+    if flows:
+        lines = world.journal.flow_lines()
     if quiet:
         lines.append("quiet yes" if world.is_quiet() else "quiet no")
     sys.stdout.write("".join(line + "\n" for line in lines))

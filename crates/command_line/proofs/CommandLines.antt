@@ -10,11 +10,13 @@ use Rattle.clap.specs.declared.parser.matches.ArgMatches.{ArgMatches}
 use Rattle.clap.proofs.WalkLemmas.{both}
 use Rattle.command_line.specs.Line.{line_app, net_and, none, options_of}
 use Rattle.command_line.specs.Named.{command_in, kind_name}
-use Rattle.command_line.specs.Grammar.{Line, command_by, line_of, load_from, load_number, load_of, print_of, replay_from}
+use Rattle.command_line.specs.Grammar.{Line, command_by, line_of, load_from, load_number, load_of, play_from, print_of}
 use Rattle.command_line.proofs.Parses.{Found, IsWithin, WalksTo, matches_found, reads, taken}
 use Rattle.command_line.specs.declared.grammar.Kind.{Kind}
 use Rattle.command_line.specs.Commands.{Command}
 use Rattle.command_line.specs.declared.grammar.Kind.TheVariants as kind
+use Rattle.command_line.specs.declared.report.Report.{Report}
+use Rattle.command_line.specs.declared.report.Report.TheVariants as report
 
 -- a name, and not too many
 abbrev pub HaveNames : List (List ℕ) → Type 0
@@ -24,13 +26,19 @@ passes : {X : Type 0} (b : Bool) (o : Option X) → is_some (cond b o None) ≡ 
 passes true o e = refl
 passes false o e = absurd (true≢false (sym e))
 
-replay_names : (line : Line) (names : List (List ℕ)) → is_some (replay_from line names) ≡ true
-    → HaveNames names
-replay_names line [] e = absurd (true≢false (sym e))
-replay_names line (s ∷ ps) e =
+play_names : (told : Report) (line : Line) (names : List (List ℕ))
+    → is_some (play_from told line names) ≡ true → HaveNames names
+play_names told line [] e = absurd (true≢false (sym e))
+play_names told line (s ∷ ps) e =
     let may = both (nat_le 1 (length ps)) _ (passes _ _ e) in
     let most : length ps ≤ 64 = leb-true (length ps) 64 may.1 in
     (omega arith, omega (arith, most))
+
+-- a command without the flag
+unflagged : (quiet : Bool) (o : Option Command) → is_some (cond quiet None o) ≡ true
+    → (quiet ≡ false) × (is_some o ≡ true)
+unflagged true o e = absurd (true≢false (sym e))
+unflagged false o e = (refl, e)
 
 print_names : (count : ℕ) (line : Line) → 0 < count → count < 3
     → is_some (print_of count line) ≡ true → HaveNames line.names
@@ -52,7 +60,9 @@ load_names line e = go (is_some line.net || line.quiet) line.names e
 -- each line of a command has names
 line_names : (k : Kind) (line : Line) → is_some (command_by (kind_name k) line) ≡ true
     → HaveNames line.names
-line_names kind.Replay line e = replay_names line line.names e
+line_names kind.Replay line e = play_names (report.Lines line.quiet) line line.names e
+line_names kind.Flows line e =
+    play_names report.Flows line line.names (unflagged line.quiet _ e).1
 line_names kind.Compile line e = print_names 1 line (omega arith) (omega arith) e
 line_names kind.Show line e = print_names 2 line (omega arith) (omega arith) e
 line_names kind.Load line e = load_names line e
@@ -81,6 +91,9 @@ load_within line e =
 line_within : (k : Kind) (line : Line) → is_some (command_by (kind_name k) line) ≡ true
     → IsWithin (options_of k) line.net line.quiet
 line_within kind.Replay line e = record { has_net = λ some. refl; has_flag = λ some. refl }
+line_within kind.Flows line e =
+    let none = (unflagged line.quiet _ e).0 in
+    record { has_net = λ some. refl; has_flag = λ some. sym none ∙ some }
 line_within kind.Compile line e = print_within 1 line e
 line_within kind.Show line e = print_within 2 line e
 line_within kind.Load line e = load_within line e

@@ -3,13 +3,14 @@ use Rattle.std.proofs.Common.{◌≡◌, true, false, Some, None, [], ◌∷◌,
 use Rattle.five_tuple.specs.Texts.{number_up_to}
 use Rattle.command_line.specs.Grammar.{command_of}
 use Rattle.command_line.specs.Commands.{Print, Replay}
+use Rattle.command_line.specs.declared.report.Report.TheVariants.{Flows, Lines}
 
 two_names : command_of (codes "replay" ∷ codes "s.csv" ∷ codes "p.csv" ∷ []) ≡ Some
     (Replay (record {
       schedule = codes "s.csv";
       policies = codes "p.csv" ∷ [];
       net = None;
-      quiet = false;
+      report = Lines false;
     }))
 two_names = refl
 
@@ -24,7 +25,7 @@ two_policies : command_of (codes "replay" ∷ codes "s.csv" ∷ codes "p.csv" �
       schedule = codes "s.csv";
       policies = codes "p.csv" ∷ codes "q.csv" ∷ [];
       net = None;
-      quiet = false;
+      report = Lines false;
     }))
 two_policies = refl
 
@@ -71,7 +72,7 @@ net_for_replay : command_of
       schedule = codes "s.csv";
       policies = codes "p.csv" ∷ [];
       net = Some (codes "n");
-      quiet = false;
+      report = Lines false;
     }))
 net_for_replay = refl
 
@@ -80,7 +81,7 @@ flag_behind_net : command_of (codes "replay" ∷ codes "s.csv" ∷ codes "p.csv"
       schedule = codes "s.csv";
       policies = codes "p.csv" ∷ [];
       net = Some (codes "n");
-      quiet = true;
+      report = Lines true;
     }))
 flag_behind_net = refl
 
@@ -102,3 +103,17 @@ no_leading_zero = refl
 
 no_flag_for_plans : command_of (codes "compile" ∷ codes "p.csv" ∷ codes "--quiet" ∷ []) ≡ None
 no_flag_for_plans = refl
+
+flows_too : command_of
+    (codes "flows" ∷ codes "s.csv" ∷ codes "p.csv" ∷ codes "--net=n" ∷ [])
+    ≡ Some (Replay (record {
+      schedule = codes "s.csv";
+      policies = codes "p.csv" ∷ [];
+      net = Some (codes "n");
+      report = Flows;
+    }))
+flows_too = refl
+
+no_quiet_flows : command_of
+    (codes "flows" ∷ codes "--quiet" ∷ codes "s.csv" ∷ codes "p.csv" ∷ []) ≡ None
+no_quiet_flows = refl

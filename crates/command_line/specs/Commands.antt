@@ -1,15 +1,15 @@
 -- First tier. The commands, by their arguments.
-use Rattle.std.specs.Prelude.{ℕ, Bool, Option, List, map, string_bytes, String, Vec}
+use Rattle.std.specs.Prelude.{ℕ, Option, List, map, string_bytes, String, Vec}
 use Rattle.std.specs.Global.{Global}
+use Rattle.command_line.specs.declared.report.Report.{Report}
 
--- `replay SCHEDULE POLICY ..`, on the network of a file, or on that of one switch
+-- `replay SCHEDULE POLICY ..` or `flows`; on the network of a file, or on that of one switch
 pub record ReplayCommand : Type 0 where
   pub schedule : List ℕ
   -- an update names one of them by its place, from 1
   pub policies : List (List ℕ)
   pub net : Option (List ℕ)
-  -- whether it is to say what the network came to, once it is quiet
-  pub quiet : Bool
+  pub report : Report
 
 -- `compile POLICY`, or `show POLICY SWITCH`; on the network of a file, or on that of one switch
 pub record PrintCommand : Type 0 where

@@ -4,6 +4,8 @@ use Rattle.std.specs.List.{prefix_len, starts_with}
 use Rattle.std.specs.Option.{option_map_or, option_or}
 use Rattle.five_tuple.specs.Texts.{number_up_to}
 use Rattle.command_line.specs.Commands.{Command, Replay, Print, Load}
+use Rattle.command_line.specs.declared.report.Report.{Report}
+use Rattle.command_line.specs.declared.report.Report.TheVariants as report
 
 -- an argument that may name a file or a switch: it isn't empty and doesn't begin with a dash
 abbrev pub is_file_name : List ℕ → Bool
@@ -97,24 +99,32 @@ line_of args =
 
 -- ---- the commands
 
--- a replay names at least one policy, and at most so many
+-- a play names at least one policy, and at most so many
 abbrev pub most_policies : ℕ
 most_policies = 64
 
 abbrev pub may_be_policies : ℕ → Bool
 may_be_policies count = nat_le 1 count && nat_le count most_policies
 
-abbrev pub replay_from : Line → List (List ℕ) → Option Command
-replay_from line [] = None
-replay_from line (schedule ∷ policies) =
+-- a play that is to tell this, of these names
+abbrev pub play_from : Report → Line → List (List ℕ) → Option Command
+play_from told line [] = None
+play_from told line (schedule ∷ policies) =
     if may_be_policies (length policies)
     then Some (Replay (record {
       schedule = schedule;
       policies = policies;
       net = line.net;
-      quiet = line.quiet;
+      report = told;
     }))
     else None
+
+abbrev pub replay_of : Line → Option Command
+replay_of line = play_from (report.Lines line.quiet) line line.names
+
+-- `flows` has no flag
+abbrev pub flows_of : Line → Option Command
+flows_of line = if line.quiet then None else play_from report.Flows line line.names
 
 abbrev pub print_from : Line → List (List ℕ) → Option Command
 print_from line (policy ∷ []) =
@@ -148,7 +158,8 @@ load_of line =
 -- the command of this name, with these arguments behind it
 abbrev pub command_by : List ℕ → Line → Option Command
 command_by name line =
-    if bytes_eq name (codes "replay") then replay_from line line.names
+    if bytes_eq name (codes "replay") then replay_of line
+    else if bytes_eq name (codes "flows") then flows_of line
     else if bytes_eq name (codes "compile") then print_of 1 line
     else if bytes_eq name (codes "show") then print_of 2 line
     else if bytes_eq name (codes "load") then load_of line

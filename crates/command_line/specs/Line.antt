@@ -29,6 +29,7 @@ pub data Options : Type 0 where
 
 abbrev pub options_of : Kind → Options
 options_of kind.Replay = net_and true
+options_of kind.Flows = net_and false
 options_of kind.Compile = net_and false
 options_of kind.Show = net_and false
 options_of kind.Load = none

@@ -27,7 +27,7 @@ replay_named args = record {
   schedule = args.schedule.now;
   policies = names_seen args.policies.items;
   net = net_named args.net;
-  quiet = args.quiet;
+  report = args.report;
 }
 
 abbrev pub print_named : PrintArgs → grammar_commands.PrintCommand
@@ -78,6 +78,7 @@ parts_seen parts = record {
 -- the argument that is this command
 abbrev pub kind_name : Kind → List ℕ
 kind_name kind.Replay = codes "replay"
+kind_name kind.Flows = codes "flows"
 kind_name kind.Compile = codes "compile"
 kind_name kind.Show = codes "show"
 kind_name kind.Load = codes "load"

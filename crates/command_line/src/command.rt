@@ -1,15 +1,16 @@
 ghost use Rattle.std.specs.Prelude.{◌≡◌, ◌≤◌, true, IfOk, IfErr, IfSome, Some, is_some, map, string_bytes, option_map};
 ghost use Rattle.command_line.specs.Named.{HasPolicies, NamesPolicies, command_named, kind_name, line_seen, names_seen, replay_named};
 ghost use Rattle.command_line.specs.Commands as grammar;
-ghost use Rattle.command_line.specs.Grammar.{command_by, command_of, load_from, replay_from};
+ghost use Rattle.command_line.specs.Grammar.{command_by, command_of, load_from, play_from};
 ghost use Rattle.five_tuple.specs.Texts.{number_up_to};
 
 use crate::grammar::{Kind, kind_of};
 use crate::read::{Line, read_line};
+use crate::report::Report;
 use five_tuple::read_number;
 use std::alloc::{AllocError, Global};
 
-/// The files of a replay.
+/// The files of a play, and what it is to tell.
 #[derive(Drop)]
 pub struct ReplayArgs<'a> {
     /// The name of the schedule's file.
@@ -18,8 +19,8 @@ pub struct ReplayArgs<'a> {
     pub policies: Vec<&'a str>,
     /// The name of the network's file; without it the network is that of one switch.
     pub net: Option<&'a str>,
-    /// Whether the replay is to say, behind all else, if the network is quiet.
-    pub quiet: bool,
+    /// What it is to tell.
+    pub report: Report,
 }
 
 /// What is to be printed: the plan of a policy, or the tables that it gives to a switch.
@@ -74,7 +75,11 @@ fn command_from<'a>(kind: Kind, line: Line<'a>) -> Command<'a>
     ensures named { NamesPolicies result }
 {
     match kind {
-        Kind::Replay => Command::Replay(replay_from(line)),
+        Kind::Replay => {
+            let quiet = line.quiet;
+            Command::Replay(replay_from(Report::Lines { quiet }, line))
+        }
+        Kind::Flows => Command::Replay(replay_from(Report::Flows, line)),
         Kind::Compile | Kind::Show => Command::Print(PrintArgs {
             policy: line.names[0],
             switch: line.names.get(1).copied(),
@@ -84,10 +89,11 @@ fn command_from<'a>(kind: Kind, line: Line<'a>) -> Command<'a>
     }
 }
 
-fn replay_from<'a>(line: Line<'a>) -> ReplayArgs<'a>
-    requires { is_some (replay_from (line_seen line) (names_seen line.names.items)) ≡ true }
+// The files of a line, of which a play is to tell this.
+fn replay_from<'a>(report: Report, line: Line<'a>) -> ReplayArgs<'a>
+    requires { is_some (play_from report (line_seen line) (names_seen line.names.items)) ≡ true }
     ensures args { Some (grammar.Replay (replay_named result))
-        ≡ replay_from (line_seen line.entry) (names_seen line.entry.names.items) }
+        ≡ play_from report (line_seen line.entry) (names_seen line.entry.names.items) }
     ensures few { HasPolicies result }
 {
     let mut names = line.names;
@@ -96,7 +102,7 @@ fn replay_from<'a>(line: Line<'a>) -> ReplayArgs<'a>
         schedule,
         policies: names,
         net: line.net,
-        quiet: line.quiet,
+        report,
     }
 }
 

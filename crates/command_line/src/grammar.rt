@@ -2,7 +2,8 @@
 ghost use Rattle.std.specs.Prelude.{◌≡◌, ◌≤◌, ◌⊎◌, true, IfSome, IfNone, None, drop, is_some, length, map, option_map, string_bytes};
 ghost use Rattle.std.specs.List.{prefix_len};
 ghost use Rattle.command_line.specs.Named.{command_in, cut_seen, kind_name, net_named, pair_seen, parts_seen};
-ghost use Rattle.command_line.specs.Grammar.{Line as Stated, command_by, command_of, cut_net, cut_options, cut_pair, cut_quiet, end_together, is_file_name, joined_net, line_from, line_of, load_of, net_and_quiet, print_of, quiet_and_net, replay_from};
+ghost use Rattle.command_line.specs.Grammar.{Line as Stated, command_by, command_of, cut_net, cut_options, cut_pair, cut_quiet, end_together, is_file_name, joined_net, line_from, line_of, load_of, net_and_quiet, print_of, play_from, quiet_and_net};
+ghost use Rattle.command_line.specs.declared.report.Report.{Report};
 
 use crate::command::{MAX_LOAD, MAX_POLICIES};
 use five_tuple::read_number;
@@ -11,6 +12,7 @@ use five_tuple::read_number;
 #[derive(Clone, Copy)]
 pub(crate) enum Kind {
     Replay,
+    Flows,
     Compile,
     Show,
     Load,
@@ -56,6 +58,7 @@ impl Kind {
     {
         match arg {
             "replay" => Some(Kind::Replay),
+            "flows" => Some(Kind::Flows),
             "compile" => Some(Kind::Compile),
             "show" => Some(Kind::Show),
             "load" => Some(Kind::Load),
@@ -69,6 +72,7 @@ impl Kind {
     {
         match self {
             Kind::Replay => takes_replay(parts),
+            Kind::Flows => !parts.quiet && takes_replay(parts),
             Kind::Compile => takes_print(1, parts),
             Kind::Show => takes_print(2, parts),
             Kind::Load => takes_load(parts),
@@ -76,9 +80,10 @@ impl Kind {
     }
 }
 
+// Whether the names are those of a play, whatever it is to tell.
 fn takes_replay(parts: &Parts<'_>) -> bool
-    ensures { result ≡
-        is_some (replay_from (parts_seen parts.now) (map string_bytes parts.now.names.now)) }
+    ensures { (report : Report) → result ≡
+        is_some (play_from report (parts_seen parts.now) (map string_bytes parts.now.names.now)) }
 {
     let [_schedule, policies @ ..] = parts.names else {
         return false;

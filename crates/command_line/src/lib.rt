@@ -9,5 +9,7 @@
 mod command;
 mod grammar;
 mod read;
+mod report;
 
 pub use command::{Command, MAX_LOAD, MAX_POLICIES, PrintArgs, ReplayArgs, read_command};
+pub use report::Report;

@@ -50,8 +50,9 @@ fn line_command<'a>(alloc: Global, kind: Kind) -> Result<Command<'a>, AllocError
 {
     match kind {
         Kind::Replay => replay_command(alloc),
-        Kind::Compile => print_command(alloc, "compile"),
-        Kind::Show => print_command(alloc, "show"),
+        Kind::Flows => unflagged_command(alloc, "flows"),
+        Kind::Compile => unflagged_command(alloc, "compile"),
+        Kind::Show => unflagged_command(alloc, "show"),
         Kind::Load => load_command(alloc),
     }
 }
@@ -66,7 +67,8 @@ fn replay_command<'a>(alloc: Global) -> Result<Command<'a>, AllocError>
     Ok(command.args_override_self(true))
 }
 
-fn print_command<'a>(alloc: Global, name: &'a str) -> Result<Command<'a>, AllocError>
+// A command that takes a network's option and no flag.
+fn unflagged_command<'a>(alloc: Global, name: &'a str) -> Result<Command<'a>, AllocError>
     ensures { IfOk result (λ command. app_of command ≡ app_with name.entry.now (net_and false)) }
 {
     let command = Command::new(alloc, name)
@@ -137,7 +139,7 @@ fn net_in<'a>(kind: Kind, matches: &ArgMatches<'a>) -> Option<&'a str>
         (first_value (found_of matches.now) (codes "net")) (net_named result) }
 {
     match kind {
-        Kind::Replay | Kind::Compile | Kind::Show => matches.get_str("net"),
+        Kind::Replay | Kind::Flows | Kind::Compile | Kind::Show => matches.get_str("net"),
         Kind::Load => None,
     }
 }
@@ -150,6 +152,6 @@ fn flag_in(kind: Kind, matches: &ArgMatches<'_>) -> bool
 {
     match kind {
         Kind::Replay => matches.get_flag("quiet"),
-        Kind::Compile | Kind::Show | Kind::Load => false,
+        Kind::Flows | Kind::Compile | Kind::Show | Kind::Load => false,
     }
 }

@@ -1,12 +1,13 @@
 //! `difane`: replays a schedule of packets against an access-control policy.
 //!
 //! This file only joins the proved top call to the system: files, standard output and standard
-//! error. At each port, from 0 to 63, a recorder notes the packets that leave.
+//! error. At each port, from 0 to 63, a meter notes the packets that leave: one that counts flows
+//! where the first argument is `flows`, and else a recorder.
 #![tactic(auto)]
 
-use difane_cli::{Meter, Recorder, Status, run, write_status};
+use difane_cli::{FlowMeter, Meter, Recorder, Status, run, write_status};
 use shelf::{DiskShelf, StdSink};
-use std::alloc::AllocError;
+use std::alloc::{AllocError, Global};
 use std::io::ErrorKind;
 use std::process::ExitCode;
 use std::rt::Env;
@@ -21,14 +22,31 @@ fn read_args<R: Env + AllocGlobal>(rt: &R) -> io::Result<Vec<String>> {
     Ok(args)
 }
 
-/// Does what the arguments ask, with a recorder for each port, and says how it ended. Where there
-/// is no memory for the recorders, it prints nothing.
-fn run_with(rt: HostRuntime, args: &Vec<String>) -> Result<Status, AllocError> {
-    let alloc = rt.alloc();
+/// With so many different headers a meter of `flows` leaves.
+const MOST_HEADERS: u32 = 4096;
+
+/// A meter for each port, as the first argument asks for it.
+fn make_meters(alloc: Global, args: &[String]) -> Result<Vec<Box<dyn Meter>>, AllocError> {
+    let counts_flows = match args.first() {
+        Some(word) => word.as_str() == "flows",
+        None => false,
+    };
     let mut meters: Vec<Box<dyn Meter>> = Vec::new(alloc);
     for port in 0..64 {
-        meters.push(Box::new(alloc, Recorder::new(alloc, port))?)?;
+        if counts_flows {
+            meters.push(Box::new(alloc, FlowMeter::new(alloc, port, MOST_HEADERS))?)?;
+        } else {
+            meters.push(Box::new(alloc, Recorder::new(alloc, port))?)?;
+        }
     }
+    Ok(meters)
+}
+
+/// Does what the arguments ask, with a meter for each port, and says how it ended. Where there is
+/// no memory for the meters, it prints nothing.
+fn run_with(rt: HostRuntime, args: &Vec<String>) -> Result<Status, AllocError> {
+    let alloc = rt.alloc();
+    let meters = make_meters(alloc, args)?;
     let mut errs = StdSink::new(rt.stderr());
     let mut out = StdSink::new(rt.stdout());
     let mut shelf = DiskShelf::new(rt);

@@ -32,7 +32,6 @@ use Rattle.shelf.specs.Shelf.{Files}
 use Rattle.difane_cli.specs.Inputs.{and_then, case_files, first_plan, inputs_of, plan_from, read_files, read_net, read_schedule}
 use Rattle.difane_cli.specs.Run.{IsReplayOf}
 use Rattle.command_line.specs.Commands.{ReplayCommand}
-use Rattle.difane_cli.specs.declared.report.Report.TheVariants as report
 use Rattle.difane_cli.specs.declared.status.Refusal.{Refusal}
 use Rattle.difane_cli.specs.Tasks.{IsNetOf}
 
@@ -130,7 +129,7 @@ pub asked_for : (args : ReplayCommand) (net : Net) (read : List PolicyFile)
     (events : List Event) (setting : Setting) → IsNetOf args.net net
     → setting ≡ setting_of net read → length read ≡ length args.policies
     → length events ≤ max_events → All (λ file. file_length file ≤ 2000) read → IsReplayOf args
-    (record { setting = setting; events = events; report = report.Lines args.quiet })
+    (record { setting = setting; events = events; report = args.report })
 asked_for args net read events setting named own many few short = record {
   net = subst (λ s. IsNetOf args.net s.net) (sym own) named;
   policies = ap (λ s. length s.files) own ∙ many;
@@ -155,7 +154,7 @@ inputs_from : (files : Files) (args : ReplayCommand) (net : Net) (read : List Po
     → inputs_of files args ≡ Ok (record {
       setting = setting_of net read;
       events = events;
-      report = report.Lines args.quiet;
+      report = args.report;
     })
 inputs_from files args net read events net_is events_are files_are planned =
     rw (net_is, events_are, files_are) (and_then_ok (first_plan args.policies net read) _ planned)
@@ -170,7 +169,7 @@ pub inputs_are : (known middle later : Option Files) (args : ReplayCommand) (net
     → ForSome later (λ files. read_files true ports files args.policies ≡ Ok read)
     → IsOk (first_plan args.policies net read) → setting ≡ setting_of net read
     → ForSome known (λ files. inputs_of files args
-    ≡ Ok (record { setting = setting; events = events; report = report.Lines args.quiet }))
+    ≡ Ok (record { setting = setting; events = events; report = args.report }))
 inputs_are known middle later args net read events setting count ports first second many mask
     net_is events_are files_are planned own = λ files is.
     let own_events =
@@ -180,5 +179,5 @@ inputs_are known middle later args net read events setting count ports first sec
     subst (λ (p : ℕ). read_files true p files args.policies ≡ Ok read) mask
     (files_are files (second ∙ is)) in
     inputs_from files args net read events (net_is files is) own_events own_files planned
-    ∙ ap (λ s. Ok (record { setting = s; events = events; report = report.Lines args.quiet }))
+    ∙ ap (λ s. Ok (record { setting = s; events = events; report = args.report }))
     (sym own)

@@ -14,6 +14,7 @@ use Rattle.shelf.specs.Shelf.{Files}
 use Rattle.shelf.specs.Sink.{SinkState}
 use Rattle.shelf.specs.declared.output.SinkError.{SinkError}
 use Rattle.shelf.specs.declared.output.SinkError.TheVariants as sink
+use Rattle.difane_cli.specs.FlowLines.{gone_by}
 use Rattle.difane_cli.specs.Texts.{play_text}
 use Rattle.difane_cli.specs.Verdict.{IsWhetherQuiet, IsVerdict, asks_quiet, is_asked}
 use Rattle.difane_cli.specs.Inputs.{known_task}
@@ -85,7 +86,8 @@ pub told : (command : Command) (files : Option Files) (inputs : Inputs) (journal
     → IsAnswer command files inputs journal full
     → given ≡ kept_by inputs.setting.net journal taken
     → IsVerdict (asks_quiet inputs.report) inputs.setting journal full said
-    → IsAfterText (play_text inputs.report inputs.setting.net journal full given said)
+    → IsAfterText (play_text inputs.report inputs.setting.net journal full
+    (gone_by inputs.setting.net journal taken) given said)
     (is_made inputs.report full) takes_memory before now written
     → PlayOutcome command files takes_memory (status_after written full) journal taken given before now
 told command files inputs journal full taken given said before now takes_memory

@@ -9,7 +9,8 @@ use Rattle.difane_cli.specs.Ending.{IsAfterWork, status_after}
 use Rattle.difane_cli.specs.Run.{IsPlayOf, MayWantMemory, RanOut, is_made}
 use Rattle.difane_cli.specs.Tasks.{Inputs}
 use Rattle.difane_cli.specs.Verdict.{asks_quiet, is_asked}
-use Rattle.difane_cli.specs.declared.report.Report.{Report}
+use Rattle.command_line.specs.declared.report.Report.{Report}
+use Rattle.command_line.specs.declared.report.Report.TheVariants as told
 use Rattle.difane_cli.specs.declared.status.Status.TheVariants as status
 use Rattle.command_line.specs.Commands.{Command}
 use Rattle.command_line.specs.Commands as asked
@@ -49,15 +50,24 @@ of_failed (Err sink.NoMemory) full is = absurd (cc is)
 wants_to_judge : (command : Command) (inputs : Inputs) (full : Option ℕ) → IsPlayOf command inputs
     → IsTrue (is_asked (asks_quiet inputs.report) full) → MayWantMemory (Some command)
 wants_to_judge (asked.Replay named) inputs None own is =
-    subst (λ (report : Report). IsTrue (asks_quiet report)) own.report is
+    inl (subst (λ (report : Report). IsTrue (asks_quiet report)) own.report is)
 wants_to_judge (asked.Replay named) inputs (Some row) own is = absurd (cc is)
 wants_to_judge (asked.Print named) inputs full own is = absurd own
 wants_to_judge (asked.Load n) inputs full own is = tt
 
+-- what is made in memory is that of a play that didn't stop full
+made_whole : (report : Report) (full : Option ℕ) → IsTrue (is_made report full)
+    → IsTrue (is_made report None)
+made_whole report None is = is
+made_whole (told.Lines quiet) (Some row) is = is
+made_whole told.Flows (Some row) is = absurd (cc is)
+made_whole told.Summary (Some row) is = absurd (cc is)
+
 wants_to_make : (command : Command) (inputs : Inputs) (full : Option ℕ) → IsPlayOf command inputs
     → IsTrue (is_made inputs.report full) → MayWantMemory (Some command)
 wants_to_make (asked.Replay named) inputs full own is =
-    absurd (cc (subst (λ (report : Report). IsTrue (is_made report full)) own.report is))
+    inr (made_whole named.report full
+    (subst (λ (report : Report). IsTrue (is_made report full)) own.report is))
 wants_to_make (asked.Print named) inputs full own is = absurd own
 wants_to_make (asked.Load n) inputs full own is = tt
 

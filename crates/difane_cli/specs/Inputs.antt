@@ -29,7 +29,7 @@ use Rattle.world.specs.Files.{first_policy}
 use Rattle.command_line.specs.Commands.{Command, PrintCommand, ReplayCommand}
 use Rattle.command_line.specs.Commands as asked
 use Rattle.difane_cli.specs.Codes.{first_change, missing_file, most_bytes, no_port, no_such_switch, too_long}
-use Rattle.difane_cli.specs.declared.report.Report.TheVariants as report
+use Rattle.command_line.specs.declared.report.Report.TheVariants as report
 use Rattle.difane_cli.specs.declared.status.Refusal.{Refusal}
 use Rattle.difane_cli.specs.Tasks.{Inputs, Printing, Task, Play, Print}
 
@@ -152,7 +152,7 @@ inputs_of files command =
     Ok (record {
       setting = setting_of net read;
       events = events;
-      report = report.Lines command.quiet;
+      report = command.report;
     })))))
 
 -- the policies of a load case, each in a file of its own

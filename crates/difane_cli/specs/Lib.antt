@@ -11,3 +11,4 @@ pub mod Ending
 pub mod Verdict
 pub mod Commands
 pub mod Exports
+pub mod FlowLines

@@ -19,13 +19,14 @@ use Rattle.packet_laws.specs.OnTheWay.{HeldOnTheWay}
 use Rattle.packet_laws.specs.Entries.{AreEntered, rows_played}
 use Rattle.schedule.specs.Case.{load_case}
 use Rattle.difane_cli.specs.Limits.{AreWithinLimits}
+use Rattle.difane_cli.specs.FlowLines.{gone_by}
 use Rattle.difane_cli.specs.Inputs.{case_inputs, known_task}
 use Rattle.difane_cli.specs.Texts.{play_text}
 use Rattle.difane_cli.specs.Verdict.{IsVerdict, asks_quiet, is_asked}
 use Rattle.command_line.specs.Commands.{Command, ReplayCommand}
 use Rattle.command_line.specs.Commands as asked
-use Rattle.difane_cli.specs.declared.report.Report.{Report}
-use Rattle.difane_cli.specs.declared.report.Report.TheVariants as report
+use Rattle.command_line.specs.declared.report.Report.{Report}
+use Rattle.command_line.specs.declared.report.Report.TheVariants as report
 use Rattle.difane_cli.specs.declared.status.Status.{Status}
 use Rattle.difane_cli.specs.Writes.{Wrote, WrotePart, Unplayed}
 use Rattle.difane_cli.specs.Prints.{PrintOutcome}
@@ -39,7 +40,7 @@ use Rattle.difane_cli.specs.declared.status.Status.TheVariants as status
 pub record IsReplayOf (command : ReplayCommand) (inputs : Inputs) : Type 0 where
   pub net : IsNetOf command.net inputs.setting.net
   pub policies : length inputs.setting.files ≡ length command.policies
-  pub report : inputs.report ≡ report.Lines command.quiet
+  pub report : inputs.report ≡ command.report
   pub limits : AreWithinLimits inputs
 
 -- the inputs are as a command asks for them: those of a replay, or the load case
@@ -93,7 +94,7 @@ pub record IsAnswer (command : Command) (files : Option Files) (inputs : Inputs)
 -- stopped full; the meters that were given back are those that stayed of the ones that were taken;
 -- and the output gained what is to be told. Of a replay this is the text of the journal, and where
 -- it didn't stop full the meters' lines, and with `--quiet` whether the network is quiet: where it
--- is, all have converged, on the newest version. Of a load case it is the summary, unless it did
+-- is, all have converged, on the newest version. Else flow records or a summary, unless it did
 pub record Played (command : Command) (files : Option Files) (full : Option ℕ)
     (journal : List Item) (taken given : List Seen) (before now : SinkState) : Type 0 where
   pub inputs : Inputs
@@ -101,8 +102,8 @@ pub record Played (command : Command) (files : Option Files) (full : Option ℕ)
   pub kept : given ≡ kept_by inputs.setting.net journal taken
   pub answer : Option Bool
   pub verdict : IsVerdict (asks_quiet inputs.report) inputs.setting journal full answer
-  pub written : Wrote (play_text inputs.report inputs.setting.net journal full given answer)
-      before now
+  pub written : Wrote (play_text inputs.report inputs.setting.net journal full
+      (gone_by inputs.setting.net journal taken) given answer) before now
 
 -- the same of either play, but that the output failed and gained a part of the text
 pub record CutShort (command : Command) (files : Option Files) (journal : List Item)
@@ -113,18 +114,18 @@ pub record CutShort (command : Command) (files : Option Files) (journal : List I
   pub kept : given ≡ kept_by inputs.setting.net journal taken
   pub answer : Option Bool
   pub verdict : IsVerdict (asks_quiet inputs.report) inputs.setting journal full answer
-  pub written : GainedPart before.bytes
-      (play_text inputs.report inputs.setting.net journal full given answer) now.bytes
+  pub written : GainedPart before.bytes (play_text inputs.report inputs.setting.net journal full
+      (gone_by inputs.setting.net journal taken) given answer) now.bytes
 
--- the summary, which a play that stopped full has none of, is made in memory before it is written;
--- lines aren't
+-- the summary and the flows, which a play that stopped full has none of, are made in memory before
+-- they are written; the journal's lines aren't
 abbrev pub is_made : Report → Option ℕ → Bool
 is_made (report.Lines quiet) full = false
-is_made report.Summary None = true
-is_made report.Summary (Some row) = false
+is_made _ None = true
+is_made _ (Some row) = false
 
 -- a play that didn't stop full wants memory behind it: to see whether the network is quiet, where
--- this is asked for, and for the summary
+-- this is asked for, and for what is made in memory
 abbrev pub WantsMemory : Report → Option ℕ → Type 0
 WantsMemory asked full = IsTrue (is_asked (asks_quiet asked) full) ⊎ IsTrue (is_made asked full)
 
@@ -140,8 +141,8 @@ pub record Unfinished (command : Command) (files : Option Files) (takes_memory :
   pub answer : Option Bool
   pub verdict : (answer ≡ None)
       ⊎ IsVerdict (asks_quiet inputs.report) inputs.setting journal full answer
-  pub written : WrotePart (play_text inputs.report inputs.setting.net journal full given answer)
-      before now
+  pub written : WrotePart (play_text inputs.report inputs.setting.net journal full
+      (gone_by inputs.setting.net journal taken) given answer) before now
 
 -- the journal, the meters and the output that a status of a play comes with; where nothing was
 -- played no meter is left, or, where memory ran out before the command was read, all are
@@ -167,20 +168,16 @@ abbrev pub Outcome : Option Command → Option Files → (takes_memory : Bool) �
     → (taken given : List Seen) → (before now : SinkState) → Type 0
 Outcome None files takes_memory status journal taken given before now =
     Unplayed journal before now
-Outcome (Some (asked.Replay args)) files takes_memory status journal taken given before now =
-    PlayOutcome (asked.Replay args) files takes_memory status journal taken given before now
 Outcome (Some (asked.Print args)) files takes_memory status journal taken given before now =
     PrintOutcome args files status journal before now
-Outcome (Some (asked.Load n)) files takes_memory status journal taken given before now =
-    PlayOutcome (asked.Load n) files takes_memory status journal taken given before now
+Outcome (Some command) files takes_memory status journal taken given before now =
+    PlayOutcome command files takes_memory status journal taken given before now
 
--- behind its play a command may want memory: to see whether the network is quiet, where it is to
--- say so, and for the summary of a load case. To write the lines of a play it wants none
+-- behind its play a command may want memory; to write the lines of a journal it wants none
 abbrev pub MayWantMemory : Option Command → Type 0
-MayWantMemory None = ⊥
-MayWantMemory (Some (asked.Replay args)) = IsTrue args.quiet
-MayWantMemory (Some (asked.Print args)) = ⊥
+MayWantMemory (Some (asked.Replay args)) = WantsMemory args.report None
 MayWantMemory (Some (asked.Load n)) = ⊤
+MayWantMemory _ = ⊥
 
 -- memory ran out in the output's own writes, if they take any. Or the output wasn't touched, and
 -- either the journal is empty, or the command is one that may want memory behind its play
@@ -193,5 +190,4 @@ RanOut command takes_memory journal before now =
 abbrev pub PlaysNothing : Option Command → Type 0
 PlaysNothing None = ⊤
 PlaysNothing (Some (asked.Print args)) = ⊤
-PlaysNothing (Some (asked.Replay args)) = ⊥
-PlaysNothing (Some (asked.Load n)) = ⊥
+PlaysNothing _ = ⊥

@@ -6,7 +6,7 @@ use Rattle.partition.specs.Plan.{Hosted}
 use Rattle.policy_rules.specs.declared.policy.Row.{Row}
 use Rattle.steps.specs.declared.step.Event.{Event}
 use Rattle.update_machine.specs.Setting.{Setting}
-use Rattle.difane_cli.specs.declared.report.Report.{Report}
+use Rattle.command_line.specs.declared.report.Report.{Report}
 
 pub record Inputs : Type 0 where
   pub setting : Setting

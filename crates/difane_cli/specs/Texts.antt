@@ -5,11 +5,13 @@ use Rattle.journal.specs.declared.item.Item.{Item}
 use Rattle.journal_text.specs.Lines.{journal_text}
 use Rattle.journal_reports.specs.Summary.{counts_text}
 use Rattle.meters.specs.Seen.{Seen}
+use Rattle.meters.specs.declared.flows.FlowRecord.{FlowRecord}
 use Rattle.net_file.specs.declared.net.Net.{Net}
 use Rattle.policy_rules.specs.declared.packet.Leaving.{Leaving}
-use Rattle.difane_cli.specs.declared.report.Report.{Report}
+use Rattle.command_line.specs.declared.report.Report.{Report}
+use Rattle.difane_cli.specs.FlowLines.{flows_text}
 use Rattle.difane_cli.specs.declared.status.Status.{Status}
-use Rattle.difane_cli.specs.declared.report.Report.TheVariants as report
+use Rattle.command_line.specs.declared.report.Report.TheVariants as report
 use Rattle.difane_cli.specs.declared.status.Status.TheVariants as status
 
 -- the line of a meter of this port that has so many notes, with its line feed
@@ -44,10 +46,12 @@ replay_text net journal None meters answer = journal_text net journal ++ last_li
 replay_text net journal (Some row) meters answer = journal_text net journal
 
 -- what a play is to tell
-abbrev pub play_text : Report → Net → List Item → Option ℕ → List Seen → Option Bool → List ℕ
-play_text (report.Lines quiet) net journal full meters answer =
+abbrev pub play_text : Report → Net → List Item → Option ℕ → List FlowRecord → List Seen
+    → Option Bool → List ℕ
+play_text (report.Lines quiet) net journal full gone meters answer =
     replay_text net journal full meters answer
-play_text report.Summary net journal full meters answer = counts_text journal full
+play_text report.Flows net journal full gone meters answer = flows_text full gone meters
+play_text report.Summary net journal full gone meters answer = counts_text journal full
 
 -- the line of a refused file, with its line feed
 abbrev pub input_line : List ℕ → ℕ → ℕ → List ℕ

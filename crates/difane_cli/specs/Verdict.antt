@@ -7,13 +7,13 @@ use Rattle.convergence_laws.specs.Stuck.{GetStuckApart}
 use Rattle.convergence_laws.specs.Updated.{IsUpdated}
 use Rattle.update_machine.specs.Quiet.{IsQuiet}
 use Rattle.update_machine.specs.Setting.{Setting}
-use Rattle.difane_cli.specs.declared.report.Report.{Report}
-use Rattle.difane_cli.specs.declared.report.Report.TheVariants as report
+use Rattle.command_line.specs.declared.report.Report.{Report}
+use Rattle.command_line.specs.declared.report.Report.TheVariants as report
 
 -- a report by lines may ask for it
 abbrev pub asks_quiet : Report → Bool
 asks_quiet (report.Lines quiet) = quiet
-asks_quiet report.Summary = false
+asks_quiet _ = false
 
 -- it is asked to by `--quiet`, at the end of a play that didn't stop full
 abbrev pub is_asked : Bool → Option ℕ → Bool

@@ -13,9 +13,8 @@ ghost use Rattle.command_line.specs.Commands.{Replay};
 
 use crate::networks::take_network;
 use crate::policies::{begin_world, check_file, check_first, check_policy};
-use crate::report::Report;
 use crate::status::{FileName, Refusal, Stop};
-use command_line::ReplayArgs;
+use command_line::{ReplayArgs, Report};
 use net_file::Net;
 use policy_rules::{Policy, PolicyFile};
 use schedule::ScheduleError;
@@ -216,6 +215,6 @@ pub fn read_inputs<F: Shelf>(
         events,
         net,
         world,
-        report: Report::Lines { quiet: args.quiet },
+        report: args.report,
     })
 }

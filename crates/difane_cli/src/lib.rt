@@ -13,6 +13,7 @@
 //! defined ones, and so are their lines. Each status but want of memory has its cause in a clause.
 #![tactic(auto)]
 
+mod flow_lines;
 mod inputs;
 mod laws;
 mod load;
@@ -21,12 +22,12 @@ mod networks;
 mod playing;
 mod policies;
 mod printing;
-mod report;
 mod status;
 mod task;
 mod top_call;
 mod verdict;
 
+pub use flow_export::FlowMeter;
 pub use laws::one_switch_laws;
 pub use meters::{Meter, Recorder};
 pub use status::{Ended, FileName, Finished, Refusal, Status, Stop, write_status};

@@ -5,8 +5,8 @@ ghost use Rattle.schedule.specs.Case.{load_case};
 
 use crate::inputs::PlayInputs;
 use crate::policies::{as_files, begin_world};
-use crate::report::Report;
 use crate::status::Stop;
+use command_line::Report;
 use net_file::port_laws;
 use schedule::load_case;
 use std::alloc::Global;

@@ -4,17 +4,18 @@ ghost use Rattle.std.specs.Option.{ForSome};
 ghost use Rattle.net_file.specs.Net.{IsNet};
 ghost use Rattle.shelf.specs.Shelf.{Files};
 ghost use Rattle.shelf.specs.SinkWrites.{IsAfterWrite};
-ghost use Rattle.difane_cli.specs.Exports.{AnswerLaws, AreReadyToPlay, EndsWork, IsAfterText, IsPlayOf, Play, PlayOutcome, RanOut, inputs_stated, is_made, known_task, last_lines, play_text, replay_text};
+ghost use Rattle.difane_cli.specs.Exports.{AnswerLaws, AreReadyToPlay, EndsWork, IsAfterText, IsPlayOf, Play, PlayOutcome, RanOut, flows_text, inputs_stated, is_made, known_task, last_lines, play_text, replay_text};
 ghost use Rattle.command_line.specs.Commands.{Command};
-ghost use Rattle.difane_cli.specs.declared.report.Report.TheVariants.{Summary};
+ghost use Rattle.command_line.specs.declared.report.Report.TheVariants.{Flows, Summary};
 ghost use Rattle.journal_reports.specs.Summary.{counts_text};
 ghost use Rattle.difane_cli.specs.declared.status.Status.TheVariants as status;
 
+use crate::flow_lines::flow_text;
 use crate::inputs::PlayInputs;
 use crate::meter_lines::write_meters;
-use crate::report::Report;
 use crate::status::{Ended, Status};
-use crate::verdict::{judge, write_answer};
+use crate::verdict::{asks_quiet, judge, write_answer};
+use command_line::Report;
 use convergence_laws::{
     packets_get_stuck_apart, quiet_networks_are_updated, quiet_networks_have_converged,
 };
@@ -66,7 +67,7 @@ pub fn play<M: Meter, K: Sink>(
             meters: Vec::new(alloc),
         };
     };
-    let Ok(answer) = judge(alloc, report.asks_quiet(), &played, &net) else {
+    let Ok(answer) = judge(alloc, asks_quiet(report), &played, &net) else {
         return Ended {
             status: Status::NoMemory,
             journal: played.journal,
@@ -102,12 +103,33 @@ fn write_report<M: Meter, K: Sink>(
 ) -> Result<(), SinkError>
     requires { IsNet net.now }
     ensures { IsAfterText (play_text report net.now played.now.journal played.now.full
-        (map M.seen played.now.meters.items) answer) (is_made report played.now.full) K.takes_memory
+        played.now.gone (map M.seen played.now.meters.items) answer)
+        (is_made report played.now.full) K.takes_memory
         (K.state out.old) (K.state out.new) result }
 {
     match report {
         Report::Lines { .. } => write_played(played, answer, net, out),
+        Report::Flows => write_flows(alloc, played, out),
         Report::Summary => write_summary(alloc, played, out),
+    }
+}
+
+/// Writes the flow records of a play, unless it stopped full.
+fn write_flows<M: Meter, K: Sink>(
+    alloc: Global,
+    played: &Played<M>,
+    out: &mut K,
+) -> Result<(), SinkError>
+    ensures { IsAfterText (flows_text played.now.full played.now.gone
+        (map M.seen played.now.meters.items)) (is_made Flows played.now.full) K.takes_memory
+        (K.state out.old) (K.state out.new) result }
+{
+    match played.full {
+        Some(_) => Ok(()),
+        None => match flow_text(alloc, &played.gone, &played.meters) {
+            Ok(text) => write_whole(out, &text),
+            Err(_) => Err(SinkError::NoMemory),
+        },
     }
 }
 

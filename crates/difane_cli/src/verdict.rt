@@ -3,13 +3,24 @@ ghost use Rattle.std.specs.Prelude.{◌≡◌, [], IfOk, IfErr, IsTrue, is_some}
 ghost use Rattle.net_file.specs.Net.{IsNet};
 ghost use Rattle.shelf.specs.SinkWrites.{IsAfterWrite};
 ghost use Rattle.update_machine.specs.Setting.{Setting};
-ghost use Rattle.difane_cli.specs.Exports.{IsWhetherQuiet, is_asked, quiet_line};
+ghost use Rattle.difane_cli.specs.Exports.{IsWhetherQuiet, asks_quiet, is_asked, quiet_line};
 
+use command_line::Report;
 use meters::Meter;
 use net_file::Net;
 use replay::Played;
 use shelf::{Sink, SinkError, write_whole};
 use std::alloc::{AllocError, Global};
+
+/// Whether a report is to say if the network is quiet.
+pub fn asks_quiet(report: Report) -> bool
+    ensures { result ≡ asks_quiet report }
+{
+    match report {
+        Report::Lines { quiet } => quiet,
+        Report::Flows | Report::Summary => false,
+    }
+}
 
 /// Whether the network is quiet, where this is asked for and the play didn't stop full.
 ///

@@ -3,7 +3,7 @@ _difane() {
     local word=${COMP_WORDS[COMP_CWORD]} command=${COMP_WORDS[1]}
     COMPREPLY=()
     if ((COMP_CWORD == 1)); then
-        mapfile -t COMPREPLY < <(compgen -W 'replay compile show load' -- "$word")
+        mapfile -t COMPREPLY < <(compgen -W 'replay compile show flows load' -- "$word")
     elif [[ $command == load ]]; then
         return
     elif [[ ${COMP_WORDS[COMP_CWORD - 1]} == --net ]]; then

@@ -5,7 +5,7 @@
 //! `examples` at the top of the repository leads there.
 #![tactic(auto)]
 
-use difane_cli::{Meter, Recorder, run};
+use difane_cli::{FlowMeter, Meter, Recorder, run};
 use shelf::{DiskShelf, MemSink, Shelf, ShelfError, StdSink, write_whole};
 use std::alloc::{AllocError, Global};
 use std::process::ExitCode;
@@ -21,12 +21,26 @@ struct Answer {
     errs: MemSink,
 }
 
-/// What the program answers, with a recorder for each port as its `main` has them.
-fn ask<F: Shelf>(alloc: Global, shelf: &mut F, args: &Vec<String>) -> Result<Answer, AllocError> {
+/// A meter for each port, as the program's `main` has them for these arguments.
+fn make_meters(alloc: Global, args: &[String]) -> Result<Vec<Box<dyn Meter>>, AllocError> {
+    let counts_flows = match args.first() {
+        Some(word) => word.as_str() == "flows",
+        None => false,
+    };
     let mut meters: Vec<Box<dyn Meter>> = Vec::new(alloc);
     for port in 0..64 {
-        meters.push(Box::new(alloc, Recorder::new(alloc, port))?)?;
+        if counts_flows {
+            meters.push(Box::new(alloc, FlowMeter::new(alloc, port, 4096))?)?;
+        } else {
+            meters.push(Box::new(alloc, Recorder::new(alloc, port))?)?;
+        }
     }
+    Ok(meters)
+}
+
+/// What the program answers.
+fn ask<F: Shelf>(alloc: Global, shelf: &mut F, args: &Vec<String>) -> Result<Answer, AllocError> {
+    let meters = make_meters(alloc, args)?;
     let mut out = MemSink::new(alloc, u64::MAX, Vec::new(alloc));
     let mut errs = MemSink::new(alloc, u64::MAX, Vec::new(alloc));
     let finished = run(alloc, args, shelf, &mut out, &mut errs, meters);

@@ -1,2 +1,4 @@
+pub mod Counted
 pub mod Counts
 pub mod Flows
+pub mod Lines

@@ -3,16 +3,21 @@
 //! A `FlowMeter` notes each leaving, as any meter does. Its records are the flows of what it noted:
 //! one for each different header, in the order in which they first left, with the number of packets
 //! that had it. It leaves as soon as it has so many headers as its maker says, so that the table of
-//! its counts stays small.
+//! its counts stays small. Where no meter of a network leaves, the records of all of them count what
+//! left it, for each port and header (`flow_laws`). `push_flows` prints records.
 //!
 //! ```text
 //! let meter = FlowMeter::new(alloc, 3, 4096); // at port 3
 //! meter.note(&leaving) // Leave with the 4,096th header
-//! meter.records()?.items() // a record for each header
+//! push_flows(&mut text, meter.records()?.items())?; // a line for each header
 //! ```
 #![tactic(auto)]
 
 mod flow_meter;
+mod laws;
+mod text;
 
 pub use flow_meter::FlowMeter;
+pub use laws::flow_laws;
 pub use meters::{FlowRecord, Flows, Leaving, Meter, Stay};
+pub use text::push_flows;

@@ -1,5 +1,5 @@
 -- What one item before those that were read makes of a switch and of its messages.
-use Rattle.std.proofs.Common.{ℕ, ◌≡◌, ◌<◌, ◌⊎◌, ◌&&◌, ◌||◌, ◌==◌, Bool, true, false, not, if◌then◌else◌, Option, Some, None, Result, Ok, Err, List, [], ◌∷◌, ◌++◌, length, get_or, length-append, refl, ap, sym, subst, ◌∙◌, arith, inl, inr}
+use Rattle.std.proofs.Common.{ℕ, ◌≡◌, ◌<◌, ◌⊎◌, ◌&&◌, ◌||◌, Bool, true, false, not, Option, Some, None, Result, Ok, Err, List, [], ◌∷◌, ◌++◌, length, get_or, length-append, refl, ap, sym, subst, ◌∙◌, arith, inl, inr}
 use Rattle.std.specs.Prelude.{◌↔◌, IfOk, IsTrue, IsFalse, OnOk, nat_lt, option_map}
 use Rattle.std.specs.List.{list_any}
 use Rattle.std.specs.Option.{option_map_or}
@@ -343,46 +343,6 @@ not_received setting journal after next marks rows now answer count right was on
 and_not : (b : Bool) → b ≡ (b && not false)
 and_not true = refl
 and_not false = refl
-
-and_false : (b : Bool) → false ≡ (b && not true)
-and_false true = refl
-and_false false = refl
-
-pub after_other : (marks : List Bool) (next : Item) (row : Traffic)
-    → ((number : ℕ) (message : Message) → next ≡ item.Sent number message → ⊥)
-    → ((s boot : ℕ) → next ≡ item.Booted s boot → ⊥) → IsAfter marks next row row true
-after_other marks (item.Sent number message) row no_sent no_boot =
-    absurd (no_sent number message refl)
-after_other marks (item.Booted s boot) row no_sent no_boot = absurd (no_boot s boot refl)
-after_other marks next row no_sent no_boot = record {
-  status = refl;
-  in_boot = and_not row.is_in_boot;
-  count = refl;
-  kept = λ count other. (
-    λ kept. inl kept,
-    λ either. elim either [ inl kept ↦ kept | inr none ↦ absurd none ],
-  );
-  met = (λ yes. tt, λ met. refl);
-}
-
-pub after_booted : (marks : List Bool) (s boot : ℕ) (row : Traffic) (now : Bool)
-    → now ≡ (if s == row.status.switch then false else row.is_in_boot)
-    → IsAfter marks (item.Booted s boot) row
-    (record { status = row.status; is_in_boot = now; buckets = row.buckets }) true
-after_booted marks s boot row now is = record {
-  status = refl;
-  in_boot = is ∙ by_test (s == row.status.switch);
-  count = refl;
-  kept = λ count other. (
-    λ kept. inl kept,
-    λ either. elim either [ inl kept ↦ kept | inr none ↦ absurd none ],
-  );
-  met = (λ yes. tt, λ met. refl);
-}
-  where
-    by_test : (b : Bool) → (if b then false else row.is_in_boot) ≡ (row.is_in_boot && not b)
-    by_test true = and_false row.is_in_boot
-    by_test false = and_not row.is_in_boot
 
 pub after_sent : {E : Type 0} (marks : List Bool) (number : ℕ) (message : Message)
     (row now : Traffic) (delivered : Bool) (result : Result Bool E)

@@ -8,7 +8,7 @@ const ONE_PACKET: &str = "event,arguments\npacket,b,10.1.1.1,9.9.9.9,5000,80,tcp
 const FILES: [(&str, &str); 3] = [("n.toml", PAIR), ("s.csv", ONE_PACKET), ("p.csv", NO_ROW)];
 
 /// Arguments off the grammar, whatever files there are.
-const OFF: [&[&str]; 18] = [
+const OFF: [&[&str]; 20] = [
     &[],
     &["load"],
     &["load", "0"],
@@ -34,6 +34,8 @@ const OFF: [&[&str]; 18] = [
     &["replay", "--quiet", "s.csv", "p.csv", "--quiet"],
     &["replay", "s.csv", "--quiet", "p.csv"],
     &["compile", "p.csv", "--quiet"],
+    &["flows", "s.csv", "p.csv", "--quiet"],
+    &["flows", "s.csv"],
 ];
 
 #[test]

@@ -3,6 +3,7 @@ ghost use Rattle.std.specs.Prelude.{[], length, nat_le};
 
 use crate::files::NO_ROW;
 use crate::runs::{ended, metered, recorded, shelf_of, sink};
+use difane_cli::FlowMeter;
 use meters::{FirstN, Flows, Leaving, Meter, Recorder, Stay};
 use std::alloc::AllocError;
 use std::test::Fail;
@@ -93,6 +94,47 @@ fn meters_leave_at_their_time(rt: HostRuntime) -> Result<(), Fail> {
     let (two, _, still) = metered(alloc, &args, shelf, sink(alloc), sink(alloc), meters)?;
     assert!(rt; ended(&two, 0, TWICE, ""));
     assert_eq!(rt; still, 1);
+    Ok(())
+}
+
+const TWO_HEADERS: &str = "event,arguments\npacket,s0,10.1.1.1,9.9.9.9,5000,80,tcp\n\
+    packet,s0,10.1.1.1,9.9.9.9,5000,80,tcp\npacket,s0,10.1.1.2,9.9.9.9,5000,80,tcp\n";
+
+const FIRST_FLOW: &str = "flow port 3 10.1.1.1 9.9.9.9 5000 80 tcp packets ";
+
+const SECOND_FLOW: &str = "flow port 3 10.1.1.2 9.9.9.9 5000 80 tcp packets 1\n";
+
+/// Flow records are told of a meter that left, as it left, and of those that stayed: here one that
+/// leaves with its first header or its second, or none, and in front of those that stay behind it.
+#[test]
+fn flows_are_told(rt: HostRuntime) -> Result<(), Fail> {
+    let alloc = rt.alloc();
+    let args = ["flows", "s.csv", "p.csv"];
+    let files = [("s.csv", TWO_HEADERS), ("p.csv", TWO_ROWS)];
+    let cases: [(&[u32], &[&str], usize); 4] = [
+        (&[1], &[FIRST_FLOW, "1\n"], 0),
+        (&[2], &[FIRST_FLOW, "2\n", SECOND_FLOW], 0),
+        (&[3], &[FIRST_FLOW, "2\n", SECOND_FLOW], 1),
+        (
+            &[3, 1],
+            &[FIRST_FLOW, "1\n", FIRST_FLOW, "2\n", SECOND_FLOW],
+            1,
+        ),
+    ];
+    for (mosts, pieces, left) in &cases {
+        let mut meters: Vec<Box<dyn Meter>> = Vec::new(alloc);
+        for most in *mosts {
+            meters.push(Box::new(alloc, FlowMeter::new(alloc, 3, *most))?)?;
+        }
+        let mut text = String::new(alloc);
+        for piece in *pieces {
+            text.push_str(piece)?;
+        }
+        let shelf = shelf_of(alloc, &files)?;
+        let (told, _, still) = metered(alloc, &args, shelf, sink(alloc), sink(alloc), meters)?;
+        assert!(rt; ended(&told, 0, text.as_str(), ""));
+        assert_eq!(rt; still, *left);
+    }
     Ok(())
 }
 

@@ -1,10 +1,13 @@
 use Rattle.std.proofs.Common.{ℕ, ◌∙◌, inr, Bool, IsTrue, List, ap, map, subst, sym}
+use Rattle.meters.specs.Gone.{gone_records}
 use Rattle.meters.specs.Meters.{kept_meters}
+use Rattle.meters.specs.declared.flows.FlowRecord.{FlowRecord}
 use Rattle.net_file.specs.declared.net.Net.{Net}
 use Rattle.replay.specs.Leavings.{left_in, kept_by}
 use Rattle.steps.specs.declared.step.Event.{Event}
 use Rattle.update_machine.specs.Full.{IsPlay}
 use Rattle.difane_cli.specs.Commands.{inputs_stated}
+use Rattle.difane_cli.specs.FlowLines.{gone_by}
 use Rattle.difane_cli.specs.Texts.{play_text}
 use Rattle.difane_cli.specs.Prints.{IsAfterText}
 use Rattle.difane_cli.specs.Verdict.{is_asked}
@@ -38,10 +41,15 @@ returns-clause-outcome g c = λ command files asked read.
     let kept = c.in-Ok.ensures.kept
     ∙ ap (λ (ports : ℕ). kept_meters ports (left_in journal) taken) c.port_mask.ensures
     ∙ ap (λ (net : Net). kept_by net journal taken) (sym c.requires.net) in
+    let gone = c.in-Ok.ensures.gone
+    ∙ ap (λ (ports : ℕ). gone_records ports (left_in journal) taken) c.port_mask.ensures in
     let after = subst (λ (net : Net).
-    IsAfterText (play_text inputs.report net journal full given said) in_memory takes_memory
-    before now written)
-    (sym c.requires.net) c.write_report-written.ensures in
+    IsAfterText (play_text inputs.report net journal full (gone_by net journal taken) given said)
+    in_memory takes_memory before now written)
+    (sym c.requires.net)
+    (subst (λ (records : List FlowRecord).
+    IsAfterText (play_text inputs.report c.args.inputs.net journal full records given said)
+    in_memory takes_memory before now written) gone c.write_report-written.ensures) in
     rw c.after.ensures (told command files inputs journal full taken given said before now
     takes_memory written answer kept verdict after)
 

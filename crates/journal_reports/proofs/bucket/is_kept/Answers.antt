@@ -1,23 +1,28 @@
-use Rattle.std.proofs.Common.{sym, subst, true≢false, arith}
+use Rattle.std.proofs.Common.{◌∙◌, ap, sym, subst, arith, length}
+use Rattle.std.proofs.lemmas.Bool.{ltb-true}
 use Rattle.journal_reports.specs.Buckets.{HasSaying}
+use Rattle.journal_reports.specs.declared.bucket.Bucket.{Bucket}
 use Rattle.journal_reports.proofs.Buckets.{kept_in_bucket, kept_nowhere}
 use Rattle.journal_reports.proofs.bucket.is_kept.Goals as goal
 
 pub returns-then-bucket-buckets : goal.returns-then-bucket-buckets
 returns-then-bucket-buckets c =
     let message = c.args.message.now in
+    let same = c.deref.ensures.value
+    ∙ ap (λ (bucket : Bucket). bucket.messages.items) (sym c.index-buckets-bucket.is) in
     let tells = kept_in_bucket c.args.buckets.now c.bucket_of-bucket.result
     c.index-buckets-bucket.result message c.bucket_of-bucket.ensures (omega arith)
     c.index-buckets-bucket.is in (
-      λ said. tells.0 (subst (λ ms. HasSaying ms message) c.deref.ensures.value
-          (c.is_said.ensures.0 said)),
-      λ kept. c.is_said.ensures.1 (subst (λ ms. HasSaying ms message) (sym c.deref.ensures.value)
-          (tells.1 kept)),
+      λ said. tells.0 (subst (λ ms. HasSaying ms message) same (c.is_said.ensures.0 said)),
+      λ kept. c.is_said.ensures.1 (subst (λ ms. HasSaying ms message) (sym same) (tells.1 kept)),
     )
 
 pub returns-else-bucket-buckets : goal.returns-else-bucket-buckets
 returns-else-bucket-buckets c = (
-  λ said. absurd (true≢false (sym said)),
+  λ said. absurd (omega (
+    arith,
+    ltb-true c.bucket_of-bucket.result (length c.args.buckets.now) said,
+  )),
   λ kept. absurd (kept_nowhere c.args.buckets.now c.bucket_of-bucket.result c.args.message.now
       c.bucket_of-bucket.ensures (omega arith) kept),
 )

@@ -1,0 +1,14 @@
+//! What a play is to tell.
+
+/// What a play is to tell.
+#[derive(Clone, Copy)]
+pub enum Report {
+    /// The lines of its journal and those of the meters, and whether the network is quiet, where
+    /// this is asked for.
+    Lines { quiet: bool },
+    /// How many packets of each header left each port, as the meters recorded it.
+    Flows,
+    /// How many packets, decisions by cached rules and messages there were, and what became of the
+    /// packets.
+    Summary,
+}

@@ -1,0 +1,25 @@
+-- What `flows` writes: the flow records of the meters that left, and then of those that stayed.
+use Rattle.std.specs.Prelude.{ℕ, Option, Some, None, List, [], ◌++◌}
+use Rattle.std.specs.List.{flat_map}
+use Rattle.flow_export.specs.Lines.{flow_lines}
+use Rattle.journal.specs.declared.item.Item.{Item}
+use Rattle.meters.specs.Gone.{gone_records}
+use Rattle.meters.specs.Meters.{records_of}
+use Rattle.meters.specs.Seen.{Seen}
+use Rattle.meters.specs.declared.flows.FlowRecord.{FlowRecord}
+use Rattle.net_file.specs.Owners.{port_mask}
+use Rattle.net_file.specs.declared.net.Net.{Net}
+use Rattle.replay.specs.Leavings.{left_in}
+
+-- the records of the meters that leave while the packets of this journal leave the network
+abbrev pub gone_by : Net → List Item → List Seen → List FlowRecord
+gone_by net journal meters = gone_records (port_mask net.switches) (left_in journal) meters
+
+-- the lines of those, and of the records of the meters that stayed
+abbrev pub flow_text : List FlowRecord → List Seen → List ℕ
+flow_text gone meters = flow_lines gone ++ flow_lines (flat_map records_of meters)
+
+-- a play that stopped full has none
+abbrev pub flows_text : Option ℕ → List FlowRecord → List Seen → List ℕ
+flows_text None gone meters = flow_text gone meters
+flows_text (Some row) gone meters = []

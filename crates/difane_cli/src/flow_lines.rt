@@ -1,0 +1,23 @@
+//! The text of flow records.
+ghost use Rattle.std.specs.Prelude.{◌≡◌, IfOk, map};
+ghost use Rattle.difane_cli.specs.FlowLines.{flow_text};
+
+use flow_export::push_flows;
+use meters::{Flows, Meter};
+use std::alloc::{AllocError, Global};
+
+/// A line for each record of the meters that left, and then of those that stayed.
+///
+/// # Errors
+/// Want of memory alone.
+pub fn flow_text<M: Meter>(alloc: Global, gone: &Flows, meters: &[M]) -> Result<Vec<u8>, AllocError>
+    ensures { IfOk result (λ text. text.items ≡ flow_text gone.now (map M.seen meters.now)) }
+{
+    let mut text = String::new(alloc);
+    push_flows(&mut text, gone.items())?;
+    for meter in meters {
+        let flows = meter.records()?;
+        push_flows(&mut text, flows.items())?;
+    }
+    Ok(text.into_bytes())
+}

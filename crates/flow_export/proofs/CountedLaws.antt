@@ -1,0 +1,165 @@
+-- What the records of flow meters count: each record of a meter that stays, and where none leaves,
+-- each record.
+use Rattle.std.proofs.Common.{ℕ, ◌≡◌, ◌∙◌, ◌+◌, ◌==◌, ◌&&◌, ◌||◌, ◌≤◌, suc, Bool, true, false, cond, not, All, List, [], ◌∷◌, ◌++◌, length, map, filter, refl, ap, sym, subst, arith}
+use Rattle.std.specs.List.{flat_map}
+use Rattle.std.proofs.lemmas.Grind.{flat_map-append}
+use Rattle.std.proofs.lemmas.List.{append-nil, length-append, length-map}
+use Rattle.std.proofs.lemmas.List.Elements.{All-append, All-cons, All-filter, All-head, All-nil, All-tail}
+use Rattle.std.proofs.lemmas.List.Sums.{count_by-le-length, length-filter, sum_by-cons}
+use Rattle.five_tuple.specs.HeaderNumbers.{header_eq}
+use Rattle.five_tuple.specs.declared.header.Header.{Header}
+use Rattle.base.specs.Masks.{has}
+use Rattle.meters.specs.Gone.{gone_after, gone_records, leaves_with, told_by}
+use Rattle.meters.specs.Meters.{PortLeavings, has_ended, is_over_within, kept_meters, leavings_of, meter_with, meters_after, records_of}
+use Rattle.meters.specs.Seen.{Seen}
+use Rattle.meters.specs.declared.flows.FlowRecord.{FlowRecord}
+use Rattle.meters.proofs.Keeping.{kept-append, kept-nothing, kept-one, kept_on}
+use Rattle.policy_rules.specs.declared.packet.Leaving.{Leaving}
+use Rattle.flow_export.specs.Counted.{FlowLaws, IsCounted, IsNewMeter, NoneLeaves, left_with}
+use Rattle.flow_export.specs.Flows.{flows, headers_of, packets_of}
+
+-- ---- a meter that stays
+
+one_more : (port : ℕ) (h : Header) (one : ℕ × Leaving) (rest : List (ℕ × Leaving)) (count : ℕ)
+    → (here : Bool) → packets_of (map (λ (o : ℕ × Leaving). o.1) rest) h ≡ count
+    → packets_of (map (λ (o : ℕ × Leaving). o.1) (cond here (one ∷ rest) rest)) h
+    ≡ cond (here && header_eq one.1.header h) 1 0 + count
+one_more port h one rest count true is =
+    sum_by-cons (λ (two : Leaving). cond (header_eq two.header h) 1 0) one.1
+    (map (λ (o : ℕ × Leaving). o.1) rest)
+    ∙ ap (λ n. cond (header_eq one.1.header h) 1 0 + n) is
+one_more port h one rest count false is = omega (arith, is)
+
+packets_are : (port : ℕ) (h : Header) (left : PortLeavings)
+    → packets_of (leavings_of port left) h ≡ left_with left port h
+packets_are port h [] = refl
+packets_are port h (one ∷ left) =
+    one_more port h one (filter (λ o. o.0 == port) left) (left_with left port h) (one.0 == port)
+    (packets_are port h left)
+    ∙ sym (sum_by-cons (λ (two : ℕ × Leaving). cond ((two.0 == port) && header_eq two.1.header h) 1 0)
+    one left)
+
+all_counted : (port : ℕ) (left : PortLeavings) (headers : List Header)
+    → All (IsCounted left) (map (λ h.
+    record { port = port; header = h; packets = packets_of (leavings_of port left) h }) headers)
+all_counted port left [] = All-nil (IsCounted left)
+all_counted port left (h ∷ headers) =
+    All-cons (IsCounted left) _ _ (packets_are port h left) (all_counted port left headers)
+
+told_counted : (most : ℕ) (left : PortLeavings) (meter : Seen) → IsNewMeter most meter
+    → All (IsCounted left) (records_of (meter_with (leavings_of meter.port left) meter))
+told_counted most left meter new =
+    let more = leavings_of meter.port left in
+    let is : records_of (meter_with more meter) ≡ flows meter.port more =
+    ap (λ held. meter.recorded (held ++ more)) new.empty ∙ new.kind.recorded more in
+    subst (All (IsCounted left)) (sym is)
+    (all_counted meter.port left (headers_of more))
+
+one_counted : (most : ℕ) (left : PortLeavings) (meter : Seen) (over : Bool) → IsNewMeter most meter
+    → All (IsCounted left)
+    (flat_map records_of (cond over [] (meter_with (leavings_of meter.port left) meter ∷ [])))
+one_counted most left meter true new = All-nil (IsCounted left)
+one_counted most left meter false new =
+    subst (All (IsCounted left))
+    (sym (append-nil (records_of (meter_with (leavings_of meter.port left) meter))))
+    (told_counted most left meter new)
+
+kept_counted : (most : ℕ) (left : PortLeavings) (meters : List Seen) → All (IsNewMeter most) meters
+    → All (IsCounted left) (flat_map records_of (meters_after left meters))
+unfolding meters_after
+kept_counted most left [] new = All-nil (IsCounted left)
+kept_counted most left (meter ∷ meters) new =
+    let first = kept-one left meter in
+    let over = is_over_within (leavings_of meter.port left) meter in
+    subst (λ (all : List Seen). All (IsCounted left) (flat_map records_of all))
+    (sym (kept-append left (meter ∷ []) meters))
+    (subst (All (IsCounted left))
+    (sym (flat_map-append records_of (meters_after left (meter ∷ [])) (meters_after left meters)))
+    (All-append (IsCounted left) _ _
+    (subst (λ (all : List Seen). All (IsCounted left) (flat_map records_of all)) (sym first)
+    (one_counted most left meter over (All-head (IsNewMeter most) meter meters new)))
+    (kept_counted most left meters (All-tail (IsNewMeter most) meter meters new))))
+
+-- ---- where none leaves
+
+few_after : (left : PortLeavings) (meters : List Seen)
+    → length (meters_after left meters) ≤ length meters
+unfolding meters_after
+few_after left meters =
+    let test = λ (meter : Seen). not (is_over_within (leavings_of meter.port left) meter) in
+    omega (
+      arith,
+      length-map (filter test meters) (λ (m : Seen). meter_with (leavings_of m.port left) m),
+      length-filter test meters,
+      count_by-le-length test meters,
+    )
+
+over_is : (one : ℕ × Leaving) (meter : Seen) (here : Bool)
+    → (here && has_ended (meter_with (one.1 ∷ []) meter))
+    ≡ is_over_within (map (λ (o : ℕ × Leaving). o.1) (cond here (one ∷ []) [])) meter
+over_is one meter false = refl
+over_is one meter true = sym (or_false (has_ended (meter_with (one.1 ∷ []) meter)))
+  where
+    or_false : (b : Bool) → (b || false) ≡ b
+    or_false true = refl
+    or_false false = refl
+
+module _ (one : ℕ × Leaving) where
+  silent : (meter : Seen) (meters : List Seen) (leaves : Bool) → leaves_with one meter ≡ leaves
+      → length (cond leaves [] (meter_with (leavings_of meter.port (one ∷ [])) meter ∷ [])
+      ++ meters_after (one ∷ []) meters) ≡ suc (length meters)
+      → (told_by one meter ≡ []) × (length (meters_after (one ∷ []) meters) ≡ length meters)
+  silent meter meters true is long =
+      absurd (omega (arith, long, few_after (one ∷ []) meters))
+  silent meter meters false is long = (
+    ap (λ leaves. cond leaves (records_of (meter_with (one.1 ∷ []) meter)) []) is,
+    omega (arith, long),
+  )
+
+  none_told : (meters : List Seen) → length (meters_after (one ∷ []) meters) ≡ length meters
+      → flat_map (told_by one) meters ≡ []
+  none_told [] long = refl
+  none_told (meter ∷ meters) long =
+      let first = ap (λ over. cond over []
+      (meter_with (leavings_of meter.port (one ∷ [])) meter ∷ []))
+      (sym (over_is one meter (one.0 == meter.port))) in
+      let now = silent meter meters (leaves_with one meter) refl
+      (ap length (sym (kept-append (one ∷ []) (meter ∷ []) meters
+      ∙ ap (λ some. some ++ meters_after (one ∷ []) meters)
+      (kept-one (one ∷ []) meter ∙ first))) ∙ long) in
+      ap (λ told. told ++ flat_map (told_by one) meters) now.0 ∙ none_told meters now.1
+
+none_gone : (left : PortLeavings) (meters : List Seen)
+    → length (meters_after left meters) ≡ length meters → gone_after left meters ≡ []
+none_gone [] meters long = refl
+none_gone (one ∷ left) meters long =
+    let now = meters_after (one ∷ []) meters in
+    let last : length (meters_after left now) ≡ length meters =
+    ap length (sym (kept_on (one ∷ []) left meters)) ∙ long in
+    let first = few_after (one ∷ []) meters in
+    let more = few_after left now in
+    ap (λ told. told ++ gone_after left now) (none_told one meters (omega (arith, last, first, more)))
+    ∙ none_gone left now (omega (arith, last, first, more))
+
+-- ---- the laws
+
+module _ (most ports : ℕ) (left : PortLeavings) (meters : List Seen) where
+  abbrev own : List Seen
+  own = filter (λ meter. has ports meter.port) meters
+
+  stayed : All (IsNewMeter most) meters
+      → All (IsCounted left) (flat_map records_of (kept_meters ports left meters))
+  stayed new =
+      kept_counted most left own
+      (All-filter (λ meter. has ports meter.port) (IsNewMeter most) meters new)
+
+  counted : All (IsNewMeter most) meters → NoneLeaves ports left meters
+      → All (IsCounted left) (gone_records ports left meters
+      ++ flat_map records_of (kept_meters ports left meters))
+  counted new none =
+      subst (λ (gone : List FlowRecord). All (IsCounted left) (gone
+      ++ flat_map records_of (kept_meters ports left meters)))
+      (sym (none_gone left own (none ∙ ap length (kept-nothing own)))) (stayed new)
+
+pub laws_hold : FlowLaws
+laws_hold = record { stayed = stayed; counted = counted }

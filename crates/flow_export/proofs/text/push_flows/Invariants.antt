@@ -1,0 +1,9 @@
+use Rattle.std.specs.Prelude.{◌++◌}
+use Rattle.std.specs.String.{string_bytes}
+use Rattle.std.proofs.Common.{◌≡◌, take}
+use Rattle.flow_export.specs.Lines.{flow_lines}
+use Rattle.flow_export.proofs.text.push_flows.Given as goal
+
+abbrev pub invariant-loop-record : goal.invariant-loop-record
+invariant-loop-record l =
+    string_bytes l.text ≡ string_bytes l.fn.text ++ flow_lines (take l.record-index l.records)

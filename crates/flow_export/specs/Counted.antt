@@ -1,0 +1,40 @@
+-- What the records of flow meters count of the packets that left in a network.
+use Rattle.std.specs.Prelude.{ℕ, ◌≡◌, ◌==◌, ◌&&◌, All, List, [], ◌++◌, count_by, length}
+use Rattle.std.specs.List.{flat_map}
+use Rattle.five_tuple.specs.HeaderNumbers.{header_eq}
+use Rattle.five_tuple.specs.declared.header.Header.{Header}
+use Rattle.meters.specs.Gone.{gone_records}
+use Rattle.meters.specs.Meters.{PortLeavings, kept_meters, records_of}
+use Rattle.meters.specs.Seen.{Seen}
+use Rattle.meters.specs.declared.flows.FlowRecord.{FlowRecord}
+use Rattle.flow_export.specs.Flows.{IsFlowMeter}
+
+-- a flow meter that holds nothing, and leaves with so many headers
+pub record IsNewMeter (most : ℕ) (meter : Seen) : Type 0 where
+  pub kind : IsFlowMeter meter.port most meter
+  pub empty : meter.held ≡ []
+
+-- how many packets left by the port with the header
+abbrev pub left_with : PortLeavings → ℕ → Header → ℕ
+left_with left port header =
+    count_by (λ one. (one.0 == port) && header_eq one.1.header header) left
+
+-- the record counts all packets that left by its port with its header
+abbrev pub IsCounted : PortLeavings → FlowRecord → Type 0
+IsCounted left flow = flow.packets ≡ left_with left flow.port flow.header
+
+-- of meters in a network with these ports none leaves
+abbrev pub NoneLeaves : ℕ → PortLeavings → List Seen → Type 0
+NoneLeaves ports left meters =
+    length (kept_meters ports left meters) ≡ length (kept_meters ports [] meters)
+
+-- each record of a meter that stays counts all such packets; and where none leaves, each record
+-- that there is does
+pub record FlowLaws : Type 0 where
+  pub stayed : (most ports : ℕ) (left : PortLeavings) (meters : List Seen)
+      → All (IsNewMeter most) meters
+      → All (IsCounted left) (flat_map records_of (kept_meters ports left meters))
+  pub counted : (most ports : ℕ) (left : PortLeavings) (meters : List Seen)
+      → All (IsNewMeter most) meters → NoneLeaves ports left meters
+      → All (IsCounted left) (gone_records ports left meters
+      ++ flat_map records_of (kept_meters ports left meters))

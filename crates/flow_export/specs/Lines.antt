@@ -1,0 +1,13 @@
+-- The lines of flow records.
+use Rattle.std.specs.Prelude.{ℕ, List, ◌++◌, codes, decimal}
+use Rattle.std.specs.List.{flat_map}
+use Rattle.five_tuple.specs.Printing.{fields_text}
+use Rattle.meters.specs.declared.flows.FlowRecord.{FlowRecord}
+
+-- the line of a record, with its line feed
+abbrev pub flow_line : FlowRecord → List ℕ
+flow_line flow = codes "flow port " ++ decimal flow.port ++ codes " "
+    ++ fields_text flow.header.fields ++ codes " packets " ++ decimal flow.packets ++ codes "\n"
+
+abbrev pub flow_lines : List FlowRecord → List ℕ
+flow_lines records = flat_map flow_line records
