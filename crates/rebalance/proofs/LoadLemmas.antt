@@ -186,7 +186,8 @@ total-le n sizes weights rooms backups P settled =
     by_case s below (suc room) is =
         let some : cond (not (eqb (get_or rooms s 0) 0)) (greatest_traffic n weights P) 0
         ≡ greatest_traffic n weights P =
-        ap (λ r. cond (not (eqb r 0)) (greatest_traffic n weights P) 0) is in
+        ap (λ b. cond (not b) (greatest_traffic n weights P) 0)
+        (ne_eqb (get_or rooms s 0) 0 (λ same. absurd (omega (arith, same, is)))) in
         omega (arith, some, traffic-le n weights P s below)
 
 some_of : (n : ℕ) → eqb n 0 ≡ false → 0 < n

@@ -110,6 +110,31 @@ carried-room t held loads P done p left loaded s =
     part_le true n = omega arith
     part_le false n = omega arith
 
+-- ---- what is proposed
+
+-- a spread that isn't lower is none, since there is no other one
+pub kept_by_peak : (sizes weights rooms : List ℕ) (backups : ℕ) (old P : List (List ℕ))
+    → IsSpread sizes weights rooms backups P → peak weights old ≤ peak weights P
+    → IsKept sizes weights rooms backups old old
+kept_by_peak sizes weights rooms backups old P spread most = record {
+  same = refl;
+  none = λ other is.
+      let same : P ≡ other = same_hosted (spreading sizes weights rooms backups) P other
+      (turns_from_spread sizes weights rooms backups P spread)
+      (turns_from_spread sizes weights rooms backups other is) in
+      subst (λ Q. peak weights old ≤ peak weights Q) same most;
+}
+
+-- where a partition is refused there is none
+pub kept_by_lack : (sizes weights rooms : List ℕ) (backups p : ℕ) (old : List (List ℕ))
+    → FindsFewer sizes weights rooms backups p → IsKept sizes weights rooms backups old old
+kept_by_lack sizes weights rooms backups p old fewer = record {
+  same = refl;
+  none = λ other is. absurd (hosted_or_refused (spreading sizes weights rooms backups) p other
+      (turns_from_spread sizes weights rooms backups other is)
+      (turns_from_fewer sizes weights rooms backups p fewer));
+}
+
 -- ---- the laws
 
 proposed-fits : (sizes weights rooms : List ℕ) (backups : ℕ) (old new : List (List ℕ))

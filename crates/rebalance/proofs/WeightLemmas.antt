@@ -1,12 +1,13 @@
 -- What one more item of a journal adds to the weights.
 use Rattle.std.specs.Prelude.{option_to_list, unwrap_or, count_by, filter_map}
 use Rattle.std.specs.Option.{option_or}
-use Rattle.std.proofs.Common.{ℕ, ◌≡◌, ◌∙◌, ◌+◌, ◌<◌, ◌≤◌, cond, eqb, Option, Some, None, List, [], ◌∷◌, ◌++◌, length, map, get_or, refl, ap, sym, take, arith, zero-add}
-use Rattle.std.specs.List.{range_with_len}
+use Rattle.std.proofs.Common.{ℕ, zero, suc, inl, inr, ◌≡◌, ◌∙◌, ◌+◌, ◌<◌, ◌≤◌, cond, eqb, Option, Some, None, List, [], ◌∷◌, ◌++◌, length, map, get_or, refl, ap, sym, take, arith, zero-add}
+use Rattle.std.specs.List.{range_with_len, sum, sum_by}
+use Rattle.std.proofs.lemmas.Bool.{cases_eq, eq-eqb, ne_eqb}
 use Rattle.std.proofs.lemmas.List.{get_or_default, same_lists, take_more}
 use Rattle.std.proofs.lemmas.List.Elements.{filter_map-append}
 use Rattle.std.proofs.lemmas.List.FromFn.{get_or-map-range_with_len, length-map-range_with_len}
-use Rattle.std.proofs.lemmas.List.Sums.{count_by-le-length, sum_by-append}
+use Rattle.std.proofs.lemmas.List.Sums.{count_by-le-length, sum_by-append, sum-map, sum_by-cons}
 use Rattle.journal.specs.declared.item.Item.{Item}
 use Rattle.update_machine.specs.Folds.{last_given}
 use Rattle.update_machine.specs.Marks.{current_mark, gives_current}
@@ -114,3 +115,87 @@ weights-are journal parts numbers len each =
     (omega (arith, len, length-map-range_with_len of 0 parts))
     (λ k d within. get_or_default numbers k d 0 within ∙ each k (omega (arith, within, len))
     ∙ sym (get_or-map-range_with_len of 0 parts k k d (omega (arith, within, len)) (zero-add k)))
+
+-- ---- all weights
+
+abbrev is_at : ℕ → ℕ → ℕ
+is_at x p = cond (eqb p x) 1 0
+
+-- of places that begin here, none below is among them
+none_below : (a n x : ℕ) → x < a → sum_by (is_at x) (range_with_len a n) ≡ 0
+none_below a zero x below = refl
+none_below a (suc n) x below =
+    let head : is_at x a ≡ 0 = ap (λ b. cond b 1 0)
+    (ne_eqb a x (λ same. absurd (omega (arith, same, below)))) in
+    omega (
+      arith,
+      sum_by-cons (is_at x) a (range_with_len (a + 1) n),
+      head,
+      none_below (a + 1) n x (omega (arith, below)),
+    )
+
+-- one of them at most is a given one
+one_place : (a n x : ℕ) → sum_by (is_at x) (range_with_len a n) ≤ 1
+one_place a zero x = omega arith
+one_place a (suc n) x =
+    elim (cases_eq a x) [
+      | inl same ↦
+          let head : is_at x a ≡ 1 = ap (λ b. cond b 1 0) (eq-eqb a x same) in
+          omega (
+            arith,
+            sum_by-cons (is_at x) a (range_with_len (a + 1) n),
+            head,
+            none_below (a + 1) n x (omega (arith, same)),
+          )
+      | inr other ↦
+          let head : is_at x a ≡ 0 = ap (λ b. cond b 1 0) (ne_eqb a x other) in
+          omega (
+            arith,
+            sum_by-cons (is_at x) a (range_with_len (a + 1) n),
+            head,
+            one_place (a + 1) n x,
+          )
+    ]
+
+-- how often each place is among these
+abbrev times : List ℕ → ℕ → ℕ
+times xs p = sum_by (λ x. cond (eqb p x) 1 0) xs
+
+times_more : (x : ℕ) (xs places : List ℕ)
+    → sum_by (times (x ∷ xs)) places ≡ sum_by (is_at x) places + sum_by (times xs) places
+times_more x xs [] = refl
+times_more x xs (p ∷ ps) =
+    omega (
+      arith,
+      sum_by-cons (times (x ∷ xs)) p ps,
+      sum_by-cons (times xs) p ps,
+      sum_by-cons (is_at x) p ps,
+      sum_by-cons (λ y. cond (eqb p y) 1 0) x xs,
+      times_more x xs ps,
+    )
+
+times_none : (places : List ℕ) → sum_by (times []) places ≡ 0
+times_none [] = refl
+times_none (p ∷ ps) = omega (arith, sum_by-cons (times []) p ps, times_none ps)
+
+-- each of these is at one place at most
+counted_once : (xs places : List ℕ) → ((x : ℕ) → sum_by (is_at x) places ≤ 1)
+    → sum_by (times xs) places ≤ length xs
+counted_once [] places once = omega (arith, times_none places)
+counted_once (x ∷ xs) places once =
+    omega (arith, times_more x xs places, once x, counted_once xs places once)
+
+-- no more than the items of the journal
+pub weights-few : (journal : List Item) (parts : ℕ)
+    → sum (weights_of journal parts) ≤ length journal
+unfolding weight
+weights-few journal parts =
+    let asked = all_asked (current_mark journal) journal in
+    let total : sum (weights_of journal parts) ≡ sum_by (times asked) (range_with_len 0 parts) =
+    sum-map (weight journal) (range_with_len 0 parts) in
+    omega (
+      arith,
+      total,
+      counted_once asked (range_with_len 0 parts) (one_place 0 parts),
+      length-kept (asked_in (current_mark journal)) journal,
+    )

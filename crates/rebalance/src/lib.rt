@@ -20,11 +20,13 @@
 mod laws;
 mod loading;
 mod peaks;
+mod proposing;
 mod spreading;
 mod weighing;
 
 pub use laws::spread_laws;
 pub use peaks::{bound, peak};
 pub use placement::NoRoom;
+pub use proposing::proposed;
 pub use spreading::spread;
 pub use weighing::weights;

@@ -11,7 +11,7 @@ const SWITCHES: usize = 64;
 /// no memory.
 pub fn peak(weights: &[u64], targets: &[Targets]) -> u64
     requires each { length targets.now ≡ length weights.now }
-    requires small { sum weights.now < 2 ^ 63 }
+    requires small { sum weights.now < 2 ^ 64 }
     ensures { result ≡ peak weights.now targets.now }
 {
     let mut carried = [0; SWITCHES];
@@ -23,7 +23,7 @@ pub fn peak(weights: &[u64], targets: &[Targets]) -> u64
 /// share of all weights for each switch that has any room; 0 where none has. It takes no memory.
 #[tactic(auto, unfolding(crate::specs::Loads::bound))]
 pub fn bound(weights: &[u64], rooms: &[u32]) -> u64
-    requires { sum weights.now < 2 ^ 63 }
+    requires { sum weights.now < 2 ^ 64 }
     ensures { result ≡ bound weights.now rooms.now }
 {
     let usable = usable_rooms(rooms) as u64;
@@ -37,7 +37,7 @@ pub fn bound(weights: &[u64], rooms: &[u32]) -> u64
 fn carry(carried: &mut [u64], weights: &[u64], targets: &[Targets])
     requires none { (s : ℕ) → slice_index carried.old s ≡ 0 }
     requires each { length targets.now ≡ length weights.now }
-    requires small { sum weights.now < 2 ^ 63 }
+    requires small { sum weights.now < 2 ^ 64 }
     ensures { (s : ℕ) → s < length carried.old
         → slice_index carried.new s ≡ traffic weights.now targets.now s }
 {
@@ -68,7 +68,7 @@ fn greatest(numbers: &[u64]) -> u64
 }
 
 fn sum(numbers: &[u64]) -> u64
-    requires { sum numbers.now < 2 ^ 63 }
+    requires { sum numbers.now < 2 ^ 64 }
     ensures { result ≡ sum numbers.now }
 {
     numbers.iter().sum()

@@ -29,7 +29,7 @@ pub fn spread(
     requires partitions { length weights.now < 2 ^ 32 }
     requires switches { length rooms.now ≤ 64 }
     requires backups { backups ≤ 3 }
-    requires small { sum weights.now < 2 ^ 63 }
+    requires small { sum weights.now < 2 ^ 64 }
     ensures spread { IfOk result (λ targets.
         IsSpread sizes.now weights.now rooms.now backups targets.items) }
     ensures refused { IfErr result (IfRefused (λ lack.

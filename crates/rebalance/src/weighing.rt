@@ -1,4 +1,4 @@
-ghost use Rattle.std.specs.Prelude.{ℕ, ◌≡◌, ◌+◌, ◌<◌, ◌^◌, length, slice_index, count_by, IfOk, nat_eq, option_to_list, unwrap_or, All};
+ghost use Rattle.std.specs.Prelude.{ℕ, ◌≡◌, ◌+◌, ◌<◌, ◌^◌, length, slice_index, count_by, sum, IfOk, nat_eq, option_to_list, unwrap_or, All};
 ghost use Rattle.rebalance.specs.Loads.{asked_in, partition_asked, weights_of};
 ghost use Rattle.update_machine.specs.Marks.{current_mark, gives_current};
 
@@ -12,7 +12,8 @@ use std::alloc::{AllocError, Global};
 /// # Errors
 /// Want of memory alone.
 pub fn weights(alloc: Global, journal: &Journal, parts: u32) -> Result<Vec<u64>, AllocError>
-    ensures { IfOk result (λ weights. weights.items ≡ weights_of journal.now parts) }
+    ensures weights { IfOk result (λ weights. weights.items ≡ weights_of journal.now parts) }
+    ensures small { IfOk result (λ weights. sum weights.items < 2 ^ 64) }
 {
     let items = journal.items();
     let current = current_at_end(items);

@@ -1,6 +1,10 @@
-use Rattle.std.proofs.Common.{◌≡◌, ◌∙◌, ◌<◌, length, arith}
+use Rattle.std.proofs.Common.{◌≡◌, ◌∙◌, ◌<◌, length, replicate, refl, arith}
+use Rattle.placement.proofs.CallerLemmas.{none_yet}
 use Rattle.rebalance.proofs.LoadLemmas.{greatest-is}
 use Rattle.rebalance.proofs.peaks.peak.Goals as goal
+
+pub carry-requires-clause-none : goal.carry-requires-clause-none
+carry-requires-clause-none c = λ s. none_yet (replicate 64 0) 64 s refl
 
 pub returns : goal.returns
 returns c =

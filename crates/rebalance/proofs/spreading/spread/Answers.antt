@@ -50,9 +50,9 @@ returns-in_default-clause-refused c =
     let load : ℕ → ℕ = λ s. get_or c.loop-partition.carried.items s 0 in
     let before = (goal.at.returns-in_default-clause-refused c).After-number_at-size in
     let few = fewer_in_order held load c.args.rooms.now c.number_at-size.result
-    (1 + c.args.backups) c.deref-4.result.now
-    (order_along _ _ _ _ c.args.rooms.now _ _ _ c.deref-2.ensures.value c.deref-3.ensures.value refl
-    (c.deref-4.ensures.value ∙ c.in_ok-switches.ensures))
+    (1 + c.args.backups) c.deref-in-loop-partition-3.result.now
+    (order_along _ _ _ _ c.args.rooms.now _ _ _ c.deref-in-loop-partition.ensures.value c.deref-in-loop-partition-2.ensures.value refl
+    (c.deref-in-loop-partition-3.ensures.value ∙ c.in_ok-switches.ensures))
     (none_of c.front.result _ _ c.front.ensures.enough
     (λ targets is. c.in_default.not-Some targets is)) in
     fewer_from_turns c.args.sizes.now c.args.weights.now c.args.rooms.now c.args.backups
@@ -72,9 +72,9 @@ first_of : (c : After-items)
     c.in-Some.targets
 first_of c =
     first_of_order _ _ c.args.rooms.now c.number_at-size.result (1 + c.args.backups)
-    c.deref-4.result.now c.in-Some.targets
-    (order_along _ _ _ _ c.args.rooms.now _ _ _ c.deref-2.ensures.value c.deref-3.ensures.value refl
-    (c.deref-4.ensures.value ∙ c.in_ok-switches.ensures))
+    c.deref-in-loop-partition-3.result.now c.in-Some.targets
+    (order_along _ _ _ _ c.args.rooms.now _ _ _ c.deref-in-loop-partition.ensures.value c.deref-in-loop-partition-2.ensures.value refl
+    (c.deref-in-loop-partition-3.ensures.value ∙ c.in_ok-switches.ensures))
     c.in-Some.ensures.enough c.in-Some.ensures.targets
 
 pub add_load-requires-clause-there : goal.add_load-requires-clause-there
@@ -112,11 +112,11 @@ pub add_traffic-requires-clause-there : goal.add_traffic-requires-clause-there
 add_traffic-requires-clause-there c =
     let there = first_there _ _ c.args.rooms.now c.number_at-size.result (1 + c.args.backups)
     c.in-Some.targets (first_of (goal.at.add_traffic-requires-clause-there c).After-items) in
-    all_front _ c.in-Some.targets (λ k d within.
+    all_front (λ s. s < length c.deref_mut-in-loop-partition.result.now) c.in-Some.targets (λ k d within.
     omega (
       arith,
       there k d within,
-      ap length c.deref_mut-2.ensures.value,
+      ap length c.deref_mut-in-loop-partition.ensures.value,
       c.loop-partition.invariant.loads_switches,
     ))
 
@@ -125,7 +125,7 @@ add_traffic-requires-clause-fits c =
     let order = c.deref-partition-items.result.now in
     let k = c.loop-partition.partition-index in
     let before = turn (goal.at.add_traffic-requires-clause-fits c).After-number_at-size in
-    rw c.deref_mut-2.ensures.value (λ i d within.
+    rw c.deref_mut-in-loop-partition.ensures.value (λ i d within.
     omega (
       arith,
       carried-room
@@ -169,11 +169,11 @@ loop-partition-preserved c =
     c.add_load.ensures in
     let more : (s : ℕ) → get_or c.add_traffic.new.carried s 0 ≡ get_or carried s 0 + cond
     (list_any (eqb s) (take 1 c.in-Some.targets)) (get_or weights p 0) 0 =
-    rw (← c.deref_mut-2.ensures.value, ← c.number_at-weight.ensures) c.add_traffic.ensures in
+    rw (← c.deref_mut-in-loop-partition.ensures.value, ← c.number_at-weight.ensures) c.add_traffic.ensures in
     let held_len : length c.add_load.new.loads ≡ length held = c.add_load.auto.loads
     ∙ ap length c.deref_mut.ensures.value in
     let carried_len : length c.add_traffic.new.carried ≡ length carried =
-    c.add_traffic.auto.carried ∙ ap length c.deref_mut-2.ensures.value in
+    c.add_traffic.auto.carried ∙ ap length c.deref_mut-in-loop-partition.ensures.value in
     let held_written : take c.loop-partition.held.len
     (c.add_load.new.loads ++ drop (length c.add_load.new.loads) held) ≡ c.add_load.new.loads =
     overwritten c.loop-partition.held.len c.add_load.new.loads held held_len

@@ -12,7 +12,7 @@ loop-item-preserved c =
     let items = c.args.items.now in
     let i = c.loop-item.item-index in
     let item = c.item-item.result in
-    c.current_behind.ensures
+    c.current_behind-current.ensures
     ∙ current_goes_on (take i items) item c.loop-item.current c.loop-item.invariant
     ∙ ap current_mark (ap (λ x. take i items ++ x ∷ []) c.item-item.is
     ∙ sym (take_more items i item c.loop-item-test.true))

@@ -1,8 +1,10 @@
-use Rattle.std.proofs.Common.{ℕ, ◌≡◌, ◌∙◌, ◌+◌, ◌<◌, ◌≤◌, ◌++◌, List, length, replicate, take, drop, get_or, ap, arith, rules, take_all}
+use Rattle.std.proofs.Common.{ℕ, ◌≡◌, ◌∙◌, ◌+◌, ◌<◌, ◌≤◌, ◌++◌, List, length, length-take, replicate, take, drop, get_or, ap, arith, rules, take_all}
+use Rattle.std.specs.List.{sum}
+use Rattle.rebalance.specs.Loads.{weights_of}
 use Rattle.std.proofs.lemmas.List.{get_or_default, length-replicate}
 use Rattle.placement.proofs.CallerLemmas.{none_yet, overwritten}
 use Rattle.update_machine.specs.Marks.{current_mark}
-use Rattle.rebalance.proofs.WeightLemmas.{asked-room, asked-step, asked_count, weights-are}
+use Rattle.rebalance.proofs.WeightLemmas.{asked-room, asked-step, asked_count, weights-are, weights-few}
 use Rattle.rebalance.proofs.weighing.weights.Goals as goal
 
 as_many : (numbers : List ℕ) (n : ℕ) → numbers ≡ replicate n 0 → length numbers ≡ n
@@ -26,6 +28,8 @@ add_one-requires c = λ p d within.
       get_or_default c.loop-item.weights.items p d 0 here,
       c.loop-item.invariant.counts p (omega (arith, here, c.loop-item.invariant.number)),
       asked-room c.current_at_end-current.result p (take i items),
+      length-take i items,
+      c.loop-item-test.true,
     )
 
 pub loop-item-preserved : goal.loop-item-preserved
@@ -51,8 +55,8 @@ loop-item-preserved c =
           ∙ c.loop-item.invariant.counts p within) (c.add_one.ensures p here);
     })
 
-pub returns : goal.returns
-returns c =
+pub returns-clause-weights : goal.returns-clause-weights
+returns-clause-weights c =
     let items = c.items-items.result.now in
     let current = c.current_at_end-current.result in
     weights-are c.args.journal.now c.args.parts c.loop-item.weights.items
@@ -60,3 +64,16 @@ returns c =
     ∙ ap (asked_count current p) (take_all c.loop-item.item-index items c.loop-item-test.false)
     ∙ ap (λ version. asked_count version p items) c.current_at_end-current.ensures
     ∙ ap (λ journal. asked_count (current_mark journal) p journal) c.items-items.ensures)
+
+pub returns-clause-small : goal.returns-clause-small
+returns-clause-small c =
+    let items = c.items-items.result.now in
+    let total : sum c.loop-item.weights.items ≡ sum (weights_of c.args.journal.now c.args.parts) =
+    ap sum (returns-clause-weights c) in
+    omega (
+      arith,
+      total,
+      weights-few c.args.journal.now c.args.parts,
+      ap length c.items-items.ensures,
+      c.loop-item-test.false,
+    )
