@@ -18,6 +18,7 @@ HOME = Path(__file__).resolve().parent.parent
 COMMANDS = (
     "replay schedule.csv policy.csv policy2.csv --net net.toml",
     "replay schedule.csv policy.csv policy2.csv --net net.toml --quiet",
+    "flows schedule.csv policy.csv policy2.csv --net net.toml",
     "compile policy.csv --net net.toml",
     "show policy.csv b --net net.toml",
     "load 2",

@@ -5,6 +5,7 @@ mod Gains
 mod MeterLines
 mod OneSwitch
 mod Plays
+mod FlowTexts
 mod FileReads
 mod ShelfReads
 mod Stated

@@ -8,9 +8,11 @@
 //! a line for each meter that still is there and has a note, then with `--quiet` the line that says
 //! whether the network is quiet, and nothing else; the meters are those that stay in the journal.
 //! Where it answers `Full`, the same holds up to the row that it names, without the lines behind
-//! the journal's. Of a load case all this holds of the case of its number, but that the output
-//! gained the counts of the journal, and nothing where it answers `Full`. A plan and tables are the
-//! defined ones, and so are their lines. Each status but want of memory has its cause in a clause.
+//! the journal's. Of `flows` all this holds too, but that the output gained the lines of the flow
+//! records of the meters that left, and then of those that stayed, and nothing where it answers
+//! `Full`. Of a load case it holds of the case of its number, and the output gained the counts of
+//! the journal in their place. A plan and tables are the defined ones, and so are their lines. Each
+//! status but want of memory has its cause in a clause.
 #![tactic(auto)]
 
 mod flow_lines;

@@ -19,9 +19,11 @@ use std::alloc::{AllocError, Global};
 
 /// Does what the arguments ask: `replay SCHEDULE POLICY ..` plays the schedule, whose updates name
 /// the policies by their places, and writes the journal to `out`, and with `--quiet` whether the
-/// network is quiet; `compile POLICY` writes the plan of the policy, and `show POLICY SWITCH` the
-/// tables that it gives to the switch, each on the network of `--net NET` or on one switch.
-/// `load N` plays the load case of N, and writes the eleven counts of its journal.
+/// network is quiet; `flows SCHEDULE POLICY ..` plays the same, and writes the flow records of the
+/// meters that left, and then of those that stayed; `compile POLICY` writes the plan of the policy,
+/// and `show POLICY SWITCH` the tables that it gives to the switch; each of these on the network of
+/// `--net NET` or on one switch. `load N` plays the load case of N, and writes the eleven counts of
+/// its journal.
 ///
 /// A status other than `Ok` writes its line to `errs`. The words are the arguments of the command
 /// line, without the program's name. The first refusal in the order of work ends the call: the

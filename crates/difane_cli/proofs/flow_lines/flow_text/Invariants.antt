@@ -7,6 +7,5 @@ use Rattle.meters.specs.Meters.{records_of}
 use Rattle.difane_cli.proofs.flow_lines.flow_text.Given as goal
 
 abbrev pub invariant-loop-meter : goal.invariant-loop-meter
-invariant-loop-meter g l =
-    string_bytes l.text ≡ flow_lines l.fn.gone.now
-    ++ flow_lines (flat_map (λ meter. records_of (g.M.Meter.seen meter)) (take l.meter-index l.meters))
+invariant-loop-meter g l = string_bytes l.text ≡ flow_lines l.fn.gone
+    ++ flat_map (λ meter. flow_lines (records_of (g.M.Meter.seen meter))) (take l.meter-index l.meters)
