@@ -1,0 +1,6 @@
+mod Pieces
+mod OneLine
+mod Told
+mod Lines
+mod Reading
+mod Plays

@@ -1,0 +1,17 @@
+use Rattle.trace_texts.proofs.Plays.{texts_good}
+use Rattle.trace_texts.proofs.laws.texts_are_good.Goals as goal
+
+pub returns : goal.returns
+returns c = texts_good (record {
+  texts = record {
+    names = c.name_laws.ensures;
+    number = c.printed_forms_are_read_back.ensures.number;
+    address = c.printed_forms_are_read_back.ensures.address;
+    proto_number = c.printed_forms_are_read_back.ensures.proto_number;
+  };
+  ports = c.port_laws.ensures;
+  planned = c.versions_are_planned.ensures;
+  entered = c.packet_rows_are_entered.ensures;
+  runs = c.answers_are_runs.ensures;
+  causes = c.ends_have_causes.ensures;
+})

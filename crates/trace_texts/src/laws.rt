@@ -1,0 +1,20 @@
+ghost use Rattle.trace_texts.specs.Texts.{TextsAreGood};
+
+use control_laws::versions_are_planned;
+use five_tuple::printed_forms_are_read_back;
+use net_file::{name_laws, port_laws};
+use packet_laws::{answers_are_runs, ends_have_causes, packet_rows_are_entered};
+
+/// Each line of the text of a play's journal is good, and so are whole lines of meters, and of
+/// whether the network is quiet, behind it: `audit` answers Yes for them.
+pub fn texts_are_good()
+    ensures { TextsAreGood }
+{
+    printed_forms_are_read_back();
+    name_laws();
+    port_laws();
+    versions_are_planned();
+    packet_rows_are_entered();
+    answers_are_runs();
+    ends_have_causes();
+}

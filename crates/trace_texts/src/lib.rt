@@ -1,0 +1,10 @@
+//! The texts of journals as traces: the text of each play's journal is one that the checker of
+//! traces answers Yes.
+//!
+//! No code: the function stands for the law that it ensures. `audit` of `trace_audit` answers Yes
+//! exactly where each line is good; by the law each line of such a text is.
+#![tactic(auto)]
+
+mod laws;
+
+pub use laws::texts_are_good;
