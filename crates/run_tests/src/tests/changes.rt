@@ -111,18 +111,18 @@ fn refuses_changes(rt: HostRuntime) -> Result<(), Fail> {
     Ok(())
 }
 
-/// A change that adds so many rows.
-fn adding(alloc: Global, rows: u32) -> Result<String, AllocError> {
+/// A change that adds 1,999 rows.
+fn adding(alloc: Global) -> Result<String, AllocError> {
     let mut text = String::from_str(alloc, "op,priority,src,dst,sport,dport,proto,action\n")?;
-    for number in 0..rows {
-        writeln!(text, "add,{},any,any,any,any,any,drop", 1001 + number)?;
+    for priority in 1001..3000 {
+        writeln!(text, "add,{priority},any,any,any,any,any,drop")?;
     }
     Ok(text)
 }
 
 #[test]
 fn leaves_at_most_2000_rows(rt: HostRuntime) -> Result<(), Fail> {
-    let change = adding(rt.alloc(), 1999)?;
+    let change = adding(rt.alloc())?;
     let files = [("s.csv", ONCE), ("p.csv", POLICY), ("c.csv", &change)];
     let ran = run_over(rt.alloc(), &["replay", "s.csv", "p.csv", "c.csv"], &files)?;
     assert!(rt; ended(&ran, 0, "row 1: update 2\n  refused file 2 code 26\n", ""));
