@@ -7,7 +7,7 @@
 
 use difane_cli::{FlowMeter, Meter, Recorder, Status, run, write_status};
 use shelf::{DiskShelf, StdSink};
-use std::alloc::{AllocError, Global};
+use std::alloc::AllocError;
 use std::io::ErrorKind;
 use std::process::ExitCode;
 use std::rt::Env;
@@ -25,12 +25,19 @@ fn read_args<R: Env + AllocGlobal>(rt: &R) -> io::Result<Vec<String>> {
 /// With so many different headers a meter of `flows` leaves.
 const MOST_HEADERS: u32 = 4096;
 
-/// A meter for each port, as the first argument asks for it.
-fn make_meters(alloc: Global, args: &[String]) -> Result<Vec<Box<dyn Meter>>, AllocError> {
-    let counts_flows = match args.first() {
+/// Whether the first argument asks for records of flows.
+fn asks_flows(args: &[String]) -> bool {
+    match args.first() {
         Some(word) => word.as_str() == "flows",
         None => false,
-    };
+    }
+}
+
+/// Does what the arguments ask, with a meter for each port, and says how it ended. Where there is
+/// no memory for the meters, it prints nothing.
+fn run_with(rt: HostRuntime, args: &Vec<String>) -> Result<Status, AllocError> {
+    let alloc = rt.alloc();
+    let counts_flows = asks_flows(args);
     let mut meters: Vec<Box<dyn Meter>> = Vec::new(alloc);
     for port in 0..64 {
         if counts_flows {
@@ -39,14 +46,6 @@ fn make_meters(alloc: Global, args: &[String]) -> Result<Vec<Box<dyn Meter>>, Al
             meters.push(Box::new(alloc, Recorder::new(alloc, port))?)?;
         }
     }
-    Ok(meters)
-}
-
-/// Does what the arguments ask, with a meter for each port, and says how it ended. Where there is
-/// no memory for the meters, it prints nothing.
-fn run_with(rt: HostRuntime, args: &Vec<String>) -> Result<Status, AllocError> {
-    let alloc = rt.alloc();
-    let meters = make_meters(alloc, args)?;
     let mut errs = StdSink::new(rt.stderr());
     let mut out = StdSink::new(rt.stdout());
     let mut shelf = DiskShelf::new(rt);

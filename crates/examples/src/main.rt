@@ -21,12 +21,17 @@ struct Answer {
     errs: MemSink,
 }
 
-/// A meter for each port, as the program's `main` has them for these arguments.
-fn make_meters(alloc: Global, args: &[String]) -> Result<Vec<Box<dyn Meter>>, AllocError> {
-    let counts_flows = match args.first() {
+/// Whether the first argument asks for records of flows.
+fn asks_flows(args: &[String]) -> bool {
+    match args.first() {
         Some(word) => word.as_str() == "flows",
         None => false,
-    };
+    }
+}
+
+/// What the program answers, with a meter for each port as its `main` has them for these arguments.
+fn ask<F: Shelf>(alloc: Global, shelf: &mut F, args: &Vec<String>) -> Result<Answer, AllocError> {
+    let counts_flows = asks_flows(args);
     let mut meters: Vec<Box<dyn Meter>> = Vec::new(alloc);
     for port in 0..64 {
         if counts_flows {
@@ -35,12 +40,6 @@ fn make_meters(alloc: Global, args: &[String]) -> Result<Vec<Box<dyn Meter>>, Al
             meters.push(Box::new(alloc, Recorder::new(alloc, port))?)?;
         }
     }
-    Ok(meters)
-}
-
-/// What the program answers.
-fn ask<F: Shelf>(alloc: Global, shelf: &mut F, args: &Vec<String>) -> Result<Answer, AllocError> {
-    let meters = make_meters(alloc, args)?;
     let mut out = MemSink::new(alloc, u64::MAX, Vec::new(alloc));
     let mut errs = MemSink::new(alloc, u64::MAX, Vec::new(alloc));
     let finished = run(alloc, args, shelf, &mut out, &mut errs, meters);
