@@ -1,8 +1,8 @@
 -- Counters in planes of bits.
 use Rattle.std.proofs.Common.{◌≡◌, ℕ, zero, suc, bit_xor, add-one, ◌+◌, ◌*◌, ◌^◌, ◌<◌, ◌≤◌, length-drop, List, [], ◌∷◌, length, get_or, set, drop, replicate, refl, ◌∙◌, ap, arith}
 use Rattle.std.specs.Int.{bit_at}
-use Rattle.std.specs.Int.Bits.{bit_and}
-use Rattle.std.proofs.lemmas.Nat.Bits.{bit_at-lt, bit_at-zero, bit_at_and, bit_at_xor}
+use Rattle.std.specs.Int.Bits.{bit_and, bit_or}
+use Rattle.std.proofs.lemmas.Nat.Bits.{bit_at-lt, bit_at-zero, bit_at_and, bit_at_or, bit_at_xor}
 use Rattle.std.proofs.Math.Nat.{pow-suc}
 use Rattle.std.proofs.Math.Pow.{pow_mono}
 use Rattle.cut_tree.specs.Counts.{count_at}
@@ -36,6 +36,40 @@ full_adder plane carry bit =
       bit_at-lt plane bit,
       bit_at-lt carry bit,
     )
+
+-- so are three sets
+pub three_added : (a b c bit : ℕ)
+    → bit_at (bit_xor (bit_xor a b) c) bit
+    + 2 * bit_at (bit_or (bit_and a b) (bit_and (bit_xor a b) c)) bit
+    ≡ bit_at a bit + bit_at b bit + bit_at c bit
+three_added a b c bit =
+    omega (
+      arith,
+      bit_at_xor (bit_xor a b) c bit,
+      bit_at_xor a b bit,
+      bit_at_or (bit_and a b) (bit_and (bit_xor a b) c) bit,
+      bit_at_and a b bit,
+      bit_at_and (bit_xor a b) c bit,
+      bit_at-lt a bit,
+      bit_at-lt b bit,
+      bit_at-lt c bit,
+    )
+
+-- four sets are added to the two lowest planes, and to what is carried on
+pub four_added : (planes : List ℕ) (sum one ones two twos fours a b c d bit : ℕ)
+    → 2 ≤ length planes
+    → bit_at sum bit + 2 * bit_at one bit
+    ≡ bit_at (get_or planes 0 0) bit + bit_at a bit + bit_at b bit
+    → bit_at ones bit + 2 * bit_at two bit ≡ bit_at sum bit + bit_at c bit + bit_at d bit
+    → bit_at twos bit + 2 * bit_at fours bit
+    ≡ bit_at (get_or planes 1 0) bit + bit_at one bit + bit_at two bit
+    → count_at (set (set planes 0 ones) 1 twos) bit + 2 ^ 2 * bit_at fours bit
+    ≡ count_at planes bit + (bit_at a bit + bit_at b bit + bit_at c bit + bit_at d bit)
+four_added [] sum one ones two twos fours a b c d bit within low high rest = absurd (omega arith)
+four_added (p ∷ []) sum one ones two twos fours a b c d bit within low high rest =
+    absurd (omega arith)
+four_added (p ∷ q ∷ planes) sum one ones two twos fours a b c d bit within low high rest =
+    omega (arith, low, high, rest)
 
 -- what a carry adds into a plane, and carries on
 pub carried_on : (planes : List ℕ) (place carry bit : ℕ) → place < length planes

@@ -1,14 +1,18 @@
 -- Narrowing, rule by rule.
-use Rattle.std.proofs.Common.{◌≡◌, ℕ, ◌+◌, ◌<◌, ◌≤◌, true, false, Some, None, List, [], ◌∷◌, length, get_or, drop, refl, ◌∙◌, ap}
+use Rattle.std.proofs.Common.{◌≡◌, ℕ, ◌+◌, ◌<◌, ◌≤◌, ◌&&◌, eqb, Bool, true, false, sym, Some, None, List, [], ◌∷◌, length, get_or, drop, refl, ◌∙◌, ap}
 use Rattle.std.proofs.Common.{inl, inr, arith}
+use Rattle.std.specs.Bool.{IsTrue}
+use Rattle.std.specs.Int.{bit_at}
 use Rattle.std.specs.List.{All}
-use Rattle.std.proofs.lemmas.Bool.{cases_Bool}
+use Rattle.std.proofs.lemmas.Bool.{cases_Bool, eqb-true, eq-eqb, false_from_ne_true}
+use Rattle.std.proofs.lemmas.Bool.Decides.{nat_tests}
+use Rattle.std.proofs.lemmas.Nat.Bits.{bit_at-lt, same_from_bits}
 use Rattle.std.proofs.lemmas.List.{at_drop_all}
 use Rattle.std.proofs.lemmas.List.Elements.{All-nil, All-cons, All-head, All-tail, All-same}
 use Rattle.ternary.specs.Word.{WordValue}
 use Rattle.ternary.specs.WordBits.{IsWord}
 use Rattle.ternary.specs.Meets.{meets, meet_of, covers_of}
-use Rattle.ternary.proofs.CallerLemmas.{covers_full, meet_within, meet_word, meet_none, meet_some, met_joined}
+use Rattle.ternary.proofs.CallerLemmas.{covers_decides, covers_full, covers_reflexive, meet_greatest, meet_within, meet_word, meet_none, meet_some, met_joined}
 use Rattle.policy_rules.specs.declared.rules.Rule.{Rule}
 use Rattle.policy_rules.proofs.CallerLemmas.{at_item}
 use Rattle.cut_tree.specs.Narrow.{narrowed_rule, narrow}
@@ -51,6 +55,43 @@ pub narrow_past : (rules : List Rule) (index : ℕ) (rule : Rule) (region : Word
 narrow_past rules index rule region within is none =
     at_item (λ rs. narrow rs region) rules index rule within is
     ∙ narrow_apart region rule (drop (index + 1) rules) (meet_none _ _ none)
+
+equal_digit : (a b : ℕ) → a < 2 → b < 2 → (a ≡ 1 → b ≡ 1) → (b ≡ 1 → a ≡ 1) → a ≡ b
+equal_digit a b p q r s = grind (arith, nat_tests)
+
+same_masks : (m r : WordValue) → IsTrue (covers_of m r) → IsTrue (covers_of r m) → m.mask ≡ r.mask
+same_masks m r p q = same_from_bits m.mask r.mask (λ k.
+    equal_digit (bit_at m.mask k) (bit_at r.mask k) (bit_at-lt m.mask k) (bit_at-lt r.mask k)
+    (λ e. ((covers_decides m r).0 p k e).0) (λ e. ((covers_decides r m).0 q k e).0))
+
+mask_covers : (m r : WordValue) → IsTrue (covers_of r m) → m.mask ≡ r.mask → IsTrue (covers_of m r)
+mask_covers m r q e = (covers_decides m r).1 (λ k p.
+    let here : bit_at r.mask k ≡ 1 = sym (ap (λ n. bit_at n k) e) ∙ p in
+    (here, sym ((covers_decides r m).0 q k here).1))
+
+-- a word covers the region that its meet with the region covers
+covers_met : (w r m : WordValue) → meet_of w r ≡ Some m → covers_of m r ≡ covers_of w r
+covers_met w r m met = meet_greatest w r m r met
+    ∙ ap (λ b. covers_of w r && b) (covers_reflexive r) ∙ both_true (covers_of w r)
+  where
+    both_true : (b : Bool) → (b && true) ≡ b
+    both_true true = refl
+    both_true false = refl
+
+-- it does so where the meet fixes the bits that the region does, and no others
+pub covers_by_mask : (w r m : WordValue) → meet_of w r ≡ Some m
+    → covers_of w r ≡ eqb m.mask r.mask
+covers_by_mask w r m met = by_case (covers_of w r) refl
+  where
+    inside : IsTrue (covers_of r m)
+    inside = (meet_within w r m met).1
+
+    by_case : (b : Bool) → covers_of w r ≡ b → b ≡ eqb m.mask r.mask
+    by_case true is = sym (eq-eqb m.mask r.mask
+        (same_masks m r (covers_met w r m met ∙ is) inside))
+    by_case false is = sym (false_from_ne_true (eqb m.mask r.mask) (λ same.
+        let covers = sym (covers_met w r m met)
+        ∙ mask_covers m r inside (eqb-true m.mask r.mask same) in cc))
 
 pub narrow_last : (rules : List Rule) (index : ℕ) (rule : Rule) (region word : WordValue)
     → index < length rules → rule ≡ get_or rules index rule → meet_of rule.word region ≡ Some word

@@ -1,9 +1,9 @@
-ghost use Rattle.std.specs.Prelude.{ℕ, ◌≡◌, ◌≢◌, ◌+◌, ◌<◌, ◌≤◌, ◌^◌, ◌↔◌, true, false, List, ◌∷◌, length, All, IsTrue};
+ghost use Rattle.std.specs.Prelude.{ℕ, ◌≡◌, ◌≢◌, ◌+◌, ◌*◌, ◌<◌, ◌≤◌, ◌^◌, ◌↔◌, Bool, true, false, List, ◌∷◌, length, All, IsFalse, IsTrue};
 ghost use Rattle.std.specs.Int.{bit_at, from_bool};
 ghost use Rattle.ternary.specs.Word.{WordValue};
 ghost use Rattle.ternary.specs.Meets.{admits, covers_of, fix_of};
 ghost use Rattle.policy_rules.specs.declared.rules.Rule.{Rule};
-ghost use Rattle.cut_tree.specs.Counts.{count_on_side, counted_cost, expected_count, HasCounted};
+ghost use Rattle.cut_tree.specs.Counts.{IsHeight, count_on_side, counted_cost, expected_count, HasCounted, IsCounting};
 ghost use Rattle.cut_tree.specs.Cuts.{CostsAtMost, IsFreeBit, cost_from, least_below, side_of};
 ghost use Rattle.cut_tree.specs.Nodes.{LiesIn};
 
@@ -47,8 +47,13 @@ pub fn least_cut(rules: &[Rule], region: &Word) -> Option<Cost>
         return None;
     }
     let (low, high) = count_sides(rules, region);
-    let bit = least_bit(&low.counts, &high.counts, free);
-    Some(Cost::new(bit, low.counts.count(bit), high.counts.count(bit)))
+    let height = low.counts.height(&high.counts);
+    let bit = least_bit(&low.counts, &high.counts, free, height);
+    Some(Cost::new(
+        bit,
+        low.counts.count(bit, height),
+        high.counts.count(bit, height),
+    ))
 }
 
 /// The bits that the region leaves free, of the 104 of a header number.
@@ -58,15 +63,16 @@ pub fn free_bits(region: &Word) -> u128
     ALL_BITS & !region.mask()
 }
 
-// Of the bits of a set the first whose cut costs least.
-fn least_bit(low: &Counters, high: &Counters, bits: u128) -> u32
+// Of the bits of a set the first whose cut costs least, where so many planes hold all the counts.
+fn least_bit(low: &Counters, high: &Counters, bits: u128, height: usize) -> u32
     requires some { bits ≢ 0 }
+    requires low { IsHeight low.now.planes height }
+    requires high { IsHeight high.now.planes height }
     ensures member { bit_at bits result ≡ 1 }
     ensures least { (other : ℕ) → bit_at bits other ≡ 1 →
         CostsAtMost (counted_cost low.now.planes high.now.planes result)
         (counted_cost low.now.planes high.now.planes other) }
 {
-    let height = low.height(high);
     let above = high.more_than(low, height);
     let fewest = low.least(high, above, bits, height);
     let least = high.least(low, above, fewest, height);
@@ -82,11 +88,36 @@ fn count_sides(rules: &[Rule], region: &Word) -> (Side, Side)
 {
     let mut low = Side::new(false);
     let mut high = Side::new(true);
-    for rule in rules {
+    let counted = count_fours(&mut low, &mut high, rules, region);
+    for place in counted..rules.len() {
+        let rule = &rules[place];
         low.count(rule, region);
         high.count(rule, region);
     }
     (low, high)
+}
+
+// Counts four rules after four, as many as there are, and says how many it counted.
+fn count_fours(low: &mut Side, high: &mut Side, rules: &[Rule], region: &Word) -> usize
+    requires few { length rules.now < 2 ^ 32 }
+    requires within { All (LiesIn region.now) rules.now }
+    requires low { IsCounting low.old false rules.now region.now 0 }
+    requires high { IsCounting high.old true rules.now region.now 0 }
+    ensures low { IsCounting low.new false rules.now region.now result }
+    ensures high { IsCounting high.new true rules.now region.now result }
+    ensures counted { result ≤ length rules.now }
+{
+    let mut place = 0;
+    while place + 4 <= rules.len() {
+        let a = &rules[place];
+        let b = &rules[place + 1];
+        let c = &rules[place + 2];
+        let d = &rules[place + 3];
+        low.count_four(a, b, c, d, region);
+        high.count_four(a, b, c, d, region);
+        place += 4;
+    }
+    place
 }
 
 /// Of each pair of halves of a region the one with this value of the bit which parts them: how
@@ -123,11 +154,63 @@ impl Side {
             expected_count self.new region.now bit rules
             ≡ expected_count self.old region.now bit (rule.now ∷ rules) }
     {
-        let open = self.open;
-        let met = halves_met(&rule.word, self.one);
-        let covered = halves_covered(&rule.word, region, self.one);
-        self.counts.add(open & met);
-        self.open = open & !covered;
+        let kept = pass(&mut self.open, self.one, rule, region);
+        self.counts.add(kept);
+    }
+
+    // Counts the next four rules in each half that keeps them.
+    fn count_four(&mut self, a: &Rule, b: &Rule, c: &Rule, d: &Rule, region: &Word)
+        requires room { (bit : ℕ) → count_on_side self.old bit + 4 < 2 ^ 32 }
+        requires first { LiesIn region.now a.now }
+        requires second { LiesIn region.now b.now }
+        requires third { LiesIn region.now c.now }
+        requires fourth { LiesIn region.now d.now }
+        ensures one { self.new.one ≡ self.old.one }
+        ensures few { (bit : ℕ) → count_on_side self.new bit ≤ count_on_side self.old bit + 4 }
+        ensures expected { (bit : ℕ) (rules : List Rule) → IsFreeBit region.now bit →
+            expected_count self.new region.now bit rules
+            ≡ expected_count self.old region.now bit (a.now ∷ b.now ∷ c.now ∷ d.now ∷ rules) }
+    {
+        let first = pass(&mut self.open, self.one, a, region);
+        let second = pass(&mut self.open, self.one, b, region);
+        let third = pass(&mut self.open, self.one, c, region);
+        let fourth = pass(&mut self.open, self.one, d, region);
+        self.counts.add_four(first, second, third, fourth);
+    }
+}
+
+// The bits whose half keeps the next rule, of those that are left. Where it covers the half, its
+// bit isn't left any more.
+fn pass(left: &mut u128, one: bool, rule: &Rule, region: &Word) -> u128
+    requires { LiesIn region.now rule.now }
+    ensures { (bit : ℕ) (rules : List Rule) → IsFreeBit region.now bit →
+        bit_at result bit + bit_at left.new bit * length (side_of rules region.now bit one)
+        ≡ bit_at left.old bit * length (side_of (rule.now ∷ rules) region.now bit one) }
+{
+    let was = *left;
+    let met = halves_met(&rule.word, one);
+    let may_cover = fixes_few(&rule.word, region);
+    if !may_cover {
+        return was & met;
+    }
+    let covered = halves_covered(&rule.word, region, one);
+    *left = was & !covered;
+    was & met
+}
+
+// Whether the word fixes at most one bit more than the region; if not, it covers no half of it.
+fn fixes_few(word: &Word, region: &Word) -> bool
+    requires { IsTrue (covers_of region.now word.now) }
+    ensures { IsFalse result → (bit : ℕ) (one : Bool) → IsFreeBit region.now bit →
+        IsFalse (covers_of word.now (fix_of region.now bit one)) }
+{
+    let fixed = word.mask() ^ region.mask();
+    if fixed == 0 {
+        true
+    } else if fixed == 1 << fixed.trailing_zeros() {
+        true
+    } else {
+        false
     }
 }
 

@@ -1,4 +1,4 @@
-ghost use Rattle.std.specs.Prelude.{ℕ, ◌≡◌, ◌≢◌, ◌+◌, ◌<◌, ◌^◌, ◌↔◌};
+ghost use Rattle.std.specs.Prelude.{ℕ, ◌≡◌, ◌≢◌, ◌+◌, ◌*◌, ◌<◌, ◌^◌, ◌↔◌};
 ghost use Rattle.std.specs.Int.{bit_at};
 ghost use Rattle.cut_tree.specs.Counts.{IsHeight, IsLeastOf, count_at, count_by};
 
@@ -11,6 +11,15 @@ const PLANES: usize = 32;
 #[derive(Clone, Copy)]
 pub struct Counters {
     pub planes: [u128; PLANES],
+}
+
+// The sum of three sets, bit by bit: its digits of weight 1, and those of weight 2.
+fn added(a: u128, b: u128, c: u128) -> (u128, u128)
+    ensures { (bit : ℕ) → bit_at result.0 bit + 2 * bit_at result.1 bit
+        ≡ bit_at a bit + bit_at b bit + bit_at c bit }
+{
+    let odd = a ^ b;
+    (odd ^ c, (a & b) | (odd & c))
 }
 
 impl Counters {
@@ -28,8 +37,23 @@ impl Counters {
         ensures { (bit : ℕ) →
             count_at self.new.planes bit ≡ count_at self.old.planes bit + bit_at bits bit }
     {
-        let mut carry = bits;
-        for place in 0..PLANES {
+        self.add_four(bits, 0, 0, 0);
+    }
+
+    /// Each bit counts one more for each of these sets that has it.
+    pub fn add_four(&mut self, a: u128, b: u128, c: u128, d: u128)
+        requires { (bit : ℕ) → count_at self.old.planes bit
+            + (bit_at a bit + bit_at b bit + bit_at c bit + bit_at d bit) < 2 ^ 32 }
+        ensures { (bit : ℕ) → count_at self.new.planes bit ≡ count_at self.old.planes bit
+            + (bit_at a bit + bit_at b bit + bit_at c bit + bit_at d bit) }
+    {
+        let (sum, one) = added(self.planes[0], a, b);
+        let (ones, two) = added(sum, c, d);
+        let (twos, fours) = added(self.planes[1], one, two);
+        self.planes[0] = ones;
+        self.planes[1] = twos;
+        let mut carry = fours;
+        for place in 2..PLANES {
             let plane = self.planes[place];
             self.planes[place] = plane ^ carry;
             carry = plane & carry;
@@ -55,13 +79,14 @@ impl Counters {
         height
     }
 
-    /// How often this bit was counted.
-    pub fn count(&self, bit: u32) -> u32
-        requires { bit < 128 }
+    /// How often this bit was counted, where so many planes hold all the counts.
+    pub fn count(&self, bit: u32, height: usize) -> u32
+        requires bit { bit < 128 }
+        requires here { IsHeight self.now.planes height }
         ensures { result ≡ count_at self.now.planes bit }
     {
         let mut count = 0;
-        let mut place = PLANES;
+        let mut place = height;
         while place > 0 {
             place -= 1;
             count = 2 * count + ((self.planes[place] >> bit) & 1) as u32;

@@ -17,7 +17,9 @@ pub fn narrow(alloc: Global, rules: &[Rule], region: &Word) -> Result<Vec<Rule>,
             continue;
         };
         kept.push(Rule { word, ..*rule })?;
-        if rule.word.covers(region) {
+        // A word that fixes no more bits in the region than this covers it.
+        let is_whole = word.mask() == region.mask();
+        if is_whole {
             return Ok(kept);
         }
     }

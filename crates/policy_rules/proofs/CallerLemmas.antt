@@ -10,4 +10,5 @@ pub use Rattle.policy_rules.proofs.RowWords.{IsWord-word_of_row, holds-word_of_r
 pub use Rattle.policy_rules.proofs.Ranks.{length-words_of_row}
 pub use Rattle.policy_rules.proofs.RuleLaw.{first_rule-rules_of, holds-words_of_row}
 pub use Rattle.policy_rules.proofs.RuleShape.{IsRuleList-rules_of, IsWord-words_of_row, length-rules_of}
+pub use Rattle.policy_rules.proofs.Touched.{scan-apart}
 pub use Rattle.policy_rules.proofs.Sorting.{IsFalling-by_falling_priority, IsPermutation-by_falling_priority, find-by_falling_priority, same_sorted}

@@ -2,6 +2,7 @@ ghost use Rattle.std.specs.Prelude.{◌≡◌, ◌≤◌, Ok, ◌&&◌, ◌++◌
 ghost use Rattle.std.specs.List.{list_all, list_any};
 ghost use Rattle.std.specs.HashSet.{contains};
 ghost use Rattle.policy_rules.specs.Exports.{IsPolicy, applied};
+ghost use Rattle.policy_rules.specs.Priorities.{is_among};
 ghost use Rattle.base.specs.Refusals.{IsRefusal};
 
 use crate::amendment::Amendment;
@@ -13,6 +14,17 @@ use thiserror::Error;
 
 /// The most rows of a policy to which a change was applied.
 const MAX_ROWS: usize = 2000;
+
+/// With at most so many edits, priorities are sought in a list.
+const FEW_EDITS: usize = 16;
+
+/// Priorities among which others are sought.
+#[derive(Drop)]
+pub enum Priorities {
+    /// For few that are sought, or of few.
+    Listed(Vec<u32>),
+    Hashed(HashSet<u32>),
+}
 
 /// Why a change can't be applied to a policy.
 #[derive(Clone, Copy, Debug, PartialEq, Eq, Error)]
@@ -47,11 +59,12 @@ pub fn apply(alloc: Global, policy: &Policy, change: &Amendment) -> Result<Polic
     let rows = policy.rows();
     let removed = change.removed();
     let added = change.added();
-    let held = priorities_of(alloc, rows)?;
+    let few = change.edits().len() <= FEW_EDITS;
+    let held = priorities_of(alloc, rows, few)?;
     if !has_all(&held, removed) {
         return Err(ApplyError::Refused(Inapplicable::Absent));
     }
-    let gone = set_of(alloc, removed)?;
+    let gone = set_of(alloc, removed, few)?;
     if has_some(&held, &gone, added) {
         return Err(ApplyError::Refused(Inapplicable::Taken));
     }
@@ -64,46 +77,84 @@ pub fn apply(alloc: Global, policy: &Policy, change: &Amendment) -> Result<Polic
     Ok(Policy::from_sound(amended))
 }
 
-// The priorities of the rows.
-fn priorities_of(alloc: Global, rows: &[Row]) -> Result<HashSet<u32>, AllocError>
+impl Priorities {
+    fn contains(&self, priority: u32) -> bool
+        ensures { result ≡ is_among self.now priority }
+    {
+        match self {
+            Priorities::Listed(list) => list.contains(&priority),
+            Priorities::Hashed(set) => set.contains(&priority),
+        }
+    }
+}
+
+// The priorities of the rows, to seek others among them.
+fn priorities_of(alloc: Global, rows: &[Row], few: bool) -> Result<Priorities, AllocError>
+    ensures { IfOk result (λ held. (q : ℕ) → is_among held q
+        ≡ list_any (λ priority. priority == q) (map (λ row. row.priority) rows.now)) }
+{
+    if few {
+        let list: Vec<u32> = rows.iter().map(|row| row.priority).collect(alloc)?;
+        return Ok(Priorities::Listed(list));
+    }
+    let set = hash_rows(alloc, rows)?;
+    Ok(Priorities::Hashed(set))
+}
+
+// The hash set of the rows' priorities.
+fn hash_rows(alloc: Global, rows: &[Row]) -> Result<HashSet<u32>, AllocError>
     ensures { IfOk result (λ held. (q : ℕ) → contains nat_eq held q
         ≡ list_any (λ priority. priority == q) (map (λ row. row.priority) rows.now)) }
 {
     rows.iter().map(|row| row.priority).collect(alloc)
 }
 
-fn set_of(alloc: Global, priorities: &[u32]) -> Result<HashSet<u32>, AllocError>
+// These priorities, to seek others among them.
+fn set_of(alloc: Global, priorities: &[u32], few: bool) -> Result<Priorities, AllocError>
+    ensures { IfOk result (λ set. (q : ℕ)
+        → is_among set q ≡ list_any (λ priority. priority == q) priorities.now) }
+{
+    if few {
+        let list = Vec::from_slice(alloc, priorities)?;
+        return Ok(Priorities::Listed(list));
+    }
+    let set = hash_all(alloc, priorities)?;
+    Ok(Priorities::Hashed(set))
+}
+
+// The hash set of the priorities.
+fn hash_all(alloc: Global, priorities: &[u32]) -> Result<HashSet<u32>, AllocError>
     ensures { IfOk result (λ set. (q : ℕ)
         → contains nat_eq set q ≡ list_any (λ priority. priority == q) priorities.now) }
 {
     priorities.iter().copied().collect(alloc)
 }
 
-// Whether the set has all of these priorities.
-fn has_all(held: &HashSet<u32>, priorities: &[u32]) -> bool
-    ensures { result ≡ list_all (contains nat_eq held.now) priorities.now }
+// Whether all of these priorities are held.
+fn has_all(held: &Priorities, priorities: &[u32]) -> bool
+    ensures { result ≡ list_all (is_among held.now) priorities.now }
 {
-    priorities.iter().all(|priority| held.contains(priority))
+    priorities.iter().all(|priority| held.contains(*priority))
 }
 
 // Whether one of the rows has a priority that is held, and not gone.
-fn has_some(held: &HashSet<u32>, gone: &HashSet<u32>, rows: &[Row]) -> bool
-    ensures { result ≡ list_any (λ row. not (contains nat_eq gone.now row.priority)
-        && contains nat_eq held.now row.priority) rows.now }
+fn has_some(held: &Priorities, gone: &Priorities, rows: &[Row]) -> bool
+    ensures { result ≡ list_any (λ row. not (is_among gone.now row.priority)
+        && is_among held.now row.priority) rows.now }
 {
-    rows.iter().any(|row| !gone.contains(&row.priority) && held.contains(&row.priority))
+    rows.iter().any(|row| !gone.contains(row.priority) && held.contains(row.priority))
 }
 
 // The rows whose priorities aren't gone, and then the added ones.
 fn amended_rows(
     alloc: Global,
     rows: &[Row],
-    gone: &HashSet<u32>,
+    gone: &Priorities,
     added: &[Row],
 ) -> Result<Vec<Row>, AllocError>
     ensures { IfOk result (λ amended. amended.items ≡
-        filter (λ row. not (contains nat_eq gone.now row.priority)) rows.now ++ added.now) }
+        filter (λ row. not (is_among gone.now row.priority)) rows.now ++ added.now) }
 {
-    let staying = rows.iter().filter(|row| !gone.contains(&row.priority));
+    let staying = rows.iter().filter(|row| !gone.contains(row.priority));
     staying.chain(added).copied().collect(alloc)
 }

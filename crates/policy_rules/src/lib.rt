@@ -50,3 +50,4 @@ pub use read::{printed_actions_are_read_back, read_action};
 pub use rule_list::{TooManyWords, count_words, to_rules};
 pub use rules::{Partition, Rule, Rules, first_hit};
 pub use targets::Targets;
+pub use words::push_row_words;

@@ -72,7 +72,8 @@ fn by_falling_priority(alloc: Global, rows: &[Row]) -> Result<Vec<Row>, AllocErr
     ensures { IfOk result (λ v. v.items ≡ by_falling_priority rows.now) }
 {
     let mut sorted = Vec::from_slice(alloc, rows)?;
-    sorted.sort_unstable_by_key(|row| Reverse(row.priority));
+    // A stable sort knows rows that are in order but for a few.
+    sorted.sort_by_key(|row| Reverse(row.priority))?;
     Ok(sorted)
 }
 

@@ -1,11 +1,41 @@
-ghost use Rattle.std.specs.Prelude.{◌≡◌};
-ghost use Rattle.five_tuple.specs.Cover.{IsPortBlock};
+ghost use Rattle.std.specs.Prelude.{◌≡◌, ◌++◌, map, OnOk};
+ghost use Rattle.five_tuple.specs.Cover.{IsPortBlock, cover_of};
 ghost use Rattle.five_tuple.specs.HeaderNumbers.{packed_number};
 ghost use Rattle.policy_rules.specs.Exports.{IsSoundRow, prefix_mask, proto_mask, proto_value, word_of_row};
+ghost use Rattle.policy_rules.specs.Words.{words_of_row};
 
 use crate::policy::Row;
 use five_tuple::{Fields, Header, PortBlock, Prefix, Proto};
+use std::alloc::AllocError;
 use ternary::Word;
+
+/// Adds the words of a row at the end: one for each pair of a block of its source ports and one of
+/// its destination ports, the source block outermost, as in the list of rules.
+///
+/// # Errors
+/// Want of memory alone; a part of the words is added then.
+pub fn push_row_words(words: &mut Vec<Word>, row: &Row) -> Result<(), AllocError>
+    requires { IsSoundRow row.now }
+    ensures { OnOk result (words.new.items ≡ words.old.items ++ words_of_row row.now) }
+{
+    for source in row.sport.blocks() {
+        push_source_words(words, row, source)?;
+    }
+    Ok(())
+}
+
+// Those for one block of its source ports.
+fn push_source_words(words: &mut Vec<Word>, row: &Row, source: PortBlock) -> Result<(), AllocError>
+    requires row { IsSoundRow row.now }
+    requires source { IsPortBlock source }
+    ensures { OnOk result (words.new.items
+        ≡ words.old.items ++ map (word_of_row row.now source) (cover_of row.now.dport)) }
+{
+    for destination in row.dport.blocks() {
+        words.push(word_of_row(row, source, destination))?;
+    }
+    Ok(())
+}
 
 /// The word of the headers that this row matches by its addresses and protocol, and whose ports are
 /// in the two blocks.

@@ -80,5 +80,38 @@ fn first_named(kinds: &[Kind], text: &[u8]) -> Option<Kind>
 pub fn read_kind(text: &[u8]) -> Option<Kind>
     ensures { result ≡ kind_of text.now }
 {
+    let likely = likely_kind(text);
+    let is_named = is_keyword(likely, text);
+    if is_named {
+        return Some(likely);
+    }
     first_named(&KINDS, text)
+}
+
+// Whether the text is the kind's keyword.
+fn is_keyword(kind: Kind, text: &[u8]) -> bool
+    ensures { result ≡ bytes_eq (keyword_of kind) text.now }
+{
+    kind.keyword().as_bytes() == text
+}
+
+// The kind whose keyword begins as the text, if one does: other kinds needn't be tried for it.
+fn likely_kind(text: &[u8]) -> Kind {
+    match text {
+        [b'p', ..] => Kind::Packet,
+        [b'h', ..] => Kind::Hop,
+        [b'd', b'r', ..] => Kind::Drain,
+        [b'd', ..] => Kind::Deliver,
+        [b'f', b'l', ..] => Kind::Flush,
+        [b'f', ..] => Kind::Forget,
+        [b'e', ..] => Kind::Expire,
+        [b'u', ..] => Kind::Update,
+        [b'l', b'o', ..] => Kind::Lose,
+        [b'l', _, _, _, b'd', ..] => Kind::LinkDown,
+        [b'l', ..] => Kind::LinkUp,
+        [b'c', b'r', ..] => Kind::Crash,
+        [b'c', ..] => Kind::Confirm,
+        [_, _, _, b't', ..] => Kind::Restart,
+        _ => Kind::Resend,
+    }
 }

@@ -1,7 +1,7 @@
-use Rattle.std.proofs.Common.{ℕ, ◌≡◌, ◌∙◌, ◌≤◌, ◌<◌, ◌++◌, ◌&&◌, Bool, true, false, filter, nat_eq, length, List, not, Ok, Err, sym, ap, subst, arith}
-use Rattle.std.specs.HashSet.{contains}
+use Rattle.std.proofs.Common.{ℕ, ◌≡◌, ◌∙◌, ◌≤◌, ◌<◌, ◌++◌, ◌&&◌, Bool, true, false, filter, length, List, not, Ok, Err, sym, ap, subst, arith}
 use Rattle.std.specs.List.{list_all, list_any}
 use Rattle.policy_rules.specs.Applied.{adds_taken, amended_rows, removes_absent}
+use Rattle.policy_rules.specs.Priorities.{is_among}
 use Rattle.policy_rules.specs.declared.applying.Inapplicable.TheVariants.{TooManyRows}
 use Rattle.policy_rules.specs.Policy.{IsPolicy}
 use Rattle.policy_rules.specs.declared.policy.Row.{Row}
@@ -15,7 +15,7 @@ set_of_rows test own rows same is = subst (λ rows. IsSetOf test (priorities row
 
 pub returns-then-not-has_all-clause-refused : goal.returns-then-not-has_all-clause-refused
 returns-then-not-has_all-clause-refused c =
-    let held = contains nat_eq c.in_ok-held.held in
+    let held = is_among c.in_ok-held.held in
     is_absent c.args.policy.now c.args.change.now
     (absent_by held c.args.policy.now c.args.change.now
     (set_of_rows held _ _ c.rows-rows.ensures.rows c.in_ok-held.ensures)
@@ -24,8 +24,8 @@ returns-then-not-has_all-clause-refused c =
 
 pub returns-then-has_some-clause-refused : goal.returns-then-has_some-clause-refused
 returns-then-has_some-clause-refused c =
-    let held = contains nat_eq c.in_ok-held.held in
-    let gone = contains nat_eq c.in_ok-gone.gone in
+    let held = is_among c.in_ok-held.held in
+    let gone = is_among c.in_ok-gone.gone in
     let is_held = set_of_rows held _ _ c.rows-rows.ensures.rows c.in_ok-held.ensures in
     is_taken c.args.policy.now c.args.change.now
     (absent_by held c.args.policy.now c.args.change.now is_held
@@ -40,7 +40,7 @@ returns-then-has_some-clause-refused c =
 
 none_absent : (c : In_ok-amended) → removes_absent c.args.policy.now c.args.change.now ≡ false
 none_absent c =
-    let held = contains nat_eq c.in_ok-held.held in
+    let held = is_among c.in_ok-held.held in
     absent_by held c.args.policy.now c.args.change.now
     (set_of_rows held _ _ c.rows-rows.ensures.rows c.in_ok-held.ensures)
     ∙ ap not (ap (list_all held) (sym c.removed-removed.ensures) ∙ sym c.has_all.ensures
@@ -48,8 +48,8 @@ none_absent c =
 
 none_taken : (c : In_ok-amended) → adds_taken c.args.policy.now c.args.change.now ≡ false
 none_taken c =
-    let held = contains nat_eq c.in_ok-held.held in
-    let gone = contains nat_eq c.in_ok-gone.gone in
+    let held = is_among c.in_ok-held.held in
+    let gone = is_among c.in_ok-gone.gone in
     taken_by held gone c.args.policy.now c.args.change.now
     (set_of_rows held _ _ c.rows-rows.ensures.rows c.in_ok-held.ensures)
     (subst (IsSetOf gone) c.removed-removed.ensures c.in_ok-gone.ensures)
@@ -59,7 +59,7 @@ none_taken c =
 amended_is : (c : In_ok-amended) → amended_rows c.args.policy.now c.args.change.now
     ≡ c.in_ok-amended.amended.items
 amended_is c =
-    let gone = contains nat_eq c.in_ok-gone.gone in
+    let gone = is_among c.in_ok-gone.gone in
     let stays : Row → Bool = λ row. not (gone row.priority) in
     sym (c.in_ok-amended.ensures
     ∙ ap (λ rows. filter stays rows ++ c.added-added.result.now) c.rows-rows.ensures.rows

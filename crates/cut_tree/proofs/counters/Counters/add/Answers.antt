@@ -1,11 +1,10 @@
-use Rattle.std.proofs.Common.{◌∙◌, arith}
-use Rattle.cut_tree.proofs.CountLemmas.{carried_on, carried_out}
+use Rattle.std.proofs.Common.{arith}
+use Rattle.std.proofs.lemmas.Nat.Bits.{bit_at-lt, bit_at-zero}
 use Rattle.cut_tree.proofs.counters.Counters.add.Goals as goal
 
-pub returns-then-carry-eq0 : goal.returns-then-carry-eq0
-returns-then-carry-eq0 c = λ bit.
-    carried_out _ _ _ bit (omega arith) c.if-carry-eq0.true ∙ c.loop-place.invariant bit
+pub add_four-requires : goal.add_four-requires
+add_four-requires c = λ bit.
+    omega (arith, c.requires bit, bit_at-lt c.args.bits bit, bit_at-zero bit)
 
-pub loop-place-preserved : goal.loop-place-preserved
-loop-place-preserved c = λ bit.
-    carried_on _ _ _ bit (omega arith) ∙ c.loop-place.invariant bit
+pub returns : goal.returns
+returns c = λ bit. omega (arith, c.add_four.ensures bit, bit_at-zero bit)

@@ -1,16 +1,13 @@
-use Rattle.std.proofs.Common.{◌-◌, List, ℕ, sym, arith}
-use Rattle.std.proofs.lemmas.List.{at_drop_all}
+use Rattle.std.proofs.Common.{◌-◌, sym, arith}
 use Rattle.std.proofs.lemmas.Nat.Bits.{bit_at-lt, shr_and_one}
 use Rattle.std.specs.Prelude.{slice_index_or}
-use Rattle.cut_tree.specs.Counts.{count_at}
 use Rattle.cut_tree.proofs.CountLemmas.{rest_below}
 use Rattle.cut_tree.proofs.counters.Counters.count.Goals as goal
 
 pub loop-place-init : goal.loop-place-init
 loop-place-init c = record {
-  within = omega arith;
-  counted = sym (at_drop_all (λ (planes : List ℕ). count_at planes c.args.bit)
-      c.args.self.now.planes 32 (omega arith));
+  within = c.requires.here.bound;
+  counted = sym (c.requires.here.above c.args.bit);
 }
 
 pub overflow_mul-count : goal.overflow_mul-count

@@ -1,0 +1,36 @@
+use Rattle.std.proofs.Common.{◌∙◌, ◌++◌, ap, sym, append-nil, map}
+use Rattle.std.specs.List.{flat_map}
+use Rattle.std.proofs.lemmas.List.{flat_map_more}
+use Rattle.five_tuple.specs.Cover.{Block, cover_of}
+use Rattle.policy_rules.specs.Words.{word_of_row}
+use Rattle.policy_rules.proofs.BlockLoops.{block_turn, block_end}
+use Rattle.policy_rules.proofs.words.push_row_words.Goals as goal
+
+pub loop-source-init : goal.loop-source-init
+loop-source-init c = sym (append-nil _)
+
+pub push_source_words-requires-clause-source : goal.push_source_words-requires-clause-source
+push_source_words-requires-clause-source c =
+    (block_turn c.args.row.now.sport c.into_iter-source-iterator.ensures.into_iter_gives
+    c.blocks-source-items.ensures.blocks c.loop-source.yielded _ c.loop-source.yielded_by
+    c.next.result c.next.new.self c.next.ensures.steps c.requires.sport c.in-Some.is).1
+
+pub loop-source-preserved : goal.loop-source-preserved
+loop-source-preserved c =
+    let row = c.args.row.now in
+    let done = c.loop-source.yielded in
+    let f = λ (source : Block). map (word_of_row row source) (cover_of row.dport) in
+    c.in_ok-push_source_words.ensures
+    ∙ ap (λ these. these ++ f c.in-Some.source) c.loop-source.invariant
+    ∙ flat_map_more f c.args.words.now.items done c.in-Some.source
+
+pub returns : goal.returns
+returns c =
+    let row = c.args.row.now in
+    let done = c.loop-source.yielded in
+    let f = λ (source : Block). map (word_of_row row source) (cover_of row.dport) in
+    let all = block_end row.sport c.into_iter-source-iterator.ensures.into_iter_gives
+    c.blocks-source-items.ensures.blocks done _ c.loop-source.yielded_by c.next.result c.next.new.self c.next.ensures.steps
+    c.in-None.is in
+    c.loop-source.invariant ∙ ap
+    (λ sources. c.args.words.now.items ++ flat_map f sources) all

@@ -1,0 +1,10 @@
+use Rattle.std.proofs.Common.{◌≡◌, ◌++◌, map}
+use Rattle.std.specs.List.{flat_map}
+use Rattle.five_tuple.specs.Cover.{cover_of}
+use Rattle.policy_rules.specs.Words.{word_of_row}
+use Rattle.policy_rules.proofs.words.push_row_words.Given as goal
+
+abbrev pub invariant-loop-source : goal.invariant-loop-source
+invariant-loop-source l =
+    l.words.items ≡ l.initial.words.items
+    ++ flat_map (λ source. map (word_of_row l.row source) (cover_of l.row.dport)) l.yielded
