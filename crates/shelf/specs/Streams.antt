@@ -1,9 +1,12 @@
 -- What a read of a reader of std answers, and what a write to a writer of std leaves.
-use Rattle.std.specs.Prelude.{⊤, ◌≡◌, ℕ, ◌<◌, ◌≤◌, List, length, take, Option, IfSome, Result, Ok, Err, Vec}
+use Rattle.std.specs.Prelude.{⊤, ◌≡◌, ℕ, ◌<◌, ◌≤◌, List, ◌++◌, length, take, Option, IfSome, Result, Ok, Err, Vec}
 use Rattle.std.specs.Global.{Global}
 use Rattle.std.specs.Io.KnownBytes.{Appends}
 use Rattle.std.specs.declared.io.ErrorKind.{ErrorKind}
 use Rattle.std.specs.declared.io.ErrorKind.TheVariants.{OutOfMemory}
+use Rattle.std.specs.IoError.{error_kind}
+use Rattle.std.specs.declared.io.Error.{Error}
+use Rattle.shelf.specs.Sink.{next_count}
 use Rattle.shelf.specs.declared.source.ShelfError.{ShelfError}
 use Rattle.shelf.specs.declared.source.ShelfError.TheVariants.{Missing, NoMemory, TooLong}
 
@@ -11,6 +14,34 @@ use Rattle.shelf.specs.declared.source.ShelfError.TheVariants.{Missing, NoMemory
 abbrev pub cause_by_kind : ErrorKind → ShelfError → ShelfError
 cause_by_kind OutOfMemory other = NoMemory
 cause_by_kind kind other = other
+
+-- what contracts see of each reader: the bytes that it has left, where they are known, and how often
+-- it failed
+pub record ReaderState : Type 0 where
+  pub left : Option (List ℕ)
+  pub faults : ℕ
+
+-- the content grew by all that a reader had left, where that is known, or by the first so many
+-- bytes of it; a read that failed or found no memory says nothing of it
+abbrev pub HasFront : {E : Type 0} → Option (List ℕ) → ℕ → (before now : List ℕ) → Result (⊤) E → Type 0
+HasFront known most before now (Ok done) =
+    IfSome known (λ left. now ≡ before ++ take most left)
+HasFront known most before now (Err error) = ⊤
+
+-- the count of faults after an error: each is one, unless its kind is want of memory
+abbrev pub fault_of_kind : ErrorKind → ℕ → ℕ
+fault_of_kind OutOfMemory faults = faults
+fault_of_kind kind faults = next_count faults
+
+-- the count of faults after one more call
+abbrev pub counted_fault : {T : Type 0} → ℕ → Result T Error → ℕ
+counted_fault faults (Ok done) = faults
+counted_fault faults (Err error) = fault_of_kind (error_kind error) faults
+
+-- how often what was opened failed, and never where nothing was
+abbrev pub faults_of : {R : Type 0} → (R → ReaderState) → Result R Error → ℕ
+faults_of state (Ok reader) = (state reader).faults
+faults_of state (Err error) = 0
 
 -- what a reader had left, where that is known, is what was read of it; or it is longer than this,
 -- where that is the answer. A read that failed or found no memory says nothing of it

@@ -8,6 +8,7 @@ ghost use Rattle.shelf.specs.Streams.{cause_by_kind};
 ghost use Rattle.shelf.specs.declared.source.ShelfError.TheVariants.{NoMemory};
 ghost use Rattle.std.specs.IoError.{error_kind};
 
+use crate::streams::read_up_to;
 use std::alloc::{AllocError, Global};
 use std::io;
 use std::io::ErrorKind;
@@ -144,10 +145,11 @@ impl HeldFiles {
         ensures too_long { IsErrOf result ShelfError.TooLong
             ↔ HasLongerFile self.now name.now limit }
     {
-        let content = content_of(&self.files, name).ok_or(ShelfError::Missing)?;
+        let mut content = content_of(&self.files, name).ok_or(ShelfError::Missing)?;
+        // Before the copy, so that a file that is too long is never want of memory.
         if content.len() as u64 > limit {
             return Err(ShelfError::TooLong);
         }
-        Ok(Vec::from_slice(self.alloc, content)?)
+        read_up_to(self.alloc, &mut content, limit)
     }
 }

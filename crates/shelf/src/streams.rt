@@ -1,37 +1,146 @@
-//! What a reader of std has left, read whole; and pieces that go through a writer of std.
+//! What a reader has left, read whole; and pieces that go through a writer of std.
 //!
-//! Contracts see the bytes that a reader has left (`remaining`) and those that a writer holds
-//! (`contents`), where its type says them.
-ghost use Rattle.std.specs.Prelude.{◌≤◌, IfOk, length};
-ghost use Rattle.shelf.specs.Streams.{GainsFront, IsReadOf};
+//! Contracts see the bytes that a reader of std has left (`remaining`) and those that a writer holds
+//! (`contents`), where its type says them. When a call of std fails they don't see. So a reader is
+//! what counts its faults here: an error is told where the count rose, and nowhere else.
+ghost use Rattle.std.specs.Prelude.{◌≡◌, ◌≤◌, ◌++◌, if◌then◌else◌, IfErr, IfOk, IfSome, OnOk, length};
+ghost use Rattle.std.specs.IoError.{error_kind};
+ghost use Rattle.shelf.specs.Sink.{next_count};
+ghost use Rattle.shelf.specs.Shelf.{is_read_fault};
+ghost use Rattle.shelf.specs.Streams.{GainsFront, HasFront, IsReadOf, ReaderState, cause_by_kind, counted_fault, faults_of};
+ghost use Rattle.shelf.specs.declared.source.ShelfError.TheVariants.{Missing};
 
 use crate::source::ShelfError;
 use std::alloc::Global;
 use std::io;
-use std::io::{Read, Write};
+use std::io::{ErrorKind, Read, Write};
+use std::marker::Model;
+
+/// What bytes can be read from, once: an open file, or bytes in memory.
+pub trait Reader {
+    /// What contracts see: the bytes that are left, where they are known, and the count of faults.
+    ghost state: { Self → ReaderState };
+
+    /// Adds all that is left to the content, or the first `most` bytes of it.
+    ///
+    /// # Errors
+    /// The reader's own, which is a fault, or want of memory, by its kind. The content has some of
+    /// the bytes then.
+    fn read_front(&mut self, most: u64, content: &mut Vec<u8>) -> io::Result<()>
+        ensures front { HasFront (state self.old).left most content.old.items content.new.items result }
+        ensures faults { (state self.new).faults
+            ≡ counted_fault (state self.old).faults result };
+}
+
+/// Bytes in memory, of which no read fails.
+impl Reader for &[u8] {
+    ghost use Rattle.std.specs.Prelude.{Some};
+
+    ghost state = { λ bytes. record { left = Some bytes.now; faults = 0 } };
+
+    fn read_front(&mut self, most: u64, content: &mut Vec<u8>) -> io::Result<()> {
+        let taken = most.min(self.len() as u64) as usize;
+        content.extend_from_slice(&self[..taken])?;
+        Ok(())
+    }
+}
+
+/// A reader of std that counts the errors which it answers, but for want of memory.
+#[derive(Drop)]
+pub struct CountedReader<R: Read + Drop> {
+    reader: R,
+    faults: u64,
+}
+
+impl<R: Read + Drop> Model for CountedReader<R> {
+    ghost use Rattle.shelf.specs.Streams.{ReaderState};
+
+    ghost Value = { ReaderState };
+
+    ghost view = { λ r. record { left = R.remaining r.reader; faults = r.faults } };
+}
+
+impl<R: Read + Drop> CountedReader<R> {
+    /// This reader, of which no error was counted yet.
+    pub fn new(reader: R) -> Self
+        ensures { result ≡ record { left = R.remaining reader; faults = 0 } }
+    {
+        CountedReader { reader, faults: 0 }
+    }
+}
+
+// Adds all that a reader of std has left to the content.
+fn append_left<R: Read + Drop>(mut reader: R, content: &mut Vec<u8>) -> io::Result<()>
+    ensures { OnOk result (IfSome (R.remaining reader) (λ left.
+        content.new.items ≡ content.old.items ++ left)) }
+{
+    reader.read_to_end(content)?;
+    Ok(())
+}
+
+impl<R: Read + Drop> Reader for CountedReader<R> {
+    ghost state = { λ r. r };
+
+    fn read_front(&mut self, most: u64, content: &mut Vec<u8>) -> io::Result<()> {
+        match append_left(Read::take(&mut self.reader, most), content) {
+            Ok(()) => Ok(()),
+            Err(error) => {
+                if error.kind() != ErrorKind::OutOfMemory {
+                    self.faults = self.faults.saturating_add(1);
+                }
+                Err(error)
+            }
+        }
+    }
+}
 
 /// All that this reader has left, where that is at most `limit` bytes. No more than one byte past
 /// the limit is read.
 ///
 /// # Errors
 /// `TooLong` where the reader has more left. An error of the reader by its kind
-/// (`ShelfError::by_kind`): `NoMemory`, which also stands for want of memory here, or `Failed`.
-pub fn read_up_to<R: Read + Drop>(
+/// (`ShelfError::by_kind`): `NoMemory`, which also stands for want of memory here, or `Failed`,
+/// exactly where the reader's count of faults rose.
+pub fn read_up_to<R: Reader>(
     alloc: Global,
-    reader: R,
+    reader: &mut R,
     limit: u64,
 ) -> Result<Vec<u8>, ShelfError>
-    ensures read { IsReadOf (R.remaining reader) limit result }
+    ensures read { IsReadOf (R.state reader.old).left limit result }
     ensures within { IfOk result (λ content. length content.items ≤ limit) }
+    ensures faults { (R.state reader.new).faults
+        ≡ (if is_read_fault result then next_count (R.state reader.old).faults
+        else (R.state reader.old).faults) }
 {
     let mut content = Vec::new(alloc);
-    match reader
-        .take(limit.saturating_add(1))
-        .read_to_end(&mut content)
-    {
-        Ok(_) if content.len() as u64 > limit => Err(ShelfError::TooLong),
-        Ok(_) => Ok(content),
+    match reader.read_front(limit.saturating_add(1), &mut content) {
+        Ok(()) if content.len() as u64 > limit => Err(ShelfError::TooLong),
+        Ok(()) => Ok(content),
         Err(error) => Err(ShelfError::by_kind(&error, ShelfError::Failed)),
+    }
+}
+
+/// All that is left of what was opened, where that is at most `limit` bytes.
+///
+/// # Errors
+/// Where nothing was opened, by the kind of that error: `NoMemory`, or `Missing`. Else as
+/// `read_up_to`.
+pub fn read_opened<R: Reader>(
+    alloc: Global,
+    opened: &mut io::Result<R>,
+    limit: u64,
+) -> Result<Vec<u8>, ShelfError>
+    ensures read { IfOk opened.old (λ reader. IsReadOf (R.state reader).left limit result) }
+    ensures not_opened { IfErr opened.old (λ error.
+        result ≡ Err (cause_by_kind (error_kind error) Missing)) }
+    ensures within { IfOk result (λ content. length content.items ≤ limit) }
+    ensures faults { faults_of R.state opened.new
+        ≡ (if is_read_fault result then next_count (faults_of R.state opened.old)
+        else faults_of R.state opened.old) }
+{
+    match opened {
+        Ok(reader) => read_up_to(alloc, reader, limit),
+        Err(error) => Err(ShelfError::by_kind(error, ShelfError::Missing)),
     }
 }
 

@@ -2,13 +2,13 @@
 //!
 //! Nothing is known here of what a file holds or of what reaches a stream of the system, so neither
 //! is known to contracts. Of readers and writers whose bytes are known, these lines are proved:
-//! what `read_up_to` answers, and what a `StdSink` takes.
+//! what `read_opened` answers, and what a `StdSink` takes.
 ghost use Rattle.std.specs.Prelude.{◌≡◌, ◌≤◌, None, false, length, IfOk, ◌≢◌, if◌then◌else◌};
 ghost use Rattle.shelf.specs.Sink.{next_count};
 
 use crate::output::{Sink, SinkError};
 use crate::source::{Shelf, ShelfError};
-use crate::streams::{read_up_to, write_through};
+use crate::streams::{CountedReader, read_opened, write_through};
 use std::fs::File;
 use std::io::Write;
 use std::marker::Model;
@@ -61,10 +61,8 @@ impl<R: Files + AllocGlobal + Drop> Shelf for DiskShelf<R> {
         ensures within { IfOk result (λ content. length content.items ≤ limit) }
     {
         self.reads = self.reads.saturating_add(1);
-        let content = match File::open(&self.system, name) {
-            Ok(file) => read_up_to(self.system.alloc(), file, limit),
-            Err(error) => Err(ShelfError::by_kind(&error, ShelfError::Missing)),
-        };
+        let mut opened = File::open(&self.system, name).map(CountedReader::new);
+        let content = read_opened(self.system.alloc(), &mut opened, limit);
         if matches!(
             content,
             Err(ShelfError::Failed | ShelfError::Missing | ShelfError::TooLong)
