@@ -42,6 +42,7 @@ use Rattle.control_laws.proofs.SwitchBlocks.{said_parts}
 use Rattle.control_laws.proofs.Traffic.{IsAdvert, IsAdvertTo, IsIngress, IsTraffic, Traffic, adverts_to, between_cases, each_told, links_traffic, masked_there, packet_has, passed_traffic, step_traffic}
 use Rattle.control_laws.proofs.Greatest.{known_first}
 use Rattle.control_laws.proofs.Told.{each_weaker}
+use Rattle.ternary.specs.Word.{WordValue}
 
 -- ---- what a message names
 
@@ -54,7 +55,7 @@ IsKnownSwitch setting before s =
 abbrev pub SaysOwn : Setting → List Item → Place → Body → Type 0
 SaysOwn setting before (receiver.Switch s) (Install boot tables) = IsKnownSwitch setting before s
 SaysOwn setting before (receiver.Switch s) (OpenAt boot version) = IsKnownSwitch setting before s
-SaysOwn setting before (receiver.Switch s) (Stamp boot version) = IsKnownSwitch setting before s
+SaysOwn setting before (receiver.Switch s) (Stamp boot version touched) = IsKnownSwitch setting before s
 SaysOwn setting before (receiver.Switch s) (Collect boot version) =
     (1 ≤ version) × IsKnownSwitch setting before s
 SaysOwn setting before (receiver.Switch s) (Advertise advert) = s < length setting.net.switches
@@ -71,13 +72,17 @@ pub record AnswersTables (before : List Item) (s boot version : ℕ) : Type 0 wh
   pub own : tables.version ≡ version
   pub answers : AnswersTo before s (Install boot tables)
 
+pub record AnswersStamp (before : List Item) (s boot version : ℕ) : Type 0 where
+  pub touched : List WordValue
+  pub answers : AnswersTo before s (Stamp boot version touched)
+
 abbrev pub SaysThere : Setting → List Item → Place → Body → Type 0
 SaysThere setting before (receiver.Switch s) (CacheRule version word rule action) =
     IsTrue (is_version before version) × IsIngress before s
 SaysThere setting before receiver.Controller (Installed s boot version) =
     AnswersTables before s boot version
 SaysThere setting before receiver.Controller (Stamped s boot version) =
-    AnswersTo before s (Stamp boot version)
+    AnswersStamp before s boot version
 SaysThere setting before to body = SaysOwn setting before to body
 
 abbrev pub NamesRightly : Setting → List Item → Item → Type 0
@@ -125,7 +130,7 @@ own_sent setting before n message (receiver.Switch s) (Install boot tables) own 
     known_sent setting before n s message own
 own_sent setting before n message (receiver.Switch s) (OpenAt boot version) own =
     known_sent setting before n s message own
-own_sent setting before n message (receiver.Switch s) (Stamp boot version) own =
+own_sent setting before n message (receiver.Switch s) (Stamp boot version touched) own =
     known_sent setting before n s message own
 own_sent setting before n message (receiver.Switch s) (Collect boot version) own =
     (own.0, known_sent setting before n s message own.1)
@@ -206,7 +211,8 @@ switch_name : (setting : Setting) (before now : List Item) (s : ℕ) (body : Bod
 unfolding switch_items sent_from
 switch_name setting before now s (Install boot tables) answers =
     (record { tables = tables; own = refl; answers = answers }, tt)
-switch_name setting before now s (Stamp boot version) answers = (answers, tt)
+switch_name setting before now s (Stamp boot version touched) answers =
+    (record { touched = touched; answers = answers }, tt)
 switch_name setting before now s (OpenAt boot version) answers = grind (arith, traffic_name, links_traffic)
 switch_name setting before now s (Advertise advert) answers = grind (arith, traffic_name, passed_traffic)
 switch_name setting before now s _ answers = tt

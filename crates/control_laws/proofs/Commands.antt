@@ -28,7 +28,7 @@ use Rattle.control_laws.proofs.Sent.{sends_each}
 abbrev pub IsCommand : Body → Type 0
 IsCommand (Install boot tables) = ⊤
 IsCommand (OpenAt boot version) = ⊤
-IsCommand (Stamp boot version) = ⊤
+IsCommand (Stamp boot version touched) = ⊤
 IsCommand (Collect boot version) = ⊤
 IsCommand _ = ⊥
 

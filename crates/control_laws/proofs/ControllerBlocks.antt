@@ -12,7 +12,7 @@ use Rattle.update_machine.specs.Setting.{Setting}
 use Rattle.update_machine.specs.SwitchNumbers.{switches_of}
 use Rattle.update_machine.specs.Settling.{install_for, installs_to, installs_to_all, settling, submitted_items, versions_from_current}
 use Rattle.update_machine.specs.Versions.{version_count}
-use Rattle.update_machine.proofs.CallerLemmas.{have_in_turn}
+use Rattle.update_machine.proofs.CallerLemmas.{have_in_turn, policies_keep}
 use Rattle.control_laws.specs.ItemCauses.{HasItemCause}
 use Rattle.control_laws.proofs.Facts.{Has}
 use Rattle.control_laws.proofs.Grown.{current_more, retired_more}
@@ -83,7 +83,13 @@ settling_right setting = record {
       record {
         may = may_rise setting journal (grind (arith, nat_tests));
         told = λ s there to member.
-            record { to = to; member = member; current = sym (current_more journal next) };
+            record {
+              to = to;
+              member = member;
+              current = sym (current_more journal next);
+              says = sym ((policies_keep journal (next ∷ []) (refl, tt)).touched setting
+                  (next_current setting journal));
+            };
       };
   opens = λ journal s there joins.
       let parts = joining_parts journal s (has_acked journal s (current_mark journal)) joins in

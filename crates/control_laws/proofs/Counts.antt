@@ -278,7 +278,7 @@ member_few setting journal s =
     let tables : List Message =
     unacked_installs setting journal s (range_with_len (current_mark journal + 1) later) in
     let stamp : List Message = if nat_lt (acked_stamp journal s) (current_mark journal)
-    then stamp_for journal (current_mark journal) s ∷ [] else [] in
+    then stamp_for setting journal (current_mark journal) s ∷ [] else [] in
     let mark : List Message = if retired_mark journal == 0
     then [] else collect_for journal (retired_mark journal) s ∷ [] in
     omega (
@@ -287,7 +287,7 @@ member_few setting journal s =
       length-append tables stamp,
       unacked_few setting journal s (current_mark journal + 1) later,
       one_if (nat_lt (acked_stamp journal s) (current_mark journal))
-          (stamp_for journal (current_mark journal) s),
+          (stamp_for setting journal (current_mark journal) s),
       none_if (retired_mark journal == 0) (collect_for journal (retired_mark journal) s),
     )
 

@@ -34,7 +34,7 @@ use Rattle.control_laws.proofs.Told.{each_if, each_weaker, tells, told_by, told_
 -- a message that lets a switch stamp, or says that it does, is of a version that is current or was
 abbrev pub IsOfCurrent : List Item → Place → Body → Type 0
 IsOfCurrent journal (receiver.Switch s) (OpenAt boot version) = version ≤ current_mark journal
-IsOfCurrent journal (receiver.Switch s) (Stamp boot version) = version ≤ current_mark journal
+IsOfCurrent journal (receiver.Switch s) (Stamp boot version touched) = version ≤ current_mark journal
 IsOfCurrent journal receiver.Controller (Stamped s boot version) = version ≤ current_mark journal
 IsOfCurrent journal to body = ⊤
 
@@ -96,7 +96,7 @@ sent_current : (setting : Setting) (before : List Item) (to : Place) (body : Bod
     → IsOfCurrent before to body
 sent_current setting before (receiver.Switch s) (OpenAt boot version) are right =
     right_current before s boot version are right
-sent_current setting before (receiver.Switch s) (Stamp boot version) are right =
+sent_current setting before (receiver.Switch s) (Stamp boot version touched) are right =
     let current = right.current in omega arith
 sent_current setting before (receiver.Switch s) _ are right = tt
 sent_current setting before receiver.Controller (Stamped s boot version) are right =
@@ -108,7 +108,7 @@ current_on : (setting : Setting) (before : List Item) (next : Item) (to : Place)
     → IsOfCurrent (before ++ next ∷ []) to body
 current_on setting before next (receiver.Switch s) (OpenAt boot version) cause is =
     omega (arith, is, current_rises setting before next cause)
-current_on setting before next (receiver.Switch s) (Stamp boot version) cause is =
+current_on setting before next (receiver.Switch s) (Stamp boot version touched) cause is =
     omega (arith, is, current_rises setting before next cause)
 current_on setting before next (receiver.Switch s) _ cause is = tt
 current_on setting before next receiver.Controller (Stamped s boot version) cause is =

@@ -26,6 +26,7 @@ pub mod Switches
 pub mod Acks
 pub mod AcksHeld
 pub mod Bounded
+pub mod Touched
 pub mod Greatest
 pub mod Current
 pub mod Members

@@ -22,6 +22,7 @@ use Rattle.control_laws.proofs.Members.{member_on}
 use Rattle.control_laws.proofs.Retired.{CollectsRetired, IsAbove, above_at_first, above_fact, collects_at_first, collects_on}
 use Rattle.control_laws.proofs.Stamping.{StampsOpened, opened_stamps_at_first, opened_stamps_on, serving_stamps}
 use Rattle.control_laws.proofs.AcksHeld.{IsTold, told_at_first, told_kept}
+use Rattle.ternary.specs.Word.{WordValue}
 
 pub record AreMarked (setting : Setting) (journal : List Item) : Type 0 where
   pub told : IsTold journal
@@ -103,9 +104,10 @@ opening_let setting before s boot version are right = record {
 }
 
 stamp_let : (setting : Setting) (before : List Item) (s boot version : ℕ)
-    → AreMarked setting before → IsRightStamp before s boot version
+    (touched : List WordValue) → AreMarked setting before
+    → IsRightStamp setting before s boot version touched
     → IsLetStamp setting before s boot version
-stamp_let setting before s boot version are right =
+stamp_let setting before s boot version touched are right =
     let now = right.current in
     record {
       known = right.to.known;
@@ -124,8 +126,8 @@ message_let : (setting : Setting) (before : List Item) (to : Place) (body : Body
     → LetsStamp setting before to body
 message_let setting before (receiver.Switch s) (OpenAt boot version) are right =
     opening_let setting before s boot version are right
-message_let setting before (receiver.Switch s) (Stamp boot version) are right =
-    stamp_let setting before s boot version are right
+message_let setting before (receiver.Switch s) (Stamp boot version touched) are right =
+    stamp_let setting before s boot version touched are right
 message_let setting before to body are right = tt
 
 item_let : (setting : Setting) (before : List Item) (next : Item)

@@ -93,7 +93,7 @@ addressed setting before (receiver.Switch s) (Install boot tables) some are says
     (known_there setting before s are says, refl)
 addressed setting before (receiver.Switch s) (OpenAt boot version) some are says =
     (known_there setting before s are says, refl)
-addressed setting before (receiver.Switch s) (Stamp boot version) some are says =
+addressed setting before (receiver.Switch s) (Stamp boot version touched) some are says =
     (known_there setting before s are says, refl)
 addressed setting before (receiver.Switch s) (Collect boot version) some are says =
     (known_there setting before s are says.1, refl)
@@ -105,7 +105,8 @@ addressed setting before receiver.Controller (Installed s boot version) some are
     (are.sent says.answers.number (to_switch s (Install boot says.tables))
     says.answers.sent).addressed.0
 addressed setting before receiver.Controller (Stamped s boot version) some are says =
-    (are.sent says.number (to_switch s (Stamp boot version)) says.sent).addressed.0
+    (are.sent says.answers.number (to_switch s (Stamp boot version says.touched))
+    says.answers.sent).addressed.0
 addressed setting before to body some are says = absurd says
 
 -- ---- versions
@@ -133,7 +134,7 @@ version_there setting before (receiver.Switch s) (OpenAt boot version) are right
     are.current.marks.there,
   ),
 )
-version_there setting before (receiver.Switch s) (Stamp boot version) are right says =
+version_there setting before (receiver.Switch s) (Stamp boot version touched) are right says =
     let current = right.current in
     let marks = are.current.marks in
     (omega (arith, current, marks.first), omega (arith, current, marks.there))
@@ -149,7 +150,8 @@ version_there setting before receiver.Controller (Installed s boot version) are 
     (are.sent says.answers.number (to_switch s (Install boot says.tables))
     says.answers.sent).version
 version_there setting before receiver.Controller (Stamped s boot version) are right says =
-    (are.sent says.number (to_switch s (Stamp boot version)) says.sent).version
+    (are.sent says.answers.number (to_switch s (Stamp boot version says.touched))
+    says.answers.sent).version
 version_there setting before to body are right says = absurd says
 
 -- ---- items

@@ -110,7 +110,7 @@ switch_leaves : (setting : Setting) (before : List Item) (s : ℕ) (body : Body)
     → Leave now (switch_items setting before s body now)
 unfolding switch_items
 switch_leaves setting before s (Install boot tables) now = sends_leave now _ (tt, tt)
-switch_leaves setting before s (Stamp boot version) now = sends_leave now _ (tt, tt)
+switch_leaves setting before s (Stamp boot version touched) now = sends_leave now _ (tt, tt)
 switch_leaves setting before s (OpenAt boot version) now = grind (arith, links_leave)
 switch_leaves setting before s (Advertise advert) now = grind (arith, passed_leave)
 switch_leaves setting before s _ now = tt

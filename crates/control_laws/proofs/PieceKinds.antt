@@ -201,7 +201,7 @@ unfolding switch_items
 switch_kind setting before row number step s (Install boot tables) =
     behind_delivered setting before row number step _ (sends_silent _ _)
     (λ net versions. sends_few _ _ 5000 (omega arith))
-switch_kind setting before row number step s (Stamp boot version) =
+switch_kind setting before row number step s (Stamp boot version touched) =
     behind_delivered setting before row number step _ (sends_silent _ _)
     (λ net versions. sends_few _ _ 5000 (omega arith))
 switch_kind setting before row number step s (OpenAt boot version) = by_serving (serves before s)

@@ -89,7 +89,7 @@ member_resent setting journal s member =
     (current_mark journal + 1) (version_count journal - current_mark journal)
     (λ version above below. tables_right setting journal s version parts.0
     (omega (arith, above)) (omega (arith, above, below)))))
-    (record { to = known; member = member; current = refl })
+    (record { to = known; member = member; current = refl; says = refl })
     (λ some. record { to = known; member = member; retired = refl })
 
 resend_by_controller : (setting : Setting) (journal : List Item) (s : ℕ)

@@ -22,7 +22,7 @@ later_versions journal =
 pub each_to_member : (P : Message → Type 0) (setting : Setting) (journal : List Item) (s : ℕ)
     → P (open_for journal (open_version journal s) s)
     → AllByRecursion P (unacked_installs setting journal s (later_versions journal))
-    → P (stamp_for journal (current_mark journal) s)
+    → P (stamp_for setting journal (current_mark journal) s)
     → ((retired_mark journal == 0) ≡ false → P (collect_for journal (retired_mark journal) s))
     → AllByRecursion P (resent_to_member setting journal s)
 each_to_member P setting journal s opening tables stamp collect = (
@@ -35,10 +35,10 @@ each_to_member P setting journal s opening tables stamp collect = (
   where
     stamps : List Message
     stamps = if nat_lt (acked_stamp journal s) (current_mark journal)
-        then stamp_for journal (current_mark journal) s ∷ [] else []
+        then stamp_for setting journal (current_mark journal) s ∷ [] else []
 
     by_stamp : (behind : Bool) → AllByRecursion P
-        (if behind then stamp_for journal (current_mark journal) s ∷ [] else [])
+        (if behind then stamp_for setting journal (current_mark journal) s ∷ [] else [])
     by_stamp true = (stamp, tt)
     by_stamp false = tt
 

@@ -23,6 +23,7 @@ use Rattle.update_machine.proofs.CallerLemmas.{policies_keep, switch_keeps}
 use Rattle.control_laws.specs.ItemCauses.{HasItemCause, IsFirstOpening, IsForKnown, IsPresentIn, IsRightFrom, IsRightMessage, IsRightOpening, IsRightTo}
 use Rattle.control_laws.proofs.Grown.{count_more, current_more, known_more, opened_at_more, opens_by, over_more, retired_more, told_more}
 use Rattle.control_laws.proofs.Openings.{member_on}
+use Rattle.update_machine.specs.Touched.{touched_by}
 
 -- ---- facts of each element
 
@@ -227,6 +228,11 @@ tables_sent setting before n v s message =
     ap (λ plan. tables_of plan v s)
     ((policies_keep before (item.Sent n message ∷ []) (refl, tt)).plan setting v)
 
+touched_sent : (setting : Setting) (before : List Item) (n v : ℕ) (message : Message)
+    → touched_by setting (before ++ item.Sent n message ∷ []) v ≡ touched_by setting before v
+touched_sent setting before n v message =
+    (policies_keep before (item.Sent n message ∷ []) (refl, tt)).touched setting v
+
 to_sent : (setting : Setting) (before : List Item) (s n : ℕ) (message : Message) (body : Body)
     → IsRightMessage setting before message.to message.body → IsRightTo setting before s body
     → IsRightTo setting (before ++ item.Sent n message ∷ []) s body
@@ -242,10 +248,11 @@ to_sent setting before s n message (Install boot tables) new right = record {
 }
 to_sent setting before s n message (OpenAt boot version) new right =
     opening_sent setting before s boot version n message new right
-to_sent setting before s n message (Stamp boot version) new right = record {
+to_sent setting before s n message (Stamp boot version touched) new right = record {
   to = known_sent before s boot n message right.to;
   member = member_sent before s n message right.member;
   current = rw (current_more before (item.Sent n message)) right.current;
+  says = right.says ∙ sym (touched_sent setting before n version message);
 }
 to_sent setting before s n message (Collect boot version) new right = record {
   to = known_sent before s boot n message right.to;

@@ -268,7 +268,7 @@ current_is setting journal =
     let version : ℕ = next_current setting journal in
     let raised : List Item = journal ++ item.Current version ∷ [] in
     rise_cases (λ now. current_mark now ≡ version) setting journal (item.Current version)
-    (stamp_for journal version) (nat_lt (current_mark journal) version)
+    (stamp_for setting journal version) (nat_lt (current_mark journal) version)
     (λ e. let above = next_above setting journal in grind (arith, nat_tests))
     ((marks_sent _ raised (next_message raised)).current
     ∙ current_more journal (item.Current version))

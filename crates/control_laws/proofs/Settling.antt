@@ -34,7 +34,7 @@ pub record SettlingHas (cause : List Item → Item → Type 0) (Tells : List Ite
       → HaveCauses cause journal (send_items journal messages)
   pub rises : (journal : List Item) → let version = next_current setting journal in
       IsTrue (nat_lt (current_mark journal) version)
-      → Rises cause Tells setting journal (item.Current version) (stamp_for journal version)
+      → Rises cause Tells setting journal (item.Current version) (stamp_for setting journal version)
   pub opens : (journal : List Item) (s : ℕ) → s < length setting.net.switches
       → IsTrue (is_joining journal s && has_acked journal s (current_mark journal))
       → Tells journal (open_for journal (current_mark journal) s)
@@ -55,7 +55,7 @@ parts_have cause Tells setting has = record {
   rises = λ journal.
       let version = next_current setting journal in
       rise_has journal (nat_lt (current_mark journal) version) (item.Current version)
-      (stamp_for journal version) (known_more journal (item.Current version))
+      (stamp_for setting journal version) (known_more journal (item.Current version))
       (over_more journal (item.Current version)) (has.rises journal);
   opens = λ journal.
       has.sends journal _

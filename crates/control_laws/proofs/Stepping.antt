@@ -111,7 +111,7 @@ switch_caused : (setting : Setting) (before now : List Item) (s : ℕ) (bodies :
 unfolding switch_items
 switch_caused setting before now s bodies (Install boot tables) first heard =
     sends_told setting now (to_controller (Installed s boot tables.version) ∷ []) (tt, tt)
-switch_caused setting before now s bodies (Stamp boot version) first heard =
+switch_caused setting before now s bodies (Stamp boot version touched) first heard =
     sends_told setting now (to_controller (Stamped s boot version) ∷ []) (tt, tt)
 switch_caused setting before now s bodies (OpenAt boot version) first heard =
     by_serving (serves before s)

@@ -118,7 +118,7 @@ switch_have setting before now s number (Install boot tables) is =
         ∙ list_any-append (installs_version tables.version) is.earlier (Install boot tables ∷ [])
         ∙ ap (λ b. list_any (installs_version tables.version) is.earlier || (b || false)) own
         ∙ or_right (list_any (installs_version tables.version) is.earlier) true refl
-switch_have setting before now s number (Stamp boot version) is =
+switch_have setting before now s number (Stamp boot version touched) is =
     sends_have setting now (to_controller (Stamped s boot version) ∷ []) (
       record {
         present = record { up = is.said.up; own = own_boot now s boot is.said.own };

@@ -32,7 +32,7 @@ abbrev installed : List Item
 installed = item.Submitted 2 2 ∷ sent
 
 abbrev stamped : List Item
-stamped = item.Sent 2 (to_switch 0 (Stamp 1 2)) ∷ item.Delivered 2 ∷ []
+stamped = item.Sent 2 (to_switch 0 (Stamp 1 2 [])) ∷ item.Delivered 2 ∷ []
 
 only_two : (version : ℕ) → 2 ≤ version → version ≤ 2 → 2 ≡ version
 only_two version above below = omega (arith, above, below)

@@ -22,7 +22,7 @@ pub record IsLetStamp (setting : Setting) (before : List Item) (s boot version :
 abbrev pub LetsStamp : Setting → List Item → Place → Body → Type 0
 LetsStamp setting before (receiver.Switch s) (OpenAt boot version) =
     IsLetStamp setting before s boot version
-LetsStamp setting before (receiver.Switch s) (Stamp boot version) =
+LetsStamp setting before (receiver.Switch s) (Stamp boot version touched) =
     IsLetStamp setting before s boot version
 LetsStamp setting before to body = ⊤
 

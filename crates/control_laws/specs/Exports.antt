@@ -10,3 +10,4 @@ pub use Rattle.control_laws.specs.Planned.{TablesArePlanned, VersionsArePlanned}
 pub use Rattle.control_laws.specs.Rises.{RisesRightly}
 pub use Rattle.control_laws.specs.Serving.{ServingHold}
 pub use Rattle.control_laws.specs.Steps.{asks_controller}
+pub use Rattle.control_laws.specs.Touched.{StampsSayTouched}

@@ -11,12 +11,14 @@ use Rattle.ctrl_msg.specs.declared.message.Place.{Place}
 use Rattle.ctrl_msg.specs.declared.message.Place.TheVariants as receiver
 use Rattle.policy_rules.specs.declared.policy.Row.{Row}
 use Rattle.switch_table.specs.declared.tables.Tables.{Tables}
+use Rattle.ternary.specs.Word.{WordValue}
 use Rattle.journal.specs.declared.item.Item.{Item}
 use Rattle.journal.specs.declared.item.Item.TheVariants as item
 use Rattle.update_machine.specs.Boots.{boot_of, heard, is_up}
 use Rattle.update_machine.specs.Marks.{MayRise, current_mark, has_acked, is_member, is_over, known_boot, most_live, most_versions, next_retired, opened_at, retired_mark}
 use Rattle.update_machine.specs.Setting.{Setting}
 use Rattle.update_machine.specs.Settling.{to_switch}
+use Rattle.update_machine.specs.Touched.{touched_by}
 use Rattle.update_machine.specs.Versions.{installs_version, next_policy, stamp_of, tables_at, version_count}
 use Rattle.update_machine.specs.Links.{message_of}
 
@@ -48,11 +50,13 @@ pub record IsRightOpening (before : List Item) (s boot version : ℕ) : Type 0 w
   pub to : IsForKnown before s boot
   pub opens : IsFirstOpening before s version ⊎ (opened_at before s ≡ Some version)
 
--- a member is told to stamp with the current version
-pub record IsRightStamp (before : List Item) (s boot version : ℕ) : Type 0 where
+-- a member is told to stamp with the current version, and what its change touches
+pub record IsRightStamp (setting : Setting) (before : List Item) (s boot version : ℕ)
+    (touched : List WordValue) : Type 0 where
   pub to : IsForKnown before s boot
   pub member : IsTrue (is_member before s)
   pub current : version ≡ current_mark before
+  pub says : touched ≡ touched_by setting before version
 
 -- a member is told to drop what is retired
 pub record IsRightCollect (before : List Item) (s boot version : ℕ) : Type 0 where
@@ -64,7 +68,8 @@ pub record IsRightCollect (before : List Item) (s boot version : ℕ) : Type 0 w
 abbrev pub IsRightTo : Setting → List Item → ℕ → Body → Type 0
 IsRightTo setting before s (Install boot tables) = IsRightInstall setting before s boot tables
 IsRightTo setting before s (OpenAt boot version) = IsRightOpening before s boot version
-IsRightTo setting before s (Stamp boot version) = IsRightStamp before s boot version
+IsRightTo setting before s (Stamp boot version touched) =
+    IsRightStamp setting before s boot version touched
 IsRightTo setting before s (Collect boot version) = IsRightCollect before s boot version
 IsRightTo setting before s (CacheRule version word rule action) = ⊤
 IsRightTo setting before s (Advertise advert) = ⊤

@@ -6,6 +6,7 @@ pub mod Acknowledged
 pub mod Bounds
 pub mod Serving
 pub mod Planned
+pub mod Touched
 pub mod Authorities
 pub mod Named
 pub mod Rises

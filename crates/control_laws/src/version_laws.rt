@@ -2,7 +2,7 @@
 ghost use Rattle.std.specs.Prelude.{[], ℕ, ◌++◌, ◌≤◌, List, IsFalse};
 ghost use Rattle.net_file.specs.Net.{IsNet};
 ghost use Rattle.update_machine.specs.Exports.{AreSettled, ControllerKeeps, HaveCauses, Item, Setting, Step, VersionsAreNumbered, next_retired, piece, retired_mark};
-ghost use Rattle.control_laws.specs.Exports.{AcksHold, BodiesNameThere, BootsAreKnown, HasItemCause, HoldsAlways, HoldsAtEnds, HoldsReached, InstallsArePlanned, IsAckedFirst, MarksAreBounded, MembersAcknowledged, OpensAtOneVersion, RisesRightly, ServingHold, ServingIsKnown, TablesArePlanned, VersionsArePlanned, asks_controller};
+ghost use Rattle.control_laws.specs.Exports.{AcksHold, BodiesNameThere, BootsAreKnown, HasItemCause, HoldsAlways, HoldsAtEnds, HoldsReached, InstallsArePlanned, IsAckedFirst, MarksAreBounded, MembersAcknowledged, OpensAtOneVersion, RisesRightly, ServingHold, ServingIsKnown, StampsSayTouched, TablesArePlanned, VersionsArePlanned, asks_controller};
 
 /// Each item of switches and their controller has its cause in the journal before it.
 pub fn items_have_causes()
@@ -46,6 +46,12 @@ pub fn installs_are_planned()
 /// only with a version that is current or was.
 pub fn stamps_are_acked_first()
     ensures { HoldsAlways (λ setting journal. HaveCauses (IsAckedFirst setting) [] journal) }
+{}
+
+/// Whoever is told to stamp with a version is told what the change of that version touches: the
+/// words of the rows that it removes and adds, as the journal has them.
+pub fn stamps_say_what_is_touched()
+    ensures { HoldsAlways (λ setting journal. StampsSayTouched setting journal) }
 {}
 
 /// A member acknowledged each version from the one at which it was opened to the current one, and a

@@ -5,7 +5,7 @@ use Rattle.std.specs.List.{range_with_len}
 use Rattle.std.proofs.lemmas.Bool.{cases_eq, false≢true}
 use Rattle.std.proofs.lemmas.List.{length-map}
 use Rattle.std.proofs.lemmas.List.FromFn.{length-range_with_len}
-use Rattle.controller.specs.Controller.{KeptPlan, ControllerValue, IsController, kept_tables}
+use Rattle.controller.specs.Controller.{KeptPlan, ControllerValue, IsController, current_plan, kept_tables}
 use Rattle.controller.specs.Plan.{IsSoundPlan}
 use Rattle.switch_table.specs.Tables.{tables_of}
 
@@ -70,3 +70,21 @@ module _ (controller : ControllerValue) (is : IsController controller) (version 
       → IsSoundPlan kept.plan
   kept_sound kept at =
       subst (λ (kept : KeptPlan). IsSoundPlan kept.plan) (sym at) (is.sound _ kept kept_there)
+
+pub current_there : (controller : ControllerValue) → IsController controller
+    → 0 < length controller.plans
+current_there controller is =
+    omega (
+      arith,
+      kept_there controller is controller.marks.current (omega arith) is.marks.bounds.last,
+    )
+
+-- the first is that of the current version
+pub current_kept : (controller : ControllerValue) → IsController controller → (kept : KeptPlan)
+    → kept ≡ get_or controller.plans 0 kept → current_plan controller ≡ Some kept.plan
+current_kept controller is kept at =
+    let current = controller.marks.current in
+    let place : current - current ≡ 0 = omega arith in
+    ap (option_map (λ (kept : KeptPlan). kept.plan))
+    (kept_at controller is current (omega arith) is.marks.bounds.last kept
+    ∙ ap Some (ap (λ n. get_or controller.plans n kept) place ∙ sym at))

@@ -2,6 +2,7 @@ pub mod PlanLemmas
 mod Picking
 mod Telling
 mod Versions
+mod Listing
 mod Unheard
 mod KeptPlans
-mod Newest
+pub mod Newest

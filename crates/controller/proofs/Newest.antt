@@ -1,22 +1,21 @@
 -- The newest version's policy, as the marks settle.
-use Rattle.std.proofs.Common.{ℕ, suc, zero, ◌≡◌, ◌+◌, ◌-◌, ◌<◌, ◌≤◌, ◌==◌, Bool, true, false, cond, leb, Some, None, List, [], ◌∷◌, ◌++◌, map, refl, ap, ◌∙◌, arith, eq-eqb}
+use Rattle.std.proofs.Common.{ℕ, suc, zero, ◌≡◌, ◌+◌, ◌-◌, ◌≤◌, ◌==◌, Bool, true, false, cond, leb, Some, None, List, [], ◌∷◌, ◌++◌, map, refl, ap, ◌∙◌, arith, eq-eqb}
 use Rattle.std.specs.Prelude.{Option, find, option_map}
 use Rattle.std.specs.List.{range_with_len}
 use Rattle.std.proofs.lemmas.Bool.Decides.{nat_tests}
 use Rattle.policy_rules.specs.declared.policy.Row.{Row}
 use Rattle.version_update.specs.Marks.{MarksValue, with_version}
 use Rattle.controller.specs.Controller.{KeptPlan, ControllerValue, IsController, SettlesWith, newest_policy, plans_from}
-use Rattle.controller.specs.Plan.{PlanValue}
 use Rattle.controller.specs.Submit.{SubmitsPlan}
 
-abbrev found : ℕ → List KeptPlan → Option KeptPlan
+abbrev pub found : ℕ → List KeptPlan → Option KeptPlan
 found version plans = find (λ (kept : KeptPlan). kept.version == version) plans
 
 abbrev policy_kept : ℕ → List KeptPlan → Option (List Row)
 policy_kept version plans = option_map (λ (kept : KeptPlan). kept.plan.policy) (found version plans)
 
 -- a version from the current one on is found among the plans that are kept
-still_found : (current version : ℕ) (plans : List KeptPlan) → current ≤ version
+pub still_found : (current version : ℕ) (plans : List KeptPlan) → current ≤ version
     → found version (plans_from current plans) ≡ found version plans
 still_found current version [] low = refl
 still_found current version (kept ∷ plans) low =
@@ -59,14 +58,14 @@ newest_settled before kept new is settles =
     (still_found new.marks.current new.marks.count kept is.marks.bounds.last)
     ∙ ap (λ version. policy_kept version kept) settles.marks.1.count
 
-pub newest_added : (old new : ControllerValue) (plan : PlanValue) → IsController old
-    → IsController new → SubmitsPlan old plan new → newest_policy new ≡ Some plan.policy
-newest_added old new plan was is submits =
-    let next : KeptPlan = record { version = old.marks.count + 1; plan = plan } in
+pub newest_added : (old new : ControllerValue) (next : KeptPlan) → IsController old
+    → IsController new → next.version ≡ old.marks.count + 1 → SubmitsPlan old next new
+    → newest_policy new ≡ Some next.plan.policy
+newest_added old new next was is number submits =
     newest_settled (with_version old.marks) (old.plans ++ next ∷ []) new is submits
     ∙ ap (option_map (λ (kept : KeptPlan). kept.plan.policy))
     (last_found old.marks.current (old.marks.count + 1 - old.marks.current) (old.marks.count + 1)
-    old.plans next was.versions refl (omega (arith, was.marks.bounds.last)))
+    old.plans next was.versions number (omega (arith, was.marks.bounds.last)))
 
 -- so where there is no new version it stays as it was
 pub newest_stays : (before : MarksValue) (old new : ControllerValue) → IsController new

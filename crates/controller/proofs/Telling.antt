@@ -13,6 +13,7 @@ use Rattle.controller.specs.News.{switches_named}
 use Rattle.controller.specs.Sends.{posts_to, switches_where, rising_acts, stamp_acts, open_acts, collect_acts, settling_acts}
 use Rattle.controller.specs.declared.sends.Act.{Act}
 use Rattle.controller.proofs.Picking.{those_named}
+use Rattle.ternary.specs.Word.{WordValue}
 
 -- no switch comes or goes
 pub same_number : (before after : MarksValue) (answer : Settled) → Settles before after answer
@@ -88,12 +89,19 @@ opens_told before after answer n current old acts all is_current made is =
     ∙ ap (λ v. old ++ posts_to after (λ boot. OpenAt boot v)
     (switches_where (opens_at after.current) before.switches)) is_current
 
+-- a mark that is told to have risen is the new one
+pub told_current : (before after : MarksValue) (number : ℕ)
+    → rises_to before.current after.current ≡ Some number → after.current ≡ number
+told_current before after number told =
+    sym (rose before.current after.current number told).0
+
 -- the three parts, one after another
-pub settling_told : (before after : MarksValue) (old one two three : List Act)
-    → one ≡ old ++ stamp_acts before after → two ≡ one ++ open_acts before after
-    → three ≡ two ++ collect_acts before after → three ≡ old ++ settling_acts before after
-settling_told before after old one two three a b c =
-    let first = stamp_acts before after in
+pub settling_told : (touched : List WordValue) (before after : MarksValue)
+    (old one two three : List Act)
+    → one ≡ old ++ stamp_acts touched before after → two ≡ one ++ open_acts before after
+    → three ≡ two ++ collect_acts before after → three ≡ old ++ settling_acts touched before after
+settling_told touched before after old one two three a b c =
+    let first = stamp_acts touched before after in
     let second = open_acts before after in
     let third = collect_acts before after in
     c ∙ ap (λ l. l ++ third) (b ∙ ap (λ l. l ++ second) a ∙ append_assoc old first second)

@@ -10,11 +10,12 @@ use Rattle.ctrl_msg.specs.declared.message.Body.TheVariants.{Hello, Installed, S
 use Rattle.version_update.specs.declared.record.SwitchRecord.{SwitchRecord}
 use Rattle.version_update.specs.Record.{unknown_switch, is_member, opens_at}
 use Rattle.version_update.specs.Marks.{MarksValue, AreMarksSettled}
-use Rattle.controller.specs.Controller.{KeptPlan, ControllerValue, plans_from}
+use Rattle.controller.specs.Controller.{KeptPlan, ControllerValue, plans_from, current_touched}
 use Rattle.controller.specs.Sends.{posts_to, switches_where, stamp_acts, open_acts, collect_acts, settling_acts, marks_after, hear_acts}
 use Rattle.controller.specs.declared.sends.Act.TheVariants.{Current, Retired}
 use Rattle.ctrl_msg.specs.declared.message.Body.TheVariants as body
 use Rattle.controller.proofs.Picking.{picked_same, passes_there}
+use Rattle.ternary.specs.Word.{WordValue}
 
 not_below : (n : ℕ) → ltb n n ≡ false
 not_below n = grind (arith, nat_tests)
@@ -42,10 +43,11 @@ those_none passes switches fail = picked_same _ (λ _. false) fails
             ap (λ o. option_map_or passes o false) (slice_get_past switches s past)
 
 -- nothing is sent
-pub nothing_sent : (marks : MarksValue) → AreMarksSettled marks → settling_acts marks marks ≡ []
-nothing_sent marks is =
-    let one : stamp_acts marks marks ≡ [] =
-    ap (λ b. cond b (Current marks.current ∷ posts_to marks (λ boot. body.Stamp boot marks.current)
+pub nothing_sent : (touched : List WordValue) (marks : MarksValue) → AreMarksSettled marks
+    → settling_acts touched marks marks ≡ []
+nothing_sent touched marks is =
+    let one : stamp_acts touched marks marks ≡ [] =
+    ap (λ b. cond b (Current marks.current ∷ posts_to marks (λ boot. body.Stamp boot marks.current touched)
     (switches_where (λ known. is_member known.phase) marks.switches)) []) (not_below marks.current)
     in
     let two : open_acts marks marks ≡ [] = ap (posts_to marks
@@ -74,8 +76,8 @@ all_kept to from (suc n) (kept ∷ plans) low versions =
 -- a body that isn't for the controller
 pub record IsUnheard (body : Body) (controller : ControllerValue) : Type 0 where
   pub same : marks_after body controller.marks ≡ controller.marks
-  pub sent : hear_acts body controller.marks controller ≡ settling_acts controller.marks
-      controller.marks ++ []
+  pub sent : hear_acts body controller.marks controller
+      ≡ settling_acts (current_touched controller) controller.marks controller.marks ++ []
 
 pub is_unheard : (body : Body) (controller : ControllerValue)
     → ((switch boot : ℕ) → body ≡ Hello switch boot → ⊥)

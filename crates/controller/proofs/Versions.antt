@@ -11,7 +11,7 @@ use Rattle.version_update.specs.Settling.{Settles}
 use Rattle.version_update.specs.declared.marks.Settled.{Settled}
 use Rattle.version_update.specs.declared.record.SwitchRecord.{SwitchRecord}
 use Rattle.controller.specs.Controller.{KeptPlan, ControllerValue, IsController, StaysController, SettlesWith, plans_from, live_from_current}
-use Rattle.controller.specs.Plan.{PlanValue, IsSoundPlan}
+use Rattle.controller.specs.Plan.{IsSoundPlan}
 
 test_le : (a b : ℕ) → a ≤ b → leb a b ≡ true
 test_le a b le = grind (arith, nat_tests)
@@ -176,48 +176,41 @@ module _ (s : ℕ) (change : SwitchRecord → SwitchRecord) (old : MarksValue) (
         switches = stays.switches;
       })
 
-module _ (old : MarksValue) (kept : List KeptPlan) (plan : PlanValue) (marks : MarksValue)
+module _ (old : MarksValue) (kept : List KeptPlan) (next : KeptPlan) (marks : MarksValue)
     (answer : Settled) (mid plans : List KeptPlan) where
   -- the kept plans and the next one
   abbrev pub IsPushed : Type 0
-  IsPushed = mid ≡ kept ++ (record { version = old.count + 1; plan = plan }) ∷ []
+  IsPushed = mid ≡ kept ++ next ∷ []
 
   with_next : IsPushed → plans ≡ plans_from marks.current mid → plans ≡ plans_from marks.current
-      (kept ++ (record { version = old.count + 1; plan = plan }) ∷ [])
+      (kept ++ next ∷ [])
   with_next pushed picked = picked ∙ ap (plans_from marks.current) pushed
 
   -- one more version
-  pub whole_more : IsSoundPlan plan → IsWhole old kept → StaySettled old marks
+  pub whole_more : IsSoundPlan next.plan → next.version ≡ old.count + 1 → IsWhole old kept → StaySettled old marks
       → Settles (with_version old) marks answer → IsPushed → plans ≡ plans_from marks.current mid
       → IsWhole marks plans
-  whole_more sound is stays settled pushed picked =
+  whole_more sound number is stays settled pushed picked =
       let low : old.current ≤ old.count + 1 = omega (arith, is.marks.bounds.last) in
       whole old (with_version old) marks answer
-      (kept ++ (record { version = old.count + 1; plan = plan }) ∷ []) plans stays settled
-      low (versions_more old kept _ is.marks.bounds.last refl is.versions)
-      (All-append (λ kept. IsSoundPlan kept.plan) kept _ is.sound (one_sound _ sound))
+      (kept ++ next ∷ []) plans stays settled low
+      (versions_more old kept next is.marks.bounds.last number is.versions)
+      (All-append (λ kept. IsSoundPlan kept.plan) kept _ is.sound (one_sound next sound))
       (with_next pushed picked)
 
-  pub stays_more : IsSoundPlan plan → (value : ControllerValue)
+  pub stays_more : IsSoundPlan next.plan → next.version ≡ old.count + 1
+      → (value : ControllerValue)
       → record { marks = old; plans = kept } ≡ value
       → IsWhole old kept → StaySettled old marks → Settles (with_version old) marks answer
       → IsPushed → plans ≡ plans_from marks.current mid
       → StaysController value (record { marks = marks; plans = plans })
-  stays_more sound value seen is stays settled pushed picked =
+  stays_more sound number value seen is stays settled pushed picked =
       let P : ControllerValue → Type 0 = λ value. StaysController value
       (record { marks = marks; plans = plans }) in
       subst P seen (record {
-        controller = whole_more sound is stays settled pushed picked;
+        controller = whole_more sound number is stays settled pushed picked;
         switches = stays.switches;
       })
-
--- what was pushed is the next version
-pub pushed_next : (kept mid : List KeptPlan) (next : KeptPlan) (number count : ℕ) (plan : PlanValue)
-    → mid ≡ kept ++ next ∷ [] → next ≡ record { version = number + 1; plan = plan } → number ≡ count
-    → mid ≡ kept ++ (record { version = count + 1; plan = plan }) ∷ []
-pushed_next kept mid next number count plan pushed is same =
-    let Next : ℕ → KeptPlan = λ n. record { version = n + 1; plan = plan } in
-    pushed ∙ ap (λ v. kept ++ v ∷ []) (is ∙ ap Next same)
 
 -- each version that is kept is there
 pub versions_within : (marks : MarksValue) (plans read : List KeptPlan) → read ≡ plans

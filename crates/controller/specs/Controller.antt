@@ -1,18 +1,22 @@
 -- A controller: the marks of the versions, and the plans of those that a later call can name.
 use Rattle.std.specs.Prelude.{ℕ, ◌≡◌, ◌+◌, ◌-◌, ◌==◌, nat_le, Option, option_map, List, [], ◌∷◌, length, map, filter, find, All}
 use Rattle.std.specs.List.{range_with_len}
+use Rattle.std.specs.Option.{option_map_or}
 use Rattle.policy_rules.specs.declared.policy.Row.{Row}
 use Rattle.switch_table.specs.Tables.{tables_of}
 use Rattle.switch_table.specs.declared.tables.Tables.{Tables}
+use Rattle.switch_table.specs.Carried.{all_touched}
 use Rattle.version_update.specs.Marks.{MarksValue, first_marks, AreMarksSettled}
 use Rattle.version_update.specs.Settling.{Settles}
 use Rattle.version_update.specs.declared.marks.Settled.{Settled}
 use Rattle.controller.specs.Plan.{PlanValue, IsSoundPlan}
+use Rattle.ternary.specs.Word.{WordValue}
 
--- a version with its plan
+-- a version with its plan, and what the change that made it touches
 pub record KeptPlan : Type 0 where
   pub version : ℕ
   pub plan : PlanValue
+  pub touched : List WordValue
 
 -- the plans stand by ascending version
 pub record ControllerValue : Type 0 where
@@ -36,11 +40,27 @@ newest_policy controller =
     option_map (λ (kept : KeptPlan). kept.plan.policy)
     (find (λ (kept : KeptPlan). kept.version == controller.marks.count) controller.plans)
 
+-- the plan of the current version, which is always kept too
+abbrev pub current_plan : ControllerValue → Option PlanValue
+current_plan controller =
+    option_map (λ (kept : KeptPlan). kept.plan)
+    (find (λ (kept : KeptPlan). kept.version == controller.marks.current) controller.plans)
+
+-- what the change of a version touches, where its plan is kept
+abbrev pub kept_touched : List KeptPlan → ℕ → List WordValue
+kept_touched plans version =
+    option_map_or (λ (kept : KeptPlan). kept.touched)
+    (find (λ (kept : KeptPlan). kept.version == version) plans) all_touched
+
+-- that of the current version, whose plan is always kept
+abbrev pub current_touched : ControllerValue → List WordValue
+current_touched controller = kept_touched controller.plans controller.marks.current
+
 -- at the start every switch has version 1
 abbrev pub first_controller : ℕ → PlanValue → ControllerValue
 first_controller switches plan = record {
   marks = first_marks switches;
-  plans = (record { version = 1; plan = plan }) ∷ [];
+  plans = (record { version = 1; plan = plan; touched = all_touched }) ∷ [];
 }
 
 -- the versions from the current one to the last

@@ -6,4 +6,5 @@ pub mod Sends
 pub mod Submit
 pub mod News
 pub mod Replies
+pub mod Touching
 pub mod Exports

@@ -8,7 +8,7 @@ use Rattle.controller.specs.declared.settling.News.{News}
 use Rattle.controller.specs.declared.settling.News.TheVariants.{Stamp, OpenAt, Collect}
 
 abbrev pub body_of : News → ℕ → ℕ → Body
-body_of Stamp version boot = body.Stamp boot version
+body_of (Stamp touched) version boot = body.Stamp boot version touched
 body_of OpenAt version boot = body.OpenAt boot version
 body_of Collect version boot = body.Collect boot version
 

@@ -13,10 +13,10 @@ use Rattle.version_update.specs.Record.{is_member, is_over, has_acked, takes_hel
 use Rattle.version_update.specs.declared.record.Phase.{Phase}
 use Rattle.version_update.specs.declared.record.Phase.TheVariants.{Joining, Member, Over}
 use Rattle.version_update.specs.declared.record.SwitchRecord.{SwitchRecord}
-use Rattle.controller.specs.Plan.{PlanValue}
-use Rattle.controller.specs.Controller.{KeptPlan, ControllerValue, plans_from}
+use Rattle.controller.specs.Controller.{KeptPlan, ControllerValue, current_touched, plans_from}
 use Rattle.controller.specs.declared.sends.Act.{Act}
 use Rattle.controller.specs.declared.sends.Act.TheVariants.{Current, Retired, Post}
+use Rattle.ternary.specs.Word.{WordValue}
 
 -- ---- messages
 
@@ -52,11 +52,12 @@ rising_acts old new says body marks switches = if nat_lt old new
     (switches_where (λ known. is_member known.phase) switches)
     else []
 
--- a new current version, and its stamps to the members from before: they have its tables, and
--- those that join open at it
-abbrev pub stamp_acts : MarksValue → MarksValue → List Act
-stamp_acts before after =
-    rising_acts before.current after.current Current Stamp after before.switches
+-- a new current version, and its stamps to the members from before, with what its change touches:
+-- they have its tables, and those that join open at it
+abbrev pub stamp_acts : List WordValue → MarksValue → MarksValue → List Act
+stamp_acts touched before after =
+    rising_acts before.current after.current Current (λ boot version. Stamp boot version touched)
+    after before.switches
 
 -- the new members open at the current version, which they acknowledged
 abbrev pub open_acts : MarksValue → MarksValue → List Act
@@ -69,19 +70,19 @@ abbrev pub collect_acts : MarksValue → MarksValue → List Act
 collect_acts before after =
     rising_acts before.retired after.retired Retired Collect after after.switches
 
--- what is sent as marks settle
-abbrev pub settling_acts : MarksValue → MarksValue → List Act
-settling_acts before after = stamp_acts before after ++ open_acts before after
+-- what is sent as marks settle, where the change of the current version touches this
+abbrev pub settling_acts : List WordValue → MarksValue → MarksValue → List Act
+settling_acts touched before after = stamp_acts touched before after ++ open_acts before after
     ++ collect_acts before after
 
 -- ---- the calls
 
 -- the new version to each switch that isn't over; then settling
-abbrev pub submit_acts : MarksValue → PlanValue → MarksValue → List Act
-submit_acts old plan new =
-    map (λ s. install_act s (boot_recorded old s) (record { version = old.count + 1; plan = plan }))
+abbrev pub submit_acts : MarksValue → KeptPlan → ControllerValue → List Act
+submit_acts old next new =
+    map (λ s. install_act s (boot_recorded old s) next)
     (switches_where (λ known. not (is_over known.phase)) old.switches)
-    ++ settling_acts (with_version old) new
+    ++ settling_acts (current_touched new) (with_version old) new.marks
 
 -- what a message changes of what is known
 abbrev pub marks_after : Body → MarksValue → MarksValue
@@ -101,7 +102,7 @@ installs_after _ old new = []
 
 -- settling, and then what a new boot lacks
 abbrev pub hear_acts : Body → MarksValue → ControllerValue → List Act
-hear_acts body old new = settling_acts (marks_after body old) new.marks
+hear_acts body old new = settling_acts (current_touched new) (marks_after body old) new.marks
     ++ installs_after body old new
 
 -- the switch is there, and so is the version
@@ -130,10 +131,10 @@ missing_installs controller s first =
     map (install_act s known.boot)
     (filter (λ kept. is_missing known first kept.version) controller.plans)
 
--- to a member the current stamp, where it acknowledged a lower one
-abbrev pub stamp_again : MarksValue → ℕ → List Act
-stamp_again marks s = if nat_lt (record_of marks s).acked_stamp marks.current
-    then post_act s (Stamp (boot_recorded marks s) marks.current) ∷ []
+-- to a member the current stamp with what its change touches, where it acknowledged a lower one
+abbrev pub stamp_again : List WordValue → MarksValue → ℕ → List Act
+stamp_again touched marks s = if nat_lt (record_of marks s).acked_stamp marks.current
+    then post_act s (Stamp (boot_recorded marks s) marks.current touched) ∷ []
     else []
 
 -- to a member that it drops the tables of the retired versions, where there are any
@@ -149,7 +150,8 @@ resend_acts_to Member controller s =
     post_act s (OpenAt (boot_recorded controller.marks s)
     (record_of controller.marks s).open_version)
     ∷ missing_installs controller s (controller.marks.current + 1)
-    ++ stamp_again controller.marks s ++ collect_again controller.marks s
+    ++ stamp_again (current_touched controller) controller.marks s
+    ++ collect_again controller.marks s
 resend_acts_to Over controller s = []
 
 -- by how the switch stands

@@ -1,19 +1,27 @@
 -- What a controller is after a plan was submitted, or refused.
-use Rattle.std.specs.Prelude.{◌≡◌, ◌⊎◌, ◌+◌, [], ◌∷◌, ◌++◌}
+use Rattle.std.specs.Prelude.{◌≡◌, ◌⊎◌, ◌+◌, List, [], ◌∷◌, ◌++◌}
 use Rattle.version_update.specs.Marks.{with_version}
 use Rattle.base.specs.declared.error.Failure.{Failure}
 use Rattle.base.specs.declared.error.Failure.TheVariants.{Refused, NoMemory}
 use Rattle.version_update.specs.declared.marks.SubmitError.{SubmitError}
 use Rattle.controller.specs.Plan.{PlanValue}
-use Rattle.controller.specs.Controller.{ControllerValue, SettlesWith}
+use Rattle.controller.specs.Controller.{ControllerValue, KeptPlan, SettlesWith}
+use Rattle.ternary.specs.Word.{WordValue}
 
--- the plan is that of one more version
-abbrev pub SubmitsPlan : ControllerValue → PlanValue → ControllerValue → Type 0
-SubmitsPlan old plan new = SettlesWith (with_version old.marks)
-    (old.plans ++ (record { version = old.marks.count + 1; plan = plan }) ∷ []) new
+-- one more version with this plan, whose change touches this
+abbrev pub next_kept : ControllerValue → PlanValue → List WordValue → KeptPlan
+next_kept old plan touched = record {
+  version = old.marks.count + 1;
+  plan = plan;
+  touched = touched;
+}
+
+-- it is the next version
+abbrev pub SubmitsPlan : ControllerValue → KeptPlan → ControllerValue → Type 0
+SubmitsPlan old next new = SettlesWith (with_version old.marks) (old.plans ++ next ∷ []) new
 
 -- a refusal changes nothing; where memory ran out, either nothing changed, or the version stands
 -- and what it causes is lost
-abbrev pub IsLeft : ControllerValue → PlanValue → ControllerValue → Failure SubmitError → Type 0
-IsLeft old plan new (Refused refusal) = new ≡ old
-IsLeft old plan new NoMemory = (new ≡ old) ⊎ SubmitsPlan old plan new
+abbrev pub IsLeft : ControllerValue → KeptPlan → ControllerValue → Failure SubmitError → Type 0
+IsLeft old next new (Refused refusal) = new ≡ old
+IsLeft old next new NoMemory = (new ≡ old) ⊎ SubmitsPlan old next new

@@ -8,7 +8,7 @@ ghost use Rattle.version_update.specs.Record.{is_member, is_over, after_over};
 ghost use Rattle.version_update.specs.Settling.{Settles};
 ghost use Rattle.version_update.specs.declared.marks.SubmitError.TheVariants.{TooManyLive, TooManyVersions};
 ghost use Rattle.version_update.specs.declared.record.Phase.TheVariants.{Joining, Member};
-ghost use Rattle.controller.specs.Exports.{IsController, IsLeft, NamesBoth, NamesThere, SettlesWith, StaysController, SubmitsPlan, after_reply, boot_recorded, first_controller, hear_acts, install_act, kept_tables, marks_after, newest_policy, plans_from, resend_acts, resend_acts_to, settling_acts, submit_acts, switches_where};
+ghost use Rattle.controller.specs.Exports.{IsController, IsLeft, NamesBoth, NamesThere, SettlesWith, StaysController, SubmitsPlan, after_reply, boot_recorded, current_plan, current_touched, first_controller, hear_acts, install_act, kept_tables, kept_touched, marks_after, newest_policy, next_kept, plans_from, resend_acts, resend_acts_to, settling_acts, submit_acts, switches_where};
 ghost use Rattle.base.specs.declared.error.Failure.TheVariants.{Refused, NoMemory};
 
 use crate::plan::Plan;
@@ -22,7 +22,7 @@ use ctrl_msg::{Body, SharedTables};
 use net_file::Net;
 use std::alloc::{AllocError, Global};
 use std::marker::Model;
-use switch_table::tables_laws;
+use switch_table::{Touched, tables_laws};
 use version_update::{Marks, Phase, Settled, SubmitError, settling_laws};
 
 /// The controller of a network: what it knows of the switches, and the plan of each version that a
@@ -66,7 +66,7 @@ impl Controller {
         // The plan is sound.
         let _ = plan.hosted();
         let mut versions = Vec::new(alloc);
-        versions.push(Version::new(alloc, 1, plan, switches)?)?;
+        versions.push(Version::new(alloc, 1, plan, Touched::all(), switches)?)?;
         Ok(Controller {
             marks: Marks::begin(switches),
             versions,
@@ -104,29 +104,39 @@ impl Controller {
         self.versions[place as usize].tables(alloc, s)
     }
 
+    /// The plan of the current version.
+    pub fn current_plan(&self) -> &Plan
+        ensures { current_plan self.now ≡ Some result.now }
+    {
+        self.versions[0].plan()
+    }
+
     /// One more version, of which this is the plan: it goes to each switch that isn't over. A clone
-    /// of a plan shares it.
+    /// of a plan shares it. Each switch that is told to stamp with the version is told these words,
+    /// which are what its change touches.
     ///
     /// # Errors
     /// `TooManyLive` exactly where 8 versions are not retired; otherwise `TooManyVersions` exactly
     /// where there are 64. Nothing changed then.
-    pub fn submit(&mut self, plan: Plan) -> Result<Sends, Failure<SubmitError>>
-        ensures after { OnOk result (SubmitsPlan self.old plan self.new) }
+    pub fn submit(&mut self, plan: Plan, touched: Touched) -> Result<Sends, Failure<SubmitError>>
+        ensures after { OnOk result
+            (SubmitsPlan self.old (next_kept self.old plan touched) self.new) }
         ensures newest { OnOk result (newest_policy self.new ≡ Some plan.policy) }
         ensures sends { IfOk result (λ sends.
-            sends ≡ submit_acts self.old.marks plan self.new.marks) }
+            sends ≡ submit_acts self.old.marks (next_kept self.old plan touched) self.new) }
         ensures live { (result ≡ Err (Refused TooManyLive))
             ↔ (self.old.marks.count - self.old.marks.retired ≡ 8) }
         ensures versions { (result ≡ Err (Refused TooManyVersions))
             ↔ ((self.old.marks.count - self.old.marks.retired ≢ 8) × (self.old.marks.count ≡ 64)) }
-        ensures refused { IfErr result (IsLeft self.old plan self.new) }
+        ensures refused { IfErr result
+            (IsLeft self.old (next_kept self.old plan touched) self.new) }
         ensures rule { StaysController self.old self.new }
     {
         let alloc = *self.versions.allocator();
         if let Some(error) = self.marks.refusal() {
             return Err(Failure::Refused(error));
         }
-        let sends = self.add(alloc, plan)?;
+        let sends = self.add(alloc, plan, touched)?;
         Ok(sends)
     }
 
@@ -174,7 +184,8 @@ impl Controller {
             (at_switch s after_over self.old.marks) self.old.plans self.new }
         ensures newest { newest_policy self.new ≡ newest_policy self.old }
         ensures sends { IfOk result (λ sends.
-            sends ≡ settling_acts (at_switch s after_over self.old.marks) self.new.marks) }
+            sends ≡ settling_acts (current_touched self.new)
+            (at_switch s after_over self.old.marks) self.new.marks) }
         ensures rule { StaysController self.old self.new }
     {
         let alloc = *self.versions.allocator();
@@ -219,25 +230,28 @@ impl Controller {
         let version = self.marks.open_version(s);
         acts.push(Act::post(s, Body::OpenAt { boot, version }))?;
         install_missing(&mut acts, alloc, &self.marks, &self.versions, s, next)?;
-        stamp_again(&mut acts, &self.marks, s)?;
+        stamp_again(&mut acts, &self.marks, &self.versions, s)?;
         collect_again(&mut acts, &self.marks, s)?;
         Ok(Sends::from_items(acts))
     }
 
     // One more version, which the marks don't refuse.
-    fn add(&mut self, alloc: Global, plan: Plan) -> Result<Sends, AllocError>
+    fn add(&mut self, alloc: Global, plan: Plan, touched: Touched) -> Result<Sends, AllocError>
         requires live { self.old.marks.count - self.old.marks.retired ≢ 8 }
         requires versions { self.old.marks.count ≢ 64 }
-        ensures after { OnOk result (SubmitsPlan self.old plan self.new) }
+        ensures after { OnOk result
+            (SubmitsPlan self.old (next_kept self.old plan touched) self.new) }
         ensures newest { OnOk result (newest_policy self.new ≡ Some plan.policy) }
         ensures sends { IfOk result (λ sends.
-            sends ≡ submit_acts self.old.marks plan self.new.marks) }
-        ensures left { OnErr result (IsLeft self.old plan self.new NoMemory) }
+            sends ≡ submit_acts self.old.marks (next_kept self.old plan touched) self.new) }
+        ensures left { OnErr result
+            (IsLeft self.old (next_kept self.old plan touched) self.new NoMemory) }
         ensures rule { StaysController self.old self.new }
     {
         // The plan is sound.
         let _ = plan.hosted();
-        let version = Version::new(alloc, self.marks.count() + 1, plan, self.marks.switches())?;
+        let number = self.marks.count() + 1;
+        let version = Version::new(alloc, number, plan, touched, self.marks.switches())?;
         let mut acts = install_each(alloc, &self.marks, &version)?;
         self.versions.push(version)?;
         let settled = add_version(&mut self.marks);
@@ -248,7 +262,7 @@ impl Controller {
     // A body that isn't for the controller causes nothing: settled marks stay as they are.
     fn unheard(&self, alloc: Global) -> Sends
         ensures none { result ≡ [] }
-        ensures idle { settling_acts self.now.marks self.now.marks ≡ [] }
+        ensures idle { settling_acts (current_touched self.now) self.now.marks self.now.marks ≡ [] }
         ensures after { SettlesWith self.now.marks self.now.plans self.now }
         ensures rule { IsController self.now }
     {
@@ -282,8 +296,8 @@ impl Controller {
         ensures after { SettlesWith (at_switch s (after_reply reply boot version) self.old.marks)
             self.old.plans self.new }
         ensures sends { IfOk result (λ sends. sends
-            ≡ settling_acts (at_switch s (after_reply reply boot version) self.old.marks)
-            self.new.marks) }
+            ≡ settling_acts (current_touched self.new)
+            (at_switch s (after_reply reply boot version) self.old.marks) self.new.marks) }
         ensures rule { StaysController self.old self.new }
     {
         let settled = reply.take_in(&mut self.marks, s, boot, version);
@@ -337,7 +351,8 @@ fn hello_sends(
     boot: u32,
 ) -> Result<Sends, AllocError>
     ensures sends { (before : MarksValue) → Settles before marks.now settled.now
-        → IfOk result (λ sends. sends ≡ settling_acts before marks.now
+        → IfOk result (λ sends. sends
+        ≡ settling_acts (kept_touched versions.new.items marks.now.current) before marks.now
         ++ (if settled.now.taken then map (install_act s boot) versions.new.items else [])) }
     ensures versions { versions.new.items ≡ plans_from marks.now.current versions.old.items }
 {

@@ -33,6 +33,7 @@ mod resending;
 mod sends;
 mod settling;
 mod tables;
+mod touching;
 mod version;
 
 pub use controller::Controller;
@@ -41,4 +42,5 @@ pub use plan_error::PlanError;
 pub use planning::compile;
 pub use sends::{Act, Sends};
 pub use tables::tables_of;
+pub use touching::touched;
 pub use version_update::SubmitError;

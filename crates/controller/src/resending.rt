@@ -2,9 +2,11 @@
 ghost use Rattle.std.specs.Prelude.{◌≡◌, ◌++◌, ◌+◌, ◌<◌, ◌≤◌, ◌&&◌, length, All, IsTrue, OnOk};
 ghost use Rattle.version_update.specs.Record.{is_member};
 ghost use Rattle.version_update.specs.Marks.{record_of};
+ghost use Rattle.controller.specs.Controller.{kept_touched};
 ghost use Rattle.controller.specs.Sends.{is_missing, missing_installs, stamp_again, collect_again};
 
 use crate::sends::Act;
+use crate::settling::touched_by;
 use crate::version::Version;
 use ctrl_msg::Body;
 use std::alloc::{AllocError, Global};
@@ -47,19 +49,33 @@ fn is_missing(marks: &Marks, version: u32, s: u32, first: u32) -> bool
     first <= version && !marks.has_acked(s, version)
 }
 
-/// Adds the current stamp, where the member acknowledged a lower one.
+/// Adds the current stamp with what its change touches, where the member acknowledged a lower one.
 ///
 /// # Errors
 /// Want of memory alone.
-pub fn stamp_again(acts: &mut Vec<Act>, marks: &Marks, s: u32) -> Result<(), AllocError>
+pub fn stamp_again(
+    acts: &mut Vec<Act>,
+    marks: &Marks,
+    versions: &[Version],
+    s: u32,
+) -> Result<(), AllocError>
     requires switch { s < length marks.now.switches }
     requires member { IsTrue (is_member (record_of marks.now s).phase) }
-    ensures { OnOk result (acts.new.items ≡ acts.old.items ++ stamp_again marks.now s) }
+    ensures { OnOk result (acts.new.items ≡ acts.old.items
+        ++ stamp_again (kept_touched versions.now marks.now.current) marks.now s) }
 {
     let boot = marks.boot(s);
     let version = marks.current();
     if marks.acked_stamp(s) < version {
-        acts.push(Act::post(s, Body::Stamp { boot, version }))?;
+        let touched = touched_by(*acts.allocator(), versions, version)?;
+        acts.push(Act::post(
+            s,
+            Body::Stamp {
+                boot,
+                version,
+                touched,
+            },
+        ))?;
     }
     Ok(())
 }

@@ -1,33 +1,41 @@
 //! What is sent as the marks settle.
-ghost use Rattle.std.specs.Prelude.{◌≡◌, ◌++◌, ◌<◌, length, IfOk, OnOk};
+ghost use Rattle.std.specs.Prelude.{◌≡◌, ◌==◌, ◌∷◌, ◌++◌, ◌<◌, [], length, find, IfOk, OnOk};
+ghost use Rattle.std.specs.Option.{option_copied};
 ghost use Rattle.version_update.specs.Marks.{MarksValue};
 ghost use Rattle.version_update.specs.Settling.{Settles};
-ghost use Rattle.controller.specs.Exports.{body_of, plans_from, settling_acts, switches_named, posts_to};
+ghost use Rattle.controller.specs.Exports.{body_of, kept_touched, plans_from, settling_acts, switches_named, posts_to};
 
 use crate::sends::{Act, Sends};
 use crate::version::Version;
-use base::has;
+use base::{Shared, has};
 use ctrl_msg::Body;
 use std::alloc::{AllocError, Global};
+use switch_table::Touched;
 use version_update::{Marks, Settled};
 
 /// What several switches are told at once.
-#[derive(Clone, Copy)]
+#[derive(Drop)]
 pub enum News {
-    Stamp,
+    /// With what the change of the version touches.
+    Stamp(Shared<Touched>),
     OpenAt,
     Collect,
 }
 
 impl News {
-    fn body(self, boot: u32, version: u32) -> Body
-        ensures { result ≡ body_of self version boot }
+    fn body(&self, boot: u32, version: u32) -> Result<Body, AllocError>
+        ensures { IfOk result (λ body. body ≡ body_of self.now version boot) }
     {
-        match self {
-            News::Stamp => Body::Stamp { boot, version },
+        let body = match self {
+            News::Stamp(touched) => Body::Stamp {
+                boot,
+                version,
+                touched: touched.clone()?,
+            },
             News::OpenAt => Body::OpenAt { boot, version },
             News::Collect => Body::Collect { boot, version },
-        }
+        };
+        Ok(body)
     }
 }
 
@@ -43,21 +51,39 @@ pub fn settle(
     settled: &Settled,
 ) -> Result<(), AllocError>
     ensures acts { OnOk result ((before : MarksValue) → Settles before marks.now settled.now
-        → acts.new.items ≡ acts.old.items ++ settling_acts before marks.now) }
+        → acts.new.items ≡ acts.old.items
+        ++ settling_acts (kept_touched versions.new.items marks.now.current) before marks.now) }
     ensures versions { versions.new.items ≡ plans_from marks.now.current versions.old.items }
 {
     let_go(versions, marks.current());
     if let Some(current) = settled.current {
-        acts.push(Act::Current(current))?;
-        send_to_each(acts, marks, settled.stamps, News::Stamp, current)?;
+        tell_current(acts, versions, marks, settled.stamps, current)?;
     }
     let current = marks.current();
-    send_to_each(acts, marks, settled.opens, News::OpenAt, current)?;
+    send_to_each(acts, marks, settled.opens, &News::OpenAt, current)?;
     if let Some(retired) = settled.retired {
         acts.push(Act::Retired(retired))?;
-        send_to_each(acts, marks, settled.collects, News::Collect, retired)?;
+        send_to_each(acts, marks, settled.collects, &News::Collect, retired)?;
     }
     Ok(())
+}
+
+// A new version is the current one: the switches of the mask are told to stamp with it,
+// and what its change touches.
+fn tell_current(
+    acts: &mut Vec<Act>,
+    versions: &[Version],
+    marks: &Marks,
+    mask: u64,
+    current: u32,
+) -> Result<(), AllocError>
+    ensures { OnOk result (acts.new.items ≡ acts.old.items ++ Act.Current current ∷ []
+        ++ posts_to marks.now (λ boot. Body.Stamp boot current (kept_touched versions.now current))
+        (switches_named mask (length marks.now.switches))) }
+{
+    acts.push(Act::Current(current))?;
+    let news = News::Stamp(touched_by(*acts.allocator(), versions, current)?);
+    send_to_each(acts, marks, mask, &news, current)
 }
 
 /// The marks settled, and this is the answer: what is then sent alone. The versions before the
@@ -72,7 +98,8 @@ pub fn settled_sends(
     settled: &Settled,
 ) -> Result<Sends, AllocError>
     ensures sends { (before : MarksValue) → Settles before marks.now settled.now
-        → IfOk result (λ sends. sends ≡ settling_acts before marks.now) }
+        → IfOk result (λ sends. sends
+        ≡ settling_acts (kept_touched versions.new.items marks.now.current) before marks.now) }
     ensures versions { versions.new.items ≡ plans_from marks.now.current versions.old.items }
 {
     let mut acts = Vec::new(alloc);
@@ -87,21 +114,45 @@ fn let_go(versions: &mut Vec<Version>, current: u32)
     versions.retain(|kept| current <= kept.version());
 }
 
+/// What the change of a version touches: that which is kept with its plan, or everything.
+///
+/// # Errors
+/// Want of memory alone.
+pub fn touched_by(
+    alloc: Global,
+    versions: &[Version],
+    version: u32,
+) -> Result<Shared<Touched>, AllocError>
+    ensures { IfOk result (λ touched. touched ≡ kept_touched versions.now version) }
+{
+    match find_version(versions, version) {
+        Some(kept) => kept.touched(),
+        None => Shared::new(alloc, Touched::all()),
+    }
+}
+
+fn find_version(versions: &[Version], version: u32) -> Option<&Version>
+    ensures { option_copied result ≡ find (λ kept. kept.version == version) versions.now }
+{
+    versions.iter().find(|kept| kept.version() == version)
+}
+
 // Tells the switches of the mask, each in the boot that is known of it.
 fn send_to_each(
     acts: &mut Vec<Act>,
     marks: &Marks,
     mask: u64,
-    news: News,
+    news: &News,
     version: u32,
 ) -> Result<(), AllocError>
     ensures { OnOk result (acts.new.items
-        ≡ acts.old.items ++ posts_to marks.now (body_of news version)
+        ≡ acts.old.items ++ posts_to marks.now (body_of news.now version)
         (switches_named mask (length marks.now.switches))) }
 {
     for s in 0..marks.switches() {
         if has(mask, s) {
-            acts.push(Act::post(s, news.body(marks.boot(s), version)))?;
+            let body = news.body(marks.boot(s), version)?;
+            acts.push(Act::post(s, body))?;
         }
     }
     Ok(())

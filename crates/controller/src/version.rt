@@ -1,21 +1,26 @@
-ghost use Rattle.std.specs.Prelude.{◌≡◌, IfOk};
+ghost use Rattle.std.specs.Prelude.{◌≡◌, IfOk, map};
+ghost use Rattle.std.specs.List.{range_with_len};
 ghost use Rattle.switch_table.specs.Tables.{tables_of};
-ghost use Rattle.controller.specs.Exports.{install_act, tables_by_switch};
+ghost use Rattle.controller.specs.Exports.{install_act};
 
 use crate::plan::Plan;
 use crate::sends::Act;
 use crate::tables::tables_of;
+use base::Shared;
 use ctrl_msg::{Body, SharedTables};
 use std::alloc::{AllocError, Global};
 use std::marker::Model;
+use switch_table::Touched;
 
-/// A version with its plan. The tables of each switch are made once, and shared by each `Install`
-/// that carries them and by each switch that begins with them. Contracts see the version and the
-/// plan.
+/// A version with its plan, and what the change that made it touches. The tables of each switch
+/// are made once, and shared by each `Install` that carries them and by each switch that begins
+/// with them; each `Stamp` shares the touched words. Contracts see the version, the plan and the
+/// words.
 #[derive(Drop)]
 pub struct Version {
     version: u32,
     plan: Plan,
+    touched: Shared<Touched>,
     /// By the switches' numbers, for as many switches as there are.
     made: Vec<SharedTables>,
 }
@@ -26,14 +31,19 @@ impl Model for Version {
 
     ghost Value = { KeptPlan };
 
-    ghost view = { λ v. record { version = v.version; plan = v.plan } };
+    ghost view = { λ v. record {
+      version = v.version;
+      plan = v.plan;
+      touched = v.touched;
+    } };
 
     ghost invariant = { λ v. v.made.items ≡ tables_by_switch
-        (record { version = v.version; plan = v.plan }) (length v.made.items) };
+        (record { version = v.version; plan = v.plan; touched = v.touched })
+        (length v.made.items) };
 }
 
 impl Version {
-    /// This version with this plan, and the tables of so many switches.
+    /// This version with this plan, whose change touches this, and the tables of so many switches.
     ///
     /// # Errors
     /// Want of memory alone.
@@ -41,14 +51,18 @@ impl Version {
         alloc: Global,
         version: u32,
         plan: Plan,
+        touched: Touched,
         switches: u32,
     ) -> Result<Version, AllocError>
-        ensures { IfOk result (λ kept. kept ≡ record { version = version; plan = plan }) }
+        ensures { IfOk result (λ kept.
+            kept ≡ record { version = version; plan = plan; touched = touched }) }
     {
+        let touched = Shared::new(alloc, touched)?;
         let made = make_each(alloc, version, &plan, switches)?;
         Ok(Version {
             version,
             plan,
+            touched,
             made,
         })
     }
@@ -57,6 +71,22 @@ impl Version {
         ensures { result ≡ self.now.version }
     {
         self.version
+    }
+
+    pub fn plan(&self) -> &Plan
+        ensures { result.now ≡ self.now.plan }
+    {
+        &self.plan
+    }
+
+    /// What its change touches.
+    ///
+    /// # Errors
+    /// Want of memory alone.
+    pub fn touched(&self) -> Result<Shared<Touched>, AllocError>
+        ensures { IfOk result (λ touched. touched ≡ self.now.touched) }
+    {
+        self.touched.clone()
     }
 
     /// The message that carries a switch's tables, for this boot.
@@ -94,7 +124,7 @@ fn make_each(
     switches: u32,
 ) -> Result<Vec<SharedTables>, AllocError>
     ensures { IfOk result (λ made. made.items
-        ≡ tables_by_switch (record { version = version; plan = plan.now }) switches) }
+        ≡ map (tables_of plan.now.hosted version) (range_with_len 0 switches)) }
 {
     let mut made = Vec::with_capacity(alloc, switches as usize)?;
     for s in 0..switches {

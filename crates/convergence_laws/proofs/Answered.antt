@@ -39,7 +39,7 @@ use Rattle.convergence_laws.proofs.Sendings.{IsSent, sends_all, sent_stays}
 abbrev pub IsAnswered : List Item → ℕ → Body → Type 0
 IsAnswered journal s (Install boot tables) =
     IsSent journal (to_controller (Installed s boot tables.version))
-IsAnswered journal s (Stamp boot version) =
+IsAnswered journal s (Stamp boot version touched) =
     IsSent journal (to_controller (Stamped s boot version))
 IsAnswered journal s (OpenAt boot version) = IsTrue (serves journal s)
 IsAnswered journal s _ = Unit {0}
@@ -111,7 +111,7 @@ answered_stays : (before : List Item) (next : Item) (s : ℕ) (body : Body)
     → (IsTrue (serves before s) → IsTrue (serves (before ++ next ∷ []) s))
     → IsAnswered before s body → IsAnswered (before ++ next ∷ []) s body
 answered_stays before next s (Install boot tables) serving is = sent_stays before next _ is
-answered_stays before next s (Stamp boot version) serving is = sent_stays before next _ is
+answered_stays before next s (Stamp boot version touched) serving is = sent_stays before next _ is
 answered_stays before next s (OpenAt boot version) serving is = serving is
 answered_stays before next s _ serving is = tt
 
@@ -263,7 +263,7 @@ switch_answers : (setting : Setting) (before : List Item) (s : ℕ) (body : Body
 unfolding switch_items
 switch_answers setting before s (Install boot tables) now same =
     sends_all now (to_controller (Installed s boot tables.version) ∷ []) _ (inl refl)
-switch_answers setting before s (Stamp boot version) now same =
+switch_answers setting before s (Stamp boot version touched) now same =
     sends_all now (to_controller (Stamped s boot version) ∷ []) _ (inl refl)
 switch_answers setting before s (OpenAt boot version) now same =
     opens setting before s now same boot version

@@ -282,7 +282,7 @@ other_still : (setting : Setting) (before : List Item) (s : ℕ) (body : Body) (
     → Still now (switch_items setting before s body now)
 unfolding switch_items
 other_still setting before s (Install boot tables) now none = sends_still now _
-other_still setting before s (Stamp boot version) now none = sends_still now _
+other_still setting before s (Stamp boot version touched) now none = sends_still now _
 other_still setting before s (OpenAt boot version) now none = absurd (none boot version refl)
 other_still setting before s (Advertise advert) now none = grind (arith, sends_still)
 other_still setting before s _ now none = tt

@@ -1,5 +1,5 @@
 -- Neighbours over links that can be used.
-use Rattle.std.proofs.Common.{ℕ, ◌<◌, List, ◌∙◌, arith}
+use Rattle.std.proofs.Common.{ℕ, ◌<◌, List, ◌∙◌}
 use Rattle.std.specs.Prelude.{IsTrue, filter}
 use Rattle.base.specs.Masks.{has}
 use Rattle.net_file.specs.Joins.{are_linked}

@@ -101,7 +101,7 @@ switch_aside : (setting : Setting) (before : List Item) (s : ℕ) (body : Body) 
     → Aside now (switch_items setting before s body now)
 unfolding switch_items
 switch_aside setting before s (Install boot tables) now = sends_aside now _
-switch_aside setting before s (Stamp boot version) now = sends_aside now _
+switch_aside setting before s (Stamp boot version touched) now = sends_aside now _
 switch_aside setting before s (OpenAt boot version) now = grind (arith, have_first, links_aside)
 switch_aside setting before s (Advertise advert) now = grind (arith, sends_aside)
 switch_aside setting before s _ now = tt

@@ -407,7 +407,7 @@ got setting journal s number boot to body quiet have there is own matter =
 -- what replaces a body of a boot is of that boot
 pub later_boot : (body of : Body) (boot : ℕ) → IsTrue (is_later_body body of)
     → body_boot of ≡ Some boot → body_boot body ≡ Some boot
-later_boot (Stamp one v) (Stamp other w) boot later is = grind (arith, nat_tests)
+later_boot (Stamp one v touched) (Stamp other w others) boot later is = grind (arith, nat_tests)
 later_boot (Collect one v) (Collect other w) boot later is = grind (arith, nat_tests)
 later_boot (Stamped s one v) (Stamped t other w) boot later is = grind (arith, nat_tests)
 later_boot (Advertise advert) (Advertise earlier) boot later is = absurd cc

@@ -22,6 +22,7 @@ use Rattle.update_machine.specs.SwitchNumbers.{switches_of}
 use Rattle.update_machine.specs.Settling.{current_items, installs_to, installs_to_all, open_items, retired_items, settling, stamp_for, to_switch}
 use Rattle.update_machine.specs.Versions.{version_count}
 use Rattle.update_machine.proofs.CallerLemmas.{have_first, have_in_turn}
+use Rattle.update_machine.specs.Touched.{touched_by}
 use Rattle.control_laws.specs.ItemCauses.{HasItemCause}
 use Rattle.control_laws.proofs.Reached.{behind_piece}
 use Rattle.control_laws.proofs.ControllerBlocks.{settling_have}
@@ -40,17 +41,23 @@ use Rattle.control_laws.proofs.Settles.{in_two}
 use Rattle.convergence_laws.proofs.Installs.{all_keep, delivery_told, installs_keep}
 use Rattle.convergence_laws.proofs.Lists.{in_filter, in_map, in_range}
 use Rattle.convergence_laws.proofs.Sendings.{IsSent, sends_all, sent_on}
+use Rattle.ternary.specs.Word.{WordValue}
+
+-- the switch was told to stamp with the version in this boot, whatever was touched
+pub record IsStampSent (journal : List Item) (s boot version : ℕ) : Type 0 where
+  pub touched : List WordValue
+  pub sent : IsSent journal (to_switch s (Stamp boot version touched))
 
 pub record HaveStamps (setting : Setting) (journal : List Item) : Type 0 where
   pub each : (s : ℕ) → s < length setting.net.switches → IsTrue (is_member journal s)
       → (opened_at journal s ≡ Some (current_mark journal))
-      ⊎ IsSent journal (stamp_for journal (current_mark journal) s)
+      ⊎ IsStampSent journal s (known_boot journal s) (current_mark journal)
 
 -- the same of one switch
 abbrev IsStamped : List Item → ℕ → Type 0
 IsStamped journal s = IsTrue (is_member journal s)
     → (opened_at journal s ≡ Some (current_mark journal))
-    ⊎ IsSent journal (stamp_for journal (current_mark journal) s)
+    ⊎ IsStampSent journal s (known_boot journal s) (current_mark journal)
 
 -- ---- where nothing changes for the switch
 
@@ -62,10 +69,10 @@ stamped_same : (before items : List Item) (s : ℕ)
     → IsStamped before s → IsStamped (before ++ items) s
 stamped_same before items s known member opened current is now = elim (is (member now)) [
   | inl at_it ↦ inl (opened ∙ at_it ∙ ap Some (sym current))
-  | inr sent ↦ inr (subst (λ b. IsSent (before ++ items)
-      (to_switch s (Stamp b (current_mark (before ++ items))))) (sym known)
-      (subst (λ v. IsSent (before ++ items) (to_switch s (Stamp (known_boot before s) v)))
-      (sym current) (sent_on before items _ sent)))
+  | inr told ↦ inr (subst (λ b. IsStampSent (before ++ items) s b
+      (current_mark (before ++ items))) (sym known)
+      (subst (IsStampSent (before ++ items) s (known_boot before s)) (sym current)
+      (record { touched = told.touched; sent = sent_on before items _ told.sent })))
 ]
 
 stamped_leaving : (before : List Item) (next : Item) (s : ℕ) → LeavesMember before next s
@@ -162,7 +169,7 @@ retired_later setting journal = grind (arith, have_first, later_sends)
 -- the members are told of the version to which current rises
 raised_stamps : (setting : Setting) (now : List Item) (version : ℕ)
     → let raised = now ++ item.Current version ∷ [] in HaveStamps setting
-    (raised ++ send_items raised (map (stamp_for now version) (members setting now)))
+    (raised ++ send_items raised (map (stamp_for setting now version) (members setting now)))
 raised_stamps setting now version = record {
   each = λ s there member. inr (by_member s there (was_member s member));
 }
@@ -174,15 +181,15 @@ raised_stamps setting now version = record {
     raised = now ++ next ∷ []
 
     stamps : List Message
-    stamps = map (stamp_for now version) (members setting now)
+    stamps = map (stamp_for setting now version) (members setting now)
 
     after : List Item
     after = raised ++ send_items raised stamps
 
     keeps : ControllerKeeps raised after
     keeps = leaves_keep raised _ (sends_leave raised stamps
-        (each_map (ReopensAlone raised) (stamp_for now version) (members setting now)
-        (each (λ s. ReopensAlone raised (stamp_for now version s)) (λ s. tt)
+        (each_map (ReopensAlone raised) (stamp_for setting now version) (members setting now)
+        (each (λ s. ReopensAlone raised (stamp_for setting now version s)) (λ s. tt)
         (members setting now))))
 
     leaves : (s : ℕ) → LeavesMember now next s
@@ -195,16 +202,18 @@ raised_stamps setting now version = record {
     mark = keeps.current ∙ current_more now next
 
     by_member : (s : ℕ) → s < length setting.net.switches → IsTrue (is_member now s)
-        → IsSent after (stamp_for after (current_mark after) s)
+        → IsStampSent after s (known_boot after s) (current_mark after)
     by_member s there member =
-        subst (λ b. IsSent after (to_switch s (Stamp b (current_mark after))))
+        subst (λ b. IsStampSent after s b (current_mark after))
         (sym (keeps.known s ∙ known_more now next s))
-        (subst (λ v. IsSent after (to_switch s (Stamp (known_boot now s) v))) (sym mark)
-        (sends_all raised stamps (stamp_for now version s)
-        (in_map (stamp_for now version) s (members setting now)
-        (in_filter (is_member now) s (switches_of setting)
-        (in_range s 0 (length setting.net.switches) (omega arith) (omega (arith, there)))
-        member))))
+        (subst (IsStampSent after s (known_boot now s)) (sym mark) (record {
+          touched = touched_by setting now version;
+          sent = sends_all raised stamps (stamp_for setting now version s)
+              (in_map (stamp_for setting now version) s (members setting now)
+              (in_filter (is_member now) s (switches_of setting)
+              (in_range s 0 (length setting.net.switches) (omega arith) (omega (arith, there)))
+              member));
+        }))
 
 current_stamps : (setting : Setting) (now : List Item) → HaveStamps setting now
     → HaveStamps setting (now ++ current_items setting now)
@@ -215,7 +224,7 @@ current_stamps setting now have = by_test (nat_lt (current_mark now) (next_curre
     version = next_current setting now
 
     stamps : List Message
-    stamps = map (stamp_for now version) (members setting now)
+    stamps = map (stamp_for setting now version) (members setting now)
 
     by_test : (b : Bool) → HaveStamps setting (now ++ elim b [
       | false ↦ []

@@ -18,7 +18,6 @@ use Rattle.update_machine.specs.Pieces.{piece}
 use Rattle.update_machine.specs.Quiet.{IsQuiet, is_later_body, is_waited_for}
 use Rattle.update_machine.specs.Setting.{Setting}
 use Rattle.update_machine.specs.SwitchNumbers.{switches_of}
-use Rattle.update_machine.specs.Settling.{stamp_for}
 use Rattle.update_machine.specs.Versions.{first_stamp, stamp_in, stamp_of, version_count}
 use Rattle.update_machine.specs.Links.{serves}
 use Rattle.update_machine.proofs.CallerLemmas.{have_append}
@@ -40,7 +39,8 @@ use Rattle.convergence_laws.proofs.Installs.{AllInstalled, installs_at_first, pi
 use Rattle.convergence_laws.proofs.Lists.{IsIn, all_in, each_of_in, in_filter_map, in_range, in_right, of_filter, of_range}
 use Rattle.convergence_laws.proofs.Received.{WasHeard, heard_of, told_of}
 use Rattle.convergence_laws.proofs.Sendings.{IsInOrder, IsSent, pieces_in_order}
-use Rattle.convergence_laws.proofs.Stamps.{HaveStamps, piece_stamps, stamps_at_first}
+use Rattle.convergence_laws.proofs.Stamps.{HaveStamps, IsStampSent, piece_stamps, stamps_at_first}
+use Rattle.ternary.specs.Word.{WordValue}
 
 -- ---- greatest and least numbers
 
@@ -154,7 +154,7 @@ is_alone _ = false
 says_same : (body of : Body) → IsTrue (is_alone of)
     → (body ≡ of) ⊎ IsTrue (is_later_body body of) → body ≡ of
 says_same body of alone (inl same) = same
-says_same (Stamp one v) (Stamp other w) alone (inr later) = absurd cc
+says_same (Stamp one v touched) (Stamp other w others) alone (inr later) = absurd cc
 says_same (Collect one v) (Collect other w) alone (inr later) = absurd cc
 says_same (Stamped s one v) (Stamped t other w) alone (inr later) = absurd cc
 says_same (Advertise advert) (Advertise earlier) alone (inr later) = absurd cc
@@ -406,15 +406,16 @@ first_stamped journal s up first =
     rw (here, one) (fold_up 1 (filter_map stamp_in (heard journal s)))
 
 -- a stamp, or one of a greater version
-later_stamp : (body : Body) (boot version : ℕ)
-    → (body ≡ Stamp boot version) ⊎ IsTrue (is_later_body body (Stamp boot version))
-    → (later : ℕ) × (body ≡ Stamp boot later) × (version ≤ later)
-later_stamp body boot version (inl same) = (version, same, omega arith)
-later_stamp (Stamp of later) boot version (inr more) =
+later_stamp : (body : Body) (boot version : ℕ) (touched : List WordValue)
+    → (body ≡ Stamp boot version touched) ⊎ IsTrue (is_later_body body (Stamp boot version touched))
+    → (later : ℕ) × (words : List WordValue) × (body ≡ Stamp boot later words)
+    × (version ≤ later)
+later_stamp body boot version touched (inl same) = (version, touched, same, omega arith)
+later_stamp (Stamp of later words) boot version touched (inr more) =
     let own : of ≡ boot = grind (arith, nat_tests) in
     let above : version ≤ later = grind (arith, nat_tests) in
-    (later, ap (λ b. Stamp b later) own, above)
-later_stamp body boot version (inr more) = absurd cc
+    (later, words, ap (λ b. Stamp b later words) own, above)
+later_stamp body boot version touched (inr more) = absurd cc
 
 later_stamped : (body : Body) (s boot version : ℕ)
     → (body ≡ Stamped s boot version) ⊎ IsTrue (is_later_body body (Stamped s boot version))
@@ -473,19 +474,19 @@ opened_stamps setting journal are quiet s there up opened = record {
 
 told_stamps : (setting : Setting) (journal : List Item) → AreReady setting journal
     → IsQuiet setting journal → (s : ℕ) → s < length setting.net.switches
-    → IsTrue (is_up journal s) → IsSent journal (stamp_for journal (current_mark journal) s)
-    → StampsIt journal s
-told_stamps setting journal are quiet s there up sent =
+    → IsTrue (is_up journal s)
+    → IsStampSent journal s (known_boot journal s) (current_mark journal) → StampsIt journal s
+told_stamps setting journal are quiet s there up stamp =
     record {
       own = omega (
         arith,
         heard_stamp journal s later.0 was.body was.is
-            (ap stamp_in later.1),
-        later.2,
+            (ap stamp_in later.2),
+        later.3,
       );
       known = omega (
         arith,
-        later.2,
+        later.3,
         more.2,
         stamped_acked journal s more.0
             (subst (λ b. IsIn b (controller_heard journal)) more.1 told.is),
@@ -498,16 +499,17 @@ told_stamps setting journal are quiet s there up sent =
     own : known ≡ boot_of journal s
     own = known_own setting journal are quiet s there up
 
-    was : WasHeard (heard journal s) (Stamp known (current_mark journal))
-    was = heard_of setting journal s (Stamp known (current_mark journal)) quiet are.causes there sent
-        up (ap Some own) refl
+    was : WasHeard (heard journal s) (Stamp known (current_mark journal) stamp.touched)
+    was = heard_of setting journal s (Stamp known (current_mark journal) stamp.touched) quiet
+        are.causes there stamp.sent up (ap Some own) refl
 
-    later : (v : ℕ) × (was.body ≡ Stamp known v) × (current_mark journal ≤ v)
-    later = later_stamp was.body known (current_mark journal) was.says
+    later : (v : ℕ) × (words : List WordValue) × (was.body ≡ Stamp known v words)
+        × (current_mark journal ≤ v)
+    later = later_stamp was.body known (current_mark journal) stamp.touched was.says
 
     answer : IsSent journal (to_controller (Stamped s known later.0))
-    answer = elim (are.spoken.answers.each s (Stamp known later.0)
-        (subst (λ b. IsIn b (heard journal s)) later.1 was.is)) [
+    answer = elim (are.spoken.answers.each s (Stamp known later.0 later.1)
+        (subst (λ b. IsIn b (heard journal s)) later.2 was.is)) [
           | inl none ↦ absurd none
           | inr sent ↦ sent
         ]

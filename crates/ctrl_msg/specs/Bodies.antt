@@ -7,7 +7,7 @@ use Rattle.ctrl_msg.specs.declared.message.Body.TheVariants.{Install, OpenAt, St
 abbrev pub body_boot : Body → Option ℕ
 body_boot (Install boot tables) = Some boot
 body_boot (OpenAt boot version) = Some boot
-body_boot (Stamp boot version) = Some boot
+body_boot (Stamp boot version touched) = Some boot
 body_boot (Collect boot version) = Some boot
 body_boot (Hello switch boot) = Some boot
 body_boot (Installed switch boot version) = Some boot

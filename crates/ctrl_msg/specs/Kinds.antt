@@ -9,7 +9,7 @@ use Rattle.ctrl_msg.specs.declared.message.Place.TheVariants.{Controller}
 abbrev pub body_version : Body → Option ℕ
 body_version (Install boot tables) = Some tables.version
 body_version (OpenAt boot version) = Some version
-body_version (Stamp boot version) = Some version
+body_version (Stamp boot version touched) = Some version
 body_version (Collect boot version) = Some version
 body_version (CacheRule version word rule action) = Some version
 body_version (Installed switch boot version) = Some version

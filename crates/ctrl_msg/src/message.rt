@@ -3,9 +3,11 @@ ghost use Rattle.ctrl_msg.specs.Bodies.{body_boot};
 ghost use Rattle.ctrl_msg.specs.Kinds.{body_version, is_for_controller};
 
 use crate::shared::SharedTables;
+use base::Shared;
 use failover::Advert;
 use policy_rules::Action;
 use std::alloc::AllocError;
+use switch_table::Touched;
 use ternary::Word;
 
 /// Whom a message is for.
@@ -29,10 +31,12 @@ pub enum Body {
         boot: u32,
         version: u32,
     },
-    /// In this boot, stamp packets with this version from now on.
+    /// In this boot, stamp packets with this version from now on, which came of the one before by
+    /// a change that touches no more than this.
     Stamp {
         boot: u32,
         version: u32,
+        touched: Shared<Touched>,
     },
     /// In this boot, drop the tables of the versions up to this one.
     Collect {
@@ -135,9 +139,14 @@ impl Clone for Body {
                 boot: *boot,
                 version: *version,
             },
-            Body::Stamp { boot, version } => Body::Stamp {
+            Body::Stamp {
+                boot,
+                version,
+                touched,
+            } => Body::Stamp {
                 boot: *boot,
                 version: *version,
+                touched: touched.clone()?,
             },
             Body::Collect { boot, version } => Body::Collect {
                 boot: *boot,

@@ -21,7 +21,7 @@ says_subject : (later earlier : Body) → replaces_body later earlier ≡ true
     → subject later ≡ subject earlier
 says_subject (Install boot tables) (Install of earlier) says = eqb-true _ _ (and_parts _ _ says).1
 says_subject (OpenAt boot version) (OpenAt of earlier) says = eqb-true _ _ (and_parts _ _ says).1
-says_subject (Stamp boot version) (Stamp of earlier) says = refl
+says_subject (Stamp boot version touched) (Stamp of earlier others) says = refl
 says_subject (Collect boot version) (Collect of earlier) says = refl
 says_subject (Advertise one) (Advertise other) says =
     elim (advert_means one other (is_same one other) refl says) [

@@ -13,10 +13,9 @@ use Rattle.ctrl_msg.specs.declared.message.Place.TheVariants as receiver
 use Rattle.failover.specs.Adverts.{is_newer}
 use Rattle.failover.specs.declared.advert.Advert.{Advert}
 use Rattle.failover.proofs.Newest.{newer_through}
-use Rattle.switch_table.specs.declared.tables.Tables.{Tables}
 use Rattle.update_machine.specs.Quiet.{Replaces, are_old_tables, is_advert, is_later_body, is_old_answer, speaker}
 use Rattle.journal_reports.specs.declared.status.SwitchStatus.{SwitchStatus}
-use Rattle.journal_reports.specs.Judging.{HaveSameTables, SaysAsMuch, is_same, is_same_receiver, matters_to, replaces_message, replaces_body}
+use Rattle.journal_reports.specs.Judging.{HaveSameLists, SaysAsMuch, is_same, is_same_receiver, matters_to, replaces_message, replaces_body}
 
 -- ---- of three messages
 
@@ -75,7 +74,8 @@ body_through (Install boot tables) (Install of other) (Install own third) first 
     grind (arith, nat_tests)
 body_through (OpenAt boot version) (OpenAt of other) (OpenAt own third) first second =
     grind (arith, nat_tests)
-body_through (Stamp boot version) (Stamp of other) (Stamp own third) first second =
+body_through (Stamp boot version touched) (Stamp of other others) (Stamp own third words) first
+    second =
     grind (arith, nat_tests)
 body_through (Collect boot version) (Collect of other) (Collect own third) first second =
     grind (arith, nat_tests)
@@ -106,68 +106,86 @@ message_through one two three first second =
     body_through one.body two.body three.body a.1 b.1 in
     rw (to, body) refl
 
-tables_through : (one two three : Body) → replaces_body one two ≡ true
-    → HaveSameTables one two → HaveSameTables two three → HaveSameTables one three
-tables_through (Install boot one) (Install of two) (Install own three) says first second =
+lists_through : (one two three : Body) → replaces_body one two ≡ true
+    → replaces_body two three ≡ true → HaveSameLists one two → HaveSameLists two three
+    → HaveSameLists one three
+lists_through (Install boot one) (Install of two) (Install own three) says next first second =
     first ∙ second
-tables_through (Install boot one) (Install of two) three says first second = tt
-tables_through (Install boot one) two three says first second = absurd cc
-tables_through one two three says first second = tt
+lists_through (Install boot one) (Install of two) three says next first second = tt
+lists_through (Install boot one) two three says next first second = absurd cc
+lists_through (Stamp boot version one) (Stamp of middle two) (Stamp own least three) says next
+    first second =
+    by_list first second
+  where
+    by_list : IsTrue (nat_lt middle version) ⊎ (one ≡ two)
+        → IsTrue (nat_lt least middle) ⊎ (two ≡ three)
+        → IsTrue (nat_lt least version) ⊎ (one ≡ three)
+    by_list (inl greater) other =
+        let below : nat_le least middle ≡ true = (and_parts _ _ next).1 in
+        inl (grind (arith, nat_tests))
+    by_list (inr same) (inl greater) =
+        let below : nat_le middle version ≡ true = (and_parts _ _ says).1 in
+        inl (grind (arith, nat_tests))
+    by_list (inr same) (inr other) = inr (same ∙ other)
+lists_through (Stamp boot version one) (Stamp of middle two) three says next first second = tt
+lists_through (Stamp boot version one) two three says next first second = absurd cc
+lists_through one two three says next first second = tt
 
 pub says_through : (one two three : Message) → SaysAsMuch one two → SaysAsMuch two three
     → SaysAsMuch one three
 says_through one two three first second = record {
   message = message_through one two three first.message second.message;
-  tables = tables_through one.body two.body three.body (and_parts _ _ first.message).1
-      first.tables second.tables;
+  lists = lists_through one.body two.body three.body (and_parts _ _ first.message).1
+      (and_parts _ _ second.message).1 first.lists second.lists;
 }
 
 -- ---- what it says is the same or more
 
--- tables of one version are the same
-abbrev Agree : Body → Body → Type 0
-Agree later earlier = (boot of : ℕ) (one other : Tables) → later ≡ Install boot one
-    → earlier ≡ Install of other → one.version ≡ other.version → one ≡ other
+body_means : (later earlier : Body) → replaces_body later earlier ≡ true
+    → HaveSameLists later earlier → (later ≡ earlier) ⊎ IsTrue (is_later_body later earlier)
+body_means (Install boot tables) (Install of other) says same =
+    let own : boot ≡ of = eqb-true boot of (and_parts _ _ says).0 in
+    inl (ap (λ b. Install b tables) own ∙ ap (Install of) same)
+body_means (OpenAt boot version) (OpenAt of other) says same = grind (arith, nat_tests)
+body_means (Stamp boot version touched) (Stamp of earlier others) says same =
+    by_test (nat_lt earlier version) refl same
+  where
+    parts : ((boot == of) ≡ true) × (nat_le earlier version ≡ true)
+    parts = and_parts _ _ says
 
-body_means : (later earlier : Body) → Agree later earlier → replaces_body later earlier ≡ true
-    → (later ≡ earlier) ⊎ IsTrue (is_later_body later earlier)
-body_means (Install boot tables) (Install of other) agree says =
-    let parts = and_parts _ _ says in
-    let same : boot ≡ of = eqb-true boot of parts.0 in
-    let its : tables ≡ other = agree boot of tables other refl refl (eqb-true _ _ parts.1) in
-    inl cc
-body_means (OpenAt boot version) (OpenAt of other) agree says = grind (arith, nat_tests)
-body_means (Stamp boot version) (Stamp of other) agree says = grind (arith, nat_tests)
-body_means (Collect boot version) (Collect of other) agree says = grind (arith, nat_tests)
-body_means (Advertise one) (Advertise other) agree says =
+    own : boot ≡ of
+    own = eqb-true boot of parts.0
+
+    by_test : (b : Bool) → nat_lt earlier version ≡ b
+        → IsTrue (nat_lt earlier version) ⊎ (touched ≡ others)
+        → (Stamp boot version touched ≡ Stamp of earlier others)
+        ⊎ IsTrue (boot == of && nat_lt earlier version)
+    by_test true greater same = inr (rw (parts.0, greater) refl)
+    by_test false least (inl greater) = absurd (clash (sym least ∙ greater))
+      where
+        clash : false ≡ true → ⊥
+        clash e = absurd cc
+    by_test false least (inr words) =
+        let up : nat_le earlier version ≡ true = parts.1 in
+        let level : version ≡ earlier = grind (arith, nat_tests) in
+        inl (ap (λ b. Stamp b version touched) own ∙ ap (λ v. Stamp of v touched) level
+        ∙ ap (Stamp of earlier) words)
+body_means (Collect boot version) (Collect of other) says same = grind (arith, nat_tests)
+body_means (Advertise one) (Advertise other) says lists =
     elim (advert_means one other (is_same one other) refl says) [
       | inl same ↦ inl (ap Advertise same)
       | inr newer ↦ inr newer
     ]
-body_means (Hello s boot) (Hello t of) agree says = grind (arith, nat_tests)
-body_means (Installed s boot version) (Installed t of other) agree says = grind (arith, nat_tests)
-body_means (Stamped s boot version) (Stamped t of other) agree says = grind (arith, nat_tests)
-body_means later earlier agree says = absurd cc
+body_means (Hello s boot) (Hello t of) says same = grind (arith, nat_tests)
+body_means (Installed s boot version) (Installed t of other) says same = grind (arith, nat_tests)
+body_means (Stamped s boot version) (Stamped t of other) says same = grind (arith, nat_tests)
+body_means later earlier says same = absurd cc
 
 pub receiver_means : (later earlier : Place) → is_same_receiver later earlier ≡ true
     → later ≡ earlier
 receiver_means (receiver.Switch s) (receiver.Switch t) same = ap receiver.Switch (eqb-true s t same)
 receiver_means receiver.Controller receiver.Controller same = refl
 receiver_means later earlier same = absurd cc
-
-says_means : (later earlier : Message)
-    → ((boot of : ℕ) (one other : Tables) → later.to ≡ earlier.to → later.body ≡ Install boot one
-    → earlier.body ≡ Install of other → one.version ≡ other.version → one ≡ other)
-    → replaces_message later earlier ≡ true
-    → (later.to ≡ earlier.to)
-    × ((later.body ≡ earlier.body) ⊎ IsTrue (is_later_body later.body earlier.body))
-says_means later earlier agree says =
-    let parts = and_parts _ _ says in
-    let to : later.to ≡ earlier.to = receiver_means later.to earlier.to parts.0 in (
-      to,
-      body_means later.body earlier.body
-          (λ boot of one other mine its same. agree boot of one other to mine its same) parts.1,
-    )
 
 -- ---- and what says the same or more says as much, but of cache rules
 
@@ -181,7 +199,7 @@ up_itself n = grind (arith, nat_tests)
 body_itself : (body : Body) → IsFalse (is_cache_rule body) → replaces_body body body ≡ true
 body_itself (Install boot tables) plain = rw (own boot, own tables.version) refl
 body_itself (OpenAt boot version) plain = rw (own boot, own version) refl
-body_itself (Stamp boot version) plain = rw (own boot, up_itself version) refl
+body_itself (Stamp boot version touched) plain = rw (own boot, up_itself version) refl
 body_itself (Collect boot version) plain = rw (own boot, up_itself version) refl
 body_itself (Advertise advert) plain =
     rw (own advert.origin, own advert.boot, own advert.seq, own advert.up) refl
@@ -194,7 +212,7 @@ body_itself body plain = absurd cc
 
 later_says : (later earlier : Body) → IsTrue (is_later_body later earlier)
     → replaces_body later earlier ≡ true
-later_says (Stamp boot version) (Stamp of other) later = grind (arith, nat_tests)
+later_says (Stamp boot version touched) (Stamp of other others) later = grind (arith, nat_tests)
 later_says (Collect boot version) (Collect of other) later = grind (arith, nat_tests)
 later_says (Stamped s boot version) (Stamped t of other) later = grind (arith, nat_tests)
 later_says (Advertise one) (Advertise other) later =
@@ -221,38 +239,33 @@ means_says later earlier plain to says =
 
 -- ---- so it replaces the other one, and what replaces it says as much
 
-same_of : (later earlier : Body) (boot of : ℕ) (one other : Tables)
-    → HaveSameTables later earlier → later ≡ Install boot one → earlier ≡ Install of other
-    → one ≡ other
-same_of later earlier boot of one other same mine its =
-    subst (λ body. HaveSameTables body (Install of other)) mine
-    (subst (HaveSameTables later) its same)
-
 pub replaces_of : (later earlier : Message) → SaysAsMuch later earlier → Replaces later earlier
 replaces_of later earlier says =
-    let means = says_means later earlier
-    (λ boot of one other to mine its versions.
-    same_of later.body earlier.body boot of one other says.tables mine its)
-    says.message in
-    record { receiver = means.0; says = means.1 }
+    let parts = and_parts _ _ says.message in
+    record {
+      receiver = receiver_means later.to earlier.to parts.0;
+      says = body_means later.body earlier.body parts.1 says.lists;
+    }
 
-same_itself : (body : Body) → HaveSameTables body body
+same_itself : (body : Body) → HaveSameLists body body
 same_itself (Install boot tables) = refl
+same_itself (Stamp boot version touched) = inr refl
 same_itself body = tt
 
-later_tables : (later earlier : Body) → IsTrue (is_later_body later earlier)
-    → HaveSameTables later earlier
-later_tables (Install boot one) (Install of other) more = absurd cc
-later_tables later earlier more = tt
+later_lists : (later earlier : Body) → IsTrue (is_later_body later earlier)
+    → HaveSameLists later earlier
+later_lists (Install boot one) (Install of other) more = absurd cc
+later_lists (Stamp boot version one) (Stamp of earlier other) more = inl (and_parts _ _ more).1
+later_lists later earlier more = tt
 
 pub says_of : (later earlier : Message) → IsFalse (is_cache_rule earlier.body)
     → Replaces later earlier → SaysAsMuch later earlier
 says_of later earlier plain replaces = record {
   message = means_says later earlier plain replaces.receiver replaces.says;
-  tables = elim replaces.says [
-    | inl same ↦ subst (λ body. HaveSameTables body earlier.body) (sym same)
+  lists = elim replaces.says [
+    | inl same ↦ subst (λ body. HaveSameLists body earlier.body) (sym same)
         (same_itself earlier.body)
-    | inr more ↦ later_tables later.body earlier.body more
+    | inr more ↦ later_lists later.body earlier.body more
   ];
 }
 
@@ -284,7 +297,7 @@ alike current (OpenAt boot version) (OpenAt of earlier) says = record {
   tables = refl;
   answer = refl;
 }
-alike current (Stamp boot version) (Stamp of earlier) says = record {
+alike current (Stamp boot version touched) (Stamp of earlier others) says = record {
   advert = refl;
   boot = ap Some (eqb-true boot of (and_parts _ _ says).0);
   speaks = refl;

@@ -1,6 +1,6 @@
 -- How the judge of a quiet network tests a message: whether it matters to a switch, and whether it
 -- replaces another one. That this decides whether the network is quiet is its contract.
-use Rattle.std.specs.Prelude.{⊤, ℕ, ◌≡◌, Bool, true, false, not, ◌&&◌, ◌||◌, ◌==◌, nat_le, Option, Some, None, unwrap_or, option_map, List, [], ◌∷◌, IsTrue, slice_index_or}
+use Rattle.std.specs.Prelude.{⊤, ℕ, ◌≡◌, ◌⊎◌, Bool, true, false, not, ◌&&◌, ◌||◌, ◌==◌, nat_le, nat_lt, Option, Some, None, unwrap_or, option_map, List, [], ◌∷◌, IsTrue, slice_index_or}
 use Rattle.std.specs.Option.{option_map_or}
 use Rattle.ctrl_msg.specs.declared.message.Body.{Body}
 use Rattle.ctrl_msg.specs.declared.message.Body.TheVariants.{Install, OpenAt, Stamp, Collect, Advertise, Hello, Installed, Stamped}
@@ -75,12 +75,13 @@ is_same one other = one.origin == other.origin && one.boot == other.boot && one.
     && one.up == other.up
 
 -- the body says what the other one does, of the same or a greater version, or of the same or a
--- newer advert; of tables the version alone is compared
+-- newer advert; of tables the version alone is compared, and of touched words nothing
 abbrev pub replaces_body : Body → Body → Bool
 replaces_body (Install boot tables) (Install of earlier) =
     boot == of && tables.version == earlier.version
 replaces_body (OpenAt boot version) (OpenAt of earlier) = boot == of && version == earlier
-replaces_body (Stamp boot version) (Stamp of earlier) = boot == of && nat_le earlier version
+replaces_body (Stamp boot version touched) (Stamp of earlier others) =
+    boot == of && nat_le earlier version
 replaces_body (Collect boot version) (Collect of earlier) = boot == of && nat_le earlier version
 replaces_body (Advertise advert) (Advertise earlier) =
     is_same advert earlier || (advert.origin == earlier.origin && is_newer advert earlier)
@@ -100,15 +101,18 @@ abbrev pub replaces_message : Message → Message → Bool
 replaces_message later earlier =
     is_same_receiver later.to earlier.to && replaces_body later.body earlier.body
 
--- both have the same tables, if both have any
-abbrev pub HaveSameTables : Body → Body → Type 0
-HaveSameTables (Install boot one) (Install of other) = one ≡ other
-HaveSameTables _ _ = ⊤
+-- both have the same tables, if both have any; and of stamps the later one is of a greater version,
+-- or both touch the same words
+abbrev pub HaveSameLists : Body → Body → Type 0
+HaveSameLists (Install boot one) (Install of other) = one ≡ other
+HaveSameLists (Stamp boot version one) (Stamp of earlier other) =
+    IsTrue (nat_lt earlier version) ⊎ (one ≡ other)
+HaveSameLists _ _ = ⊤
 
 -- the later one says as much: it replaces the earlier one, if that is no cache rule
 pub record SaysAsMuch (later earlier : Message) : Type 0 where
   pub message : IsTrue (replaces_message later earlier)
-  pub tables : HaveSameTables later.body earlier.body
+  pub lists : HaveSameLists later.body earlier.body
 
 abbrev pub has_mark : List Bool → ℕ → Bool
 has_mark marks number = slice_index_or marks number false

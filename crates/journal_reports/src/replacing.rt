@@ -2,9 +2,9 @@
 ghost use Rattle.std.specs.Prelude.{◌≡◌, ◌↔◌, ◌||◌, false, IsTrue};
 ghost use Rattle.std.specs.Option.{option_map_or};
 ghost use Rattle.update_machine.specs.Quiet.{are_old_tables, carries_boot, is_advert, is_of_boot, is_old_answer, speaker};
-ghost use Rattle.journal_reports.specs.Judging.{HaveSameTables, SaysAsMuch, matters_to, replaces_message, replaces_body};
+ghost use Rattle.journal_reports.specs.Judging.{HaveSameLists, SaysAsMuch, matters_to, replaces_message, replaces_body};
 
-use crate::same::are_same_tables;
+use crate::same::{are_same_tables, are_same_words};
 use crate::status::SwitchStatus;
 use journal::{Body, Message, Place};
 
@@ -76,23 +76,36 @@ fn is_old_answer(body: &Body, current: u32) -> bool
 pub fn says_as_much(later: &Message, earlier: &Message) -> bool
     ensures { IsTrue result ↔ SaysAsMuch later.now earlier.now }
 {
-    replaces_message(later, earlier) && have_same_tables(&later.body, &earlier.body)
+    replaces_message(later, earlier) && have_same_lists(&later.body, &earlier.body)
 }
 
-// Whether both have the same tables, if both have any.
-fn have_same_tables(one: &Body, other: &Body) -> bool
-    ensures { IsTrue result ↔ HaveSameTables one.now other.now }
+// Whether both have the same tables, if both have any; and of stamps, whether the later one is of a
+// greater version, or both touch the same words.
+fn have_same_lists(later: &Body, earlier: &Body) -> bool
+    ensures { IsTrue result ↔ HaveSameLists later.now earlier.now }
 {
-    match (one, other) {
+    match (later, earlier) {
         (Body::Install { tables, .. }, Body::Install { tables: old, .. }) => {
             are_same_tables(tables.tables(), old.tables())
         }
+        (
+            Body::Stamp {
+                version,
+                touched,
+                ..
+            },
+            Body::Stamp {
+                version: old,
+                touched: others,
+                ..
+            },
+        ) => old < version || are_same_words(touched.get(), others.get()),
         _ => true,
     }
 }
 
 // Whether it is to the same receiver and says the same or more, but for rows and partitions of
-// tables.
+// tables and for touched words.
 fn replaces_message(later: &Message, earlier: &Message) -> bool
     ensures { result ≡ replaces_message later.now earlier.now }
 {
@@ -100,7 +113,7 @@ fn replaces_message(later: &Message, earlier: &Message) -> bool
 }
 
 // The body says what the other one does, or the same of a greater version or of a newer advert, but
-// for rows and partitions of tables.
+// for rows and partitions of tables and for touched words.
 fn replaces_body(later: &Body, earlier: &Body) -> bool
     ensures { result ≡ replaces_body later.now earlier.now }
 {
@@ -120,10 +133,11 @@ fn replaces_body(later: &Body, earlier: &Body) -> bool
             },
         ) => boot == of && version == old,
         (
-            Body::Stamp { boot, version },
+            Body::Stamp { boot, version, .. },
             Body::Stamp {
                 boot: of,
                 version: old,
+                ..
             },
         )
         | (

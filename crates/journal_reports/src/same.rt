@@ -1,8 +1,9 @@
-//! Whether tables are the same, value by value.
+//! Whether tables are the same, value by value, or the words that two changes touch.
 ghost use Rattle.std.specs.Prelude.{◌≡◌, ◌↔◌, IsTrue};
 
 use policy_rules::{Partition, Rule};
-use switch_table::{PartRow, Tables};
+use switch_table::{PartRow, Tables, Touched};
+use ternary::Word;
 
 /// Whether they are the same tables.
 pub fn are_same_tables(one: &Tables, other: &Tables) -> bool
@@ -13,7 +14,14 @@ pub fn are_same_tables(one: &Tables, other: &Tables) -> bool
         && are_same(one.parts.items(), other.parts.items())
 }
 
-// A part of tables.
+/// Whether they are the same words, in the same order.
+pub fn are_same_words(one: &Touched, other: &Touched) -> bool
+    ensures { IsTrue result ↔ (one.now ≡ other.now) }
+{
+    are_same(one.words(), other.words())
+}
+
+// A part of tables, or a touched word.
 trait Same {
     // Whether they are the same value.
     fn is_same(&self, other: &Self) -> bool
@@ -30,6 +38,12 @@ impl Same for Partition {
 
 impl Same for Rule {
     fn is_same(&self, other: &Rule) -> bool {
+        self == other
+    }
+}
+
+impl Same for Word {
+    fn is_same(&self, other: &Word) -> bool {
         self == other
     }
 }

@@ -136,7 +136,7 @@ module _ (laws : NameLaws) (net : Net) (sound : IsNet net) where
       widened (version_within (all_of (codes "install")) boot tables.version is) 1200 (omega arith)
   body_within (OpenAt boot version) is =
       widened (version_within (all_of (codes "open")) boot version is) 1200 (omega arith)
-  body_within (Stamp boot version) is =
+  body_within (Stamp boot version touched) is =
       widened (version_within (all_of (codes "stamp")) boot version is) 1200 (omega arith)
   body_within (Collect boot version) is =
       widened (version_within (all_of (codes "collect")) boot version is) 1200 (omega arith)

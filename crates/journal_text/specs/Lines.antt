@@ -97,7 +97,7 @@ cache_text version word rule action =
 abbrev pub body_text : Net → Body → List ℕ
 body_text net (Install boot tables) = version_text (codes "install") boot tables.version
 body_text net (OpenAt boot version) = version_text (codes "open") boot version
-body_text net (Stamp boot version) = version_text (codes "stamp") boot version
+body_text net (Stamp boot version touched) = version_text (codes "stamp") boot version
 body_text net (Collect boot version) = version_text (codes "collect") boot version
 body_text net (CacheRule version word rule action) = cache_text version word rule action
 body_text net (Advertise advert) = advert_text net advert

@@ -37,7 +37,7 @@ IsStepOfType _ = ⊤
 abbrev pub IsBodyOfType : Body → Type 0
 IsBodyOfType (Install boot tables) = IsNumber boot × IsNumber tables.version
 IsBodyOfType (OpenAt boot version) = IsNumber boot × IsNumber version
-IsBodyOfType (Stamp boot version) = IsNumber boot × IsNumber version
+IsBodyOfType (Stamp boot version touched) = IsNumber boot × IsNumber version
 IsBodyOfType (Collect boot version) = IsNumber boot × IsNumber version
 IsBodyOfType (CacheRule version word rule action) = IsNumber version × IsRule rule × IsAction action
 IsBodyOfType (Advertise advert) = IsNumber advert.boot × IsNumber advert.seq

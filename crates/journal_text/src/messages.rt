@@ -110,7 +110,7 @@ pub(crate) fn push_body(line: &mut Line, net: &Net, body: &Body)
             push_version(line, "install", *boot, tables.tables().version)
         }
         Body::OpenAt { boot, version } => push_version(line, "open", *boot, *version),
-        Body::Stamp { boot, version } => push_version(line, "stamp", *boot, *version),
+        Body::Stamp { boot, version, .. } => push_version(line, "stamp", *boot, *version),
         Body::Collect { boot, version } => push_version(line, "collect", *boot, *version),
         Body::CacheRule {
             version,

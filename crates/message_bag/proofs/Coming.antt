@@ -41,7 +41,7 @@ is_one_of m f has there =
     record {
       at = at;
       of = of_count 0 count (frames m) (place_in_frame f) f (frames_rise m has) at;
-      sized = All-contains IsSized (frames m) f (frames_sized m) there;
+      sized = All-contains IsSized (frames m) f (frames_sized m has.fits) there;
     }
 
 -- a place that is held passes the test

@@ -103,7 +103,7 @@ never_past first fs held next place m fed past =
 -- a frame of a message has its header
 pub long_alone : (f : List ℕ) → AreOfMessage (f ∷ []) → 8 ≤ length f
 long_alone f of =
-    let sized : IsSized f = All-head IsSized f [] (subst (All IsSized) (sym of.2) (frames_sized of.0)) in
+    let sized : IsSized f = All-head IsSized f [] (subst (All IsSized) (sym of.2) (frames_sized of.0 of.1.fits)) in
     omega (arith, sized.long)
 
 -- what stands behind the header

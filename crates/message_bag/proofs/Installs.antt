@@ -29,7 +29,7 @@ whole bytes =
 head_of : (b : Body) (bytes : List ℕ) → tables_version b ≡ None → head_len b bytes ≡ length bytes
 head_of (Install boot t) bytes alone = absurd cc
 head_of (OpenAt boot version) bytes alone = refl
-head_of (Stamp boot version) bytes alone = refl
+head_of (Stamp boot version touched) bytes alone = refl
 head_of (Collect boot version) bytes alone = refl
 head_of (CacheRule version word rule action) bytes alone = refl
 head_of (Advertise told) bytes alone = refl
@@ -201,7 +201,7 @@ of_body : (to : Place) (b : Body) (first : List ℕ) (t : Tables) → message.fi
     → first ∷ table_frames t ≡ frames (record { to = to; body = b }) → IsInstalled first t
 of_body to (Install boot u) first t fits are = of_install to boot u first t fits are
 of_body to (OpenAt i j) first t fits are = absurd (lone (record { to = to; body = OpenAt i j }) first t refl are)
-of_body to (Stamp i j) first t fits are = absurd (lone (record { to = to; body = Stamp i j }) first t refl are)
+of_body to (Stamp i j touched) first t fits are = absurd (lone (record { to = to; body = Stamp i j touched }) first t refl are)
 of_body to (Collect i j) first t fits are = absurd (lone (record { to = to; body = Collect i j }) first t refl are)
 of_body to (CacheRule i w r a) first t fits are = absurd (lone (record { to = to; body = CacheRule i w r a }) first t refl are)
 of_body to (Advertise a) first t fits are = absurd (lone (record { to = to; body = Advertise a }) first t refl are)

@@ -1,6 +1,8 @@
 -- How long spellings are: those of all messages but installations are short.
-use Rattle.std.proofs.Common.{◌≡◌, ℕ, ◌+◌, ◌<◌, ◌≤◌, ◌^◌, Bool, true, false, ◌++◌, length, Option, Some, None, refl, arith}
+use Rattle.std.proofs.Common.{◌≡◌, ℕ, ◌+◌, ◌<◌, ◌≤◌, ◌^◌, Bool, true, false, ◌++◌, length, Option, Some, None, refl, arith, ◌*◌, List, [], ◌∷◌, leb}
 use Rattle.std.proofs.lemmas.List.{length-append}
+use Rattle.std.specs.List.{flat_map, list_all}
+use Rattle.std.proofs.lemmas.Bool.{and_parts, leb-true}
 use Rattle.ctrl_msg.specs.declared.message.Place.{Place}
 use Rattle.ctrl_msg.specs.declared.message.Place.TheVariants.{Switch, Controller}
 use Rattle.ctrl_msg.specs.declared.message.Body.{Body}
@@ -12,9 +14,9 @@ use Rattle.policy_rules.specs.declared.policy.Action.TheVariants.{Drop, Out}
 use Rattle.switch_table.specs.declared.tables.Tables.{Tables}
 use Rattle.ternary.specs.Word.{WordValue}
 use Rattle.wire.specs.Format.{spelled_number}
-use Rattle.wire.specs.Fields.{n1, n4, n8, n16, switch, word, rule_name, action, tables}
+use Rattle.wire.specs.Fields.{n1, n4, n8, n16, switch, word, rule_name, action, tables, touched, touched_count}
 use Rattle.wire.proofs.Framing.{length_n4}
-use Rattle.wire.specs.Messages.{receiver, install_form, boot_and_version, cache_rule_form, advert, hello, acknowledgement, kind_number, spelled_fields, body, message}
+use Rattle.wire.specs.Messages.{receiver, install_form, boot_and_version, cache_rule_form, advert, hello, acknowledgement, kind_number, spelled_fields, body, message, stamp_form}
 
 pub length_receiver : (to : Place) → length (receiver.spell to) ≡ 1
 unfolding receiver switch n1 spelled_number
@@ -37,9 +39,10 @@ length_message m =
       length_kind m.body,
     )
 
--- a body that is no installation
+-- a body that brings no list
 abbrev pub is_alone : Body → Bool
 is_alone (Install _ _) = false
+is_alone (Stamp _ _ _) = false
 is_alone _ = true
 
 two_numbers : (a b : ℕ) → length (boot_and_version.spell (a, b)) ≡ 8
@@ -90,7 +93,7 @@ rule_fields version w rule act =
 pub fields_short : (b : Body) → is_alone b ≡ true → length (spelled_fields b) ≤ 46
 fields_short (Install boot t) alone = absurd cc
 fields_short (OpenAt boot version) alone = omega (arith, two_numbers boot version)
-fields_short (Stamp boot version) alone = omega (arith, two_numbers boot version)
+fields_short (Stamp boot version touched) alone = absurd cc
 fields_short (Collect boot version) alone = omega (arith, two_numbers boot version)
 fields_short (CacheRule version w rule act) alone = rule_fields version w rule act
 fields_short (Advertise a) alone = omega (arith, advert_len a)
@@ -98,12 +101,67 @@ fields_short (Hello s boot) alone = omega (arith, told s boot)
 fields_short (Installed s boot version) alone = omega (arith, three_numbers s boot version)
 fields_short (Stamped s boot version) alone = omega (arith, three_numbers s boot version)
 
+-- a stamp has at most sixteen words
+words_len : (touched : List WordValue) → length (flat_map word.spell touched) ≡ 32 * length touched
+words_len [] = refl
+words_len (w ∷ touched) =
+    omega (
+      arith,
+      length-append (word.spell w) (flat_map word.spell touched),
+      word_len w,
+      words_len touched,
+    )
+
+pub few_words : (list : List WordValue) → touched.fits list ≡ true → length list ≤ 16
+unfolding touched touched_count
+few_words list fits =
+    let few = and_parts (touched_count.fits (length list)) (list_all word.fits list) fits in
+    leb-true (length list) 16
+    (and_parts (n1.fits (length list)) (leb (length list) 16) few.0).1
+
+length_n1 : (n : ℕ) → length (n1.spell n) ≡ 1
+unfolding n1 spelled_number
+length_n1 n = refl
+
+touched_len : (list : List WordValue) → length list ≤ 16 → length (touched.spell list) ≤ 513
+unfolding touched touched_count
+touched_len list few =
+    omega (
+      arith,
+      length-append (n1.spell (length list)) (flat_map word.spell list),
+      length_n1 (length list),
+      words_len list,
+      few,
+    )
+
+pub stamp_short : (boot version : ℕ) (list : List WordValue) → length list ≤ 16
+    → length (spelled_fields (Stamp boot version list)) ≤ 521
+unfolding stamp_form
+stamp_short boot version list few =
+    omega (
+      arith,
+      length-append (n4.spell boot) (n4.spell version ++ touched.spell list),
+      length-append (n4.spell version) (touched.spell list),
+      length_n4 boot,
+      length_n4 version,
+      touched_len list few,
+    )
+
 -- of an installation there is the boot
 pub install_long : (boot : ℕ) (t : Tables) → 4 ≤ length (spelled_fields (Install boot t))
 unfolding install_form
 install_long boot t =
     omega (arith, length-append (n4.spell boot) (tables.spell t), length_n4 boot)
 
--- so a message that brings no tables is short
+-- so a message that brings no list is short
 pub alone_short : (m : Message) → is_alone m.body ≡ true → length (message.spell m) < 2 ^ 40
 alone_short m alone = omega (arith, length_message m, fields_short m.body alone)
+
+pub stamp_sent_short : (to : Place) (boot version : ℕ) (list : List WordValue) → length list ≤ 16
+    → length (message.spell (record { to = to; body = Stamp boot version list })) < 2 ^ 40
+stamp_sent_short to boot version list few =
+    omega (
+      arith,
+      length_message (record { to = to; body = Stamp boot version list }),
+      stamp_short boot version list few,
+    )

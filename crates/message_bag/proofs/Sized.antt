@@ -1,21 +1,25 @@
 -- The frames of a message: of one count, at rising places, and none is empty or too long.
-use Rattle.std.proofs.Common.{◌≡◌, ℕ, zero, suc, ◌+◌, ◌-◌, ◌*◌, ◌≤◌, ◌<◌, ◌^◌, true, List, [], ◌∷◌, length, length-drop, take, drop, refl, sym, ap, subst, ◌∙◌, arith}
+use Rattle.std.proofs.Common.{◌≡◌, ℕ, zero, suc, ◌+◌, ◌-◌, ◌*◌, ◌≤◌, ◌<◌, ◌^◌, true, List, [], ◌∷◌, length, length-drop, take, drop, refl, sym, ap, subst, ◌∙◌, arith, ◌&&◌}
 use Rattle.std.specs.Prelude.{All}
 use Rattle.std.specs.Int.{div_ceil}
 use Rattle.std.specs.List.{AllByRecursion}
 use Rattle.std.proofs.lemmas.Grind.{div_ceil_times}
 use Rattle.std.proofs.lemmas.List.{length-take}
 use Rattle.std.proofs.lemmas.List.Elements.{All-from_recursion}
+use Rattle.std.proofs.lemmas.Bool.{and_parts}
 use Rattle.ctrl_msg.specs.declared.message.Body.{Body}
 use Rattle.ctrl_msg.specs.declared.message.Body.TheVariants.{Install, OpenAt, Stamp, Collect, CacheRule, Advertise, Hello, Installed, Stamped}
 use Rattle.ctrl_msg.specs.declared.message.Message.{Message}
-use Rattle.wire.specs.Messages.{message, spelled_fields}
+use Rattle.wire.specs.Fields as form
+use Rattle.wire.specs.Fields.{n4}
+use Rattle.wire.specs.Messages.{message, spelled_fields, body, fields_fit, receiver, stamp_form, suits_receiver}
 use Rattle.wire.specs.Frames.{frame, frames, frames_from, chunks, place_in_frame, equal_chunks, head_len, most_of_chunk}
 use Rattle.wire.specs.Assembly.{AreRising, IsOfCount}
 use Rattle.wire.proofs.Framing.{length_frame, place_of_frame, count_of_frame, chunk_of_frame}
 use Rattle.wire.proofs.Cutting.{few_chunks}
 use Rattle.message_bag.specs.Feeding.{HasFrames}
-use Rattle.message_bag.proofs.Lengths.{is_alone, length_message, fields_short, install_long}
+use Rattle.message_bag.proofs.Lengths.{is_alone, length_message, fields_short, install_long, stamp_short, few_words}
+use Rattle.ternary.specs.Word.{WordValue}
 
 -- ---- places and counts
 
@@ -75,34 +79,56 @@ slices_are (suc count) bytes enough =
           (omega (arith, length-drop most_of_chunk bytes)),
     )
 
-all_is : (b : Body) (bytes : List ℕ) → is_alone b ≡ true → length bytes ≡ 2 + length (spelled_fields b)
-    → IsChunk (take (length bytes) bytes)
-all_is b bytes alone long = record {
+all_of : (b : Body) (bytes : List ℕ) → length (spelled_fields b) ≤ 521
+    → length bytes ≡ 2 + length (spelled_fields b) → IsChunk (take (length bytes) bytes)
+all_of b bytes short long = record {
   some = omega (arith, length-take (length bytes) bytes);
-  short = omega (arith, length-take (length bytes) bytes, fields_short b alone);
+  short = omega (arith, length-take (length bytes) bytes, short);
 }
 
-head_is : (b : Body) (bytes : List ℕ) → length bytes ≡ 2 + length (spelled_fields b)
-    → IsChunk (take (head_len b bytes) bytes)
-head_is (Install boot t) bytes long = record {
+all_is : (b : Body) (bytes : List ℕ) → is_alone b ≡ true → length bytes ≡ 2 + length (spelled_fields b)
+    → IsChunk (take (length bytes) bytes)
+all_is b bytes alone long = all_of b bytes (omega (arith, fields_short b alone)) long
+
+-- of a stamp the version and its list, which fit
+stamp_is : (boot version : ℕ) (touched : List WordValue) (bytes : List ℕ)
+    → fields_fit (Stamp boot version touched) ≡ true
+    → length bytes ≡ 2 + length (spelled_fields (Stamp boot version touched))
+    → IsChunk (take (length bytes) bytes)
+unfolding stamp_form
+stamp_is boot version touched bytes fits long =
+    let rest = (and_parts (n4.fits boot) (n4.fits version && form.touched.fits touched) fits).1 in
+    all_of (Stamp boot version touched) bytes
+    (stamp_short boot version touched
+    (few_words touched (and_parts (n4.fits version) (form.touched.fits touched) rest).1)) long
+
+head_is : (b : Body) (bytes : List ℕ) → fields_fit b ≡ true
+    → length bytes ≡ 2 + length (spelled_fields b) → IsChunk (take (head_len b bytes) bytes)
+head_is (Install boot t) bytes fits long = record {
   some = omega (arith, length-take 6 bytes, install_long boot t);
   short = omega (arith, length-take 6 bytes);
 }
-head_is (OpenAt boot version) bytes long = all_is (OpenAt boot version) bytes refl long
-head_is (Stamp boot version) bytes long = all_is (Stamp boot version) bytes refl long
-head_is (Collect boot version) bytes long = all_is (Collect boot version) bytes refl long
-head_is (CacheRule version word rule action) bytes long =
+head_is (OpenAt boot version) bytes fits long = all_is (OpenAt boot version) bytes refl long
+head_is (Stamp boot version touched) bytes fits long = stamp_is boot version touched bytes fits long
+head_is (Collect boot version) bytes fits long = all_is (Collect boot version) bytes refl long
+head_is (CacheRule version word rule action) bytes fits long =
     all_is (CacheRule version word rule action) bytes refl long
-head_is (Advertise told) bytes long = all_is (Advertise told) bytes refl long
-head_is (Hello s boot) bytes long = all_is (Hello s boot) bytes refl long
-head_is (Installed s boot version) bytes long = all_is (Installed s boot version) bytes refl long
-head_is (Stamped s boot version) bytes long = all_is (Stamped s boot version) bytes refl long
+head_is (Advertise told) bytes fits long = all_is (Advertise told) bytes refl long
+head_is (Hello s boot) bytes fits long = all_is (Hello s boot) bytes refl long
+head_is (Installed s boot version) bytes fits long = all_is (Installed s boot version) bytes refl long
+head_is (Stamped s boot version) bytes fits long = all_is (Stamped s boot version) bytes refl long
 
-chunks_are : (m : Message) → AllByRecursion IsChunk (chunks m)
-chunks_are m =
+fields_of_message : (m : Message) → message.fits m ≡ true → fields_fit m.body ≡ true
+unfolding message body
+fields_of_message m fits =
+    (and_parts (receiver.fits m.to) (fields_fit m.body)
+    (and_parts (receiver.fits m.to && fields_fit m.body) (suits_receiver m.to m.body) fits).0).1
+
+chunks_are : (m : Message) → message.fits m ≡ true → AllByRecursion IsChunk (chunks m)
+chunks_are m fits =
     let bytes = message.spell m in
     let rest = length bytes - head_len m.body bytes in (
-      head_is m.body bytes (length_message m),
+      head_is m.body bytes (fields_of_message m fits) (length_message m),
       slices_are (div_ceil rest most_of_chunk) (drop (head_len m.body bytes) bytes)
           (omega (
             arith,
@@ -121,6 +147,6 @@ sized place count (part ∷ parts) are =
     } in
     (one, sized (place + 1) count parts are.1)
 
-pub frames_sized : (m : Message) → All IsSized (frames m)
-frames_sized m =
-    All-from_recursion IsSized (frames m) (sized 0 (length (chunks m)) (chunks m) (chunks_are m))
+pub frames_sized : (m : Message) → message.fits m ≡ true → All IsSized (frames m)
+frames_sized m fits =
+    All-from_recursion IsSized (frames m) (sized 0 (length (chunks m)) (chunks m) (chunks_are m fits))

@@ -6,7 +6,7 @@ use Rattle.std.proofs.lemmas.Bool.{eqb-true}
 use Rattle.std.proofs.lemmas.List.Elements.{All-nil, All-weaker}
 use Rattle.cache_maker.specs.Independent.{widen}
 use Rattle.ctrl_msg.specs.declared.message.Body.{Body}
-use Rattle.ctrl_msg.specs.declared.message.Body.TheVariants.{CacheRule}
+use Rattle.ctrl_msg.specs.declared.message.Body.TheVariants.{CacheRule, Stamp}
 use Rattle.ctrl_msg.specs.declared.message.Message.{Message}
 use Rattle.five_tuple.specs.Header.{number_of}
 use Rattle.five_tuple.specs.declared.header.Header.{Header}
@@ -16,21 +16,26 @@ use Rattle.steps.specs.declared.step.Step.{Step}
 use Rattle.steps.specs.declared.step.Step.TheVariants.{Packet}
 use Rattle.update_machine.specs.Caches.{cache_of}
 use Rattle.update_machine.specs.Causes.{HaveCauses, present_step}
-use Rattle.update_machine.specs.Marks.{retired_mark}
+use Rattle.update_machine.specs.Marks.{retired_mark, current_mark}
 use Rattle.update_machine.specs.Links.{message_of}
 use Rattle.update_machine.specs.Moves.{AuthorityRule}
 use Rattle.update_machine.specs.Packets.{decision_of, header_in, next_packet}
 use Rattle.update_machine.specs.Setting.{Setting, IsSetting}
-use Rattle.update_machine.specs.Versions.{policy_at, plan_at}
+use Rattle.update_machine.specs.Versions.{policy_at, plan_at, HasPlan}
 use Rattle.update_machine.specs.Travels.{leg_of, travels}
 use Rattle.update_machine.specs.Ways.{found_down}
-use Rattle.update_machine.proofs.CallerLemmas.{step_stays}
+use Rattle.update_machine.proofs.CallerLemmas.{step_stays, begins_planned}
+use Rattle.update_machine.specs.Settling.{to_switch}
 use Rattle.control_laws.proofs.Facts.{AreKept, Behind, fact_on, have_weaker, with_fact}
 use Rattle.control_laws.proofs.Grown.{message_more}
 use Rattle.control_laws.proofs.Reached.{NamesOwn}
 use Rattle.control_laws.proofs.SwitchBlocks.{said_parts}
 use Rattle.control_laws.proofs.BothCauses.{HasBothCauses}
 use Rattle.control_laws.proofs.NetLinks.{links_there}
+use Rattle.control_laws.specs.ItemCauses.{HasItemCause}
+use Rattle.control_laws.proofs.Current.{StampsAreCurrent, current_at_first, current_kept}
+use Rattle.control_laws.proofs.Planned.{versions_planned}
+use Rattle.control_laws.proofs.Touched.{stamps_touched}
 use Rattle.packet_laws.specs.Rules.{IsRightEntry, IsRightRule}
 use Rattle.packet_laws.specs.OnWay.{IsUnknown}
 use Rattle.packet_laws.specs.Facts.{is_of_packet, facts_after, what_is_known}
@@ -48,6 +53,8 @@ use Rattle.packet_laws.proofs.PacketBlocks.{stage_more, stage_stays}
 use Rattle.packet_laws.proofs.Rests.{IsAsked, IsWayItem, Past, numbered, switches_of_all, ways_of_all, with_past}
 use Rattle.packet_laws.proofs.Served.{packet_more}
 use Rattle.packet_laws.proofs.Pieces.{step_now}
+use Rattle.packet_laws.proofs.Carried.{carried_right}
+use Rattle.ternary.specs.Word.{WordValue}
 
 -- ---- steps that were asked for
 
@@ -325,7 +332,7 @@ sent_on setting before next known cause grow n message is =
 
 -- ---- caches
 
-cached_on : (setting : Setting) (before : List Item) (next : Item) → Before setting before
+pub cached_on : (setting : Setting) (before : List Item) (next : Item) → Before setting before
     → Grows setting before (before ++ next ∷ []) → (s : ℕ)
     → All (IsRightEntry setting (before ++ next ∷ []))
     (cache_of setting (before ++ next ∷ []) s).entries
@@ -334,9 +341,37 @@ cached_on setting before next known grow s =
     (λ entry right. right_on setting before (before ++ next ∷ []) entry.version entry.word
     entry.rule entry.action grow right) _
     (cache_holds (IsRightEntry setting before) setting s before next
+    (λ number boot version touched said cache all.
+    carried_right setting before version cache known.is
+    (planned number boot version touched
+    (said_parts before s number (Stamp boot version touched) said).sent)
+    (current number boot version touched
+    (said_parts before s number (Stamp boot version touched) said).sent) all)
     (λ number version word rule act said.
     known.kept.sent number _ (said_parts before s number (CacheRule version word rule act) said).sent)
     (known.kept.cached s))
+  where
+    have : HaveCauses (HasItemCause setting) [] before
+    have = switches_of_all setting [] before known.have
+
+    are : StampsAreCurrent before
+    are = fact_on (HasItemCause setting) StampsAreCurrent (current_kept setting) [] before have
+        current_at_first
+
+    -- a stamp that was sent is of a version that is there, and current or was
+    current : (number boot version : ℕ) (touched : List WordValue)
+        → message_of before number ≡ Some (to_switch s (Stamp boot version touched))
+        → version ≤ current_mark before
+    current number boot version touched sent =
+        are.sent number (to_switch s (Stamp boot version touched)) sent
+
+    planned : (number boot version : ℕ) (touched : List WordValue)
+        → message_of before number ≡ Some (to_switch s (Stamp boot version touched))
+        → HasPlan setting before version
+    planned number boot version touched sent =
+        let there = (stamps_touched setting before have).sent number s boot version touched sent in
+        (versions_planned setting before have).planned (begins_planned setting known.is) version
+        there.first there.last
 
 -- ---- all of it
 

@@ -9,14 +9,16 @@ use Rattle.ctrl_msg.specs.declared.message.Body.TheVariants.{OpenAt, Stamp, Cach
 use Rattle.policy_rules.specs.declared.policy.Action.{Action}
 use Rattle.switch_table.specs.Cache.{CacheValue, newest_entries, after_raise, same_key}
 use Rattle.switch_table.specs.declared.cache.CacheEntry.{CacheEntry}
+use Rattle.switch_table.specs.Carried.{after_carry}
 use Rattle.ternary.specs.Word.{WordValue}
 use Rattle.journal.specs.declared.item.Item.{Item}
 use Rattle.journal.specs.declared.item.Item.TheVariants as item
 use Rattle.update_machine.specs.Boots.{body_to_switch}
-use Rattle.update_machine.specs.Caches.{cache_after, cache_of, changes_cache, raised_from}
+use Rattle.update_machine.specs.Caches.{cache_after, cache_of, changes_cache, raised_from, carried_from}
 use Rattle.update_machine.specs.Setting.{Setting}
 use Rattle.update_machine.specs.Versions.{stamp_of}
 use Rattle.update_machine.proofs.CallerLemmas.{folded_append}
+use Rattle.update_machine.specs.Touched.{touched_by}
 
 -- the entry of a cache rule
 abbrev pub entry_of : ℕ → ℕ → WordValue → Option ℕ → Action → CacheEntry
@@ -47,12 +49,29 @@ raised_holds P earlier stamp cache all = by_test (nat_lt earlier stamp)
     by_test true = All-filter (λ entry. nat_le stamp entry.version) P cache.entries all
     by_test false = all
 
-told_holds : (P : CacheEntry → Type 0) (earlier stamp number : ℕ) (cache : CacheValue)
-    (body : Body)
+-- what holds of the entries of a cache holds of what is left of them as they go over to a version
+abbrev pub IsCarried : (CacheEntry → Type 0) → ℕ → List WordValue → Type 0
+IsCarried P version touched = (cache : CacheValue) → All P cache.entries
+    → All P (after_carry version touched cache).entries
+
+carried_holds : (P : CacheEntry → Type 0) (touched : List WordValue) (earlier version : ℕ)
+    (cache : CacheValue) → IsCarried P version touched → Holds P cache
+    → Holds P (carried_from touched earlier version cache)
+carried_holds P touched earlier version cache carries all = by_test (nat_lt earlier version)
+  where
+    by_test : (b : Bool) → Holds P (if b then after_carry version touched cache else cache)
+    by_test true = carries cache all
+    by_test false = all
+
+told_holds : (P : CacheEntry → Type 0) (touched_of : ℕ → List WordValue)
+    (earlier stamp number : ℕ) (cache : CacheValue) (body : Body)
+    → ((boot version : ℕ) (touched : List WordValue) → body ≡ Stamp boot version touched
+    → IsCarried P version (touched_of version))
     → ((version : ℕ) (word : WordValue) (rule : Option ℕ) (action : Action)
     → body ≡ CacheRule version word rule action → P (entry_of number version word rule action))
-    → Holds P cache → Holds P (cache_after earlier stamp number cache body)
-told_holds P earlier stamp number cache (CacheRule version word rule action) brings all =
+    → Holds P cache → Holds P (cache_after touched_of earlier stamp number cache body)
+told_holds P touched_of earlier stamp number cache (CacheRule version word rule action) carries
+    brings all =
     by_test (nat_lt version stamp
     || list_any (same_key (entry_of number version word rule action)) cache.entries)
   where
@@ -66,29 +85,34 @@ told_holds P earlier stamp number cache (CacheRule version word rule action) bri
         (cache.entries ++ entry_of number version word rule action ∷ [])
         (All-push P cache.entries (entry_of number version word rule action) all
         (brings version word rule action refl))
-told_holds P earlier stamp number cache (OpenAt boot version) brings all =
+told_holds P touched_of earlier stamp number cache (OpenAt boot version) carries brings all =
     raised_holds P earlier stamp cache all
-told_holds P earlier stamp number cache (Stamp boot version) brings all =
-    raised_holds P earlier stamp cache all
-told_holds P earlier stamp number cache _ brings all = all
+told_holds P touched_of earlier stamp number cache (Stamp boot version touched) carries brings
+    all =
+    carried_holds P (touched_of version) earlier version cache
+    (carries boot version touched refl) all
+told_holds P touched_of earlier stamp number cache _ carries brings all = all
 
-changed_holds : (P : CacheEntry → Type 0) (s : ℕ) (before : List Item) (cache : CacheValue)
-    (next : Item)
+changed_holds : (P : CacheEntry → Type 0) (setting : Setting) (s : ℕ) (before : List Item)
+    (cache : CacheValue) (next : Item)
+    → ((number boot version : ℕ) (touched : List WordValue)
+    → body_to_switch before s number ≡ Some (Stamp boot version touched)
+    → IsCarried P version (touched_by setting before version))
     → ((number version : ℕ) (word : WordValue) (rule : Option ℕ) (action : Action)
     → body_to_switch before s number ≡ Some (CacheRule version word rule action)
     → P (entry_of number version word rule action))
-    → Holds P cache → Holds P (changes_cache s before cache next)
-changed_holds P s before cache (item.Down switch) brings all = by_switch (switch == s)
+    → Holds P cache → Holds P (changes_cache setting s before cache next)
+changed_holds P setting s before cache (item.Down switch) carries brings all = by_switch (switch == s)
   where
     by_switch : (b : Bool) → Holds P (if b then record cache { entries = [] } else cache)
     by_switch true = All-nil P
     by_switch false = all
-changed_holds P s before cache (item.Booted switch boot) brings all = by_switch (switch == s)
+changed_holds P setting s before cache (item.Booted switch boot) carries brings all = by_switch (switch == s)
   where
     by_switch : (b : Bool) → Holds P (if b then record cache { entries = [] } else cache)
     by_switch true = All-nil P
     by_switch false = all
-changed_holds P s before cache (item.Expired switch place message) brings all =
+changed_holds P setting s before cache (item.Expired switch place message) carries brings all =
     by_switch (switch == s)
   where
     by_switch : (b : Bool) → Holds P (if b then record cache {
@@ -98,30 +122,35 @@ changed_holds P s before cache (item.Expired switch place message) brings all =
         All-append P (take place cache.entries) (drop (suc place) cache.entries)
         (All-take P place cache.entries all) (All-drop P (suc place) cache.entries all)
     by_switch false = all
-changed_holds P s before cache (item.Delivered number) brings all =
+changed_holds P setting s before cache (item.Delivered number) carries brings all =
     by_said (body_to_switch before s number) refl
   where
     by_said : (o : Option Body) → body_to_switch before s number ≡ o → Holds P (option_map_or
-        (cache_after (stamp_of before s) (stamp_of (before ++ item.Delivered number ∷ []) s) number
-        cache) o cache)
+        (cache_after (touched_by setting before) (stamp_of before s)
+        (stamp_of (before ++ item.Delivered number ∷ []) s) number cache) o cache)
     by_said None e = all
     by_said (Some body) e =
-        told_holds P (stamp_of before s) (stamp_of (before ++ item.Delivered number ∷ []) s) number
-        cache body
+        told_holds P (touched_by setting before) (stamp_of before s)
+        (stamp_of (before ++ item.Delivered number ∷ []) s) number cache body
+        (λ boot version touched same. carries number boot version touched
+        (subst (λ b. body_to_switch before s number ≡ Some b) same e))
         (λ version word rule action same. brings number version word rule action
         (subst (λ b. body_to_switch before s number ≡ Some b) same e)) all
-changed_holds P s before cache _ brings all = all
+changed_holds P setting s before cache _ carries brings all = all
 
 pub cache_holds : (P : CacheEntry → Type 0) (setting : Setting) (s : ℕ) (before : List Item)
     (next : Item)
+    → ((number boot version : ℕ) (touched : List WordValue)
+    → body_to_switch before s number ≡ Some (Stamp boot version touched)
+    → IsCarried P version (touched_by setting before version))
     → ((number version : ℕ) (word : WordValue) (rule : Option ℕ) (action : Action)
     → body_to_switch before s number ≡ Some (CacheRule version word rule action)
     → P (entry_of number version word rule action))
     → All P (cache_of setting before s).entries
     → All P (cache_of setting (before ++ next ∷ []) s).entries
 unfolding cache_of
-cache_holds P setting s before next brings all =
+cache_holds P setting s before next carries brings all =
     subst (Holds P)
-    (sym (folded_append (changes_cache s)
+    (sym (folded_append (changes_cache setting s)
     (record { entries = []; capacity = setting.net.cache }) before (next ∷ [])))
-    (changed_holds P s before (cache_of setting before s) next brings all)
+    (changed_holds P setting s before (cache_of setting before s) next carries brings all)

@@ -14,12 +14,14 @@ pub mod Rests
 pub mod StepsOfPlays
 pub mod Reached
 pub mod Caches
+pub mod Carried
 pub mod Routes
 pub mod Growing
 pub mod Here
 pub mod KeptFacts
 pub mod AllKept
 pub mod Travelling
+pub mod Untouched
 pub mod OpenWays
 pub mod Ends
 pub mod EndsCaused

@@ -13,7 +13,7 @@ use Rattle.control_laws.specs.Always.{AreEvents, HoldsAlways, HoldsAtEnds, Holds
 use Rattle.control_laws.specs.Rises.{RisesRightly}
 use Rattle.packet_laws.specs.Between.{HoldsBetween, steps_played}
 use Rattle.packet_laws.specs.Hops.{detour_count, exit_count, hops_taken, most_hops, most_switches, routes_taken, search_count}
-use Rattle.packet_laws.specs.OnTheWay.{EndsStep, HeldOnTheWay, HoldsSoFar, IsKeptBehind, TakesFew}
+use Rattle.packet_laws.specs.OnTheWay.{EndsStep, HeldOnTheWay, HoldsSoFar, IsKeptBehind}
 use Rattle.packet_laws.specs.Routes.{hops_on_route, most_routes}
 use Rattle.packet_laws.specs.StrongCauses.{StrongCause}
 use Rattle.packet_laws.specs.Travelling.{PacketsTravel}

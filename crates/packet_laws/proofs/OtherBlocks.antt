@@ -203,7 +203,7 @@ switch_aside : (setting : Setting) (before : List Item) (s : ℕ) (body : Body)
     (journal : List Item) → AreAside journal (switch_items setting before s body journal)
 unfolding switch_items
 switch_aside setting before s (Install boot tables) journal = sends_aside journal _ (tt, tt)
-switch_aside setting before s (Stamp boot version) journal = sends_aside journal _ (tt, tt)
+switch_aside setting before s (Stamp boot version touched) journal = sends_aside journal _ (tt, tt)
 switch_aside setting before s (OpenAt boot version) journal =
     grind (arith, have_first, changes_aside)
 switch_aside setting before s (Advertise advert) journal =

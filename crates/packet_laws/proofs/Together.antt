@@ -1,6 +1,6 @@
 -- What always holds, holds of journals that are reached, within a step too; so all that keeps
 -- versions whole holds of them.
-use Rattle.std.proofs.Common.{ℕ, ◌∙◌, List, [], ◌++◌, ap, length, sym, subst, take}
+use Rattle.std.proofs.Common.{ℕ, ◌∙◌, List, [], ap, length, sym, subst, take}
 use Rattle.std.proofs.Math.Seq.{take-append_seam}
 use Rattle.journal.specs.declared.item.Item.{Item}
 use Rattle.update_machine.specs.Causes.{HaveCauses}
@@ -13,7 +13,9 @@ use Rattle.control_laws.specs.Bounds.{MarksAreBounded}
 use Rattle.control_laws.specs.Heard.{AcksHold, InstallsArePlanned}
 use Rattle.control_laws.specs.Serving.{ServingHold}
 use Rattle.control_laws.specs.Planned.{TablesArePlanned}
+use Rattle.control_laws.specs.Touched.{StampsSayTouched}
 use Rattle.packet_laws.specs.Travelling.{RulesAreRight}
+use Rattle.packet_laws.specs.Untouched.{UntouchedStay}
 use Rattle.packet_laws.specs.Whole.{KeepVersionsWhole}
 
 -- what always holds, holds where a journal is reached
@@ -48,13 +50,15 @@ pub record Laws : Type 0 where
   pub members : HoldsAlways (λ setting journal. MembersAcknowledged setting journal)
   pub marks : HoldsAlways (λ setting journal. MarksAreBounded setting journal)
   pub holding : HoldsAlways (λ setting journal. ServingHold setting journal)
+  pub touched : HoldsAlways (λ setting journal. StampsSayTouched setting journal)
   pub rules : OfReached RulesAreRight
+  pub untouched : OfReached UntouchedStay
 
 module _ (laws : Laws) (setting : Setting) (journal : List Item) where
   -- each item has its cause, and most of it follows
   whole : HaveCauses (HasItemCause setting) [] journal → RulesAreRight setting journal
-      → KeepVersionsWhole setting journal
-  whole causes rules = record {
+      → UntouchedStay setting journal → KeepVersionsWhole setting journal
+  whole causes rules untouched = record {
     causes = causes;
     boots = laws.boots.caused setting journal causes;
     serving = laws.serving.caused setting journal causes;
@@ -66,7 +70,9 @@ module _ (laws : Laws) (setting : Setting) (journal : List Item) where
     members = laws.members.caused setting journal causes;
     marks = laws.marks.caused setting journal causes;
     holding = laws.holding.caused setting journal causes;
+    touched = laws.touched.caused setting journal causes;
     rules = rules;
+    untouched = untouched;
   }
 
 pub together : Laws → OfReached KeepVersionsWhole
@@ -75,14 +81,18 @@ together laws =
     always_reached _ laws.causes in
     record {
       reached = λ setting journal at is. whole laws setting journal
-          (causes.reached setting journal at) (laws.rules.reached setting journal at is);
+          (causes.reached setting journal at) (laws.rules.reached setting journal at is)
+          (laws.untouched.reached setting journal at is);
       within = λ setting journal rest at is. whole laws setting journal
           (causes.within setting journal rest at)
-          (laws.rules.within setting journal rest at is);
+          (laws.rules.within setting journal rest at is)
+          (laws.untouched.within setting journal rest at is);
       answered = λ setting events journal own answers is. whole laws setting journal
           (causes.answered setting events journal own answers)
-          (laws.rules.answered setting events journal own answers is);
+          (laws.rules.answered setting events journal own answers is)
+          (laws.untouched.answered setting events journal own answers is);
       begun = λ setting events journal own begins is. whole laws setting journal
           (causes.begun setting events journal own begins)
-          (laws.rules.begun setting events journal own begins is);
+          (laws.rules.begun setting events journal own begins is)
+          (laws.untouched.begun setting events journal own begins is);
     }

@@ -2,7 +2,7 @@
 pub use Rattle.packet_laws.specs.Arriving.{PacketsArrive}
 pub use Rattle.packet_laws.specs.Between.{HoldsBetween}
 pub use Rattle.packet_laws.specs.Drains.{drain_left}
-pub use Rattle.packet_laws.specs.Entries.{AreEntered, rows_played}
+pub use Rattle.packet_laws.specs.Entries.{AreEntered, rows_played, step_rows}
 pub use Rattle.packet_laws.specs.Hops.{detour_count, exit_count, hops_taken, most_hops, most_switches, routes_taken, search_count}
 pub use Rattle.packet_laws.specs.KeptFacts.{AllKept}
 pub use Rattle.packet_laws.specs.OnTheWay.{HeldOnTheWay, HoldsSoFar, IsKeptBehind}
@@ -11,5 +11,6 @@ pub use Rattle.packet_laws.specs.Routes.{finding_count, hops_on_route, most_rout
 pub use Rattle.packet_laws.specs.Stops.{GoesOrStops}
 pub use Rattle.packet_laws.specs.StrongCauses.{StrongCause}
 pub use Rattle.packet_laws.specs.Travelling.{PacketsTravel, RulesAreRight}
+pub use Rattle.packet_laws.specs.Untouched.{UntouchedStay}
 pub use Rattle.packet_laws.specs.WayCauses.{WayCause}
 pub use Rattle.packet_laws.specs.Whole.{KeepVersionsWhole}

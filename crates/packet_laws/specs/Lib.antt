@@ -7,6 +7,7 @@ pub mod Rest
 pub mod Between
 pub mod KeptFacts
 pub mod Travelling
+pub mod Untouched
 pub mod StrongCauses
 pub mod Arriving
 pub mod Hops

@@ -11,7 +11,9 @@ use Rattle.control_laws.specs.Bounds.{MarksAreBounded}
 use Rattle.control_laws.specs.Heard.{AcksHold, InstallsArePlanned}
 use Rattle.control_laws.specs.Serving.{ServingHold}
 use Rattle.control_laws.specs.Planned.{TablesArePlanned}
+use Rattle.control_laws.specs.Touched.{StampsSayTouched}
 use Rattle.packet_laws.specs.Travelling.{RulesAreRight}
+use Rattle.packet_laws.specs.Untouched.{UntouchedStay}
 
 pub record KeepVersionsWhole (setting : Setting) (journal : List Item) : Type 0 where
   -- each item of switches and of the controller was written for its cause: what is sent to a boot
@@ -36,5 +38,9 @@ pub record KeepVersionsWhole (setting : Setting) (journal : List Item) : Type 0 
   pub marks : MarksAreBounded setting journal
   -- a switch that serves holds what it stamps with, and each later version up to the current one
   pub holding : ServingHold setting journal
+  -- whoever is told to stamp with a version is told what its change touches
+  pub touched : StampsSayTouched setting journal
   -- each cache rule says what its own version says of each header of its word
   pub rules : RulesAreRight setting journal
+  -- and an amendment takes from a cache none that it doesn't touch
+  pub untouched : UntouchedStay setting journal

@@ -2,14 +2,14 @@
 ghost use Rattle.std.specs.Prelude.{[], All, ◌≡◌, ◌++◌, ◌*◌, ◌-◌, ◌<◌, ◌≤◌, Some, List, length, ℕ, Option};
 ghost use Rattle.steps.specs.Steps.{IsEvent};
 ghost use Rattle.steps.specs.declared.step.Step.TheVariants.{Deliver, Hop};
-ghost use Rattle.update_machine.specs.Exports.{AreAll, AreSome, Event, HasCause, HasPlay, HaveCauses, IsPlay, IsReached, IsRun, IsSetting, Item, Setting, StepOfRow, current_mark, most_versions, next_delivery, next_hop, next_packet, next_travelling, next_waiting, piece};
+ghost use Rattle.update_machine.specs.Exports.{Answers, AreAll, AreSome, Event, HasCause, HasPlay, HaveCauses, IsPlay, IsReached, IsRun, IsSetting, Item, Setting, StepOfRow, current_mark, most_versions, next_delivery, next_hop, next_packet, next_travelling, next_waiting, piece};
 ghost use Rattle.control_laws.specs.Always.{HoldsReached};
-ghost use Rattle.packet_laws.specs.Exports.{AllKept, AreEntered, AreResting, GoesOrStops, HoldsBetween, KeepVersionsWhole, PacketsArrive, PacketsTravel, RulesAreRight, StrongCause, WayCause, detour_count, drain_left, exit_count, finding_count, hops_on_route, hops_taken, most_hops, most_routes, most_switches, routes_taken, rows_played, search_count};
+ghost use Rattle.packet_laws.specs.Exports.{AllKept, AreEntered, AreResting, GoesOrStops, HoldsBetween, KeepVersionsWhole, PacketsArrive, PacketsTravel, RulesAreRight, UntouchedStay, StrongCause, WayCause, detour_count, drain_left, exit_count, finding_count, hops_on_route, hops_taken, most_hops, most_routes, most_switches, routes_taken, rows_played, search_count, step_rows};
 
 use control_laws::{
     acknowledgements_hold, boots_are_known, installs_are_planned, items_have_causes,
     marks_are_bounded, members_acknowledged, serving_is_known, serving_switches_hold,
-    stamps_are_acked_first, switches_open_once, tables_are_planned,
+    stamps_are_acked_first, stamps_say_what_is_touched, switches_open_once, tables_are_planned,
 };
 
 /// Each item of packets, and each cache rule that is sent, has its cause in the journal before it,
@@ -48,6 +48,13 @@ pub fn packets_arrive()
 /// the current one, and this version's policy decides each header of its word so.
 pub fn cache_rules_are_right()
     ensures { HoldsReached (λ setting journal. IsSetting setting → RulesAreRight setting journal) }
+{}
+
+/// An amendment takes from a cache no rule that it doesn't touch: as the stamp of a switch rises to
+/// the version that the amendment made, each rule of the version before whose word meets nothing
+/// that it touches is there under that version, and decides as its policy does.
+pub fn untouched_rules_stay()
+    ensures { HoldsReached (λ setting journal. IsSetting setting → UntouchedStay setting journal) }
 {}
 
 /// The ends of packets, the links that they found down, the changes of switches and links, and the
@@ -148,8 +155,15 @@ pub fn packet_rows_are_entered()
         → AreEntered (rows_played full events) journal }
 {}
 
+/// The same of each journal that answers the events, however many messages were sent.
+pub fn answered_rows_are_entered()
+    ensures { (setting : Setting) (events : List Event) (journal : List Item)
+        → Answers setting events journal → AreEntered (step_rows 1 events) journal }
+{}
+
 /// At each moment, within a step too, what is known of boots, versions and marks is right, each
-/// switch holds what it stamps with, and each cache rule says what its version says.
+/// switch holds what it stamps with, each cache rule says what its version says, and an amendment
+/// takes none from a cache that it doesn't touch.
 pub fn items_keep_versions_whole()
     ensures { HoldsReached (λ setting journal.
         IsSetting setting → KeepVersionsWhole setting journal) }
@@ -165,5 +179,7 @@ pub fn items_keep_versions_whole()
     members_acknowledged();
     marks_are_bounded();
     serving_switches_hold();
+    stamps_say_what_is_touched();
     cache_rules_are_right();
+    untouched_rules_stay();
 }

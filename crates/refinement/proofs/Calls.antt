@@ -3,7 +3,6 @@ use Rattle.std.proofs.Common.{ℕ, ◌≡◌, ◌+◌, ◌-◌, ◌<◌, Bool, t
 use Rattle.std.specs.Prelude.{IsTrue, IsFalse, nat_lt}
 use Rattle.std.proofs.lemmas.List.{get_or-set_same, length-map, length-set}
 use Rattle.std.specs.List.{range_with_len}
-use Rattle.policy_rules.specs.declared.policy.Row.{Row}
 use Rattle.ctrl_msg.specs.declared.message.Body.{Body}
 use Rattle.ctrl_msg.specs.declared.message.Body.TheVariants.{Hello}
 use Rattle.ctrl_msg.specs.Kinds.{to_controller}
@@ -21,7 +20,7 @@ use Rattle.update_machine.specs.Setting.{Setting}
 use Rattle.update_machine.specs.Settling.{install_for, installs_to, settling, versions_from_current}
 use Rattle.update_machine.specs.Versions.{version_count}
 use Rattle.update_machine.specs.Links.{message_of}
-use Rattle.update_machine.proofs.CallerLemmas.{controller_keeps, have_append, start_laws}
+use Rattle.update_machine.proofs.CallerLemmas.{controller_keeps, have_append, start_laws, first_touched}
 use Rattle.control_laws.specs.ItemCauses.{HasItemCause}
 use Rattle.control_laws.proofs.Grown.{count_more, current_more, message_more, up_more}
 use Rattle.control_laws.proofs.Others.{installs_reopen, sends_leave}
@@ -32,7 +31,7 @@ use Rattle.version_update.specs.Record.{after_over, unknown_switch, takes_hello}
 use Rattle.version_update.specs.Record as known
 use Rattle.version_update.specs.declared.record.Phase.TheVariants.{Joining}
 use Rattle.version_update.specs.declared.record.SwitchRecord.{SwitchRecord}
-use Rattle.controller.specs.Controller.{ControllerValue, KeptPlan, SettlesWith, first_controller, plans_from}
+use Rattle.controller.specs.Controller.{ControllerValue, KeptPlan, SettlesWith, first_controller, plans_from, current_touched}
 use Rattle.controller.specs.Plan.{PlanValue}
 use Rattle.controller.specs.Sends as acts
 use Rattle.controller.specs.Sends.{NamesThere, marks_after, hear_acts, install_act, installs_after}
@@ -46,6 +45,8 @@ use Rattle.refinement.proofs.Picked.{map_twice}
 use Rattle.refinement.proofs.Plans.{controller_on, plans_on, plans_stay, settles_with}
 use Rattle.refinement.proofs.Settled.{AreCaused, settled_boot, settling_caused}
 use Rattle.refinement.proofs.Written.{posted, written_in_two}
+use Rattle.ternary.specs.Word.{WordValue}
+use Rattle.switch_table.specs.Carried.{all_touched}
 
 -- ---- the start
 
@@ -53,13 +54,14 @@ pub begins : (setting : Setting) (plan : PlanValue) → plan ≡ (plan_to_keep s
     → IsControllerOf setting [] (first_controller (length setting.net.switches) plan)
 begins setting plan is = record {
   marks = marks_begun setting;
-  plans = ap (λ (own : PlanValue). kept own) is
+  plans = ap (λ (own : PlanValue). kept own all_touched) is
+      ∙ ap (kept (plan_to_keep setting [] 1).plan) (sym (first_touched setting []))
       ∙ ap (λ c. map (plan_to_keep setting []) (range_with_len c 1)) (sym start_laws.current)
       ∙ ap (λ n. map (plan_to_keep setting []) (range_with_len (current_mark []) n)) one;
 }
   where
-    kept : PlanValue → List KeptPlan
-    kept own = (record { version = 1; plan = own }) ∷ []
+    kept : PlanValue → List WordValue → List KeptPlan
+    kept own touched = (record { version = 1; plan = own; touched = touched }) ∷ []
 
     one : 1 ≡ version_count [] + 1 - current_mark []
     one =
@@ -217,7 +219,7 @@ module _ (setting : Setting) (before : List Item) (row n : ℕ) (body : Body)
     | Some message ↦ if is_to_controller message.to then Some message.body else None
   ]) (message_more before (item.Row row (Deliver n)) n ∙ sent)
 
-  heard_settles : (written_items now (acts.settling_acts (marks_after body old.marks) new.marks)
+  heard_settles : (written_items now (acts.settling_acts (current_touched new) (marks_after body old.marks) new.marks)
       ≡ settling setting now) × IsControllerOf setting one new
   heard_settles = settles_with setting now (marks_after body old.marks) old.plans new now_have
       (marks_told setting here n body old.marks here_have said there here_is.marks)
@@ -242,7 +244,7 @@ module _ (setting : Setting) (before : List Item) (row n : ℕ) (body : Body)
   unfolding controller_items
   heard_so = (
     written_in_two now (settling setting) (after_hello setting before body)
-        (acts.settling_acts (marks_after body old.marks) new.marks)
+        (acts.settling_acts (current_touched new) (marks_after body old.marks) new.marks)
         (installs_after body old.marks new) heard_settles.0
         (hello_written setting before one body old.marks new
         (settling_caused setting now now_have) heard_settles.1 hello_told),
@@ -294,18 +296,18 @@ pub confirms : (setting : Setting) (before : List Item) (row s : ℕ)
     → IsFalse (is_up before s) → s < length old.marks.switches
     → SettlesWith (at_switch s after_over old.marks) old.plans new
     → AreWritten setting before (item.Row row (Confirm s) ∷ item.OverNow s ∷ [])
-    (acts.settling_acts (at_switch s after_over old.marks) new.marks) new
+    (acts.settling_acts (current_touched new) (at_switch s after_over old.marks) new.marks) new
     (piece setting before row (Confirm s))
 unfolding piece confirm_items
 confirms setting before row s old new have is down there settles =
     subst (λ b. AreWritten setting before (item.Row row (Confirm s) ∷ item.OverNow s ∷ [])
-    (acts.settling_acts (at_switch s after_over old.marks) new.marks) new (item.Row row (Confirm s)
+    (acts.settling_acts (current_touched new) (at_switch s after_over old.marks) new.marks) new (item.Row row (Confirm s)
     ∷ elim b [
       | true ↦ nothing
       | false ↦ items_then (item.OverNow s ∷ []) (settling setting) here
     ])) (sym still)
     (are_written setting before (item.Row row (Confirm s)) (item.OverNow s) (settling setting now)
-    (acts.settling_acts (at_switch s after_over old.marks) new.marks) new so.0 so.1)
+    (acts.settling_acts (current_touched new) (at_switch s after_over old.marks) new.marks) new so.0 so.1)
   where
     here : List Item
     here = before ++ item.Row row (Confirm s) ∷ []
@@ -322,7 +324,7 @@ confirms setting before row s old new have is down there settles =
     here_is : IsControllerOf setting here old
     here_is = row_on setting before row (Confirm s) old have is
 
-    so : (written_items now (acts.settling_acts (at_switch s after_over old.marks) new.marks)
+    so : (written_items now (acts.settling_acts (current_touched new) (at_switch s after_over old.marks) new.marks)
         ≡ settling setting now) × IsControllerOf setting (now ++ settling setting now) new
     so = settles_with setting now (at_switch s after_over old.marks) old.plans new
         (have_append (HasItemCause setting) [] here (item.OverNow s ∷ []) here_have (still, tt))

@@ -7,6 +7,7 @@ use Rattle.std.specs.Result.{result_ok}
 use Rattle.ctrl_msg.specs.declared.message.Body.TheVariants.{Hello, Install, Stamp}
 use Rattle.ctrl_msg.specs.Kinds.{to_controller}
 use Rattle.partition.specs.Plan.{Hosted}
+use Rattle.switch_table.specs.Carried.{all_touched}
 use Rattle.switch_table.specs.Tables.{tables_of}
 use Rattle.journal.specs.declared.item.Item.{Item}
 use Rattle.journal.specs.declared.item.Item.TheVariants as item
@@ -19,8 +20,11 @@ use Rattle.update_machine.specs.Marks.{controller_heard, current_mark, known_boo
 use Rattle.update_machine.specs.Messages.{next_message, sent_from}
 use Rattle.update_machine.specs.Pieces.{update_code}
 use Rattle.update_machine.specs.Settling.{installs_to_all, versions_from_current}
+use Rattle.update_machine.specs.Setting.{file_of}
+use Rattle.update_machine.specs.Touched.{touched_by}
 use Rattle.update_machine.specs.Versions.{next_policy, policy_at, version_count}
 use Rattle.update_machine.specs.Links.{message_of}
+use Rattle.update_machine.proofs.CallerLemmas.{first_touched}
 use Rattle.update_machine.proofs.ExampleVersions.{first_plan, first_policy, second_plan, second_policy}
 use Rattle.update_machine.proofs.Examples.{all_to, open_net, plan_p, plan_q, to, versions}
 use Rattle.version_update.specs.Record.{first_record}
@@ -28,6 +32,7 @@ use Rattle.controller.specs.Controller.{KeptPlan, first_controller}
 use Rattle.controller.specs.Plan.{PlanValue}
 use Rattle.controller.specs.Sends.{install_act}
 use Rattle.controller.specs.declared.sends.Act.TheVariants.{Current, Post, Retired}
+use Rattle.ternary.specs.Word.{WordValue}
 use Rattle.refinement.specs.Controller.{IsControllerOf, IsPlanOfNext, plan_to_keep}
 use Rattle.refinement.specs.Marks.{IsKnown}
 use Rattle.refinement.specs.Written.{written_items}
@@ -36,10 +41,10 @@ use Rattle.refinement.proofs.Calls.{begins}
 -- ---- acts
 
 -- each message has the next number
-numbered : written_items (item.Sent 1 (to 0 (Stamp 1 1)) ∷ [])
-    (Current 2 ∷ Post (to 0 (Stamp 1 2)) ∷ Retired 1 ∷ Post (to 1 (Stamp 1 2)) ∷ [])
-    ≡ item.Current 2 ∷ item.Sent 2 (to 0 (Stamp 1 2)) ∷ item.Retired 1
-    ∷ item.Sent 3 (to 1 (Stamp 1 2)) ∷ []
+numbered : written_items (item.Sent 1 (to 0 (Stamp 1 1 [])) ∷ [])
+    (Current 2 ∷ Post (to 0 (Stamp 1 2 [])) ∷ Retired 1 ∷ Post (to 1 (Stamp 1 2 [])) ∷ [])
+    ≡ item.Current 2 ∷ item.Sent 2 (to 0 (Stamp 1 2 [])) ∷ item.Retired 1
+    ∷ item.Sent 3 (to 1 (Stamp 1 2 [])) ∷ []
 unfolding next_message
 numbered = refl
 
@@ -67,26 +72,26 @@ of_second items =
     ∙ ap (plan_by (policy_at open_net (item.Submitted 2 2 ∷ items) 2))
     (sym (second_plan [] items tt))
 
-next_drops : IsPlanOfNext open_net [] 2 drops
+next_drops : IsPlanOfNext open_net [] 2 drops all_touched
 unfolding next_policy
-next_drops = record { policy = refl; hosted = refl }
+next_drops = record { policy = refl; hosted = refl; touches = refl }
 
 lets_out : List Row → Bool
 lets_out [] = false
 lets_out (row ∷ rows) = elim row.action [ Drop ↦ false | Out port ↦ true ]
 
 -- neither the other plan nor that of a file that isn't there
-not_next_of_first : IsPlanOfNext open_net [] 1 drops → ⊥
+not_next_of_first : (touched : List WordValue) → IsPlanOfNext open_net [] 1 drops touched → ⊥
 unfolding lets_out next_policy
-not_next_of_first of =
+not_next_of_first touched of =
     let no : true ≡ false =
     ap (λ (made : Result (List Row) Inapplicable). option_map_or lets_out (result_ok made) false)
     of.policy in
     absurd cc
 
-not_next_of_third : IsPlanOfNext open_net [] 3 outs → ⊥
+not_next_of_third : (touched : List WordValue) → IsPlanOfNext open_net [] 3 outs touched → ⊥
 unfolding next_policy
-not_next_of_third of = cc of.policy
+not_next_of_third touched of = cc of.policy
 
 begun : IsControllerOf open_net [] (first_controller 2 outs)
 begun = begins open_net outs (of_first [])
@@ -106,27 +111,41 @@ not_begun is =
 abbrev submitted : List Item
 submitted = item.Submitted 2 2 ∷ []
 
+-- each file is a policy of its own, which touches everything
+second_touches : (items : List Item)
+    → touched_by open_net (item.Submitted 2 2 ∷ items) 2 ≡ all_touched
+unfolding touched_by file_of
+second_touches items = refl
+
+abbrev second_kept : PlanValue → List WordValue → KeptPlan
+second_kept plan touched = record { version = 2; plan = plan; touched = touched }
+
+abbrev both : PlanValue → List WordValue → KeptPlan → List KeptPlan
+both plan touched second =
+    (record { version = 1; plan = plan; touched = touched }) ∷ second ∷ []
+
+second_is : (items : List Item) → second_kept drops all_touched
+    ≡ plan_to_keep open_net (item.Submitted 2 2 ∷ items) 2
+second_is items = ap (λ plan. second_kept plan all_touched) (of_second items)
+    ∙ ap (second_kept (plan_to_keep open_net (item.Submitted 2 2 ∷ items) 2).plan)
+    (sym (second_touches items))
+
 both_kept : map (plan_to_keep open_net submitted) (versions_from_current submitted)
-    ≡ (record { version = 1; plan = outs }) ∷ (record { version = 2; plan = drops }) ∷ []
+    ≡ both outs all_touched (second_kept drops all_touched)
 unfolding current_mark version_count
 both_kept =
-    sym (ap (λ plan. both plan drops) (of_first submitted)
-    ∙ ap (both (plan_to_keep open_net submitted 1).plan) (of_second []))
-  where
-    both : PlanValue → PlanValue → List KeptPlan
-    both one two =
-        (record { version = 1; plan = one }) ∷ (record { version = 2; plan = two }) ∷ []
+    sym (ap (λ plan. both plan all_touched (second_kept drops all_touched)) (of_first submitted)
+    ∙ ap (λ touched. both (plan_to_keep open_net submitted 1).plan touched
+    (second_kept drops all_touched)) (sym (first_touched open_net submitted))
+    ∙ ap (λ second. plan_to_keep open_net submitted 1 ∷ second ∷ []) (second_is []))
 
 abbrev risen : List Item
 risen = submitted ++ item.Current 2 ∷ []
 
 one_kept : map (plan_to_keep open_net risen) (versions_from_current risen)
-    ≡ (record { version = 2; plan = drops }) ∷ []
+    ≡ second_kept drops all_touched ∷ []
 unfolding current_mark version_count
-one_kept = sym (ap alone (of_second (item.Current 2 ∷ [])))
-  where
-    alone : PlanValue → List KeptPlan
-    alone two = (record { version = 2; plan = two }) ∷ []
+one_kept = sym (ap (λ second. second ∷ []) (second_is (item.Current 2 ∷ [])))
 
 -- ---- switches
 
@@ -170,7 +189,7 @@ to_other_alone = ap (λ plan. item.Sent 1 (to 1 (Install 1 (tables_of plan 2 1))
     (second_plan over [] (refl, tt))
 
 not_to_both : written_items later
-    (map (λ s. install_act s 1 (record { version = 2; plan = drops })) (0 ∷ 1 ∷ []))
+    (map (λ s. install_act s 1 (second_kept drops all_touched)) (0 ∷ 1 ∷ []))
     ≡ installs_to_all open_net later → ⊥
 unfolding next_message
 not_to_both same = let alone = same ∙ to_other_alone in cc alone

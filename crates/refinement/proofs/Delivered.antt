@@ -35,7 +35,8 @@ use Rattle.update_machine.specs.SwitchNumbers.{switches_of}
 use Rattle.update_machine.specs.Settling.{to_switch}
 use Rattle.update_machine.specs.Versions.{stamp_of}
 use Rattle.update_machine.specs.Links.{serves, message_of}
-use Rattle.update_machine.proofs.CallerLemmas.{last_given_append, links_keep}
+use Rattle.update_machine.proofs.CallerLemmas.{last_given_append, links_keep, policies_keep}
+use Rattle.update_machine.specs.Touched.{touched_by}
 use Rattle.control_laws.proofs.Grown.{heard_more, message_more}
 use Rattle.control_laws.proofs.Told.{each_weaker}
 use Rattle.control_laws.specs.Named.{BodiesNameThere, NamesOnlyThere}
@@ -48,6 +49,7 @@ use Rattle.refinement.proofs.Items.{facts_opened}
 use Rattle.refinement.proofs.Links.{kept_is, one_if, relinks, seq_more, unchanged}
 use Rattle.refinement.proofs.Tables.{AreVersioned, IsVersioned}
 use Rattle.refinement.proofs.SwitchFacts.{SwitchFacts, advert_of, boot_shown, by_facts, number_shown, seq_shown, stamp_shown, switch_is, facts_of}
+use Rattle.refinement.proofs.Hearing.{SaysTouched}
 
 -- ---- versions that messages name
 
@@ -55,6 +57,14 @@ versioned : (setting : Setting) (journal : List Item) (s : ℕ) (body : Body)
     → NamesOnlyThere setting journal (to_switch s body) → IsVersioned body
 versioned setting journal s (Install boot tables) names = names.version.0
 versioned setting journal s _ names = tt
+
+-- a stamp that was sent says what is touched, also within the step that delivers it
+says_touched : (setting : Setting) (before here : List Item) (n s : ℕ) (body : Body)
+    → ((v : ℕ) → touched_by setting here v ≡ touched_by setting before v)
+    → IsSentTo setting before n s body → SaysTouched (touched_by setting here) body
+says_touched setting before here n s (Stamp boot version touched) same is =
+    (is.touched.sent n s boot version touched is.sent).says ∙ sym (same version)
+says_touched setting before here n s _ same is = tt
 
 all_versioned : (setting : Setting) (journal : List Item) (s : ℕ) → BodiesNameThere setting journal
     → AreVersioned (heard journal s)
@@ -100,6 +110,8 @@ delivered_is setting before row n s body is =
     (message_more before (item.Row row (Deliver n)) n ∙ is.sent)
     (subst AreVersioned (sym bodies) (all_versioned setting before s is.names))
     (versioned setting before s body (is.names.sent n (to_switch s body) is.sent))
+    (says_touched setting before here n s body
+    ((policies_keep before (item.Row row (Deliver n) ∷ []) (refl, tt)).touched setting) is)
     ∙ ap (λ (switch : SwitchValue). record (with_message switch n body) { is_open = switch.is_open })
     (row_keeps setting before row n s)
 
@@ -328,7 +340,7 @@ unfolding switch_items switch_of is_news_at
 obeyed_items setting before now s (Install boot tables) net same own shut =
     ap (λ boot. send_items now (to_controller (Installed s boot tables.version) ∷ []))
     (eqb-true boot (boot_of before s) own)
-obeyed_items setting before now s (Stamp boot version) net same own shut =
+obeyed_items setting before now s (Stamp boot version touched) net same own shut =
     ap (λ boot. send_items now (to_controller (Stamped s boot version) ∷ []))
     (eqb-true boot (boot_of before s) own)
 obeyed_items setting before now s (OpenAt boot version) net same own shut =
@@ -467,7 +479,8 @@ pub hearing_refines : HearingRefines
 hearing_refines = record {
   heard_but_open = λ setting before n s body is.
       heard_is setting before n s body is.sent (all_versioned setting before s is.names)
-      (versioned setting before s body (is.names.sent n (to_switch s body) is.sent));
+      (versioned setting before s body (is.names.sent n (to_switch s body) is.sent))
+      (says_touched setting before before n s body (λ v. refl) is);
   shut = λ setting before n s body net is shut. record {
     record_of = λ row. shut_is setting before row n s body is shut;
     items = λ row. shut_items setting before row n s body net is shut;

@@ -3,7 +3,7 @@
 use Rattle.std.proofs.Common.{ℕ, ◌≡◌, ◌+◌, ◌<◌, true, false, List, [], ◌∷◌, ◌++◌, refl, ap, sym, ◌∙◌, length, get_or, rules}
 use Rattle.refinement.specs.Written.{AreWritten}
 use Rattle.refinement.proofs.Calls.{confirms}
-use Rattle.controller.specs.Controller.{ControllerValue, SettlesWith}
+use Rattle.controller.specs.Controller.{ControllerValue, SettlesWith, current_touched}
 use Rattle.controller.specs.Sends.{settling_acts}
 use Rattle.controller.specs.declared.sends.Act.{Act}
 use Rattle.journal.specs.declared.item.Item.{Item}
@@ -68,7 +68,8 @@ module _ (control : Control) (setting : Setting) (journal : List Item)
       (settles : SettlesWith (at_switch s after_over control.controller.marks)
       control.controller.plans new) where
     abbrev acts : List Act
-    acts = settling_acts (at_switch s after_over control.controller.marks) new.marks
+    acts = settling_acts (current_touched new)
+        (at_switch s after_over control.controller.marks) new.marks
 
     abbrev first : List Item
     first = item.Row row (Confirm s) ∷ item.OverNow s ∷ []

@@ -261,6 +261,7 @@ module _ (control : Control) (setting : Setting) (journal : List Item)
   hears_shut = hearing_refines.shut setting journal n s message.body refines.sound.net (record {
     sent = mine.sent ∙ ap Some (as_sent message s to);
     names = (reached_known setting journal refines.sound refines.reached).tables.names;
+    touched = (reached_known setting journal refines.sound refines.reached).touched;
   }) (ap (λ w. opening_stamp w message.body) (sym own_is) ∙ shut)
 
   number_is : next_message (grown journal row (Deliver n) (item.Delivered n))

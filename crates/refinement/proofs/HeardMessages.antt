@@ -11,16 +11,18 @@ use Rattle.ctrl_msg.specs.Kinds.{is_for_controller}
 use Rattle.failover.specs.Adverts.{after_hearing}
 use Rattle.journal.specs.declared.item.Item.{Item}
 use Rattle.journal.specs.declared.item.Item.TheVariants as item
-use Rattle.switch_core.specs.Hearing.{after_body, collected_to, with_message, with_heard, with_installed, is_news_here, obeys, opening_stamp, opened_by, raised_to, replies_to}
+use Rattle.switch_core.specs.Hearing.{after_body, collected_to, with_message, with_heard, with_installed, is_news_here, obeys, opening_stamp, opened_by, raised_to, replies_to, stamped_with}
 use Rattle.switch_core.specs.State.{SwitchValue, holds_version}
 use Rattle.switch_table.specs.Cache.{after_raise}
 use Rattle.switch_table.specs.declared.tables.Tables.{Tables}
+use Rattle.switch_table.specs.Carried.{after_carry}
 use Rattle.update_machine.specs.Boots.{boot_of, heard, is_for_boot, is_up, body_to_switch}
 use Rattle.update_machine.specs.Setting.{Setting}
 use Rattle.update_machine.specs.Settling.{to_switch}
 use Rattle.update_machine.specs.Links.{message_of}
+use Rattle.update_machine.specs.Touched.{touched_by}
 use Rattle.refinement.specs.SwitchOf.{switch_of}
-use Rattle.refinement.proofs.Hearing.{hears_facts}
+use Rattle.refinement.proofs.Hearing.{SaysTouched, hears_facts}
 use Rattle.refinement.proofs.Items.{facts_delivered}
 use Rattle.refinement.proofs.Tables.{AreVersioned, IsVersioned}
 use Rattle.refinement.proofs.SwitchFacts.{SwitchFacts, by_facts, switch_by, switch_is, facts_of}
@@ -92,11 +94,12 @@ hears_shut n body switch = record (with_message switch n body) { is_open = switc
 pub heard_is : (setting : Setting) (before : List Item) (n s : ℕ) (body : Body)
     → message_of before n ≡ Some (to_switch s body)
     → AreVersioned (heard before s) → IsVersioned body
+    → SaysTouched (touched_by setting before) body
     → switch_of setting (before ++ item.Delivered n ∷ []) s
     ≡ record (with_message (switch_of setting before s) n body) {
       is_open = (switch_of setting before s).is_open;
     }
-heard_is setting before n s body sent olds new =
+heard_is setting before n s body sent olds new says =
     by_meant (is_meant before s body) refl
     ∙ ap (hears_shut n body) (sym (switch_is setting before s))
   where
@@ -122,7 +125,8 @@ heard_is setting before n s body sent olds new =
     by_meant true is =
         by_facts setting now s _ (facts_delivered setting before s n (Some body)
         (said_is before s n body sent ∙ ap (λ b. if b then Some body else None) is))
-        ∙ hears_facts setting s n w (w.up && w.boot == 1) body olds new
+        ∙ hears_facts setting (touched_by setting before) s n w (w.up && w.boot == 1) body olds
+        new says
         ∙ obeyed true is
     by_meant false is =
         by_facts setting now s _ (facts_delivered setting before s n None
@@ -139,7 +143,7 @@ or_kept false switch tables = refl
 
 kept_by : (switch : SwitchValue) (n : ℕ) (body : Body) → opened_by switch body ≡ None
     → (after_body switch n body).is_open ≡ switch.is_open
-unfolding with_installed raised_to collected_to with_heard
+unfolding with_installed raised_to stamped_with collected_to with_heard
 kept_by switch n (Install boot tables) shut =
     or_kept (holds_version switch tables.version || nat_le tables.version switch.collected) switch
     tables
@@ -148,11 +152,11 @@ kept_by switch n (OpenAt boot version) shut = by_open switch.is_open shut
     by_open : (b : Bool) → (if b then None else Some (max switch.stamp version)) ≡ None → true ≡ b
     by_open true shut = refl
     by_open false shut = absurd cc
-kept_by switch n (Stamp boot version) shut = by_test (nat_lt switch.stamp version)
+kept_by switch n (Stamp boot version touched) shut = by_test (nat_lt switch.stamp version)
   where
     by_test : (b : Bool) → (if b then record switch {
       stamp = version;
-      cache = after_raise version switch.cache;
+      cache = after_carry version touched switch.cache;
     } else switch).is_open ≡ switch.is_open
     by_test true = refl
     by_test false = refl

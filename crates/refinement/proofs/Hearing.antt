@@ -1,6 +1,6 @@
 -- What a body that a switch hears makes of its record.
 use Rattle.std.proofs.Common.{ℕ, ◌≡◌, ◌≢◌, ◌==◌, Bool, true, false, ◌&&◌, ◌||◌, not, max, if◌then◌else◌, Option, Some, None, List, [], ◌∷◌, ◌++◌, set, refl, ap, sym, ◌∙◌, arith, append-nil, get_or-set_other}
-use Rattle.std.specs.Prelude.{filter_map, find, fold, is_some, nat_le, nat_lt}
+use Rattle.std.specs.Prelude.{filter_map, find, fold, is_some, nat_le, nat_lt, ⊤}
 use Rattle.std.specs.List.{list_any}
 use Rattle.std.specs.Option.{option_map_or}
 use Rattle.std.proofs.lemmas.Bool.{eq-eqb}
@@ -13,18 +13,20 @@ use Rattle.ctrl_msg.specs.declared.message.Body.TheVariants.{Install, OpenAt, St
 use Rattle.failover.specs.Adverts.{after_hearing, held_advert, is_news, is_newer}
 use Rattle.failover.specs.declared.advert.Advert.{Advert}
 use Rattle.failover.proofs.Adverts.{after_no_news}
-use Rattle.switch_core.specs.Hearing.{after_body, collected_to, with_heard, with_installed, is_news_here, raised_to}
+use Rattle.switch_core.specs.Hearing.{after_body, collected_to, with_heard, with_installed, is_news_here, raised_to, stamped_with}
 use Rattle.switch_core.specs.State.{SwitchValue}
 use Rattle.switch_table.specs.Cache.{after_raise}
 use Rattle.switch_table.specs.declared.tables.Tables.{Tables}
+use Rattle.switch_table.specs.Carried.{after_carry}
 use Rattle.update_machine.specs.LinkMasks.{other_advert}
-use Rattle.update_machine.specs.Caches.{cache_after}
+use Rattle.update_machine.specs.Caches.{cache_after, carried_from, raised_from}
 use Rattle.update_machine.specs.Setting.{Setting}
 use Rattle.update_machine.specs.Versions.{stamp_in}
 use Rattle.control_laws.proofs.Sends.{each_append}
 use Rattle.refinement.specs.SwitchOf.{collect_in, tables_in, with_tables}
 use Rattle.refinement.proofs.Tables.{AreVersioned, IsVersioned, above, above_more, above_twice, found_above, tables_are}
 use Rattle.refinement.proofs.SwitchFacts.{SwitchFacts, all_by, collected_by, filled, first_tables, others_by, stamp_by, switch_in}
+use Rattle.ternary.specs.Word.{WordValue}
 
 -- ---- one body more
 
@@ -59,12 +61,12 @@ stamp_one first bodies body =
 -- ---- the record
 
 -- what the body makes of these: the stamp, the collect mark, all tables and the adverts of others
-abbrev heard_as : ℕ → ℕ → SwitchFacts → Body → ℕ → ℕ → List Tables → List (Option Advert)
-    → SwitchValue
-heard_as s number w body stamp collected all others =
+abbrev heard_as : (ℕ → List WordValue) → ℕ → ℕ → SwitchFacts → Body → ℕ → ℕ → List Tables
+    → List (Option Advert) → SwitchValue
+heard_as touched_of s number w body stamp collected all others =
     let after = option_map_or (max stamp) (stamp_in body) stamp in
     let mark = option_map_or (max collected) (collect_in body) collected in
-    filled s (record w { cache = cache_after stamp after number w.cache body }) after mark
+    filled s (record w { cache = cache_after touched_of stamp after number w.cache body }) after mark
     (above mark (option_map_or (with_tables all) (tables_in body) all))
     (option_map_or (after_hearing others) (other_advert s body) others)
 
@@ -141,7 +143,7 @@ hears_tables s w stamp collected boot all others tables =
 hears_stamp : (s : ℕ) (w : SwitchFacts) (stamp collected version : ℕ) (tables : List Tables)
     (others : List (Option Advert))
     → filled s (record w {
-      cache = cache_after stamp (max stamp version) 0 w.cache (Stamp 0 version);
+      cache = raised_from stamp (max stamp version) w.cache;
     }) (max stamp version) collected tables others
     ≡ raised_to (filled s w stamp collected tables others) version
 unfolding raised_to
@@ -149,7 +151,7 @@ hears_stamp s w stamp collected version tables others = by_test (nat_lt stamp ve
   where
     by_test : (b : Bool) → nat_lt stamp version ≡ b
         → filled s (record w {
-          cache = cache_after stamp (max stamp version) 0 w.cache (Stamp 0 version);
+          cache = raised_from stamp (max stamp version) w.cache;
         }) (max stamp version) collected tables others
         ≡ (if nat_lt stamp version
         then filled s (record w { cache = after_raise version w.cache }) version collected tables
@@ -162,6 +164,32 @@ hears_stamp s w stamp collected version tables others = by_test (nat_lt stamp ve
         let least : max stamp version ≡ stamp = grind (arith, nat_tests) in
         let same : nat_lt stamp stamp ≡ false = grind (arith, nat_tests) in
         rw (least, is, same) refl
+
+-- .. or carries it, past what is touched
+hears_told : (s : ℕ) (w : SwitchFacts) (stamp collected version : ℕ) (touched : List WordValue)
+    (tables : List Tables) (others : List (Option Advert))
+    → filled s (record w {
+      cache = carried_from touched stamp version w.cache;
+    }) (max stamp version) collected tables others
+    ≡ stamped_with (filled s w stamp collected tables others) version touched
+unfolding stamped_with
+hears_told s w stamp collected version touched tables others =
+    by_test (nat_lt stamp version) refl
+  where
+    by_test : (b : Bool) → nat_lt stamp version ≡ b
+        → filled s (record w {
+          cache = carried_from touched stamp version w.cache;
+        }) (max stamp version) collected tables others
+        ≡ (if nat_lt stamp version
+        then filled s (record w { cache = after_carry version touched w.cache }) version collected
+        tables others
+        else filled s w stamp collected tables others)
+    by_test true is =
+        let greater : max stamp version ≡ version = grind (arith, nat_tests) in
+        rw (greater, is) refl
+    by_test false is =
+        let least : max stamp version ≡ stamp = grind (arith, nat_tests) in
+        rw (least, is) refl
 
 -- an advert of another switch is heard beside the own one
 hears_beside : (others : List (Option Advert)) (own : Option Advert) (s : ℕ) (advert : Advert)
@@ -210,48 +238,56 @@ hears_advert s w stamp collected tables others advert = by_origin (advert.origin
         let yes : (advert.origin == s) ≡ true = eq-eqb advert.origin s e in absurd cc))
         ∙ by_news (is_news switch.database advert) refl
 
+-- a body that lets the switch stamp with a version says what the version's change touches
+abbrev pub SaysTouched : (ℕ → List WordValue) → Body → Type 0
+SaysTouched touched_of (Stamp boot version touched) = touched ≡ touched_of version
+SaysTouched touched_of body = ⊤
+
 -- but for whether it is open, which the journal tells by an item of its own
-hears : (s number : ℕ) (w : SwitchFacts) (body : Body) (stamp collected : ℕ) (all : List Tables)
-    (others : List (Option Advert))
-    → heard_as s number w body stamp collected all others
+hears : (touched_of : ℕ → List WordValue) (s number : ℕ) (w : SwitchFacts) (body : Body)
+    (stamp collected : ℕ) (all : List Tables) (others : List (Option Advert))
+    → SaysTouched touched_of body
+    → heard_as touched_of s number w body stamp collected all others
     ≡ record (after_body (was s w stamp collected all others) number body) { is_open = w.serving }
 unfolding collected_to
-hears s number w (Install boot tables) stamp collected all others =
+hears touched_of s number w (Install boot tables) stamp collected all others says =
     ap (λ (switch : SwitchValue). record switch { is_open = w.serving })
     (hears_tables s w stamp collected boot all others tables)
-hears s number w (OpenAt boot version) stamp collected all others =
+hears touched_of s number w (OpenAt boot version) stamp collected all others says =
     ap (λ (switch : SwitchValue). record switch { is_open = w.serving })
     (hears_stamp s w stamp collected version (above collected all) others)
-hears s number w (Stamp boot version) stamp collected all others =
+hears touched_of s number w (Stamp boot version touched) stamp collected all others says =
     ap (λ (switch : SwitchValue). record switch { is_open = w.serving })
-    (hears_stamp s w stamp collected version (above collected all) others)
-hears s number w (Collect boot version) stamp collected all others =
+    (hears_told s w stamp collected version (touched_of version) (above collected all) others
+    ∙ ap (stamped_with (was s w stamp collected all others) version) (sym says))
+hears touched_of s number w (Collect boot version) stamp collected all others says =
     ap (λ tables. filled s w stamp (max collected version) tables others)
     (sym (above_twice collected version all))
-hears s number w (Advertise advert) stamp collected all others =
+hears touched_of s number w (Advertise advert) stamp collected all others says =
     ap (λ (switch : SwitchValue). record switch { is_open = w.serving })
     (hears_advert s w stamp collected (above collected all) others advert)
-hears s number w (CacheRule version word rule action) stamp collected all others = refl
-hears s number w (Hello switch boot) stamp collected all others = refl
-hears s number w (Installed switch boot version) stamp collected all others = refl
-hears s number w (Stamped switch boot version) stamp collected all others = refl
+hears touched_of s number w (CacheRule version word rule action) stamp collected all others says = refl
+hears touched_of s number w (Hello switch boot) stamp collected all others says = refl
+hears touched_of s number w (Installed switch boot version) stamp collected all others says = refl
+hears touched_of s number w (Stamped switch boot version) stamp collected all others says = refl
 
 -- ---- the facts
 
 -- once the body was heard as the message of this number
-abbrev pub heard_facts : ℕ → Body → Bool → SwitchFacts → SwitchFacts
-heard_facts number body first w = record w {
+abbrev pub heard_facts : (ℕ → List WordValue) → ℕ → Body → Bool → SwitchFacts → SwitchFacts
+heard_facts touched_of number body first w = record w {
   bodies = w.bodies ++ body ∷ [];
-  cache = cache_after (stamp_by first w.bodies) (stamp_by first (w.bodies ++ body ∷ [])) number
-      w.cache body;
+  cache = cache_after touched_of (stamp_by first w.bodies)
+      (stamp_by first (w.bodies ++ body ∷ [])) number w.cache body;
 }
 
-pub hears_facts : (setting : Setting) (s number : ℕ) (w : SwitchFacts) (first : Bool) (body : Body)
-    → AreVersioned w.bodies → IsVersioned body
-    → switch_in setting s (heard_facts number body first w) first
+pub hears_facts : (setting : Setting) (touched_of : ℕ → List WordValue) (s number : ℕ)
+    (w : SwitchFacts) (first : Bool) (body : Body) → AreVersioned w.bodies → IsVersioned body
+    → SaysTouched touched_of body
+    → switch_in setting s (heard_facts touched_of number body first w) first
     ≡ record (after_body (switch_in setting s w first) number body) { is_open = w.serving }
-hears_facts setting s number w first body olds new =
-    ap (λ these. filled s (heard_facts number body first w) (stamp_by first more)
+hears_facts setting touched_of s number w first body olds new says =
+    ap (λ these. filled s (heard_facts touched_of number body first w) (stamp_by first more)
     (collected_by more) these (others_by setting s first more))
     (tables_are tables first more refl
     (each_append IsVersioned w.bodies (body ∷ []) olds (new, tt)))
@@ -263,7 +299,7 @@ hears_facts setting s number w first body olds new =
     (fold_one tables_in with_tables (if first then tables ∷ [] else []) w.bodies body)
     ∙ ap (now after mark_after (option_map_or (with_tables all) (tables_in body) all))
     (fold_one (other_advert s) after_hearing (others_by setting s first []) w.bodies body)
-    ∙ hears s number w body stamp collected all others
+    ∙ hears touched_of s number w body stamp collected all others says
     ∙ ap (λ these. record (after_body (filled s w stamp collected these others) number body) {
       is_open = w.serving;
     }) (sym (tables_are tables first w.bodies refl olds))
@@ -294,5 +330,5 @@ hears_facts setting s number w first body olds new =
 
     now : ℕ → ℕ → List Tables → List (Option Advert) → SwitchValue
     now after mark all others =
-        filled s (record w { cache = cache_after stamp after number w.cache body }) after mark
-        (above mark all) others
+        filled s (record w { cache = cache_after touched_of stamp after number w.cache body })
+        after mark (above mark all) others

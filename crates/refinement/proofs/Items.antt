@@ -16,6 +16,7 @@ use Rattle.update_machine.specs.Setting.{Setting}
 use Rattle.update_machine.specs.Versions.{stamp_of}
 use Rattle.update_machine.specs.Links.{serves, gives_serving}
 use Rattle.update_machine.proofs.CallerLemmas.{calls_stay, fewer, folded_append, links_keep, switch_keeps}
+use Rattle.update_machine.specs.Touched.{touched_by}
 use Rattle.control_laws.proofs.Grown.{boot_more, heard_more, serving_more, up_more}
 use Rattle.refinement.proofs.Hearing.{heard_facts}
 use Rattle.refinement.proofs.SwitchFacts.{SwitchFacts, stamp_by, facts_of}
@@ -49,10 +50,10 @@ facts_kept setting s before items none =
 
 cache_more : (setting : Setting) (before : List Item) (next : Item) (s : ℕ)
     → cache_of setting (before ++ next ∷ []) s
-    ≡ changes_cache s before (cache_of setting before s) next
+    ≡ changes_cache setting s before (cache_of setting before s) next
 unfolding cache_of
 cache_more setting before next s =
-    folded_append (changes_cache s) (record { entries = []; capacity = setting.net.cache }) before
+    folded_append (changes_cache setting s) (record { entries = []; capacity = setting.net.cache }) before
     (next ∷ [])
 
 -- the facts behind one more item, each by its own fold
@@ -64,7 +65,7 @@ pub facts_more : (setting : Setting) (before : List Item) (next : Item) (s : ℕ
       up = unwrap_or (gives_up s next) (is_up before s);
       serving = unwrap_or (gives_serving s next) (serves before s);
       bodies = changes_heard s before (heard before s) next;
-      cache = changes_cache s before (cache_of setting before s) next;
+      cache = changes_cache setting s before (cache_of setting before s) next;
       seq = own_seq setting now s;
       links = near setting now s;
       handled = handled_count now s;
@@ -90,7 +91,8 @@ pub facts_delivered : (setting : Setting) (before : List Item) (s n : ℕ) (said
     → body_to_switch before s n ≡ said
     → let w = facts_of setting before s in
     facts_of setting (before ++ item.Delivered n ∷ []) s
-    ≡ option_map_or (λ body. heard_facts n body (w.up && w.boot == 1) w) said w
+    ≡ option_map_or
+    (λ body. heard_facts (touched_by setting before) n body (w.up && w.boot == 1) w) said w
 facts_delivered setting before s n said is =
     let next : Item = item.Delivered n in
     let now : List Item = before ++ next ∷ [] in
@@ -107,11 +109,11 @@ facts_delivered setting before s n said is =
     heard_more before next s
     ∙ ap (λ o. option_map_or (λ body. heard before s ++ body ∷ []) o (heard before s)) is in
     let cache : cache_of setting now s
-    ≡ option_map_or (cache_after (stamp_of before s) (stamp_of now s) n (cache_of setting before s))
-    said (cache_of setting before s) =
+    ≡ option_map_or (cache_after (touched_by setting before) (stamp_of before s) (stamp_of now s) n
+    (cache_of setting before s)) said (cache_of setting before s) =
     cache_more setting before next s
-    ∙ ap (λ o. option_map_or (cache_after (stamp_of before s) (stamp_of now s) n
-    (cache_of setting before s)) o (cache_of setting before s)) is in
+    ∙ ap (λ o. option_map_or (cache_after (touched_by setting before) (stamp_of before s)
+    (stamp_of now s) n (cache_of setting before s)) o (cache_of setting before s)) is in
     let stamp : stamp_of now s ≡ stamp_by (is_up before s && boot_of before s == 1)
     (option_map_or (λ body. heard before s ++ body ∷ []) said (heard before s)) =
     stamp_is now s ∙ rw (up, boot, bodies) refl in
@@ -128,11 +130,11 @@ facts_delivered setting before s n said is =
     by_said : (said : Option Body)
         → record w {
           bodies = option_map_or (λ body. w.bodies ++ body ∷ []) said w.bodies;
-          cache = option_map_or (cache_after (stamp_by first w.bodies) (stamp_by first
-              (option_map_or (λ body. w.bodies ++ body ∷ []) said w.bodies)) n w.cache) said
+          cache = option_map_or (cache_after (touched_by setting before)
+              (stamp_by first w.bodies) (stamp_by first (option_map_or (λ body. w.bodies ++ body ∷ []) said w.bodies)) n w.cache) said
               w.cache;
         }
-        ≡ option_map_or (λ body. heard_facts n body first w) said w
+        ≡ option_map_or (λ body. heard_facts (touched_by setting before) n body first w) said w
     by_said None = refl
     by_said (Some body) = refl
 

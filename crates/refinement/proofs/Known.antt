@@ -23,6 +23,8 @@ use Rattle.control_laws.proofs.Versions.{caused_numbered}
 use Rattle.control_laws.specs.Serving.{ServingHold}
 use Rattle.control_laws.proofs.Planned.{tables_planned, versions_planned}
 use Rattle.control_laws.proofs.Serving.{serving_hold}
+use Rattle.control_laws.specs.Touched.{StampsSayTouched}
+use Rattle.control_laws.proofs.Touched.{stamps_touched}
 use Rattle.packet_laws.specs.OnWay.{IsOnLeg, IsOnWay}
 use Rattle.packet_laws.specs.Facts.{PacketFacts, what_is_known}
 use Rattle.packet_laws.specs.KeptFacts.{AllKept}
@@ -46,6 +48,7 @@ pub record Known (setting : Setting) (journal : List Item) : Type 0 where
   pub serving : ServingIsKnown journal
   pub holds : ServingHold setting journal
   pub kept : AllKept setting journal
+  pub touched : StampsSayTouched setting journal
 
 pub reached_known : (setting : Setting) (journal : List Item) → IsSetting setting
     → IsReached setting journal → Known setting journal
@@ -66,6 +69,7 @@ reached_known setting journal is reached =
       serving = serving_known journal (caused_known setting journal caused);
       holds = serving_hold setting journal caused;
       kept = all_kept setting journal is settled.causes;
+      touched = stamps_touched setting journal caused;
     }
 
 -- ---- one more step

@@ -15,11 +15,11 @@ use Rattle.control_laws.proofs.Planned.{versions_planned}
 use Rattle.refinement.specs.Controller.{IsControllerOf, plan_to_keep}
 use Rattle.refinement.proofs.Settled.{AreCaused}
 
-abbrev is_of : ℕ → KeptPlan → Bool
+abbrev pub is_of : ℕ → KeptPlan → Bool
 is_of version kept = kept.version == version
 
 -- of the plans of a stretch of versions each is found by its version
-find_kept : (setting : Setting) (journal : List Item) (low many version : ℕ) → low ≤ version
+pub find_kept : (setting : Setting) (journal : List Item) (low many version : ℕ) → low ≤ version
     → version < low + many
     → find (is_of version) (map (plan_to_keep setting journal) (range_with_len low many))
     ≡ Some (plan_to_keep setting journal version)

@@ -81,6 +81,7 @@ module _ (control : Control) (setting : Setting) (journal : List Item)
   hears_open = hearing_refines.opening setting journal n s stamp message.body (record {
     sent = its.sent ∙ ap Some (as_sent message s to);
     names = (reached_known setting journal refines.sound refines.reached).tables.names;
+    touched = (reached_known setting journal refines.sound refines.reached).touched;
   }) (ap (λ w. opening_stamp w message.body) (sym own_is) ∙ opens)
 
   piece_so : piece setting journal row (Deliver n)

@@ -1,9 +1,10 @@
 -- The plans that a controller keeps are those of the versions from the current one to the last.
 use Rattle.std.proofs.Common.{ℕ, zero, suc, ◌≡◌, ◌+◌, ◌-◌, ◌<◌, ◌≤◌, max, Bool, true, false, if◌then◌else◌, List, [], ◌∷◌, ◌++◌, map, refl, ap, sym, ◌∙◌, append-nil, arith}
-use Rattle.std.specs.Prelude.{filter, nat_le}
+use Rattle.std.specs.Prelude.{filter, nat_le, find}
 use Rattle.std.specs.List.{range_with_len}
 use Rattle.std.proofs.lemmas.Bool.Decides.{nat_tests}
 use Rattle.std.proofs.lemmas.List.FromFn.{map-range_with_len_more}
+use Rattle.std.specs.Option.{option_map_or}
 use Rattle.policy_rules.specs.declared.policy.Row.{Row}
 use Rattle.partition.specs.Plan.{Hosted}
 use Rattle.journal.specs.declared.item.Item.{Item}
@@ -13,18 +14,23 @@ use Rattle.update_machine.specs.Numbers.{VersionsAreNumbered}
 use Rattle.update_machine.specs.Setting.{Setting}
 use Rattle.update_machine.specs.Settling.{settling, versions_from_current}
 use Rattle.update_machine.specs.Versions.{policy_at, version_count, plan_at}
-use Rattle.update_machine.proofs.CallerLemmas.{plan_stays, policy_stays}
+use Rattle.update_machine.proofs.CallerLemmas.{plan_stays, policy_stays, touched_stays}
+use Rattle.update_machine.specs.Touched.{touched_by}
 use Rattle.control_laws.proofs.Versions.{caused_numbered}
 use Rattle.control_laws.proofs.Marks.{bounded}
 use Rattle.version_update.specs.Marks.{MarksValue}
-use Rattle.controller.specs.Controller.{ControllerValue, KeptPlan, SettlesWith, plans_from}
+use Rattle.controller.specs.Controller.{ControllerValue, KeptPlan, SettlesWith, plans_from, current_touched}
 use Rattle.controller.specs.Sends as acts
+use Rattle.controller.proofs.Newest.{still_found}
 use Rattle.refinement.specs.Controller.{IsControllerOf, plan_to_keep}
 use Rattle.refinement.specs.Marks.{AreMarksOf}
 use Rattle.refinement.specs.Written.{written_items}
 use Rattle.refinement.proofs.KeptController.{marks_on}
 use Rattle.refinement.proofs.Picked.{filter_made}
 use Rattle.refinement.proofs.Settled.{AreCaused, settles_so}
+use Rattle.refinement.proofs.Newest.{find_kept, is_of}
+use Rattle.ternary.specs.Word.{WordValue}
+use Rattle.switch_table.specs.Carried.{all_touched}
 
 -- ---- numbers of a range
 
@@ -87,14 +93,19 @@ planned_on : (setting : Setting) (before items : List Item) (v : ℕ) → AreCau
     → v < current_mark before + (version_count before + 1 - current_mark before)
     → plan_to_keep setting before v ≡ plan_to_keep setting (before ++ items) v
 planned_on setting before items v have above below =
-    ap (λ policy. of policy (plan_at setting before v))
+    ap (λ policy. of policy (plan_at setting before v) (touched_by setting before v))
     (sym (policy_stays setting before items v numbers last))
-    ∙ ap (of (policy_at setting (before ++ items) v))
+    ∙ ap (λ hosted. of (policy_at setting (before ++ items) v) hosted (touched_by setting before v))
     (sym (plan_stays setting before items v numbers last))
+    ∙ ap (of (policy_at setting (before ++ items) v) (plan_at setting (before ++ items) v))
+    (sym (touched_stays setting before items v numbers last))
   where
-    of : List Row → List Hosted → KeptPlan
-    of policy hosted =
-        record { version = v; plan = record { policy = policy; hosted = hosted } }
+    of : List Row → List Hosted → List WordValue → KeptPlan
+    of policy hosted touched = record {
+      version = v;
+      plan = record { policy = policy; hosted = hosted };
+      touched = touched;
+    }
 
     numbers : VersionsAreNumbered before
     numbers = caused_numbered setting before have
@@ -198,17 +209,37 @@ controller_on setting before items controller have keeps is = record {
   plans = plans_on setting before items controller.plans have keeps.count keeps.current is.plans;
 }
 
+-- what the controller keeps for the version that is current then is what its change touches
+settled_touched : (setting : Setting) (now : List Item) (before : MarksValue)
+    (plans : List KeptPlan) (new : ControllerValue) → AreMarksOf setting now before
+    → plans ≡ map (plan_to_keep setting now) (versions_from_current now)
+    → SettlesWith before plans new
+    → current_touched new ≡ touched_by setting now new.marks.current
+settled_touched setting now before plans new marks are settles =
+    let c = new.marks.current in
+    let is = settles.marks.1 in
+    let low = marks.current in
+    let last = marks.count in
+    ap (λ o. option_map_or (λ (kept : KeptPlan). kept.touched) o all_touched)
+    (ap (find (is_of c)) settles.plans ∙ still_found c c plans (omega arith)
+    ∙ ap (find (is_of c)) are
+    ∙ find_kept setting now (current_mark now) (version_count now + 1 - current_mark now) c
+    (omega (arith, low, is.current.rises))
+    (omega (arith, low, last, is.current.rises, is.current.bound)))
+
 -- the marks settle, and the plans are let go that no later call names
 pub settles_with : (setting : Setting) (now : List Item) (before : MarksValue)
     (plans : List KeptPlan) (new : ControllerValue) → AreCaused setting now
     → AreMarksOf setting now before
     → plans ≡ map (plan_to_keep setting now) (versions_from_current now)
     → SettlesWith before plans new
-    → (written_items now (acts.settling_acts before new.marks) ≡ settling setting now)
+    → (written_items now (acts.settling_acts (current_touched new) before new.marks)
+    ≡ settling setting now)
     × IsControllerOf setting (now ++ settling setting now) new
 settles_with setting now before plans new have marks are settles =
     let is = settles.marks.1 in
-    let so = settles_so setting now before new.marks settles.marks.0 have marks is in
+    let so = settles_so setting now before new.marks settles.marks.0 (current_touched new)
+    (settled_touched setting now before plans new marks are settles) have marks is in
     let after = so.1 in
     let first = marks.current in
     let last = marks.count in

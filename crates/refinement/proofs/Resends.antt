@@ -1,9 +1,10 @@
 -- What the controller sends again, and what it is told of is there.
 use Rattle.std.proofs.Common.{ℕ, suc, ◌≡◌, ◌+◌, ◌-◌, ◌<◌, ◌≤◌, ◌==◌, ◌&&◌, Bool, true, false, not, if◌then◌else◌, List, [], ◌∷◌, ◌++◌, length, map, refl, ap, sym, ◌∙◌, arith}
-use Rattle.std.specs.Prelude.{Some, IsTrue, IsFalse, filter, nat_le, nat_lt}
+use Rattle.std.specs.Prelude.{Some, IsTrue, IsFalse, filter, nat_le, nat_lt, find}
 use Rattle.std.specs.List.{range_with_len}
 use Rattle.std.proofs.lemmas.Bool.Decides.{nat_tests}
 use Rattle.std.proofs.lemmas.List.{map-append}
+use Rattle.std.specs.Option.{option_map_or}
 use Rattle.ctrl_msg.specs.declared.message.Body.{Body}
 use Rattle.ctrl_msg.specs.declared.message.Body.TheVariants.{Collect, Hello, Installed, OpenAt, Stamp, Stamped}
 use Rattle.ctrl_msg.specs.declared.message.Message.{Message}
@@ -15,6 +16,7 @@ use Rattle.update_machine.specs.Links.{message_of}
 use Rattle.update_machine.specs.Setting.{Setting}
 use Rattle.update_machine.specs.Settling.{collect_for, install_for, open_for, resent_by_controller, resent_to_member, stamp_for, to_switch, unacked_installs, versions_from_current}
 use Rattle.update_machine.specs.Versions.{version_count}
+use Rattle.update_machine.specs.Touched.{touched_by}
 use Rattle.control_laws.proofs.Marks.{bounded}
 use Rattle.control_laws.specs.Named.{BodiesNameThere}
 use Rattle.version_update.specs.Marks.{MarksValue, record_of}
@@ -22,7 +24,7 @@ use Rattle.version_update.specs.Record.{has_acked, is_member, is_over}
 use Rattle.version_update.specs.declared.record.Phase.{Phase}
 use Rattle.version_update.specs.declared.record.Phase.TheVariants.{Joining, Member, Over}
 use Rattle.version_update.specs.declared.record.SwitchRecord.{SwitchRecord}
-use Rattle.controller.specs.Controller.{ControllerValue}
+use Rattle.controller.specs.Controller.{ControllerValue, current_touched, KeptPlan}
 use Rattle.controller.specs.Sends as acts
 use Rattle.controller.specs.Sends.{NamesBoth, NamesThere, install_act, is_missing, missing_installs, resend_acts, resend_acts_to}
 use Rattle.controller.specs.declared.sends.Act.{Act}
@@ -31,6 +33,9 @@ use Rattle.refinement.specs.Controller.{IsControllerOf, plan_to_keep}
 use Rattle.refinement.specs.Marks.{AreMarksOf, IsKnown}
 use Rattle.refinement.proofs.Picked.{filter_made, map_twice, picked_same}
 use Rattle.refinement.proofs.Settled.{AreCaused}
+use Rattle.refinement.proofs.Newest.{find_kept, is_of}
+use Rattle.switch_table.specs.Carried.{all_touched}
+use Rattle.ternary.specs.Word.{WordValue}
 
 -- ---- what is told to the controller names what it knows
 
@@ -136,27 +141,40 @@ module _ (setting : Setting) (journal : List Item) (s : ℕ) (controller : Contr
       ap (λ n. map again (filter (lacks (low + 1)) (range_with_len low n))) many
       ∙ ap (λ b. map again (if b && not (has_acked known low) then low ∷ rest else rest)) fails
 
+  -- what it keeps for the current version is what that version's change touches
+  kept_says : current_touched controller ≡ touched_by setting journal low
+  kept_says =
+      let marks = bounded setting journal have in
+      ap (λ o. option_map_or (λ (kept : KeptPlan). kept.touched) o all_touched)
+      (ap (λ c. find (is_of c) controller.plans) is.marks.current
+      ∙ ap (find (is_of low)) is.plans
+      ∙ find_kept setting journal low (version_count journal + 1 - low) low (omega arith)
+      (omega (arith, marks.there)))
+
   to_member : IsTrue (machine.is_member journal s) → IsFalse (machine.is_over journal s)
       → resend_acts_to Member controller s ≡ map Post (resent_to_member setting journal s)
   to_member member none =
       let first : List Message = unacked_installs setting journal s
       (range_with_len (low + 1) (version_count journal - low)) in
       let stamp : List Message = if nat_lt (acked_stamp journal s) low
-      then stamp_for journal low s ∷ [] else [] in
+      then stamp_for setting journal low s ∷ [] else [] in
       let collect : List Message = if retired_mark journal == 0
       then [] else collect_for journal (retired_mark journal) s ∷ [] in
       let lacking : missing_installs controller s (controller.marks.current + 1) ≡ map Post first =
       ap (λ c. missing_installs controller s (c + 1)) is.marks.current ∙ of_versions (low + 1)
       ∙ after_current
       ∙ from_on none (low + 1) (version_count journal - low) (omega arith) in
-      let stamped : acts.stamp_again controller.marks s ≡ map Post stamp =
-      ap (λ c. if nat_lt known.acked_stamp c
-      then Post (to_switch s (Stamp known.boot c)) ∷ [] else []) is.marks.current
-      ∙ ap (λ a. if nat_lt a low then Post (to_switch s (Stamp known.boot low)) ∷ [] else [])
+      let words : List WordValue = touched_by setting journal low in
+      let stamped : acts.stamp_again (current_touched controller) controller.marks s
+      ≡ map Post stamp =
+      ap (λ these. acts.stamp_again these controller.marks s) kept_says
+      ∙ ap (λ c. if nat_lt known.acked_stamp c
+      then Post (to_switch s (Stamp known.boot c words)) ∷ [] else []) is.marks.current
+      ∙ ap (λ a. if nat_lt a low then Post (to_switch s (Stamp known.boot low words)) ∷ [] else [])
       (own.stamp member)
       ∙ ap (λ b. if nat_lt (acked_stamp journal s) low
-      then Post (to_switch s (Stamp b low)) ∷ [] else []) own.boot
-      ∙ if_posted (nat_lt (acked_stamp journal s) low) (stamp_for journal low s) in
+      then Post (to_switch s (Stamp b low words)) ∷ [] else []) own.boot
+      ∙ if_posted (nat_lt (acked_stamp journal s) low) (stamp_for setting journal low s) in
       let collected : acts.collect_again controller.marks s ≡ map Post collect =
       ap (λ r. if nat_lt 0 r then Post (to_switch s (Collect known.boot r)) ∷ [] else [])
       is.marks.retired
@@ -164,11 +182,11 @@ module _ (setting : Setting) (journal : List Item) (s : ℕ) (controller : Contr
       then Post (to_switch s (Collect b (retired_mark journal))) ∷ [] else []) own.boot
       ∙ if_retired (retired_mark journal) (collect_for journal (retired_mark journal) s) in
       ap (λ act. act ∷ missing_installs controller s (controller.marks.current + 1)
-      ++ acts.stamp_again controller.marks s ++ acts.collect_again controller.marks s)
+      ++ acts.stamp_again (current_touched controller) controller.marks s ++ acts.collect_again controller.marks s)
       (ap (λ b. Post (to_switch s (OpenAt b known.open_version))) own.boot
       ∙ ap (λ v. Post (open_for journal v s)) (own.opened member))
       ∙ ap (λ xs. Post (open_for journal (open_version journal s) s) ∷ xs
-      ++ acts.stamp_again controller.marks s ++ acts.collect_again controller.marks s) lacking
+      ++ acts.stamp_again (current_touched controller) controller.marks s ++ acts.collect_again controller.marks s) lacking
       ∙ ap (λ xs. Post (open_for journal (open_version journal s) s) ∷ map Post first ++ xs
       ++ acts.collect_again controller.marks s) stamped
       ∙ ap (λ xs. Post (open_for journal (open_version journal s) s) ∷ map Post first

@@ -24,6 +24,7 @@ use Rattle.update_machine.specs.SwitchNumbers.{switches_of}
 use Rattle.update_machine.specs.Settling.{current_items, open_for, open_items, opening_switches, retired_items, settling, to_switch}
 use Rattle.update_machine.specs.Versions.{version_count}
 use Rattle.update_machine.proofs.CallerLemmas.{have_append}
+use Rattle.update_machine.specs.Touched.{touched_by}
 use Rattle.control_laws.specs.ItemCauses.{HasItemCause}
 use Rattle.control_laws.proofs.ControllerBlocks.{settling_have}
 use Rattle.control_laws.proofs.Facts.{have_front}
@@ -55,6 +56,7 @@ use Rattle.refinement.specs.Written.{item_of, written_items}
 use Rattle.refinement.proofs.KeptController.{current_on, known_on, marks_on, retired_on}
 use Rattle.refinement.proofs.Picked.{any_picked, filter_made, map_twice, passing_is, picked_same}
 use Rattle.refinement.proofs.Written.{posted, written_in_three}
+use Rattle.ternary.specs.Word.{WordValue}
 
 -- ---- members, and what is told
 
@@ -218,21 +220,26 @@ rises_on setting journal after value risen act body low high mark version low_is
     (body version) are boots leaves rises (nat_lt mark version) stays)
 
 raises_on : (setting : Setting) (now : List Item) (before after : MarksValue)
+    (touched : List WordValue) → touched ≡ touched_by setting now after.current
     → AreMarksOf setting now before → before.current ≤ after.current
     → after.current ≡ next_current setting now
     → SameBoots now after (length before.switches)
-    → (written_items now (acts.stamp_acts before after) ≡ current_items setting now)
+    → (written_items now (acts.stamp_acts touched before after) ≡ current_items setting now)
     × AreMarksOf setting (now ++ current_items setting now)
     (record before { current = after.current })
 unfolding current_items
-raises_on setting now before after are up is boots =
-    rises_on setting now after before (λ v. record before { current = v }) Current
-    (λ v boot. Stamp boot v) before.current after.current (current_mark now)
+raises_on setting now before after touched says are up is boots =
+    subst (λ words. (written_items now (acts.stamp_acts words before after)
+    ≡ current_items setting now)
+    × AreMarksOf setting (now ++ current_items setting now)
+    (record before { current = after.current })) (sym says)
+    (rises_on setting now after before (λ v. record before { current = v }) Current
+    (λ v boot. Stamp boot v (touched_by setting now v)) before.current after.current (current_mark now)
     (next_current setting now) are.current is are boots (λ s. tt)
     (current_on setting now (next_current setting now) before are) (λ e.
     let stays : next_current setting now ≡ current_mark now =
     let first = are.current in grind (arith, nat_tests) in
-    search (rules, are.each))
+    search (rules, are.each)))
 
 -- ---- joining switches open
 
@@ -520,14 +527,15 @@ settling_caused setting now have =
     (settling_have setting now)
 
 pub settles_so : (setting : Setting) (now : List Item) (before after : MarksValue)
-    (answer : Settled) → AreCaused setting now → AreMarksOf setting now before
-    → Settles before after answer
-    → (written_items now (acts.settling_acts before after) ≡ settling setting now)
+    (answer : Settled) (touched : List WordValue)
+    → touched ≡ touched_by setting now after.current → AreCaused setting now
+    → AreMarksOf setting now before → Settles before after answer
+    → (written_items now (acts.settling_acts touched before after) ≡ settling setting now)
     × AreMarksOf setting (now ++ settling setting now) after
 unfolding settling
-settles_so setting now before after answer have are is = (
+settles_so setting now before after answer touched says have are is = (
   written_in_three now (current_items setting) (open_items setting) (retired_items setting)
-      (acts.stamp_acts before after) (acts.open_acts before after) (acts.collect_acts before after)
+      (acts.stamp_acts touched before after) (acts.open_acts before after) (acts.collect_acts before after)
       raises.0
       opens.0 retires.0,
   subst (λ js. AreMarksOf setting js after)
@@ -555,9 +563,10 @@ settles_so setting now before after answer have are is = (
     boots : SameBoots now after (length before.switches)
     boots s there = settled_boot before after answer s is there ∙ (are.each s there).boot
 
-    raises : (written_items now (acts.stamp_acts before after) ≡ current_items setting now)
+    raises : (written_items now (acts.stamp_acts touched before after)
+        ≡ current_items setting now)
         × AreMarksOf setting one (record before { current = after.current })
-    raises = raises_on setting now before after are is.current.rises
+    raises = raises_on setting now before after touched says are is.current.rises
         (rises_same setting now before after.current are is.current) boots
 
     same : (s : ℕ) → s < length before.switches → known_boot one s ≡ known_boot now s

@@ -1,5 +1,5 @@
 -- What was sent has a short spelling.
-use Rattle.std.proofs.Common.{◌≡◌, ℕ, ◌<◌, ◌^◌, Some, List, length, refl, sym, subst, arith}
+use Rattle.std.proofs.Common.{◌≡◌, ℕ, ◌<◌, ◌^◌, Some, List, length, refl, sym, subst, arith, ◌≤◌}
 use Rattle.ctrl_msg.specs.declared.message.Body.{Body}
 use Rattle.ctrl_msg.specs.declared.message.Body.TheVariants.{Install, OpenAt, Stamp, Collect, CacheRule, Advertise, Hello, Installed, Stamped}
 use Rattle.ctrl_msg.specs.declared.message.Place.{Place}
@@ -10,7 +10,7 @@ use Rattle.wire.specs.Messages.{AreShort, install_form, message}
 use Rattle.wire.proofs.Framing.{length_n4}
 use Rattle.std.proofs.lemmas.List.{length-append}
 use Rattle.message_bag.specs.Feeding.{HasShortSpelling}
-use Rattle.message_bag.proofs.Lengths.{alone_short, length_message}
+use Rattle.message_bag.proofs.Lengths.{alone_short, length_message, stamp_sent_short}
 use Rattle.journal.specs.declared.item.Item.{Item}
 use Rattle.update_machine.specs.Answers.{IsReached}
 use Rattle.update_machine.specs.Links.{message_of}
@@ -20,16 +20,19 @@ use Rattle.update_machine.specs.Versions.{plan_at}
 use Rattle.control_laws.specs.Adverts.{AdvertsAreOfSwitches}
 use Rattle.control_laws.proofs.BothCauses.{behind_both}
 use Rattle.control_laws.proofs.Origins.{of_switches}
-use Rattle.update_machine.proofs.CallerLemmas.{begins_planned}
+use Rattle.update_machine.proofs.CallerLemmas.{begins_planned, touched_few}
 use Rattle.control_laws.proofs.Pieces.{always}
 use Rattle.control_laws.specs.Named.{BodiesNameThere, IsAddressed}
 use Rattle.control_laws.proofs.Named.{bodies_named}
 use Rattle.control_laws.specs.Planned.{TablesArePlanned, VersionsArePlanned}
 use Rattle.control_laws.proofs.Planned.{tables_planned, versions_planned}
+use Rattle.control_laws.specs.Touched.{StampsSayTouched}
+use Rattle.control_laws.proofs.Touched.{stamps_touched}
 use Rattle.packet_laws.proofs.Plans.{version_planned}
 use Rattle.refinement.specs.Spelled.{AreSpelled}
 use Rattle.refinement.proofs.Lengths.{AreSmall, tables_len}
 use Rattle.refinement.proofs.Planned.{short, small}
+use Rattle.ternary.specs.Word.{WordValue}
 
 tables_short : (to : Place) (boot : ℕ) (t : Tables) → AreSmall t
     → length (message.spell (record { to = to; body = Install boot t })) < 2 ^ 40
@@ -72,6 +75,18 @@ module _ (setting : Setting) (journal : List Item) (is : IsSetting setting)
             (small _ setting.net (plan_at setting journal t.version) t.version s is.net plan.parts),
       )
 
+  touches : StampsSayTouched setting journal
+  touches = subst (StampsSayTouched setting) (sym reached.written)
+      ((always _ stamps_touched).behind.ends.stepped setting reached.steps)
+
+  few : (n s boot version : ℕ) (touched : List WordValue)
+      → message_of journal n ≡ Some (to_switch s (Stamp boot version touched))
+      → length touched ≤ 16
+  few n s boot version touched sent =
+      subst (λ words. length words ≤ 16)
+      (sym (touches.sent n s boot version touched sent).says)
+      (touched_few setting journal version)
+
   below : (s : ℕ) → s < length setting.net.switches → s < 64
   below s there = omega (arith, there, is.net.few_switches)
 
@@ -88,9 +103,10 @@ module _ (setting : Setting) (journal : List Item) (is : IsSetting setting)
     spelling = record { switch = below s named.0; suits = refl; fields = tt };
     short = alone_short _ refl;
   }
-  spelled n (receiver.Switch s) (Stamp boot version) sent named = record {
+  spelled n (receiver.Switch s) (Stamp boot version touched) sent named = record {
     spelling = record { switch = below s named.0; suits = refl; fields = tt };
-    short = alone_short _ refl;
+    short = stamp_sent_short (receiver.Switch s) boot version touched
+        (few n s boot version touched sent);
   }
   spelled n (receiver.Switch s) (Collect boot version) sent named = record {
     spelling = record { switch = below s named.0; suits = refl; fields = tt };

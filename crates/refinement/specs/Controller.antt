@@ -8,9 +8,11 @@ use Rattle.journal.specs.declared.item.Item.{Item}
 use Rattle.update_machine.specs.Setting.{Setting}
 use Rattle.update_machine.specs.Settling.{versions_from_current}
 use Rattle.update_machine.specs.Versions.{next_policy, policy_at, plan_at}
+use Rattle.update_machine.specs.Touched.{next_touched, touched_by}
 use Rattle.refinement.specs.Marks.{AreMarksOf}
+use Rattle.ternary.specs.Word.{WordValue}
 
--- a version with its policy and its plan
+-- a version with its policy and its plan, and what its change touches
 abbrev pub plan_to_keep : Setting → List Item → ℕ → KeptPlan
 plan_to_keep setting journal version = record {
   version = version;
@@ -18,6 +20,7 @@ plan_to_keep setting journal version = record {
     policy = policy_at setting journal version;
     hosted = plan_at setting journal version;
   };
+  touched = touched_by setting journal version;
 }
 
 -- the marks are those that the journal says, and the plans those of the versions from the current
@@ -27,8 +30,10 @@ pub record IsControllerOf (setting : Setting) (journal : List Item)
   pub marks : AreMarksOf setting journal controller.marks
   pub plans : controller.plans ≡ map (plan_to_keep setting journal) (versions_from_current journal)
 
--- the plan is that of the next version, if it is submitted with this file
+-- the plan is that of the next version, if it is submitted with this file, and the file touches
+-- this
 pub record IsPlanOfNext (setting : Setting) (journal : List Item) (file : ℕ) (plan : PlanValue)
-    : Type 0 where
+    (touched : List WordValue) : Type 0 where
   pub policy : next_policy setting journal file ≡ Ok plan.policy
   pub hosted : setting.plan plan.policy ≡ Ok plan.hosted
+  pub touches : touched ≡ next_touched setting journal file

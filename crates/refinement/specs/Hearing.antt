@@ -17,6 +17,7 @@ use Rattle.update_machine.specs.Setting.{Setting}
 use Rattle.update_machine.specs.Settling.{to_switch}
 use Rattle.update_machine.specs.Links.{message_of}
 use Rattle.control_laws.specs.Named.{BodiesNameThere}
+use Rattle.control_laws.specs.Touched.{StampsSayTouched}
 use Rattle.refinement.specs.Links.{relinked_switch}
 use Rattle.refinement.specs.SwitchOf.{switch_of}
 
@@ -26,6 +27,7 @@ pub record IsSentTo (setting : Setting) (before : List Item) (n s : ℕ) (body :
     : Type 0 where
   pub sent : message_of before n ≡ Some (to_switch s body)
   pub names : BodiesNameThere setting before
+  pub touched : StampsSayTouched setting before
 
 -- the journal within the step that delivers the message
 abbrev pub within_delivery : List Item → ℕ → ℕ → List Item → List Item

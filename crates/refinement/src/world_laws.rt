@@ -5,9 +5,10 @@ ghost use Rattle.version_update.specs.Record.{after_over};
 ghost use Rattle.ctrl_msg.specs.Kinds.{to_controller};
 ghost use Rattle.ctrl_msg.specs.declared.message.Body.{Body};
 ghost use Rattle.ctrl_msg.specs.declared.message.Message.{Message};
-ghost use Rattle.controller.specs.Exports.{ControllerValue, NamesThere, PlanValue, SettlesWith, SubmitsPlan, first_controller, hear_acts, marks_after, newest_policy, resend_acts, settling_acts, submit_acts};
+ghost use Rattle.controller.specs.Exports.{ControllerValue, NamesThere, PlanValue, SettlesWith, SubmitsPlan, current_touched, first_controller, hear_acts, marks_after, newest_policy, next_kept, resend_acts, settling_acts, submit_acts};
 ghost use Rattle.controller.specs.declared.sends.Act.{Act};
 ghost use Rattle.controller.specs.declared.sends.Act.TheVariants.{Post};
+ghost use Rattle.ternary.specs.Word.{WordValue};
 ghost use Rattle.steps.specs.declared.step.Step.TheVariants.{Confirm, Deliver, Resend, Update};
 ghost use Rattle.journal.specs.declared.item.Item.TheVariants.{Row, Delivered, Nothing, OverNow, Refused, Submitted};
 ghost use Rattle.update_machine.specs.Exports.{HaveCauses, IsReached, IsSetting, Item, NoneConcern, Setting, Step, concerns_controller, is_deliverable, is_up, message_of, piece, policy_in, resent_by_controller, send_items, version_count};
@@ -25,23 +26,24 @@ pub fn controllers_begin()
 /// applied, is that of the journal's newest version.
 pub fn controllers_submit()
     ensures taken { (setting : Setting) (before : List Item) (row file : ℕ)
-        (old new : ControllerValue) (plan : PlanValue)
+        (old new : ControllerValue) (plan : PlanValue) (touched : List WordValue)
         → HaveCauses (HasItemCause setting) [] before → IsControllerOf setting before old
-        → IsPlanOfNext setting before file plan → old.marks.count - old.marks.retired ≢ 8
-        → old.marks.count ≢ 64 → SubmitsPlan old plan new
+        → IsPlanOfNext setting before file plan touched → old.marks.count - old.marks.retired ≢ 8
+        → old.marks.count ≢ 64 → SubmitsPlan old (next_kept old plan touched) new
         → AreWritten setting before
         (Row row (Update file) ∷ Submitted file (old.marks.count + 1) ∷ [])
-        (submit_acts old.marks plan new.marks) new (piece setting before row (Update file)) }
+        (submit_acts old.marks (next_kept old plan touched) new) new
+        (piece setting before row (Update file)) }
     ensures live { (setting : Setting) (before : List Item) (row file : ℕ)
-        (old : ControllerValue) (plan : PlanValue)
+        (old : ControllerValue) (plan : PlanValue) (touched : List WordValue)
         → HaveCauses (HasItemCause setting) [] before → IsControllerOf setting before old
-        → IsPlanOfNext setting before file plan → old.marks.count - old.marks.retired ≡ 8
+        → IsPlanOfNext setting before file plan touched → old.marks.count - old.marks.retired ≡ 8
         → AreWritten setting before (Row row (Update file) ∷ Refused file 16 ∷ []) [] old
         (piece setting before row (Update file)) }
     ensures versions { (setting : Setting) (before : List Item) (row file : ℕ)
-        (old : ControllerValue) (plan : PlanValue)
+        (old : ControllerValue) (plan : PlanValue) (touched : List WordValue)
         → HaveCauses (HasItemCause setting) [] before → IsControllerOf setting before old
-        → IsPlanOfNext setting before file plan → old.marks.count - old.marks.retired ≢ 8
+        → IsPlanOfNext setting before file plan touched → old.marks.count - old.marks.retired ≢ 8
         → old.marks.count ≡ 64
         → AreWritten setting before (Row row (Update file) ∷ Refused file 17 ∷ []) [] old
         (piece setting before row (Update file)) }
@@ -75,7 +77,7 @@ pub fn controllers_confirm()
         → IsFalse (is_up before s) → s < length old.marks.switches
         → SettlesWith (at_switch s after_over old.marks) old.plans new
         → AreWritten setting before (Row row (Confirm s) ∷ OverNow s ∷ [])
-        (settling_acts (at_switch s after_over old.marks) new.marks) new
+        (settling_acts (current_touched new) (at_switch s after_over old.marks) new.marks) new
         (piece setting before row (Confirm s)) }
 {}
 

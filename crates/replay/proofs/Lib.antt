@@ -4,3 +4,4 @@ mod Keeping
 mod Small
 mod Stepping
 mod Refining
+mod Planned

@@ -15,11 +15,13 @@
 //! let row = played.full; // the row at which there was no room, if the play stopped there
 //! let meters = played.meters; // those that stayed
 //! let gone = played.gone; // the flow records of those that left
+//! let plan = played.plan; // that of the version that is current at the end
 //! ```
 #![tactic(auto)]
 
 mod error;
 mod event_steps;
+mod in_force;
 mod noting;
 mod playing;
 

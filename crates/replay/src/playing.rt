@@ -10,12 +10,15 @@ ghost use Rattle.steps.specs.Limits.{max_events};
 ghost use Rattle.update_machine.specs.Exports.{IsPlay, NamesOwnPort, setting_of};
 ghost use Rattle.world.specs.Files.{first_policy};
 ghost use Rattle.world.specs.State.{IsBegun, setting_at};
+ghost use Rattle.replay.specs.InForce.{IsPlanInForce};
 ghost use Rattle.replay.specs.Leavings.{left_in};
 ghost use Rattle.replay.specs.Playing.{IsPlanRefusal};
 
 use crate::error::ReplayError;
 use crate::event_steps::take_steps;
+use crate::in_force::plan_in_force;
 use base::Failure;
+use controller::Plan;
 use journal::Journal;
 use meters::{Board, Flows, Meter};
 use net_file::Net;
@@ -33,6 +36,8 @@ pub struct Played<M> {
     pub meters: Vec<M>,
     /// The flow records of the meters that left, as each left.
     pub gone: Flows,
+    /// The plan of the version that is current behind the journal.
+    pub plan: Plan,
     /// The row of the step that would have begun behind a full journal, where the play ended so.
     pub full: Option<u32>,
 }
@@ -70,6 +75,8 @@ pub fn replay<M: Meter>(
     ensures gone { IfOk result (λ played. played.gone
         ≡ gone_records (port_mask net.now.switches) (left_in played.journal)
         (map M.seen meters.items)) }
+    ensures plan { IfOk result (λ played.
+        IsPlanInForce (setting_of net.now files.items) played.journal played.plan) }
     ensures planned { OnOk result
         (IsOk (plan_of (unwrap_or (first_policy files.items) []) net.now)) }
     ensures refused { IfErr result
@@ -102,6 +109,8 @@ pub fn play<M: Meter>(
         ≡ kept_meters ports (left_in played.journal) (map M.seen meters.items)) }
     ensures gone { IfOk result (λ played. played.gone
         ≡ gone_records ports (left_in played.journal) (map M.seen meters.items)) }
+    ensures plan { IfOk result (λ played.
+        IsPlanInForce (setting_at world) played.journal played.plan) }
 {
     world.refines();
     plays_held_on_the_way();
@@ -112,18 +121,23 @@ pub fn play<M: Meter>(
         row += 1;
         match take_steps(&mut world, &mut board, row, event) {
             Ok(()) => {}
-            Err(Failure::Refused(Full)) => return Ok(ended(world, board, Some(row))),
+            Err(Failure::Refused(Full)) => {
+                let plan = plan_in_force(&world)?;
+                return Ok(ended(world, board, plan, Some(row)));
+            }
             Err(Failure::NoMemory) => return Err(AllocError),
         }
     }
-    Ok(ended(world, board, None))
+    let plan = plan_in_force(&world)?;
+    Ok(ended(world, board, plan, None))
 }
 
 /// What the play leaves that ended so.
-fn ended<M: Meter>(world: World, board: Board<M>, full: Option<u32>) -> Played<M>
+fn ended<M: Meter>(world: World, board: Board<M>, plan: Plan, full: Option<u32>) -> Played<M>
     ensures journal { result.journal ≡ world.journal }
     ensures meters { result.meters.items ≡ board.meters }
     ensures gone { result.gone ≡ board.gone }
+    ensures plan { result.plan ≡ plan }
     ensures full { result.full ≡ full }
 {
     let journal = world.into_journal();
@@ -132,6 +146,7 @@ fn ended<M: Meter>(world: World, board: Board<M>, full: Option<u32>) -> Played<M
         journal,
         meters,
         gone,
+        plan,
         full,
     }
 }

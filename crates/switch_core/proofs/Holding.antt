@@ -7,8 +7,9 @@ use Rattle.failover.specs.declared.advert.Advert.{Advert}
 use Rattle.failover.specs.Adverts.{after_hearing, is_news}
 use Rattle.failover.proofs.Adverts.{after_no_news}
 use Rattle.switch_table.specs.declared.tables.Tables.{Tables}
-use Rattle.switch_core.specs.Hearing.{collected_to, with_heard, with_installed, is_news_here, raised_to}
+use Rattle.switch_core.specs.Hearing.{collected_to, with_heard, with_installed, is_news_here, raised_to, stamped_with}
 use Rattle.switch_core.specs.State.{SwitchValue, held_tables, holds_version}
+use Rattle.ternary.specs.Word.{WordValue}
 
 -- ---- tables
 
@@ -102,6 +103,11 @@ pub stamp_once_raised : (s : SwitchValue) (version : ℕ) →
     (raised_to s version).stamp ≡ max s.stamp version
 unfolding raised_to
 stamp_once_raised s version = grind (arith, nat_tests)
+
+pub stamp_once_told : (s : SwitchValue) (version : ℕ) (touched : List WordValue) →
+    (stamped_with s version touched).stamp ≡ max s.stamp version
+unfolding stamped_with
+stamp_once_told s version touched = grind (arith, nat_tests)
 
 pub database_once_informed : (s : SwitchValue) (advert : Advert) →
     (with_heard s advert).database

@@ -20,9 +20,11 @@ use Rattle.switch_table.specs.Cache.{CacheValue, after_raise}
 use Rattle.switch_table.specs.declared.tables.Tables.{Tables}
 use Rattle.switch_core.specs.declared.packet.Packet.{Packet}
 use Rattle.switch_core.specs.Ends.{are_isolated, cause_of, is_seek, set_out}
-use Rattle.switch_core.specs.Hearing.{after_body, collected_to, with_message, with_heard, with_installed, obeys, raised_to}
+use Rattle.switch_core.specs.Hearing.{after_body, collected_to, with_message, with_heard, with_installed, obeys, raised_to, stamped_with}
 use Rattle.switch_core.specs.Laws.{IsHeard}
 use Rattle.switch_core.specs.State.{HasOwnUpTo, SwitchValue, own_advert}
+use Rattle.switch_table.specs.Carried.{after_carry}
+use Rattle.ternary.specs.Word.{WordValue}
 
 -- ---- packets
 
@@ -114,14 +116,16 @@ raised_heard s is_open version = by_test (nat_lt s.stamp version) refl
     by_test false more = kept s is_open s.stamp s.collected s.tables s.cache s.database
         (omega arith) (omega arith)
 
-stamped_heard : (s : SwitchValue) (version : ℕ) → IsHeard s (raised_to s version)
-unfolding raised_to
-stamped_heard s version = by_test (nat_lt s.stamp version) refl
+stamped_heard : (s : SwitchValue) (version : ℕ) (touched : List WordValue) →
+    IsHeard s (stamped_with s version touched)
+unfolding stamped_with
+stamped_heard s version touched = by_test (nat_lt s.stamp version) refl
   where
     by_test : (test : Bool) → nat_lt s.stamp version ≡ test →
-        IsHeard s (cond test (record s { stamp = version; cache = after_raise version s.cache }) s)
-    by_test true less = kept s s.is_open version s.collected s.tables (after_raise version s.cache)
-        s.database (grind (arith, nat_tests)) (omega arith)
+        IsHeard s (cond test
+        (record s { stamp = version; cache = after_carry version touched s.cache }) s)
+    by_test true less = kept s s.is_open version s.collected s.tables
+        (after_carry version touched s.cache) s.database (grind (arith, nat_tests)) (omega arith)
     by_test false more = same s
 
 heard_body : (s : SwitchValue) (number : ℕ) (body : Body) → IsHeard s (after_body s number body)
@@ -130,7 +134,8 @@ heard_body s number (Install boot tables) = either s _ _ _ (same s)
     (kept s s.is_open s.stamp s.collected (s.tables ++ tables ∷ []) s.cache s.database
     (omega arith) (omega arith))
 heard_body s number (OpenAt boot version) = raised_heard s true version
-heard_body s number (Stamp boot version) = stamped_heard s version
+heard_body s number (Stamp boot version touched) =
+    stamped_heard s version touched
 heard_body s number (Collect boot version) = kept s s.is_open s.stamp (max s.collected version)
     (filter (λ (tables : Tables). nat_lt (max s.collected version) tables.version) s.tables)
     s.cache s.database (omega arith) (omega arith)

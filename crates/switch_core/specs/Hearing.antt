@@ -7,9 +7,11 @@ use Rattle.failover.specs.Adverts.{after_hearing, is_news}
 use Rattle.base.specs.Masks.{has, switches}
 use Rattle.failover.specs.declared.advert.Advert.{Advert}
 use Rattle.switch_table.specs.Cache.{after_accept, after_raise}
+use Rattle.switch_table.specs.Carried.{after_carry}
 use Rattle.switch_table.specs.Tables.{AreSoundTables}
 use Rattle.switch_table.specs.declared.cache.CacheEntry.{CacheEntry}
 use Rattle.switch_table.specs.declared.tables.Tables.{Tables}
+use Rattle.ternary.specs.Word.{WordValue}
 use Rattle.ctrl_msg.specs.Bodies.{body_boot}
 use Rattle.ctrl_msg.specs.declared.message.Body.{Body}
 use Rattle.ctrl_msg.specs.declared.message.Body.TheVariants.{Install, OpenAt, Stamp, Collect, CacheRule, Advertise, Installed, Stamped}
@@ -44,6 +46,13 @@ raised_to s version = if nat_lt s.stamp version
     then record s { stamp = version; cache = after_raise version s.cache }
     else s
 
+-- its stamp is at least this version; where it rises, the cache is carried to it, past what was
+-- touched
+unfoldable pub stamped_with : SwitchValue → ℕ → List WordValue → SwitchValue
+stamped_with s version touched = if nat_lt s.stamp version
+    then record s { stamp = version; cache = after_carry version touched s.cache }
+    else s
+
 abbrev pub opened_with : SwitchValue → ℕ → SwitchValue
 opened_with s version = record (raised_to s version) { is_open = true }
 
@@ -71,7 +80,7 @@ with_heard s advert = if is_news_here s advert
 abbrev pub after_body : SwitchValue → ℕ → Body → SwitchValue
 after_body s number (Install boot tables) = with_installed s tables
 after_body s number (OpenAt boot version) = opened_with s version
-after_body s number (Stamp boot version) = raised_to s version
+after_body s number (Stamp boot version touched) = stamped_with s version touched
 after_body s number (Collect boot version) = collected_to s version
 after_body s number (CacheRule version word rule action) = with_learnt s (record {
   version = version;
@@ -96,7 +105,7 @@ flood near body = map (λ other. record { to = Switch other; body = body })
 abbrev pub replies_to : SwitchValue → ℕ → Body → List Message
 replies_to s near (Install boot tables) =
     to_controller (Installed s.number s.boot tables.version) ∷ []
-replies_to s near (Stamp boot version) = to_controller (Stamped s.number s.boot version) ∷ []
+replies_to s near (Stamp boot version touched) = to_controller (Stamped s.number s.boot version) ∷ []
 replies_to s near (Advertise advert) =
     if is_news_here s advert then flood near (Advertise advert) else []
 replies_to s near _ = []

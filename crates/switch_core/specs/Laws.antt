@@ -11,8 +11,9 @@ use Rattle.ctrl_msg.specs.declared.message.Body.{Body}
 use Rattle.switch_table.specs.declared.tables.Tables.{Tables}
 use Rattle.switch_core.specs.declared.packet.Packet.{Packet}
 use Rattle.switch_core.specs.Ends.{cause_of, is_seek, set_out}
-use Rattle.switch_core.specs.Hearing.{collected_to, with_message, with_heard, with_installed, obeys, raised_to}
+use Rattle.switch_core.specs.Hearing.{collected_to, with_message, with_heard, with_installed, obeys, raised_to, stamped_with}
 use Rattle.switch_core.specs.State.{HasOwnUpTo, SwitchValue, held_tables}
+use Rattle.ternary.specs.Word.{WordValue}
 
 -- what alone a message may change, and that a stamp and a collect mark never fall within a boot
 pub record IsHeard (before after : SwitchValue) : Type 0 where
@@ -55,6 +56,8 @@ pub record SwitchLaws : Type 0 where
       ≡ (if nat_lt (max s.collected mark) version then held_tables s version else None)
   pub after_rise : (s : SwitchValue) (version : ℕ) →
       (raised_to s version).stamp ≡ max s.stamp version
+  pub after_stamp : (s : SwitchValue) (version : ℕ) (touched : List WordValue) →
+      (stamped_with s version touched).stamp ≡ max s.stamp version
   -- adverts of others are heard, and its own are left alone
   pub after_advert : (s : SwitchValue) (advert : Advert) →
       (with_heard s advert).database

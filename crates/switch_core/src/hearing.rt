@@ -2,7 +2,7 @@ ghost use Rattle.std.specs.Prelude.{◌≡◌, ◌<◌, [], ◌∷◌, OnErr, On
 ghost use Rattle.switch_table.specs.Tables.{AreSoundTables};
 ghost use Rattle.ctrl_msg.specs.declared.message.Body.TheVariants.{Advertise};
 ghost use Rattle.ctrl_msg.specs.Kinds.{to_controller};
-ghost use Rattle.switch_core.specs.Hearing.{IsSoundBody, collected_to, flood, with_message, with_heard, with_installed, is_news_here, with_learnt, obeys, opening_stamp, opened_with, opened_by, raised_to, replies, replies_to};
+ghost use Rattle.switch_core.specs.Hearing.{IsSoundBody, collected_to, flood, with_message, with_heard, with_installed, is_news_here, with_learnt, obeys, opening_stamp, opened_with, opened_by, raised_to, replies, replies_to, stamped_with};
 
 use crate::answers::{Heard, Replies};
 use crate::kept::KeptTables;
@@ -11,7 +11,7 @@ use base::has;
 use ctrl_msg::{Body, Message, Place, SharedTables};
 use failover::Advert;
 use std::alloc::{AllocError, Global};
-use switch_table::CacheEntry;
+use switch_table::{CacheEntry, Touched};
 
 impl Switch {
     /// The message of this number is delivered here. A switch that is down does nothing, nor does
@@ -41,7 +41,11 @@ impl Switch {
         match body {
             Body::Install { tables, .. } => self.install(alloc, tables)?,
             Body::OpenAt { version, .. } => self.open_with(*version),
-            Body::Stamp { version, .. } => self.raise(*version),
+            Body::Stamp {
+                version,
+                touched,
+                ..
+            } => self.stamp_with(*version, touched.get())?,
             Body::Collect { version, .. } => self.collect(*version),
             Body::CacheRule {
                 version,
@@ -133,7 +137,22 @@ impl Switch {
         self.is_open = true;
     }
 
-    // Stamps with at least this version from now on.
+    // Stamps with at least this version from now on; where the stamp rises, the cache is carried to
+    // it, past what was touched.
+    #[tactic(auto, unfolding(crate::specs::Hearing::stamped_with))]
+    fn stamp_with(&mut self, version: u32, touched: &Touched) -> Result<(), AllocError>
+        ensures after { OnOk result (self.new ≡ stamped_with self.old version touched.now) }
+        ensures err { OnErr result (self.new ≡ self.old) }
+    {
+        if self.stamp < version {
+            self.cache.carry(version, touched)?;
+            self.stamp = version;
+        }
+        Ok(())
+    }
+
+    // Stamps with at least this version from now on; where the stamp rises, the cache is raised to
+    // it.
     #[tactic(auto, unfolding(crate::specs::Hearing::raised_to))]
     fn raise(&mut self, version: u32)
         ensures { self.new ≡ raised_to self.old version }

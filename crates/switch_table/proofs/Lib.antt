@@ -1,3 +1,4 @@
 pub mod QueueLemmas
 pub mod CacheLemmas
+pub mod CarryLemmas
 pub mod TableLemmas

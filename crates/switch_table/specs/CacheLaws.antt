@@ -1,6 +1,8 @@
--- The laws of caches: `cache_laws` of the crate ensures the record.
-use Rattle.std.specs.Prelude.{ℕ, []}
+-- The laws of caches: `cache_laws` and `carry_laws` of the crate ensure the records.
+use Rattle.std.specs.Prelude.{ℕ, ◌≡◌, ◌≤◌, ◌+◌, ◌⊎◌, IsFalse, List, [], All, Any, Contains}
+use Rattle.ternary.specs.Word.{WordValue}
 use Rattle.switch_table.specs.Cache.{CacheValue, IsCache, after_accept, after_expire, after_raise, after_clear}
+use Rattle.switch_table.specs.Carried.{after_carry, all_touched, meets_any, under}
 use Rattle.switch_table.specs.declared.cache.CacheEntry.{CacheEntry}
 
 -- a cache that begins without entries has distinct keys and no more entries than its capacity after
@@ -14,3 +16,30 @@ pub record CacheLaws : Type 0 where
   pub kept_by_raise : (stamp : ℕ) (cache : CacheValue) → IsCache cache →
       IsCache (after_raise stamp cache)
   pub kept_by_clear : (cache : CacheValue) → IsCache cache → IsCache (after_clear cache)
+  pub kept_by_carry : (version : ℕ) (touched : List WordValue) (cache : CacheValue) →
+      IsCache cache → IsCache (after_carry version touched cache)
+
+-- the entry is one of the version before, of a word that meets no touched one, which went over
+pub record WentOver (version : ℕ) (touched : List WordValue) (cache : CacheValue)
+    (entry : CacheEntry) : Type 0 where
+  pub old : CacheEntry
+  pub there : Contains cache.entries old
+  pub before : old.version + 1 ≡ version
+  pub apart : IsFalse (meets_any touched old.word)
+  pub is : entry ≡ under version old
+
+pub record CarryLaws : Type 0 where
+  -- an entry of the version before whose word meets no touched one is there under the version, if
+  -- not as it was then as the one of its word that came before the change did
+  pub untouched : (version : ℕ) (touched : List WordValue) (cache : CacheValue)
+      (entry : CacheEntry) → Contains cache.entries entry → entry.version + 1 ≡ version →
+      IsFalse (meets_any touched entry.word) →
+      Any (λ kept. (kept.version ≡ version) × (kept.word ≡ entry.word))
+      (after_carry version touched cache).entries
+  -- what is there was there, or went over
+  pub only : (version : ℕ) (touched : List WordValue) (cache : CacheValue) →
+      All (λ entry. ((version ≤ entry.version) × Contains cache.entries entry)
+      ⊎ WentOver version touched cache entry) (after_carry version touched cache).entries
+  -- where all is touched, the entries of earlier versions go
+  pub all : (version : ℕ) (cache : CacheValue) →
+      after_carry version all_touched cache ≡ after_raise version cache

@@ -1,4 +1,6 @@
 pub mod Cache
+pub mod Carried
+pub mod Listed
 pub mod CacheLaws
 pub mod Queue
 pub mod Tables

@@ -1,11 +1,13 @@
 ghost use Rattle.std.specs.Prelude.{◌≡◌, [], slice_get, option_map, OnOk, OnErr};
 ghost use Rattle.switch_table.specs.Cache.{IsCache, after_accept, after_expire, after_raise, after_clear, first_entry};
-ghost use Rattle.switch_table.specs.CacheLaws.{CacheLaws};
+ghost use Rattle.switch_table.specs.CacheLaws.{CacheLaws, CarryLaws};
+ghost use Rattle.switch_table.specs.Carried.{after_carry};
 ghost use Rattle.switch_table.specs.Queue.{key_of};
 
 use crate::items::CacheItems;
 use crate::key::CacheKey;
 use crate::queue::EntryQueue;
+use crate::touched::Touched;
 use policy_rules::Action;
 use std::alloc::{AllocError, Global};
 use std::marker::Model;
@@ -114,6 +116,19 @@ impl Cache {
         self.queue.keep_from(stamp);
     }
 
+    /// Carries the entries to a version: those of the version before go over to it where their
+    /// words meet none of the touched ones, and keep their places in the order. The others of that
+    /// version and all of earlier ones go, and so does one whose word an entry of the version has.
+    ///
+    /// # Errors
+    /// Want of memory alone; nothing changes then.
+    pub fn carry(&mut self, version: u32, touched: &Touched) -> Result<(), AllocError>
+        ensures ok { OnOk result (self.new ≡ after_carry version touched.now self.old) }
+        ensures err { OnErr result (self.new ≡ self.old) }
+    {
+        self.queue.carry(version, touched)
+    }
+
     /// Takes out all entries.
     pub fn clear(&mut self)
         ensures { self.new ≡ after_clear self.old }
@@ -133,4 +148,11 @@ impl Cache {
 /// capacity: a law on the definitions alone.
 pub fn cache_laws()
     ensures { CacheLaws }
+{}
+
+/// What is carried to a version: no rule of the version before that the change doesn't touch is
+/// lost, and each rule that goes over was there and is touched by nothing. A law on the definitions
+/// alone.
+pub fn carry_laws()
+    ensures { CarryLaws }
 {}

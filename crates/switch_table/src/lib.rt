@@ -3,7 +3,8 @@
 //!
 //! A `Cache` promises to be a list: each call is an operation on the list of its entries, and want
 //! of memory changes nothing. `cache_laws` says of lists alone that no call makes two entries of
-//! one version and word. `lookup` promises the first cached rule of the tables' version, else the
+//! one version and word, and `carry_laws` that a change of the policy takes from a cache no rule
+//! that it doesn't touch. `lookup` promises the first cached rule of the tables' version, else the
 //! first authority rule, else the redirect; it takes no memory. `tables_laws` says of the tables
 //! that a plan gives to a switch that they are sound, that they say what the plan says, and that
 //! they lead each header to the policy's first match, by the switch's own rules or by those of any
@@ -16,8 +17,10 @@ mod key;
 mod queue;
 mod search;
 mod tables;
+mod touched;
 
-pub use cache::{Cache, CacheEntry, cache_laws};
+pub use cache::{Cache, CacheEntry, cache_laws, carry_laws};
 pub use items::CacheItems;
 pub use search::{Found, lookup, tables_laws};
 pub use tables::{PartRow, PartRows, Partitions, Tables};
+pub use touched::Touched;

@@ -1,11 +1,13 @@
-ghost use Rattle.std.specs.Prelude.{◌≡◌, ◌<◌, [], ◌∷◌, ◌++◌, length, drop, remove, map, filter, nat_le, slice_get, IsFalse, IfOk, OnOk, OnErr};
+ghost use Rattle.std.specs.Prelude.{◌≡◌, ◌<◌, [], ◌∷◌, ◌++◌, length, drop, remove, map, filter, filter_map, nat_le, slice_get, IsFalse, IfOk, OnOk, OnErr};
 ghost use Rattle.std.specs.List.{list_any};
 ghost use Rattle.switch_table.specs.Cache.{same_key, HaveDistinctKeys};
+ghost use Rattle.switch_table.specs.Carried.{carried_entry};
 ghost use Rattle.switch_table.specs.Queue.{pair_of};
 
 use crate::cache::CacheEntry;
 use crate::items::CacheItems;
 use crate::key::CacheKey;
+use crate::touched::Touched;
 use indexmap::IndexMap;
 use std::alloc::{AllocError, Global};
 use std::marker::Model;
@@ -125,6 +127,58 @@ impl EntryQueue {
         let (front, _) = self.ring.as_slice().split_at(self.first);
         self.first = count_from(front.values().as_slice(), version);
         self.ring.retain(|_, entry| version <= entry.version);
+    }
+
+    /// Carries the entries to this version: a new ring is made of what is left, and then takes the
+    /// place of the old one.
+    #[tactic(auto, using(crate::proofs::CarryLemmas::carried_distinct, crate::proofs::CarryLemmas::ring_left_is, crate::proofs::CarryLemmas::ring_left_entries))]
+    pub fn carry(&mut self, version: u32, touched: &Touched) -> Result<(), AllocError>
+        ensures ok { OnOk result
+            (self.new ≡ filter_map (carried_entry version touched.now self.old) self.old) }
+        ensures err { OnErr result (self.new ≡ self.old) }
+    {
+        let ring = self.carried(version, touched)?;
+        self.first = ring.len();
+        self.ring = ring;
+        Ok(())
+    }
+
+    // A map that holds what is left of the entries, in order.
+    fn carried(
+        &self,
+        version: u32,
+        touched: &Touched,
+    ) -> Result<IndexMap<CacheKey, CacheEntry>, AllocError>
+        ensures entries { IfOk result (λ ring. ring.entries
+            ≡ map pair_of (filter_map (carried_entry version touched.now self.now) self.now)) }
+        ensures distinct { HaveDistinctKeys self.now }
+    {
+        let mut ring = IndexMap::with_capacity(*self.ring.allocator(), self.ring.len())?;
+        for entry in self.iter() {
+            if let Some(left) = self.carried_entry(version, touched, &entry) {
+                ring.insert(left.key(), left)?;
+            }
+        }
+        Ok(ring)
+    }
+
+    // What becomes of an entry.
+    fn carried_entry(
+        &self,
+        version: u32,
+        touched: &Touched,
+        entry: &CacheEntry,
+    ) -> Option<CacheEntry>
+        ensures { result ≡ carried_entry version touched.now self.now entry.now }
+    {
+        if version <= entry.version {
+            return Some(*entry);
+        }
+        let over = CacheEntry { version, ..*entry };
+        let stays = entry.version + 1 == version
+            && !touched.meets(&entry.word)
+            && !self.has_key_of(&over);
+        if stays { Some(over) } else { None }
     }
 
     pub fn clear(&mut self)

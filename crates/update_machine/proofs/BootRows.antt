@@ -1,5 +1,6 @@
 -- A crash and a restart, computed, with an update meanwhile.
 use Rattle.std.proofs.Common.{◌≡◌, [], ◌∷◌, ◌++◌, refl}
+use Rattle.switch_table.specs.Carried.{all_touched}
 use Rattle.ctrl_msg.specs.declared.message.Body.TheVariants as body
 use Rattle.steps.specs.declared.step.Step.TheVariants as step
 use Rattle.journal.specs.declared.item.Item.TheVariants as item
@@ -18,8 +19,8 @@ pub boot_rows :
     ∷ item.Sent 5 (to 0 (body.Install 2 (tables_of plan_p 2 0)))
     ∷ item.Sent 6 (to 1 (body.Install 1 (tables_of plan_p 2 1)))
     ∷ answered 7 5 7 (body.Installed 0 2 2) ++ answered 8 6 8 (body.Installed 1 1 2)
-    ++ delivered 9 7 ++ delivered 10 8 ++ item.Current 2 ∷ item.Sent 9 (to 0 (body.Stamp 2 2))
-    ∷ item.Sent 10 (to 1 (body.Stamp 1 2)) ∷ answered 11 9 11 (body.Stamped 0 2 2)
+    ++ delivered 9 7 ++ delivered 10 8 ++ item.Current 2 ∷ item.Sent 9 (to 0 (body.Stamp 2 2 all_touched))
+    ∷ item.Sent 10 (to 1 (body.Stamp 1 2 all_touched)) ∷ answered 11 9 11 (body.Stamped 0 2 2)
     ++ answered 12 9 12 (body.Stamped 0 2 2) ++ delivered 13 4 ++ item.Opened 0 2
     ∷ item.Sent 13 (to 1 (advert 0 2 1 2)) ∷ item.Sent 14 (to 0 (advert 0 1 1 2))
     ∷ item.Sent 15 (to 0 (advert 1 1 3 1)) ∷ delivered 14 4

@@ -2,19 +2,28 @@
 use Rattle.std.proofs.Common.{ℕ, ◌≡◌, Some, List, [], ◌∷◌, ◌++◌, refl}
 use Rattle.std.specs.Prelude.{Ok}
 use Rattle.ctrl_msg.specs.declared.message.Body.TheVariants.{CacheRule, Stamp}
-use Rattle.policy_rules.specs.declared.policy.Action.TheVariants.{Drop}
+use Rattle.five_tuple.specs.Cover.{cover_of}
+use Rattle.five_tuple.specs.declared.matching.Proto.TheVariants.{Is}
+use Rattle.policy_rules.specs.Words.{word_of_row}
+use Rattle.policy_rules.specs.declared.amendment.Edit.TheVariants.{Add}
+use Rattle.policy_rules.specs.declared.file.PolicyFile.TheVariants.{Whole, Change}
+use Rattle.policy_rules.specs.declared.policy.Action.TheVariants.{Drop, Out}
+use Rattle.policy_rules.specs.declared.policy.Row.{Row}
 use Rattle.switch_table.specs.Cache.{same_key}
+use Rattle.switch_table.specs.Carried.{all_touched}
 use Rattle.switch_table.specs.declared.cache.CacheEntry.{CacheEntry}
 use Rattle.switch_table.specs.declared.search.Found.TheVariants.{Authority, Cached, Redirect}
+use Rattle.ternary.specs.Meets.{meets}
 use Rattle.ternary.specs.Word.{WordValue, holds}
 use Rattle.journal.specs.declared.item.Item.{Item}
 use Rattle.journal.specs.declared.item.Item.TheVariants as item
 use Rattle.update_machine.specs.Boots.{boot_of, heard, is_up}
 use Rattle.update_machine.specs.Caches.{cache_of, lookup_at, raised_from}
 use Rattle.update_machine.specs.Setting.{Setting, file_of, policy_in}
+use Rattle.update_machine.specs.Touched.{touched_by}
 use Rattle.update_machine.specs.Versions.{stamp_of, plan_at}
 use Rattle.update_machine.specs.Links.{message_of}
-use Rattle.update_machine.proofs.Examples.{all_dropped, any_word, by_action, denied, on, one, out_or_drop, plan_p, to, two_switches, web}
+use Rattle.update_machine.proofs.Examples.{all_dropped, all_to, any_word, by_action, cached as apart, denied, on, one, out_or_drop, plan_p, to, two_switches, web}
 
 -- a and b; the plan of the first policy is on b, that of the second on a
 abbrev moved : Setting
@@ -31,7 +40,7 @@ cached number version word =
 
 abbrev stamped : ℕ → ℕ → List Item
 stamped number version =
-    item.Sent number (to 0 (Stamp 1 version)) ∷ item.Delivered number ∷ []
+    item.Sent number (to 0 (Stamp 1 version all_touched)) ∷ item.Delivered number ∷ []
 
 abbrev entry : ℕ → ℕ → WordValue → CacheEntry
 entry number version word = record {
@@ -57,7 +66,7 @@ pub below_the_stamp :
     (cache_of moved (cached 1 1 web ++ cached 2 2 web ++ stamped 3 2 ++ cached 4 1 any_word)
     0).entries
     ≡ entry 2 2 web ∷ []
-unfolding cache_of stamp_of heard is_up boot_of message_of same_key
+unfolding cache_of touched_by file_of policy_in meets stamp_of heard is_up boot_of message_of same_key
 below_the_stamp = refl
 
 -- an equal or a lower stamp, which comes late, doesn't rise and removes nothing
@@ -96,6 +105,42 @@ pub empty_at_b : (cache_of moved (cached 1 1 web) 1).entries ≡ []
 unfolding cache_of stamp_of heard is_up boot_of message_of same_key
 empty_at_b = refl
 
+-- ---- a change: the second file adds `200,any,10.1.0.0/16,any,80,tcp,drop`
+
+abbrev web_row : Row
+web_row = record (all_to Drop) {
+  priority = 200;
+  dst = record { address = 167837696; len = 16 };
+  dport = record { low = 80; high = 80 };
+  proto = Is 6;
+}
+
+abbrev amended : Setting
+amended = record moved { files = Whole (all_to (Out 2) ∷ []) ∷ Change (Add web_row ∷ []) ∷ [] }
+
+pub touches_its_row : touched_by amended (item.Submitted 2 2 ∷ []) 2 ≡ web ∷ []
+unfolding touched_by policy_in file_of cover_of word_of_row
+touches_its_row = refl
+
+-- what the stamp of its version leaves of these entries
+abbrev left_of : List Item → List CacheEntry
+left_of entries =
+    (cache_of amended
+    (entries ++ item.Submitted 2 2 ∷ item.Sent 4 (to 0 (Stamp 1 2 (web ∷ []))) ∷ item.Delivered 4
+    ∷ []) 0).entries
+
+-- what meets the row goes, what doesn't goes over, and the earlier one of its word before it
+pub goes_over_alone :
+    left_of (cached 1 1 web ++ cached 2 1 apart) ≡ entry 2 2 apart ∷ []
+unfolding cache_of touched_by policy_in file_of cover_of word_of_row meets stamp_of heard is_up boot_of message_of same_key
+goes_over_alone = refl
+
+pub stays_before_it :
+    left_of (cached 1 1 apart ++ cached 2 2 apart ++ cached 3 2 web)
+    ≡ entry 2 2 apart ∷ entry 3 2 web ∷ []
+unfolding cache_of touched_by policy_in file_of cover_of word_of_row meets stamp_of heard is_up boot_of message_of same_key
+stays_before_it = refl
+
 -- ---- what a says of a header
 
 -- a version that was submitted says nothing before its stamp
@@ -105,7 +150,7 @@ by_the_stamp = refl
 
 pub by_the_next_stamp :
     lookup_at moved (item.Submitted 2 2 ∷ stamped 1 2) 0 one ≡ Authority 0 0
-unfolding lookup_at plan_at cache_of stamp_of heard is_up boot_of message_of file_of policy_in holds
+unfolding lookup_at plan_at cache_of touched_by meets stamp_of heard is_up boot_of message_of file_of policy_in holds
 by_the_next_stamp = refl
 
 -- nor do entries of another version than the stamp
@@ -117,7 +162,7 @@ no_entry_of_the_stamp = refl
 pub entry_of_the_stamp :
     lookup_at moved (item.Submitted 2 2 ∷ cached 1 2 any_word ++ stamped 2 2) 0 one
     ≡ Cached (entry 1 2 any_word)
-unfolding lookup_at plan_at cache_of stamp_of heard is_up boot_of message_of file_of policy_in holds same_key
+unfolding lookup_at plan_at cache_of touched_by meets stamp_of heard is_up boot_of message_of file_of policy_in holds same_key
 entry_of_the_stamp = refl
 
 -- of two entries that hold a header the first one, and none where none holds it

@@ -9,6 +9,7 @@ pub use Rattle.update_machine.proofs.SilentPackets.{packet_keeps}
 pub use Rattle.update_machine.proofs.SilentController.{controller_keeps}
 pub use Rattle.update_machine.proofs.Policies.{begins_planned, first_has_plan, first_plan_stays, first_policy_stays, has_plan_stays, next_has_plan, next_is, numbered_at_first, other_more, part_there, plan_stays, policy_stays, submitted_more, version_kept}
 pub use Rattle.update_machine.proofs.Settings.{IsAllowed, allowed_next, first_planned, first_version_is, next_by, planned_code, setting_begun, unapplied_code, unplanned_code, version_is_planned, versions_own}
+pub use Rattle.update_machine.proofs.TouchedLemmas.{first_touched, next_touched_is, touched_apart, touched_few, touched_stays}
 pub use Rattle.update_machine.proofs.MachinePolicies.{ArePolicies, TakesVersion, policies_begin, policies_stay, policy_there, takes_version}
 pub use Rattle.update_machine.proofs.Start.{start_laws}
 pub use Rattle.update_machine.proofs.CauseLemmas.{have_append, have_first, have_in_turn, have_put}

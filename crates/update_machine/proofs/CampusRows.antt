@@ -3,6 +3,7 @@ use Rattle.std.proofs.Common.{◌≡◌, Some, None, [], ◌∷◌, ◌++◌, re
 use Rattle.policy_rules.specs.declared.policy.Action.TheVariants.{Drop, Out}
 use Rattle.policy_rules.specs.declared.rules.Rule.{Rule}
 use Rattle.policy_rules.specs.declared.packet.How.TheVariants as how
+use Rattle.switch_table.specs.Carried.{all_touched}
 use Rattle.ctrl_msg.specs.declared.message.Body.TheVariants as body
 use Rattle.steps.specs.declared.step.Step.TheVariants as step
 use Rattle.journal.specs.declared.item.Item.TheVariants as item
@@ -140,8 +141,8 @@ pub campus_rows :
     ++ answered 11 15 19 (body.Installed 0 1 2) ++ answered 11 16 20 (body.Installed 1 1 2)
     ++ answered 11 17 21 (body.Installed 2 1 2) ++ answered 11 18 22 (body.Installed 3 1 2)
     ++ delivered 11 19 ++ delivered 11 20 ++ delivered 11 21 ++ delivered 11 22 ++ item.Current 2
-    ∷ item.Sent 23 (to 0 (body.Stamp 1 2)) ∷ item.Sent 24 (to 1 (body.Stamp 1 2))
-    ∷ item.Sent 25 (to 2 (body.Stamp 1 2)) ∷ item.Sent 26 (to 3 (body.Stamp 1 2))
+    ∷ item.Sent 23 (to 0 (body.Stamp 1 2 all_touched)) ∷ item.Sent 24 (to 1 (body.Stamp 1 2 all_touched))
+    ∷ item.Sent 25 (to 2 (body.Stamp 1 2 all_touched)) ∷ item.Sent 26 (to 3 (body.Stamp 1 2 all_touched))
     ∷ answered 11 23 27 (body.Stamped 0 1 2) ++ answered 11 24 28 (body.Stamped 1 1 2)
     ++ answered 11 25 29 (body.Stamped 2 1 2) ++ answered 11 26 30 (body.Stamped 3 1 2)
     ++ delivered 11 27 ++ delivered 11 28 ++ delivered 11 29 ++ delivered 11 30 ++ item.Retired 1

@@ -4,7 +4,7 @@ use Rattle.std.specs.Prelude.{Ok, Err, length, slice_get}
 use Rattle.std.specs.Option.{option_map_or}
 use Rattle.policy_rules.specs.Applied.{applied}
 use Rattle.policy_rules.specs.declared.amendment.Edit.TheVariants.{Remove, Add}
-use Rattle.policy_rules.specs.declared.applying.Inapplicable.TheVariants.{Absent, Taken}
+use Rattle.policy_rules.specs.declared.applying.Inapplicable.TheVariants.{Taken}
 use Rattle.policy_rules.specs.declared.file.PolicyFile.TheVariants.{Whole, Change}
 use Rattle.policy_rules.specs.declared.policy.Action.TheVariants.{Drop, Out}
 use Rattle.policy_rules.specs.declared.policy.Row.{Row}

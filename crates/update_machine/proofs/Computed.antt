@@ -19,6 +19,7 @@ use Rattle.update_machine.specs.Pieces.{packet_items, hop_items, lose_items, del
 use Rattle.update_machine.specs.Sendings.{sendings}
 use Rattle.update_machine.specs.Settling.{current_items, open_items, retired_items, settling, installs_to, installs_to_all, resent_by_controller}
 use Rattle.update_machine.specs.Steps.{steps_in}
+use Rattle.update_machine.specs.Touched.{touched_by}
 use Rattle.update_machine.specs.Versions.{version_count, stamp_of, holds_version, next_policy, plan_at}
 use Rattle.update_machine.specs.Causes.{present_step}
 use Rattle.update_machine.specs.Travels.{ingress_of, travels, next_travelling, leg_of}
@@ -47,7 +48,7 @@ unfolding own_seq own_advert adverts_known held_adverts route_from is_cut_off bo
     route_place next_switch found_down packet_items hop_items lose_items deliver_items
     forget_items expire_items update_items link_items crash_items restart_items confirm_items
     resend_items piece sendings current_items open_items retired_items settling installs_to
-    installs_to_all resent_by_controller steps_in present_step version_count file_of policy_in next_policy applied plan_at
+    installs_to_all resent_by_controller steps_in present_step version_count file_of policy_in touched_by next_policy applied plan_at
     stamp_of holds_version has mask_where mask_of switches least_in is_news after_hearing first_adverts
     names_neighbour named_links is_link known_links is_isolated grown_ball ball least_neighbour_in
     path_after links_away route_to

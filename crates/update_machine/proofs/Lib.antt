@@ -23,6 +23,7 @@ mod CachesSaid
 mod FoldLemmas
 mod Policies
 mod Settings
+mod TouchedLemmas
 mod MachinePolicies
 mod OneAnswer
 mod Existence

@@ -183,7 +183,7 @@ switch_next : (setting : Setting) (before : List Item) (s : ℕ) (body : Body) (
     → Next journal (switch_items setting before s body journal)
 unfolding switch_items
 switch_next setting before s (body.Install boot tables) journal = sends_next journal _
-switch_next setting before s (body.Stamp boot version) journal = sends_next journal _
+switch_next setting before s (body.Stamp boot version touched) journal = sends_next journal _
 switch_next setting before s (body.OpenAt boot version) journal =
     grind (arith, have_first, links_next)
 switch_next setting before s (body.Advertise advert) journal = grind (arith, sends_next)

@@ -1,5 +1,6 @@
 -- A switch that is over, computed.
 use Rattle.std.proofs.Common.{◌≡◌, [], ◌∷◌, ◌++◌, refl}
+use Rattle.switch_table.specs.Carried.{all_touched}
 use Rattle.ctrl_msg.specs.declared.message.Body.TheVariants as body
 use Rattle.steps.specs.declared.step.Step.TheVariants as step
 use Rattle.journal.specs.declared.item.Item.TheVariants as item
@@ -20,6 +21,6 @@ pub over_rows :
     ∷ item.OverNow 0 ∷ item.Row 9 (step.Restart 0) ∷ item.Booted 0 3
     ∷ item.Sent 7 (to_controller (body.Hello 0 3)) ∷ delivered 10 4
     ++ item.Row 11 (step.Packet 0 one) ∷ item.Closed 1 0 ∷ answered 12 6 8 (body.Installed 1 1 2)
-    ++ delivered 13 8 ++ item.Current 2 ∷ item.Sent 9 (to 1 (body.Stamp 1 2)) ∷ []
+    ++ delivered 13 8 ++ item.Current 2 ∷ item.Sent 9 (to 1 (body.Stamp 1 2 all_touched)) ∷ []
 unfolding left_by
 over_rows = refl

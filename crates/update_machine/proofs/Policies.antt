@@ -208,7 +208,7 @@ pub count_above : (journal : List Item) → VersionsAreNumbered journal
     → 1 ≤ version_count journal
 count_above journal are = ((are 1).0 (first_there journal)).1
 
-next_file : (journal : List Item) (file version : ℕ) → VersionsAreNumbered journal
+pub next_file : (journal : List Item) (file version : ℕ) → VersionsAreNumbered journal
     → version ≡ version_count journal + 1
     → file_of (journal ++ item.Submitted file version ∷ []) version ≡ Some file
 next_file journal file version are next =

@@ -116,7 +116,7 @@ restarted =
     ∷ item.Sent 2 (to 0 (body.OpenAt 1 1)) ∷ item.Row 2 (step.Crash 0) ∷ item.Down 0
     ∷ item.Row 3 (step.Restart 0) ∷ item.Booted 0 2
     ∷ item.Sent 3 (to_controller (body.Hello 0 2)) ∷ item.Row 4 (step.Deliver 3) ∷ item.Delivered 3
-    ∷ item.Sent 4 (to 0 (body.Stamp 1 1)) ∷ item.Sent 5 (to_controller (body.Stamped 0 1 1)) ∷ []
+    ∷ item.Sent 4 (to 0 (body.Stamp 1 1 [])) ∷ item.Sent 5 (to_controller (body.Stamped 0 1 1)) ∷ []
 
 pub quiet_in_boot_2 : IsQuiet open_net restarted
 unfolding was_delivered is_up boot_of current_mark
@@ -148,7 +148,7 @@ advert_waits quiet =
 
 -- nor does what was sent before a boot began that has the number of the one before
 pub boot_begins :
-    IsQuiet open_net (item.Sent 1 (to 0 (body.Stamp 1 1)) ∷ item.Booted 0 1 ∷ [])
+    IsQuiet open_net (item.Sent 1 (to 0 (body.Stamp 1 1 [])) ∷ item.Booted 0 1 ∷ [])
 unfolding was_delivered is_up boot_of current_mark
 boot_begins = by_parts _ (refl, (refl, tt)) (
   of_both _ (λ m. absurd (true≢false (sym m))) (λ m. absurd (true≢false (sym m))),
@@ -184,9 +184,9 @@ delivered_too_early quiet =
 -- a later equal message, a stamp of a greater version and a newer advert replace those before them
 pub quiet_by_later :
     IsQuiet open_net
-    (item.Sent 1 (to_controller (body.Hello 1 1)) ∷ item.Sent 2 (to 0 (body.Stamp 1 2))
+    (item.Sent 1 (to_controller (body.Hello 1 1)) ∷ item.Sent 2 (to 0 (body.Stamp 1 2 []))
     ∷ item.Sent 3 (to 0 (advert 1 1 1 1)) ∷ item.Sent 4 (to_controller (body.Hello 1 1))
-    ∷ item.Sent 5 (to 0 (body.Stamp 1 3)) ∷ item.Sent 6 (to 0 (advert 1 1 2 0))
+    ∷ item.Sent 5 (to 0 (body.Stamp 1 3 [])) ∷ item.Sent 6 (to 0 (advert 1 1 2 0))
     ∷ item.Delivered 4 ∷ item.Delivered 5 ∷ item.Delivered 6 ∷ [])
 unfolding was_delivered is_up boot_of current_mark
 quiet_by_later = by_parts _ (refl, (refl, tt)) (

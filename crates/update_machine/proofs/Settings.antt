@@ -90,7 +90,7 @@ own_by setting (Some (Change edits)) (Some old) rows sound ports own made = (
 )
 
 -- a file of a sound setting
-file_is_sound : (setting : Setting) → IsSetting setting → (file : ℕ)
+pub file_is_sound : (setting : Setting) → IsSetting setting → (file : ℕ)
     → IfSome (file_at setting file) IsPolicyFile
     × IfSome (file_at setting file) (GivesOnly (λ row. NamesOwnPort setting row.action))
 file_is_sound setting is file = by_number (file == 0)

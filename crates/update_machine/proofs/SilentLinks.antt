@@ -16,11 +16,12 @@ use Rattle.update_machine.specs.Laws.{KnownKeeps, LinksKeep, PoliciesKeep, Switc
 use Rattle.update_machine.specs.Versions.{is_submission, policy_at, stamp_of, version_count, hosted_in, next_policy, plan_at}
 use Rattle.update_machine.specs.LinkMasks.{near}
 use Rattle.update_machine.specs.Quiet.{is_waited_for, gives_waited_for}
-use Rattle.update_machine.specs.Setting.{Setting, file_of, first_given, gives_file, policy_by, policy_in}
+use Rattle.update_machine.specs.Setting.{Setting, file_of, first_given, gives_file, policy_by, policy_in, file_at}
 use Rattle.update_machine.specs.Steps.{StepItems, steps_in}
 use Rattle.update_machine.proofs.Silent.{Silent, Stays, count_stays, fewer, first_stays, last_or_stays, neither_left, neither_right, stays}
 use Rattle.update_machine.proofs.SilentSteps.{weight_stays}
 use Rattle.update_machine.proofs.SilentSwitches.{link_stays, near_stays, switch_keeps}
+use Rattle.update_machine.specs.Touched.{touched_by, touched_of}
 
 -- ---- the number of the own advert
 
@@ -206,6 +207,17 @@ policy_in_keeps setting before items none v =
     policy_by_files setting (before ++ items) before v
     (λ k first last. file_stays before items none k)
 
+touched_keeps : (before items : List Item) → NoneConcern concerns_policies before items
+    → (setting : Setting) (v : ℕ)
+    → touched_by setting (before ++ items) v ≡ touched_by setting before v
+unfolding touched_by
+touched_keeps before items none setting zero = refl
+touched_keeps before items none setting (suc v) =
+    ap (λ file. touched_of (option_and_then (file_at setting) file)
+    (policy_in setting (before ++ items) v)) (file_stays before items none (suc v))
+    ∙ ap (touched_of (option_and_then (file_at setting) (file_of before (suc v))))
+    (policy_in_keeps setting before items none v)
+
 pub policies_keep : (before items : List Item) → NoneConcern concerns_policies before items
     → PoliciesKeep before (before ++ items)
 unfolding policy_at plan_at next_policy
@@ -217,6 +229,7 @@ policies_keep before items none = record {
       ap (λ o. unwrap_or o []) (policy_in_keeps setting before items none v);
   plan = λ setting v. ap (λ o. option_map_or (λ rows. hosted_in (setting.plan rows)) o [])
       (policy_in_keeps setting before items none v);
+  touched = touched_keeps before items none;
   next = λ setting file.
       ap (λ v. policy_by setting (policy_in setting (before ++ items) v) file)
       (policy_count_stays before items none)

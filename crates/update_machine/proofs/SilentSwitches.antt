@@ -43,13 +43,13 @@ heard_silent s before bodies (item.Delivered number) apart = rw (said_nothing be
     refl
 heard_silent s before bodies _ apart = refl
 
-cache_silent : (s : ℕ) → Keeps (concerns_switch s) (changes_cache s)
-cache_silent s before cache (item.Booted switch boot) apart = rw apart refl
-cache_silent s before cache (item.Down switch) apart = rw apart refl
-cache_silent s before cache (item.Expired switch place message) apart = rw apart refl
-cache_silent s before cache (item.Delivered number) apart = rw (said_nothing before s number apart)
+cache_silent : (setting : Setting) (s : ℕ) → Keeps (concerns_switch s) (changes_cache setting s)
+cache_silent setting s before cache (item.Booted switch boot) apart = rw apart refl
+cache_silent setting s before cache (item.Down switch) apart = rw apart refl
+cache_silent setting s before cache (item.Expired switch place message) apart = rw apart refl
+cache_silent setting s before cache (item.Delivered number) apart = rw (said_nothing before s number apart)
     refl
-cache_silent s before cache _ apart = refl
+cache_silent setting s before cache _ apart = refl
 
 pub switch_keeps : (setting : Setting) (s : ℕ) (before items : List Item)
     → NoneConcern (concerns_switch s) before items → SwitchKeeps setting s before (before ++ items)
@@ -68,7 +68,7 @@ switch_keeps setting s before items none =
       heard = bodies;
       stamp = rw (boot, up, bodies) refl;
       versions = λ v. rw (boot, up, bodies) refl;
-      cache = folded_stays _ _ _ (cache_silent s) before items none;
+      cache = folded_stays _ _ _ (cache_silent setting s) before items none;
     }
 
 -- ---- links

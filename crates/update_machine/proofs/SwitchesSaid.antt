@@ -25,7 +25,7 @@ told number body = item.Sent number (to 0 body) ∷ item.Delivered number ∷ []
 -- ---- boots
 
 abbrev restarted : List Item
-restarted = told 1 (Stamp 1 2) ++ item.Down 0 ∷ item.Booted 0 2 ∷ []
+restarted = told 1 (Stamp 1 2 []) ++ item.Down 0 ∷ item.Booted 0 2 ∷ []
 
 pub boot_2 : boot_of restarted 0 ≡ 2
 unfolding boot_of
@@ -46,18 +46,18 @@ serves_once_opened = refl
 -- what was heard is forgotten; what is for another boot, or comes while it is down, isn't heard; an
 -- advert is for any boot
 pub hears_again :
-    heard (restarted ++ told 2 (Stamp 1 3) ++ told 3 (Stamp 2 3) ++ told 4 (advert 1 1 2 1)) 0
-    ≡ Stamp 2 3 ∷ advert 1 1 2 1 ∷ []
+    heard (restarted ++ told 2 (Stamp 1 3 []) ++ told 3 (Stamp 2 3 []) ++ told 4 (advert 1 1 2 1)) 0
+    ≡ Stamp 2 3 [] ∷ advert 1 1 2 1 ∷ []
 unfolding heard is_up boot_of message_of
 hears_again = refl
 
-pub hears_nothing_down : heard (item.Down 0 ∷ told 1 (Stamp 1 2)) 0 ≡ []
+pub hears_nothing_down : heard (item.Down 0 ∷ told 1 (Stamp 1 2 [])) 0 ≡ []
 unfolding heard is_up boot_of message_of
 hears_nothing_down = refl
 
 -- ---- versions
 
-pub greatest_stamp : stamp_of (told 1 (Stamp 1 3) ++ told 2 (Stamp 1 2)) 0 ≡ 3
+pub greatest_stamp : stamp_of (told 1 (Stamp 1 3 []) ++ told 2 (Stamp 1 2 [])) 0 ≡ 3
 unfolding stamp_of heard is_up boot_of message_of
 greatest_stamp = refl
 
@@ -128,8 +128,8 @@ adverts_of_a = (refl, refl, refl, refl, refl, refl)
 
 abbrev sent : List Item
 sent =
-    item.Sent 1 (to 0 (Stamp 1 1)) ∷ item.Sent 2 (to 0 (Stamp 1 1))
-    ∷ item.Sent 3 (to 0 (Stamp 1 1)) ∷ item.Forgotten 1 ∷ item.Delivered 2 ∷ []
+    item.Sent 1 (to 0 (Stamp 1 1 [])) ∷ item.Sent 2 (to 0 (Stamp 1 1 []))
+    ∷ item.Sent 3 (to 0 (Stamp 1 1 [])) ∷ item.Forgotten 1 ∷ item.Delivered 2 ∷ []
 
 pub forgotten_is_gone : is_deliverable sent 1 ≡ false
 unfolding is_deliverable is_forgotten message_of
@@ -148,7 +148,7 @@ unfolding next_waiting is_deliverable is_forgotten was_delivered message_of
 third_waits = refl
 
 pub first_waits_first :
-    next_waiting (item.Sent 1 (to 0 (Stamp 1 1)) ∷ item.Sent 2 (to 0 (Stamp 1 1)) ∷ []) ≡ Some 1
+    next_waiting (item.Sent 1 (to 0 (Stamp 1 1 [])) ∷ item.Sent 2 (to 0 (Stamp 1 1 [])) ∷ []) ≡ Some 1
 unfolding next_waiting is_deliverable is_forgotten was_delivered message_of
 first_waits_first = refl
 

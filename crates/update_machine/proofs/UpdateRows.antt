@@ -2,6 +2,7 @@
 use Rattle.std.proofs.Common.{◌≡◌, Some, List, [], ◌∷◌, ◌++◌, refl}
 use Rattle.policy_rules.specs.declared.policy.Action.TheVariants.{Drop}
 use Rattle.policy_rules.specs.declared.packet.How.TheVariants as how
+use Rattle.switch_table.specs.Carried.{all_touched}
 use Rattle.ctrl_msg.specs.declared.message.Body.TheVariants as body
 use Rattle.steps.specs.declared.step.Step.TheVariants as step
 use Rattle.journal.specs.declared.item.Item.{Item}
@@ -17,8 +18,8 @@ updated =
     ∷ item.Sent 1 (to 0 (body.Install 1 (tables_of plan_q 2 0)))
     ∷ item.Sent 2 (to 1 (body.Install 1 (tables_of plan_q 2 1)))
     ∷ answered 3 1 3 (body.Installed 0 1 2) ++ answered 3 2 4 (body.Installed 1 1 2)
-    ++ delivered 3 3 ++ delivered 3 4 ++ item.Current 2 ∷ item.Sent 5 (to 0 (body.Stamp 1 2))
-    ∷ item.Sent 6 (to 1 (body.Stamp 1 2)) ∷ answered 3 5 7 (body.Stamped 0 1 2)
+    ++ delivered 3 3 ++ delivered 3 4 ++ item.Current 2 ∷ item.Sent 5 (to 0 (body.Stamp 1 2 all_touched))
+    ∷ item.Sent 6 (to 1 (body.Stamp 1 2 all_touched)) ∷ answered 3 5 7 (body.Stamped 0 1 2)
     ++ answered 3 6 8 (body.Stamped 1 1 2) ++ delivered 3 7 ++ delivered 3 8 ++ item.Retired 1
     ∷ item.Sent 9 (to 0 (body.Collect 1 1)) ∷ item.Sent 10 (to 1 (body.Collect 1 1)) ∷ delivered 3 9
     ++ delivered 3 10 ++ item.Row 4 (step.Hop 1) ∷ item.Hopped 1 1 ∷ item.Row 4 (step.Hop 1)

@@ -5,7 +5,9 @@ use Rattle.std.specs.Option.{option_map_or}
 use Rattle.ctrl_msg.specs.declared.message.Body.{Body}
 use Rattle.ctrl_msg.specs.declared.message.Body.TheVariants.{OpenAt, Stamp, CacheRule}
 use Rattle.five_tuple.specs.declared.header.Header.{Header}
+use Rattle.ternary.specs.Word.{WordValue}
 use Rattle.switch_table.specs.Cache.{CacheValue, after_accept, after_clear, after_expire, after_raise}
+use Rattle.switch_table.specs.Carried.{after_carry}
 use Rattle.switch_table.specs.Lookup.{lookup_of}
 use Rattle.switch_table.specs.declared.search.Found.{Found}
 use Rattle.journal.specs.declared.item.Item.{Item}
@@ -13,16 +15,22 @@ use Rattle.journal.specs.declared.item.Item.TheVariants as item
 use Rattle.update_machine.specs.Boots.{body_to_switch}
 use Rattle.update_machine.specs.Folds.{folded_value}
 use Rattle.update_machine.specs.Setting.{Setting}
+use Rattle.update_machine.specs.Touched.{touched_by}
 use Rattle.update_machine.specs.Versions.{stamp_of, tables_at}
 
 -- a stamp that rises removes the entries of lower versions
 abbrev pub raised_from : ℕ → ℕ → CacheValue → CacheValue
 raised_from earlier stamp cache = if nat_lt earlier stamp then after_raise stamp cache else cache
 
+-- a stamp that rises to a version carries the entries to it, past what its change touches
+abbrev pub carried_from : List WordValue → ℕ → ℕ → CacheValue → CacheValue
+carried_from touched earlier version cache =
+    if nat_lt earlier version then after_carry version touched cache else cache
+
 -- what a delivered body makes of the cache, under the stamps before and after its delivery: a cache
--- rule is taken in, and the stamp may rise
-abbrev pub cache_after : ℕ → ℕ → ℕ → CacheValue → Body → CacheValue
-cache_after earlier stamp number cache (CacheRule version word rule action) =
+-- rule is taken in, a switch that opens may raise its stamp, and one that is told to stamp too
+abbrev pub cache_after : (ℕ → List WordValue) → ℕ → ℕ → ℕ → CacheValue → Body → CacheValue
+cache_after touched_of earlier stamp number cache (CacheRule version word rule action) =
     after_accept stamp
     (record {
       version = version;
@@ -31,27 +39,30 @@ cache_after earlier stamp number cache (CacheRule version word rule action) =
       action = action;
       message = number;
     }) cache
-cache_after earlier stamp number cache (OpenAt boot version) = raised_from earlier stamp cache
-cache_after earlier stamp number cache (Stamp boot version) = raised_from earlier stamp cache
-cache_after earlier stamp number cache _ = cache
+cache_after touched_of earlier stamp number cache (OpenAt boot version) =
+    raised_from earlier stamp cache
+cache_after touched_of earlier stamp number cache (Stamp boot version touched) =
+    carried_from (touched_of version) earlier version cache
+cache_after touched_of earlier stamp number cache _ = cache
 
-abbrev pub changes_cache : ℕ → List Item → CacheValue → Item → CacheValue
-changes_cache s before cache (item.Down switch) = if switch == s then after_clear cache else cache
-changes_cache s before cache (item.Booted switch boot) =
+abbrev pub changes_cache : Setting → ℕ → List Item → CacheValue → Item → CacheValue
+changes_cache setting s before cache (item.Down switch) = if switch == s then after_clear cache else cache
+changes_cache setting s before cache (item.Booted switch boot) =
     if switch == s then after_clear cache else cache
-changes_cache s before cache (item.Expired switch place message) =
+changes_cache setting s before cache (item.Expired switch place message) =
     if switch == s then after_expire place cache else cache
-changes_cache s before cache (item.Delivered number) =
+changes_cache setting s before cache (item.Delivered number) =
     let stamp = stamp_of (before ++ item.Delivered number ∷ []) s in
-    option_map_or (cache_after (stamp_of before s) stamp number cache)
+    option_map_or
+    (cache_after (touched_by setting before) (stamp_of before s) stamp number cache)
     (body_to_switch before s number)
     cache
-changes_cache s before cache _ = cache
+changes_cache setting s before cache _ = cache
 
 -- the cache of the switch: what its deliveries and timeouts made of the empty one in its boot
 unfoldable pub cache_of : Setting → List Item → ℕ → CacheValue
 cache_of setting journal s =
-    folded_value (changes_cache s) (record { entries = []; capacity = setting.net.cache }) journal
+    folded_value (changes_cache setting s) (record { entries = []; capacity = setting.net.cache }) journal
 
 -- what the cache of the switch and the tables of its stamp say of the header
 unfoldable pub lookup_at : Setting → List Item → ℕ → Header → Found

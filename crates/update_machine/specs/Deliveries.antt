@@ -74,7 +74,7 @@ is_news_to setting before s advert =
 unfoldable pub switch_items : Setting → List Item → ℕ → Body → List Item → List Item
 switch_items setting before s (Install boot tables) journal =
     send_items journal (to_controller (Installed s boot tables.version) ∷ [])
-switch_items setting before s (Stamp boot version) journal =
+switch_items setting before s (Stamp boot version touched) journal =
     send_items journal (to_controller (Stamped s boot version) ∷ [])
 switch_items setting before s (OpenAt boot version) journal = elim (serves before s) [
   | true ↦ []

@@ -30,6 +30,7 @@ use Rattle.update_machine.specs.Versions.{holds_version, policy_at, stamp_of, ta
 use Rattle.update_machine.specs.Travels.{ingress_of, leg_of, next_travelling, travels}
 use Rattle.update_machine.specs.Ways.{found_down, next_switch, route_in, route_place}
 use Rattle.update_machine.specs.LinkMasks.{near, adverts_begun, adverts_heard, links_known}
+use Rattle.update_machine.specs.Touched.{touched_by}
 
 -- nothing is said of a packet that didn't come in
 pub record PacketStarts (i : ℕ) : Type 0 where
@@ -175,6 +176,8 @@ pub record PoliciesKeep (before after : List Item) : Type 0 where
   pub policy : (setting : Setting) (v : ℕ) →
       policy_at setting after v ≡ policy_at setting before v
   pub plan : (setting : Setting) (v : ℕ) → plan_at setting after v ≡ plan_at setting before v
+  pub touched : (setting : Setting) (v : ℕ) →
+      touched_by setting after v ≡ touched_by setting before v
   pub next : (setting : Setting) (file : ℕ) →
       next_policy setting after file ≡ next_policy setting before file
 

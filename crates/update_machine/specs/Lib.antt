@@ -4,6 +4,7 @@ pub mod SwitchNumbers
 pub mod Messages
 pub mod Boots
 pub mod Versions
+pub mod Touched
 pub mod Marks
 pub mod Links
 pub mod LinkMasks

@@ -74,7 +74,7 @@ matters journal s message after = elim message.to [
 
 -- the body says what the other one does, of a greater version or of a newer advert
 abbrev pub is_later_body : Body → Body → Bool
-is_later_body (Stamp boot version) (Stamp of earlier) = boot == of && nat_lt earlier version
+is_later_body (Stamp boot version touched) (Stamp of earlier others) = boot == of && nat_lt earlier version
 is_later_body (Collect boot version) (Collect of earlier) = boot == of && nat_lt earlier version
 is_later_body (Stamped s boot version) (Stamped t of earlier) =
     s == t && boot == of && nat_lt earlier version

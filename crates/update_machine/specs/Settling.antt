@@ -14,6 +14,7 @@ use Rattle.update_machine.specs.Messages.{send_items}
 use Rattle.update_machine.specs.Moves.{in_turn, items_then}
 use Rattle.update_machine.specs.Setting.{Setting}
 use Rattle.update_machine.specs.SwitchNumbers.{switches_of}
+use Rattle.update_machine.specs.Touched.{touched_by}
 use Rattle.update_machine.specs.Versions.{tables_at, version_count}
 
 -- ---- messages to a switch
@@ -30,9 +31,10 @@ install_for setting journal version s =
 abbrev pub open_for : List Item → ℕ → ℕ → Message
 open_for journal version s = to_switch s (OpenAt (known_boot journal s) version)
 
--- stamp with this version
-abbrev pub stamp_for : List Item → ℕ → ℕ → Message
-stamp_for journal version s = to_switch s (Stamp (known_boot journal s) version)
+-- stamp with this version, which came of a change that touches these words
+abbrev pub stamp_for : Setting → List Item → ℕ → ℕ → Message
+stamp_for setting journal version s =
+    to_switch s (Stamp (known_boot journal s) version (touched_by setting journal version))
 
 -- drop the tables up to this version
 abbrev pub collect_for : List Item → ℕ → ℕ → Message
@@ -55,7 +57,7 @@ raised_items mark next says tells setting journal =
 -- current rises as far as the members' acknowledgements allow, and they are told to stamp with it
 unfoldable pub current_items : Setting → List Item → List Item
 current_items setting journal =
-    raised_items current_mark next_current item.Current stamp_for setting journal
+    raised_items current_mark next_current item.Current (stamp_for setting) setting journal
 
 -- the joining switches that acknowledged the current version
 abbrev pub opening_switches : Setting → List Item → List ℕ
@@ -119,7 +121,7 @@ resent_to_member setting journal s =
     ∷ unacked_installs setting journal s (range_with_len (current_mark journal + 1)
     (version_count journal - current_mark journal))
     ++ (if nat_lt (acked_stamp journal s) (current_mark journal)
-    then stamp_for journal (current_mark journal) s ∷ [] else [])
+    then stamp_for setting journal (current_mark journal) s ∷ [] else [])
     ++ (if retired_mark journal == 0
     then [] else collect_for journal (retired_mark journal) s ∷ [])
 

@@ -72,7 +72,7 @@ greatest_number numbers = fold max 0 numbers
 -- the version with which a body lets a switch stamp
 abbrev pub stamp_in : Body → Option ℕ
 stamp_in (OpenAt boot version) = Some version
-stamp_in (Stamp boot version) = Some version
+stamp_in (Stamp boot version touched) = Some version
 stamp_in _ = None
 
 abbrev pub first_stamp : List Item → ℕ → List ℕ

@@ -11,8 +11,8 @@ use Rattle.ctrl_msg.specs.declared.message.Body.TheVariants.{Install, OpenAt, St
 use Rattle.policy_rules.specs.declared.policy.Action.{Action}
 use Rattle.policy_rules.specs.declared.policy.Action.TheVariants.{Drop, Out}
 use Rattle.wire.specs.Format.{Format, then_read, ◌⊗◌, optional}
-use Rattle.wire.specs.Fields.{n1, n4, n8, n16, switch, is_word, word, rule_name, action_by_port, port_in_action, action, rule, target_count, targets, region, partition, tables}
-use Rattle.wire.specs.Messages.{receiver_of, receiver, message_front, install_form, boot_and_version, cache_rule_form, advert, hello, acknowledgement, kind_number, spelled_fields, fields_fit, made_body, cache_rule_of, read_fields, body, suits_receiver, message}
+use Rattle.wire.specs.Fields.{n1, n4, n8, n16, switch, is_word, word, rule_name, action_by_port, port_in_action, action, rule, touched_count, touched, target_count, targets, region, partition, tables}
+use Rattle.wire.specs.Messages.{receiver_of, receiver, message_front, install_form, boot_and_version, stamp_form, cache_rule_form, advert, hello, acknowledgement, kind_number, spelled_fields, fields_fit, made_body, cache_rule_of, read_fields, body, suits_receiver, message}
 use Rattle.wire.proofs.Laws.{AreBytes, Takes, IsLawful, then_some, n8-bits, n32-bits, n64-bits, ◌⊠◌, as_type_lawful, such_that_lawful, optional_lawful, list_lawful}
 
 n1_lawful : IsLawful n1
@@ -71,6 +71,14 @@ action_lawful = as_type_lawful _ _ (λ o fits. port_back o) (λ a fits. action_b
 rule_lawful : IsLawful rule
 unfolding rule
 rule_lawful = as_type_lawful _ _ (λ p fits. refl) (λ r fits. refl) (word_lawful ⊠ n4_lawful ⊠ rule_name_lawful ⊠ action_lawful)
+
+touched_count_lawful : IsLawful touched_count
+unfolding touched_count
+touched_count_lawful = such_that_lawful _ n1_lawful
+
+touched_lawful : IsLawful touched
+unfolding touched
+touched_lawful = list_lawful touched_count_lawful word_lawful
 
 target_count_lawful : IsLawful target_count
 unfolding target_count
@@ -143,6 +151,10 @@ of_version_lawful : IsLawful boot_and_version
 unfolding boot_and_version
 of_version_lawful = n4_lawful ⊠ n4_lawful
 
+stamp_lawful : IsLawful stamp_form
+unfolding stamp_form
+stamp_lawful = n4_lawful ⊠ n4_lawful ⊠ touched_lawful
+
 cache_rule_lawful : IsLawful cache_rule_form
 unfolding cache_rule_form
 cache_rule_lawful = n4_lawful ⊠ word_lawful ⊠ rule_name_lawful ⊠ action_lawful
@@ -195,8 +207,8 @@ fields_take k bytes b rest are e =
             of_version_lawful bytes b rest are h.1)
         | inr g2 ↦ elim (chosen (eqb k 3) _ _ _ g2.1) [
           | inl h ↦ at_kind k 3 b bytes rest h.0
-              (kind_takes (λ p. Stamp p.0 p.1) boot_and_version 3 (λ x. refl) (λ x. refl)
-              (λ x. refl) of_version_lawful bytes b rest are h.1)
+              (kind_takes (λ p. Stamp p.0 p.1.0 p.1.1) stamp_form 3 (λ x. refl) (λ x. refl)
+              (λ x. refl) stamp_lawful bytes b rest are h.1)
           | inr g3 ↦ elim (chosen (eqb k 4) _ _ _ g3.1) [
             | inl h ↦ at_kind k 4 b bytes rest h.0
                 (kind_takes (λ p. Collect p.0 p.1) boot_and_version 4 (λ x. refl) (λ x. refl)
@@ -229,7 +241,7 @@ fields_take k bytes b rest are e =
 fields_again : (b : Body) (rest : List ℕ) → fields_fit b ≡ true → read_fields (kind_number b) (spelled_fields b ++ rest) ≡ Some (b, rest)
 fields_again (Install boot tables) rest fits = rw (install_lawful.again (boot, tables) rest fits) refl
 fields_again (OpenAt boot version) rest fits = rw (of_version_lawful.again (boot, version) rest fits) refl
-fields_again (Stamp boot version) rest fits = rw (of_version_lawful.again (boot, version) rest fits) refl
+fields_again (Stamp boot version touched) rest fits = rw (stamp_lawful.again (boot, (version, touched)) rest fits) refl
 fields_again (Collect boot version) rest fits = rw (of_version_lawful.again (boot, version) rest fits) refl
 fields_again (CacheRule version word rule action) rest fits = rw (cache_rule_lawful.again (version, (word, (rule, action))) rest fits) refl
 fields_again (Advertise told) rest fits = rw (advert_lawful.again told rest fits) refl
@@ -241,7 +253,7 @@ kind_fits : (b : Body) → n1.fits (kind_number b) ≡ true
 unfolding n1
 kind_fits (Install _ _) = refl
 kind_fits (OpenAt _ _) = refl
-kind_fits (Stamp _ _) = refl
+kind_fits (Stamp _ _ _) = refl
 kind_fits (Collect _ _) = refl
 kind_fits (CacheRule _ _ _ _) = refl
 kind_fits (Advertise _) = refl

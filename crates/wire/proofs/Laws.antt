@@ -248,6 +248,18 @@ items_take {A = A} f lf (suc count) bytes xs rest are e =
     } in
     subst (λ (p : List A × List ℕ). TakesItems f (suc count) p.0 bytes p.1) (same_Some _ _ d.2) taken
 
+-- as many as were asked for
+pub items_count : {A : Type 0} (f : Format A) (count : ℕ) (bytes : List ℕ) (xs : List A)
+    (rest : List ℕ) → read_items f count bytes ≡ Some (xs, rest) → length xs ≡ count
+unfolding read_items
+items_count {A = A} f zero bytes xs rest e =
+    subst (λ (p : List A × List ℕ). length p.0 ≡ 0) (same_Some _ _ e) refl
+items_count {A = A} f (suc count) bytes xs rest e =
+    let b = then_some (f.read bytes) (λ x. then_read (read_items f count x.1) (λ ys. Some (x.0 ∷ ys.0, ys.1))) (xs, rest) e in
+    let d = then_some (read_items f count b.0.1) (λ ys. Some (b.0.0 ∷ ys.0, ys.1)) (xs, rest) b.2 in
+    subst (λ (p : List A × List ℕ). length p.0 ≡ suc count) (same_Some _ _ d.2)
+    (ap suc (items_count f count b.0.1 d.0.0 d.0.1 d.1))
+
 items_again : {A : Type 0} (f : Format A) → IsLawful f → (xs : List A) (rest : List ℕ)
     → list_all f.fits xs ≡ true → read_items f (length xs) (flat_map f.spell xs ++ rest) ≡ Some (xs, rest)
 unfolding read_items

@@ -65,6 +65,15 @@ rule =
     (λ r. (r.word, (r.rank, (r.rule, r.action))))
     (word ⊗ n4 ⊗ rule_name ⊗ action)
 
+-- ---- what a change touches
+
+unfoldable pub touched_count : Format ℕ
+touched_count = such_that (λ n. nat_le n 16) n1
+
+-- at most 16 words
+unfoldable pub touched : Format (List WordValue)
+touched = list_of touched_count word
+
 -- ---- tables
 
 -- one to four switches

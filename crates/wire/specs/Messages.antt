@@ -46,6 +46,9 @@ install_form = form.n4 ⊗ form.tables
 unfoldable pub boot_and_version : Format (ℕ × ℕ)
 boot_and_version = form.n4 ⊗ form.n4
 
+unfoldable pub stamp_form : Format (ℕ × (ℕ × List WordValue))
+stamp_form = form.n4 ⊗ form.n4 ⊗ form.touched
+
 unfoldable pub cache_rule_form : Format (ℕ × (WordValue × (Option ℕ × Action)))
 cache_rule_form = form.n4 ⊗ form.word ⊗ form.rule_name ⊗ form.action
 
@@ -66,7 +69,7 @@ acknowledgement = form.switch ⊗ form.n4 ⊗ form.n4
 abbrev pub kind_number : Body → ℕ
 kind_number (Install _ _) = 1
 kind_number (OpenAt _ _) = 2
-kind_number (Stamp _ _) = 3
+kind_number (Stamp _ _ _) = 3
 kind_number (Collect _ _) = 4
 kind_number (CacheRule _ _ _ _) = 5
 kind_number (Advertise _) = 6
@@ -81,7 +84,7 @@ in_format f x = (f.spell x, f.fits x)
 abbrev pub fields_in_format : Body → List ℕ × Bool
 fields_in_format (Install boot tables) = in_format install_form (boot, tables)
 fields_in_format (OpenAt boot version) = in_format boot_and_version (boot, version)
-fields_in_format (Stamp boot version) = in_format boot_and_version (boot, version)
+fields_in_format (Stamp boot version touched) = in_format stamp_form (boot, (version, touched))
 fields_in_format (Collect boot version) = in_format boot_and_version (boot, version)
 fields_in_format (CacheRule version word rule action) =
     in_format cache_rule_form (version, (word, (rule, action)))
@@ -108,7 +111,7 @@ abbrev pub read_fields : ℕ → List ℕ → Option (Body × List ℕ)
 read_fields kind bytes =
     if kind == 1 then made_body (λ p. Install p.0 p.1) (install_form.read bytes)
     else (if kind == 2 then made_body (λ p. OpenAt p.0 p.1) (boot_and_version.read bytes)
-    else (if kind == 3 then made_body (λ p. Stamp p.0 p.1) (boot_and_version.read bytes)
+    else (if kind == 3 then made_body (λ p. Stamp p.0 p.1.0 p.1.1) (stamp_form.read bytes)
     else (if kind == 4 then made_body (λ p. Collect p.0 p.1) (boot_and_version.read bytes)
     else (if kind == 5 then made_body cache_rule_of (cache_rule_form.read bytes)
     else (if kind == 6 then made_body Advertise (advert.read bytes)

@@ -6,7 +6,7 @@ ghost use Rattle.wire.specs.Assembly.{AreRising, IsAssembled, IsWhole};
 use crate::codec::decode;
 use crate::error::{Malformed, WireError};
 use crate::frame::Frame;
-use crate::frames::{cut, head_len};
+use crate::frames::{MAX_CHUNK, cut, head_len};
 use ctrl_msg::Message;
 use std::alloc::{AllocError, Global};
 
@@ -21,7 +21,7 @@ pub(crate) fn are_same(a: &[u8], b: &[u8]) -> bool
 fn joined(alloc: Global, frames: &[Frame]) -> Result<Vec<u8>, AllocError>
     ensures { IfOk result (λ bytes. bytes.items ≡ flat_map chunk_of frames.now) }
 {
-    let mut bytes = Vec::new(alloc);
+    let mut bytes = Vec::with_capacity(alloc, frames.len().saturating_mul(MAX_CHUNK))?;
     for frame in frames {
         bytes.extend_from_slice(frame.chunk())?;
     }

@@ -8,16 +8,18 @@ ghost use Rattle.wire.specs.Reading.{AppendsForm, AppendsFields, Gives, Reads};
 
 use crate::error::{Malformed, WireError};
 use crate::fields::{
-    put_action, put_rule_name, put_switch, put_word, read_action, read_rule_name, read_switch,
-    read_word,
+    put_action, put_rule_name, put_switch, put_touched, put_word, read_action, read_rule_name,
+    read_switch, read_touched, read_word,
 };
 use crate::parts::{put_tables, read_tables};
 use crate::reader::Reader;
 use crate::writer::{put_n1, put_n4, put_n8};
+use base::Shared;
 use ctrl_msg::{Body, Message, Place, SharedTables};
 use failover::Advert;
 use policy_rules::Hit;
 use std::alloc::{AllocError, Global};
+use switch_table::Touched;
 use ternary::Word;
 
 #[tactic(auto, unfolding(crate::specs::Messages::receiver))]
@@ -59,6 +61,18 @@ fn read_of_version(reader: &mut Reader) -> Result<(u32, u32), WireError>
     let boot = reader.n4()?;
     let version = reader.n4()?;
     Ok((boot, version))
+}
+
+#[tactic(auto, unfolding(crate::specs::Messages::stamp_form))]
+fn read_stamp(reader: &mut Reader) -> Result<(u32, u32, Shared<Touched>), WireError>
+    ensures { let read = kinds.stamp_form.read reader.old in
+        Gives (λ p. (p.0, (p.1, p.2))) read result reader.new }
+{
+    let boot = reader.n4()?;
+    let version = reader.n4()?;
+    let touched = read_touched(reader)?;
+    let touched = Shared::new(reader.alloc(), touched)?;
+    Ok((boot, version, touched))
 }
 
 #[tactic(auto, unfolding(crate::specs::Messages::advert))]
@@ -112,7 +126,11 @@ fn read_fields(kind: u8, reader: &mut Reader) -> Result<Body, WireError>
     match kind {
         1 => read_install(reader).map(|(boot, tables)| Body::Install { boot, tables }),
         2 => read_of_version(reader).map(|(boot, version)| Body::OpenAt { boot, version }),
-        3 => read_of_version(reader).map(|(boot, version)| Body::Stamp { boot, version }),
+        3 => read_stamp(reader).map(|(boot, version, touched)| Body::Stamp {
+            boot,
+            version,
+            touched,
+        }),
         4 => read_of_version(reader).map(|(boot, version)| Body::Collect { boot, version }),
         5 => read_cache_rule(reader),
         6 => read_advert(reader).map(|advert| Body::Advertise { advert }),
@@ -185,6 +203,21 @@ fn put_of_version(out: &mut Vec<u8>, boot: u32, version: u32) -> Result<(), Allo
     put_n4(out, version)
 }
 
+#[tactic(auto, unfolding(crate::specs::Messages::stamp_form))]
+fn put_stamp(
+    out: &mut Vec<u8>,
+    boot: u32,
+    version: u32,
+    touched: &Touched,
+) -> Result<(), AllocError>
+    ensures { OnOk result (AppendsForm kinds.stamp_form (boot, (version, touched.now))
+        out.old.items out.new.items) }
+{
+    put_n4(out, boot)?;
+    put_n4(out, version)?;
+    put_touched(out, touched)
+}
+
 #[tactic(auto, unfolding(crate::specs::Messages::cache_rule_form))]
 fn put_cache_rule(out: &mut Vec<u8>, version: u32, word: &Word, hit: Hit) -> Result<(), AllocError>
     ensures { OnOk result (AppendsForm kinds.cache_rule_form (version, (word.now, (hit.rule, hit.action)))
@@ -254,9 +287,14 @@ fn put_fields(out: &mut Vec<u8>, body: &Body) -> Result<(), AllocError>
 {
     match body {
         Body::Install { boot, tables } => put_install(out, *boot, tables),
-        Body::OpenAt { boot, version }
-        | Body::Stamp { boot, version }
-        | Body::Collect { boot, version } => put_of_version(out, *boot, *version),
+        Body::OpenAt { boot, version } | Body::Collect { boot, version } => {
+            put_of_version(out, *boot, *version)
+        }
+        Body::Stamp {
+            boot,
+            version,
+            touched,
+        } => put_stamp(out, *boot, *version, touched.get()),
         Body::CacheRule {
             version,
             word,

@@ -3,10 +3,12 @@ ghost use Rattle.wire.specs.Fields as form;
 ghost use Rattle.wire.specs.Reading.{AppendsForm, Reads};
 
 use crate::error::{Malformed, WireError};
+use crate::list::read_items;
 use crate::reader::Reader;
 use crate::writer::{put_n1, put_n4, put_n16};
 use policy_rules::{Action, Targets};
 use std::alloc::AllocError;
+use switch_table::Touched;
 use ternary::Word;
 
 #[tactic(auto, unfolding(crate::specs::Fields::switch))]
@@ -95,6 +97,44 @@ pub(crate) fn put_action(out: &mut Vec<u8>, action: Action) -> Result<(), AllocE
             put_n4(out, port)
         }
     }
+}
+
+// How many words a change touches: at most 16.
+#[tactic(auto, unfolding(crate::specs::Fields::touched_count))]
+fn read_touched_count(reader: &mut Reader) -> Result<u32, WireError>
+    ensures read { Reads form.touched_count reader.old result reader.new }
+    ensures few { IfOk result (λ count. count ≤ 16) }
+{
+    let count = reader.n1()?;
+    if count <= 16 {
+        Ok(u32::from(count))
+    } else {
+        Err(WireError::Refused(Malformed))
+    }
+}
+
+#[tactic(auto, unfolding(crate::specs::Fields::touched))]
+pub(crate) fn read_touched(reader: &mut Reader) -> Result<Touched, WireError>
+    ensures { Reads form.touched reader.old result reader.new }
+{
+    let count = read_touched_count(reader)?;
+    let words = read_items(reader, count)?;
+    match Touched::new(words) {
+        Some(touched) => Ok(touched),
+        None => Err(WireError::Refused(Malformed)),
+    }
+}
+
+#[tactic(auto, unfolding(crate::specs::Fields::touched, crate::specs::Fields::touched_count))]
+pub(crate) fn put_touched(out: &mut Vec<u8>, touched: &Touched) -> Result<(), AllocError>
+    ensures { OnOk result (AppendsForm form.touched touched.now out.old.items out.new.items) }
+{
+    let words = touched.words();
+    put_n1(out, words.len() as u8)?;
+    for word in words {
+        put_word(out, word)?;
+    }
+    Ok(())
 }
 
 // How many targets there are: 1 to 4.

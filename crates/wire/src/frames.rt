@@ -14,7 +14,7 @@ use std::marker::Model;
 pub(crate) const MAX_FRAME: usize = 16_384;
 
 /// The most bytes of a chunk.
-const MAX_CHUNK: usize = MAX_FRAME - HEADER_LEN;
+pub(crate) const MAX_CHUNK: usize = MAX_FRAME - HEADER_LEN;
 
 /// Where the version of tables ends in the frame that begins with it.
 const VERSION_END: usize = HEADER_LEN + 4;

@@ -8,6 +8,9 @@ use crate::reader::Reader;
 use crate::writer::put_n4;
 use std::alloc::AllocError;
 
+/// The bytes of a word, which each part has.
+const LEAST_OF_PART: usize = 32;
+
 /// A part of a message that has a format.
 pub(crate) trait Part: Sized + Drop {
     /// How it is spelled.
@@ -26,10 +29,12 @@ pub(crate) trait Part: Sized + Drop {
         ensures { OnOk result (AppendsForm format self.now out.old.items out.new.items) };
 }
 
-fn read_items<T: Part>(reader: &mut Reader, count: u32) -> Result<Vec<T>, WireError>
+// The count isn't trusted: room is taken for no more parts than the bytes can have.
+pub(crate) fn read_items<T: Part>(reader: &mut Reader, count: u32) -> Result<Vec<T>, WireError>
     ensures { Gives (λ v. v.items) (read_items T.format count reader.old) result reader.new }
 {
-    let mut items = Vec::new(reader.alloc());
+    let most = reader.len() / LEAST_OF_PART;
+    let mut items = Vec::with_capacity(reader.alloc(), most.min(count as usize))?;
     for _ in 0..count {
         items.push(T::read(reader)?)?;
     }
@@ -50,6 +55,7 @@ pub(crate) fn put_list<T: Part>(items: &[T], out: &mut Vec<u8>) -> Result<(), Al
     ensures { OnOk result (AppendsForm (list_of n4 T.format) items.now out.old.items out.new.items) }
 {
     put_n4(out, items.len() as u32)?;
+    out.reserve(items.len().saturating_mul(LEAST_OF_PART))?;
     for item in items {
         item.put(out)?;
     }

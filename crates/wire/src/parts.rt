@@ -16,6 +16,21 @@ use crate::writer::put_n4;
 use policy_rules::{Partition, Rule, Rules};
 use std::alloc::AllocError;
 use switch_table::{PartRow, PartRows, Partitions, Tables};
+use ternary::Word;
+
+impl Part for Word {
+    ghost format = { form.word };
+
+    ghost needs = { λ _. Unit {0} };
+
+    fn read(reader: &mut Reader) -> Result<Word, WireError> {
+        read_word(reader)
+    }
+
+    fn put(&self, out: &mut Vec<u8>) -> Result<(), AllocError> {
+        put_word(out, self)
+    }
+}
 
 impl Part for Rule {
     ghost format = { form.rule };

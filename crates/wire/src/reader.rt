@@ -32,6 +32,12 @@ impl<'a> Reader<'a> {
         self.alloc
     }
 
+    pub fn len(&self) -> usize
+        ensures { result ≡ length self.now }
+    {
+        self.bytes.len()
+    }
+
     pub fn is_empty(&self) -> bool
         ensures { result ≡ (length self.now == 0) }
     {

@@ -19,6 +19,7 @@ use Rattle.travelling.specs.Travelling.{Flights}
 use Rattle.update_machine.specs.Setting.{IsSetting, setting_of}
 use Rattle.update_machine.proofs.CallerLemmas.{first_planned}
 use Rattle.refinement.specs.Refinement.{RefineJournal}
+use Rattle.switch_table.specs.Carried.{all_touched}
 
 -- where the files are these, on this network, and nothing was written, posted or sent
 -- on its way
@@ -49,8 +50,9 @@ first_plans net (Change edits ∷ files) is whole = absurd cc
 
 -- a copy of a plan on a copy of the network is one
 pub plan_copied : (net own : Net) (plan copy : PlanValue) → own ≡ net → copy ≡ plan
-    → plan_of plan.policy net ≡ Ok plan.hosted → IsMade own (Ok copy.policy) (Planned copy)
-plan_copied net own plan copy same as_it is = (refl, rw (same, as_it) is)
+    → plan_of plan.policy net ≡ Ok plan.hosted → IsMade own (Ok copy.policy, all_touched) (Planned copy all_touched)
+plan_copied net own plan copy same as_it is =
+    record { policy = refl; planned = rw (same, as_it) is; told_is = refl }
 
 -- and so are its ports
 pub owners_begun : (net other : Net) (ports : Ports) → other ≡ net

@@ -9,10 +9,10 @@ use Rattle.net_file.specs.declared.net.Net.{Net}
 use Rattle.policy_rules.specs.declared.file.PolicyFile.{PolicyFile}
 use Rattle.policy_rules.specs.declared.file.PolicyFile.TheVariants.{Whole, Change}
 use Rattle.policy_rules.specs.declared.policy.Row.{Row}
-use Rattle.update_machine.specs.Setting.{made_by}
-use Rattle.world.specs.Files.{AreCompiled, IsMade, KeepsWhole, file_or_none, first_policy, made_at, own_policy}
+use Rattle.world.specs.Files.{AreCompiled, IsMade, KeepsWhole, file_or_none, first_policy, made_at, made_from, own_policy}
 use Rattle.world.specs.declared.files.Compiled.{Compiled}
 use Rattle.world.specs.declared.files.Compiled.TheVariants.{Planned}
+use Rattle.switch_table.specs.Carried.{all_touched}
 
 -- ---- files
 
@@ -44,15 +44,16 @@ file_there (file ∷ files) (suc place) within = file_there files place (omega a
 
 -- one with a policy of its own makes that of any other
 pub own_made : (file : PolicyFile) (one other : List Row) → IsSome (own_policy file)
-    → made_by (Some file) (Some one) ≡ made_by (Some file) (Some other)
+    → made_from file one ≡ made_from file other
 own_made (Whole rows) one other own = refl
 own_made (Change edits) one other own = absurd cc
 
 -- and the first one its own
 first_made : (files : List PolicyFile) (rows newest : List Row) → first_policy files ≡ Some rows
-    → made_at files newest 0 ≡ Ok rows
+    → made_at files newest 0 ≡ (Ok rows, all_touched)
 first_made [] rows newest is = absurd cc
-first_made (Whole own ∷ files) rows newest is = cc
+first_made (Whole own ∷ files) rows newest is =
+    let same : own ≡ rows = cc is in ap (λ these. (Ok these, all_touched)) same
 first_made (Change edits ∷ files) rows newest is = absurd cc
 
 -- ---- what became of them
@@ -61,12 +62,12 @@ first_made (Change edits ∷ files) rows newest is = absurd cc
 pub made_at_place : (net : Net) (files : List PolicyFile) (newest own : List Row) (place : ℕ)
     (file : PolicyFile) (compiled : Compiled) → place < length files
     → file ≡ get_or files place file → own ≡ newest
-    → IsMade net (made_by (Some file) (Some own)) compiled
+    → IsMade net (made_from file own) compiled
     → IsMade net (made_at files newest place) compiled
 made_at_place net files newest own place file compiled within at same made =
-    subst (λ (rows : List Row). IsMade net (made_by (Some (file_or_none files place)) (Some rows))
+    subst (λ (rows : List Row). IsMade net (made_from (file_or_none files place) rows)
     compiled) same
-    (subst (λ (f : PolicyFile). IsMade net (made_by (Some f) (Some own)) compiled)
+    (subst (λ (f : PolicyFile). IsMade net (made_from f own) compiled)
     (get_or_read files place file within at (Change [])) made)
 
 -- it is kept of that file
@@ -95,8 +96,8 @@ kept_with net files newest kept place compiled are within made = record {
 -- at first the plan of the first file is kept alone
 pub kept_first : (net : Net) (files : List PolicyFile) (plan : PlanValue)
     (kept : List (Option Compiled)) → IsNet net → first_policy files ≡ Some plan.policy
-    → IsMade net (Ok plan.policy) (Planned plan) → length kept ≡ length files
-    → ((i : ℕ) → get_or kept i None ≡ get_or (Some (Planned plan) ∷ []) i None)
+    → IsMade net (Ok plan.policy, all_touched) (Planned plan all_touched) → length kept ≡ length files
+    → ((i : ℕ) → get_or kept i None ≡ get_or (Some (Planned plan all_touched) ∷ []) i None)
     → AreCompiled net files plan.policy kept
 kept_first net files plan kept sound first made many same = record {
   sound = sound;
@@ -107,9 +108,10 @@ kept_first net files plan kept sound first made many same = record {
     each : (place : ℕ) (compiled : Compiled) → get_or kept place None ≡ Some compiled
         → IsMade net (made_at files plan.policy place) compiled
     each zero compiled at =
-        let is : Planned plan ≡ compiled = cc (same 0, at) in
+        let is : Planned plan all_touched ≡ compiled = cc (same 0, at) in
         subst (IsMade net (made_at files plan.policy 0)) is
-        (first_made files plan.policy plan.policy first, made.1)
+        (subst (λ making. IsMade net making (Planned plan all_touched))
+        (sym (first_made files plan.policy plan.policy first)) made)
     each (suc place) compiled at = absurd (cc (same (suc place), at))
 
 -- ---- what became of changes is forgotten

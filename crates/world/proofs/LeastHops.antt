@@ -1,5 +1,5 @@
 -- The least packet on its way is the least that travels.
-use Rattle.std.proofs.Common.{ℕ, zero, suc, ◌≡◌, ◌+◌, ◌<◌, ◌≤◌, inl, inr, Bool, true, false, cond, Option, Some, None, List, refl, ap, sym, subst, ◌∙◌, arith}
+use Rattle.std.proofs.Common.{ℕ, zero, suc, ◌≡◌, ◌+◌, ◌≤◌, inl, inr, Bool, true, false, cond, Option, Some, None, List, refl, ap, sym, subst, ◌∙◌, arith}
 use Rattle.std.specs.Prelude.{find, IsSome}
 use Rattle.std.specs.List.{range_with_len}
 use Rattle.std.proofs.lemmas.Bool.{cases_lt, false_from_ne_true, cond-true}

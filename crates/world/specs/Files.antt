@@ -9,7 +9,10 @@ use Rattle.policy_rules.specs.declared.file.PolicyFile.TheVariants.{Whole, Chang
 use Rattle.policy_rules.specs.declared.policy.Row.{Row}
 use Rattle.policy_rules.specs.Hosted.{NoPlan}
 use Rattle.update_machine.specs.Pieces.{apply_code, plan_code}
+use Rattle.controller.specs.Plan.{PlanValue}
+use Rattle.ternary.specs.Word.{WordValue}
 use Rattle.update_machine.specs.Setting.{made_by}
+use Rattle.update_machine.specs.Touched.{touched_of}
 use Rattle.world.specs.declared.files.Compiled.{Compiled}
 use Rattle.world.specs.declared.files.Compiled.TheVariants.{Planned, Refused}
 
@@ -33,9 +36,17 @@ first_policy (first ∷ files) = own_policy first
 abbrev pub file_or_none : List PolicyFile → ℕ → PolicyFile
 file_or_none files place = slice_index_or files place (Change [])
 
--- what it makes of the newest policy
-abbrev pub made_at : List PolicyFile → List Row → ℕ → Result (List Row) Inapplicable
-made_at files newest place = made_by (Some (file_or_none files place)) (Some newest)
+-- what a file makes of a policy, and what it touches of that
+abbrev pub Making : Type 0
+Making = Result (List Row) Inapplicable × List WordValue
+
+abbrev pub made_from : PolicyFile → List Row → Making
+made_from file newest =
+    (made_by (Some file) (Some newest), touched_of (Some file) (Some newest))
+
+-- what the file at a place makes of the newest policy
+abbrev pub made_at : List PolicyFile → List Row → ℕ → Making
+made_at files newest place = made_from (file_or_none files place) newest
 
 -- these rows have no plan, for the cause of this code
 pub record HasNoPlan (net : Net) (rows : List Row) (code : ℕ) : Type 0 where
@@ -43,14 +54,20 @@ pub record HasNoPlan (net : Net) (rows : List Row) (code : ℕ) : Type 0 where
   pub none : plan_of rows net ≡ Err why
   pub code_is : plan_code why ≡ code
 
+-- the policy has this plan, and the words are those that the file touches
+pub record HasThisPlan (net : Net) (making : Making) (plan : PlanValue) (told : List WordValue)
+    : Type 0 where
+  pub policy : making.0 ≡ Ok plan.policy
+  pub planned : plan_of plan.policy net ≡ Ok plan.hosted
+  pub told_is : told ≡ making.1
+
 -- of what was made of a file: it is a policy that has this plan; or there is none, or it has none,
 -- for the cause of this code
-abbrev pub IsMade : Net → Result (List Row) Inapplicable → Compiled → Type 0
-IsMade net made (Planned plan) =
-    (made ≡ Ok plan.policy) × (plan_of plan.policy net ≡ Ok plan.hosted)
-IsMade net made (Refused code) =
-    ((why : Inapplicable) × (made ≡ Err why) × (apply_code why ≡ code))
-    ⊎ ((rows : List Row) × (made ≡ Ok rows) × HasNoPlan net rows code)
+abbrev pub IsMade : Net → Making → Compiled → Type 0
+IsMade net making (Planned plan told) = HasThisPlan net making plan told
+IsMade net making (Refused code) =
+    ((why : Inapplicable) × (making.0 ≡ Err why) × (apply_code why ≡ code))
+    ⊎ ((rows : List Row) × (making.0 ≡ Ok rows) × HasNoPlan net rows code)
 
 -- what is kept of each file, if it was compiled, is for this newest policy
 pub record AreCompiled (net : Net) (files : List PolicyFile) (newest : List Row)

@@ -25,15 +25,15 @@ impl Parts {
         requires { HasBegun (UpdateStep file) self.old }
         ensures { Plays (UpdateStep file) result self.old self.new }
     {
-        let plan = match self.files.compiled(alloc, file as usize - 1)? {
+        let (plan, touched) = match self.files.compiled(alloc, file as usize - 1)? {
             Compiled::Refused { code } => {
                 return self.log.journal.push(Item::Refused { file, code });
             }
-            Compiled::Planned(plan) => plan,
+            Compiled::Planned(plan, touched) => (plan, touched),
         };
         let newest = plan.clone()?;
         let version = self.controller.marks().count() + 1;
-        let code = match self.controller.submit(plan) {
+        let code = match self.controller.submit(plan, touched) {
             Ok(sends) => {
                 self.files.set_newest(newest);
                 self.log.journal.push(Item::Submitted { file, version })?;

@@ -2,21 +2,24 @@
 ghost use Rattle.std.specs.Prelude.{◌≡◌, ◌<◌, IfOk, IsSome, Ok, Some, length};
 ghost use Rattle.net_file.specs.Net.{IsNet};
 ghost use Rattle.policy_rules.specs.Exports.{applied};
-ghost use Rattle.update_machine.specs.Exports.{made_by};
-ghost use Rattle.world.specs.Files.{IsMade, KeepsWhole, first_policy, made_at};
+ghost use Rattle.controller.specs.Exports.{touched_few};
+ghost use Rattle.switch_table.specs.Carried.{all_touched};
+ghost use Rattle.world.specs.Files.{IsMade, KeepsWhole, first_policy, made_at, made_from};
 ghost use Rattle.world.specs.declared.files.Compiled.TheVariants.{Planned};
 
 use crate::codes::{ABSENT, NO_ROOM, TAKEN, TOO_MANY_LEAVES, TOO_MANY_ROWS, TOO_MANY_WORDS};
-use controller::{Plan, PlanError, compile};
+use controller::{Plan, PlanError, compile, touched};
 use net_file::Net;
 use policy_rules::{Amendment, ApplyError, Inapplicable, Policy, PolicyFile, apply};
 use std::alloc::{AllocError, Global};
 use std::marker::Model;
+use switch_table::Touched;
 
 /// What became of the policy of a file, or of the one that it makes of the newest policy.
 #[derive(Drop)]
 pub enum Compiled {
-    Planned(Plan),
+    /// It has this plan. A change touches this of the newest policy.
+    Planned(Plan, Touched),
     /// There is none, or it has no plan on the network, for the cause of this code.
     Refused { code: u32 },
 }
@@ -26,7 +29,9 @@ impl Clone for Compiled {
 
     fn clone(&self) -> Result<Compiled, AllocError> {
         match self {
-            Compiled::Planned(plan) => Ok(Compiled::Planned(plan.clone()?)),
+            Compiled::Planned(plan, touched) => {
+                Ok(Compiled::Planned(plan.clone()?, touched.clone()?))
+            }
             Compiled::Refused { code } => Ok(Compiled::Refused { code: *code }),
         }
     }
@@ -68,13 +73,13 @@ impl Files {
     ) -> Result<Files, AllocError>
         requires net { IsNet net }
         requires first { first_policy files.items ≡ Some plan.policy }
-        requires planned { IsMade net (Ok plan.policy) (Planned plan) }
+        requires planned { IsMade net (Ok plan.policy, all_touched) (Planned plan all_touched) }
         ensures { IfOk result (λ made. made
             ≡ record { net = net; files = files.items; newest = plan.policy }) }
     {
         let first = plan.clone()?;
         let mut compiled = Vec::with_capacity(alloc, files.len())?;
-        compiled.push(Some(Compiled::Planned(first)))?;
+        compiled.push(Some(Compiled::Planned(first, Touched::all())))?;
         while compiled.len() < files.len() {
             compiled.push(None)?;
         }
@@ -87,7 +92,7 @@ impl Files {
     }
 
     /// The plan of the policy that the file at this place, from 0, has, or that it makes of the
-    /// newest policy; or why there is none.
+    /// newest policy, and what it touches of that; or why there is none.
     ///
     /// # Errors
     /// Want of memory alone.
@@ -150,21 +155,26 @@ fn made_or_code(
     net: &Net,
 ) -> Result<Compiled, AllocError>
     requires { IsNet net.now }
-    ensures { IfOk result (IsMade net.now (made_by (Some file.now) (Some newest.now))) }
+    ensures { IfOk result (IsMade net.now (made_from file.now newest.now)) }
 {
     match file {
-        PolicyFile::Whole(policy) => plan_or_code(alloc, policy, net),
+        PolicyFile::Whole(policy) => plan_or_code(alloc, policy, Touched::all(), net),
         PolicyFile::Change(change) => amended_or_code(alloc, newest, change, net),
     }
 }
 
 // The plan of the policy on the network, or the code of its refusal.
-fn plan_or_code(alloc: Global, policy: &Policy, net: &Net) -> Result<Compiled, AllocError>
+fn plan_or_code(
+    alloc: Global,
+    policy: &Policy,
+    touched: Touched,
+    net: &Net,
+) -> Result<Compiled, AllocError>
     requires { IsNet net.now }
-    ensures { IfOk result (IsMade net.now (Ok policy.now)) }
+    ensures { IfOk result (IsMade net.now (Ok policy.now, touched)) }
 {
     let code = match compile(alloc, policy, net) {
-        Ok(plan) => return Ok(Compiled::Planned(plan)),
+        Ok(plan) => return Ok(Compiled::Planned(plan, touched)),
         Err(PlanError::TooManyWords { .. }) => TOO_MANY_WORDS,
         Err(PlanError::TooManyLeaves) => TOO_MANY_LEAVES,
         Err(PlanError::NoRoom { .. }) => NO_ROOM,
@@ -181,10 +191,14 @@ fn amended_or_code(
     net: &Net,
 ) -> Result<Compiled, AllocError>
     requires { IsNet net.now }
-    ensures { IfOk result (IsMade net.now (applied policy.now change.now)) }
+    ensures { IfOk result (IsMade net.now
+        (applied policy.now change.now, touched_few policy.now change.now)) }
 {
     let code = match apply(alloc, policy, change) {
-        Ok(amended) => return plan_or_code(alloc, &amended, net),
+        Ok(amended) => {
+            let touched = touched(alloc, policy, change)?;
+            return plan_or_code(alloc, &amended, touched, net);
+        }
         Err(ApplyError::Refused(Inapplicable::Absent)) => ABSENT,
         Err(ApplyError::Refused(Inapplicable::Taken)) => TAKEN,
         Err(ApplyError::Refused(Inapplicable::TooManyRows { .. })) => TOO_MANY_ROWS,

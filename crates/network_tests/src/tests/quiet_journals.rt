@@ -2,13 +2,14 @@
 ghost use Rattle.std.specs.Prelude.{IfOk};
 ghost use Rattle.net_file.specs.Net.{IsNet};
 
+use base::Shared;
 use journal::{Advert, Body, Item, Journal, Message, Place, SharedMessage, SharedTables};
 use journal_reports::quiet;
 use net_file::{Net, read_net, solo};
 use policy_rules::{Partition, Rules};
 use std::alloc::Global;
 use std::test::Fail;
-use switch_table::{PartRows, Partitions, Tables};
+use switch_table::{PartRows, Partitions, Tables, Touched};
 use ternary::Word;
 
 fn two_switches(alloc: Global) -> Result<Net, Fail>
@@ -93,6 +94,23 @@ fn crashes_are_confirmed(rt: HostRuntime) -> Result<(), Fail> {
     Ok(())
 }
 
+// The message of this number tells the switch 0 to stamp with the version, and what its change
+// touches.
+fn stamp(
+    alloc: Global,
+    journal: &mut Journal,
+    number: u32,
+    version: u32,
+    touched: Touched,
+) -> Result<(), Fail> {
+    let stamp = Body::Stamp {
+        boot: 1,
+        version,
+        touched: Shared::new(alloc, touched)?,
+    };
+    send(alloc, journal, number, Place::Switch(0), stamp)
+}
+
 // The first message of an update was forgotten, and sent again.
 fn push_update(alloc: Global, journal: &mut Journal) -> Result<(), Fail> {
     push(journal, install(alloc, 1, 1)?)?;
@@ -110,11 +128,7 @@ fn updates_are_answered(rt: HostRuntime) -> Result<(), Fail> {
     assert!(rt; !is_quiet(alloc, &journal, &net)?);
     push(&mut journal, Item::Delivered { number: 2 })?;
     assert!(rt; is_quiet(alloc, &journal, &net)?);
-    let stamp = Body::Stamp {
-        boot: 1,
-        version: 2,
-    };
-    send(alloc, &mut journal, 3, Place::Switch(0), stamp)?;
+    stamp(alloc, &mut journal, 3, 2, Touched::all())?;
     assert!(rt; !is_quiet(alloc, &journal, &net)?);
     Ok(())
 }
@@ -181,6 +195,24 @@ fn other_tables_wait(rt: HostRuntime) -> Result<(), Fail> {
     push(&mut journal, Item::Delivered { number: 2 })?;
     assert!(rt; !is_quiet(alloc, &journal, &net)?);
     push(&mut journal, Item::Delivered { number: 1 })?;
+    assert!(rt; is_quiet(alloc, &journal, &net)?);
+    Ok(())
+}
+
+/// A stamp of the same version for other words doesn't replace the one before it, but a stamp of a
+/// greater version does.
+#[test]
+fn other_stamps_wait(rt: HostRuntime) -> Result<(), Fail> {
+    let alloc = rt.alloc();
+    let net = one_switch(alloc)?;
+    let mut journal = Journal::new(alloc);
+    let nothing = Touched::new(Vec::new(alloc)).ok_or("touched")?;
+    stamp(alloc, &mut journal, 1, 2, nothing)?;
+    stamp(alloc, &mut journal, 2, 2, Touched::all())?;
+    push(&mut journal, Item::Delivered { number: 2 })?;
+    assert!(rt; !is_quiet(alloc, &journal, &net)?);
+    stamp(alloc, &mut journal, 3, 3, Touched::all())?;
+    push(&mut journal, Item::Delivered { number: 3 })?;
     assert!(rt; is_quiet(alloc, &journal, &net)?);
     Ok(())
 }

@@ -10,6 +10,7 @@ use policy_rules::{Action, Policy, PortRange, Prefix, Proto, Row};
 use std::alloc::Global;
 use std::process::Abort;
 use std::test::Fail;
+use switch_table::Touched;
 
 const PORTS: PortRange = PortRange {
     low: 0,
@@ -125,7 +126,7 @@ fn two_switches(alloc: Global) -> Result<(Controller, Plan), Fail> {
 }
 
 fn submitted(alloc: Global, controller: &mut Controller, plan: &Plan) -> Result<Vec<Seen>, Fail> {
-    let sends = controller.submit(plan.clone()?)?;
+    let sends = controller.submit(plan.clone()?, Touched::all())?;
     all_seen(alloc, &sends)
 }
 

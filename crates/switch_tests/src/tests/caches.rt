@@ -1,7 +1,8 @@
 //! Caches by calls, and tables that a clone shares.
 use policy_rules::{Action, Targets};
+use std::alloc::Global;
 use std::test::Fail;
-use switch_table::{Cache, CacheEntry, PartRow, PartRows, Partitions, Tables};
+use switch_table::{Cache, CacheEntry, PartRow, PartRows, Partitions, Tables, Touched};
 use ternary::Word;
 
 fn entry(version: u32, address: u128, message: u32) -> Result<CacheEntry, Fail> {
@@ -55,6 +56,47 @@ fn entries_of_old_versions_go(rt: HostRuntime) -> Result<(), Fail> {
     assert!(rt; first_message(&cache) == Some(2));
     cache.clear();
     assert!(rt; first_message(&cache).is_none());
+    Ok(())
+}
+
+// The word of the addresses whose first 16 bits are these.
+fn addresses(first: u128) -> Result<Word, Fail> {
+    let word = Word::new(first << 56, 0xffff << 56).ok_or("word")?;
+    Ok(word)
+}
+
+// A cache of entries of versions 1, 1, 2 and 1 at version 2, which touches 10.4.0.0/16 alone.
+fn carried(alloc: Global) -> Result<Cache, Fail> {
+    let mut cache = Cache::new(alloc, 8);
+    accept(&mut cache, 1, entry(1, 0x0a02_0000, 1)?)?;
+    accept(&mut cache, 1, entry(1, 0x0a04_0000, 2)?)?;
+    accept(&mut cache, 1, entry(2, 0x0a08_0000, 3)?)?;
+    accept(&mut cache, 1, entry(1, 0x0a10_0000, 4)?)?;
+    let touched = Touched::new(vec![in alloc; addresses(0x0a04)?]?).ok_or("touched")?;
+    cache.carry(2, &touched)?;
+    Ok(cache)
+}
+
+#[test]
+fn entries_that_nothing_touches_go_over(rt: HostRuntime) -> Result<(), Fail> {
+    let cache = carried(rt.alloc())?;
+    let mut left = cache.entries();
+    for message in [1, 3, 4] {
+        let entry = left.next().ok_or("entry")?;
+        assert_eq!(rt; (entry.version, entry.message), (2, message));
+    }
+    assert!(rt; left.next().is_none());
+    Ok(())
+}
+
+#[test]
+fn seventeen_words_are_too_many(rt: HostRuntime) -> Result<(), Fail> {
+    let any = Word::any();
+    let words = vec![in rt.alloc();
+        any, any, any, any, any, any, any, any, any, any, any, any, any, any, any, any, any,
+    ]?;
+    assert!(rt; Touched::new(words).is_none());
+    assert_eq!(rt; Touched::all().words().len(), 1);
     Ok(())
 }
 

@@ -2,11 +2,12 @@
 ghost use Rattle.std.specs.Prelude.{◌<◌, ◌^◌, length, IfOk};
 ghost use Rattle.wire.specs.Messages.{HasSpelling};
 
+use base::Shared;
 use ctrl_msg::{Body, Message, Place, SharedTables};
 use policy_rules::{Action, Partition, Rule, Rules};
 use std::alloc::Global;
 use std::test::Fail;
-use switch_table::{PartRows, Partitions, Tables};
+use switch_table::{PartRows, Partitions, Tables, Touched};
 use ternary::Word;
 
 pub fn collect() -> Message
@@ -19,6 +20,25 @@ pub fn collect() -> Message
             version: 1,
         },
     }
+}
+
+/// A stamp whose change touches so many words.
+pub fn stamp(alloc: Global, words: u32) -> Result<Message, Fail>
+    ensures { IfOk result HasSpelling }
+{
+    let mut list = Vec::new(alloc);
+    for _ in 0..words {
+        list.push(Word::any())?;
+    }
+    let touched = Touched::new(list).ok_or("touched")?;
+    Ok(Message {
+        to: Place::Switch(0),
+        body: Body::Stamp {
+            boot: 1,
+            version: 2,
+            touched: Shared::new(alloc, touched)?,
+        },
+    })
 }
 
 pub fn hello() -> Message

@@ -1,7 +1,7 @@
 //! Spellings byte by byte, and bytes that are none.
 ghost use Rattle.wire.specs.Messages.{HasSpelling};
 
-use crate::tests::messages::{cache_rule, collect, hello, install};
+use crate::tests::messages::{cache_rule, collect, hello, install, stamp};
 use ctrl_msg::{Body, Message, Place};
 use std::alloc::Global;
 use std::test::*;
@@ -19,6 +19,18 @@ fn spellings_byte_by_byte(rt: HostRuntime) -> Result<(), Fail> {
     let bytes = encode(alloc, &hello())?;
     assert_eq!(rt; bytes.as_slice(), [255, 7, 0, 0, 0, 0, 2].as_slice());
     assert!(rt; is_malformed(alloc, &[255, 4, 0, 0, 0, 1, 0, 0, 0, 1]));
+    Ok(())
+}
+
+#[test]
+fn stamps_have_their_words(rt: HostRuntime) -> Result<(), Fail> {
+    let alloc = rt.alloc();
+    for (words, len) in [(0, 11), (1, 43), (16, 523)] {
+        let bytes = encode(alloc, &stamp(alloc, words)?)?;
+        assert_eq!(rt; bytes.len(), len);
+    }
+    assert!(rt; is_malformed(alloc, &[0, 3, 0, 0, 0, 1, 0, 0, 0, 2]));
+    assert!(rt; is_malformed(alloc, &[0, 3, 0, 0, 0, 1, 0, 0, 0, 2, 17]));
     Ok(())
 }
 
@@ -50,6 +62,7 @@ fn no_part_of_a_spelling_is_one(rt: HostRuntime) -> Result<(), Fail> {
     let alloc = rt.alloc();
     assert!(rt; is_read_alone(alloc, &collect())?);
     assert!(rt; is_read_alone(alloc, &cache_rule())?);
+    assert!(rt; is_read_alone(alloc, &stamp(alloc, 2)?)?);
     assert!(rt; is_read_alone(alloc, &install(alloc, 2, 1)?)?);
     Ok(())
 }

@@ -9,6 +9,7 @@ ghost use Rattle.switch_table.specs.Tables.{AreSoundTables};
 ghost use Rattle.switch_core.specs.Exports.{CanLookUp, HasOwnUpTo, IsAtAuthority, StandsAt, own_part, serves};
 ghost use Rattle.tunnel.specs.Moves.{next};
 
+use base::Shared;
 use ctrl_msg::{Body, SharedTables};
 use failover::{Advert, Database, DownSet};
 use five_tuple::{Fields, Header};
@@ -17,7 +18,7 @@ use policy_rules::{Action, Cause, How, Leg, Partition, Rule, Rules, Targets};
 use std::alloc::Global;
 use std::test::Fail;
 use switch_core::{Arrived, Decision, Entered, Heard, HopEnd, Next, Switch, switch_laws};
-use switch_table::{PartRow, PartRows, Partitions, Tables};
+use switch_table::{PartRow, PartRows, Partitions, Tables, Touched};
 use ternary::Word;
 use tunnel::Tunnel;
 
@@ -160,8 +161,14 @@ fn takes_in(alloc: Global, b: &mut Switch, boot: u32, version: u32) -> Result<bo
 }
 
 // Whether it stamps with this version from now on.
-fn rises_to(b: &mut Switch, version: u32) -> Result<bool, Fail> {
-    let heard = b.hear(2, &Body::Stamp { boot: 1, version }, 0b101)?;
+fn rises_to(alloc: Global, b: &mut Switch, version: u32) -> Result<bool, Fail> {
+    let touched = Shared::new(alloc, Touched::all())?;
+    let stamp = Body::Stamp {
+        boot: 1,
+        version,
+        touched,
+    };
+    let heard = b.hear(2, &stamp, 0b101)?;
     Ok(acknowledged(&heard) == Some((1, version)))
 }
 
@@ -301,7 +308,7 @@ fn one_version_follows_another(rt: HostRuntime) -> Result<(), Fail> {
     let mut b = authority(alloc)?;
     assert!(rt; takes_in(alloc, &mut b, 1, 2)?);
     learns(&mut b, 5, 1)?;
-    assert!(rt; rises_to(&mut b, 2)?);
+    assert!(rt; rises_to(alloc, &mut b, 2)?);
     learns(&mut b, 6, 2)?;
     assert!(rt; enters(&mut b, &ports, 2, How::Cached { message: 6 }));
     assert_eq!(rt; b.expire(0), Some(6));

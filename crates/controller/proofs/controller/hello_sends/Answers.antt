@@ -3,12 +3,14 @@ use Rattle.controller.specs.Sends.{install_act, settling_acts}
 use Rattle.controller.proofs.Telling.{added, not_added}
 use Rattle.controller.proofs.controller.hello_sends.Goals as goal
 use Rattle.controller.proofs.controller.hello_sends.Goals.{then-settled+in_ok-install_all, else-settled}
+use Rattle.controller.specs.Controller.{kept_touched}
 
 pub returns-clause-sends : goal.returns-clause-sends
 returns-clause-sends c = λ before is.
     let asked = c.args.settled.now.taken in
     let all = map (install_act c.args.s c.args.boot) c.settle.new.versions.items in
-    let told = settling_acts before c.args.marks.now in
+    let told = settling_acts
+    (kept_touched c.settle.new.versions.items c.args.marks.now.current) before c.args.marks.now in
     let base : c.settle.new.acts.items ≡ told = c.in_ok-settle.ensures.acts before is
     ∙ ap (λ l. l ++ told) c.new-acts.ensures.items in
     c.from_items.ensures

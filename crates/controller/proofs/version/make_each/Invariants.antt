@@ -1,8 +1,9 @@
-use Rattle.std.proofs.Common.{◌≡◌}
-use Rattle.controller.specs.Controller.{tables_by_switch}
+use Rattle.std.proofs.Common.{◌≡◌, map}
+use Rattle.std.specs.List.{range_with_len}
+use Rattle.switch_table.specs.Tables.{tables_of}
 use Rattle.controller.proofs.version.make_each.Given as goal
 
 -- the tables of the switches so far
 abbrev pub invariant-loop-s : goal.invariant-loop-s
-invariant-loop-s l = l.made.items ≡ tables_by_switch (record { version = l.version; plan = l.plan })
-    l.s
+invariant-loop-s l =
+    l.made.items ≡ map (tables_of l.plan.hosted l.version) (range_with_len 0 l.s)

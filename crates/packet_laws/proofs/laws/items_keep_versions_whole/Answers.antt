@@ -14,5 +14,7 @@ returns c = together (record {
   members = c.members_acknowledged.ensures;
   marks = c.marks_are_bounded.ensures;
   holding = c.serving_switches_hold.ensures;
+  touched = c.stamps_say_what_is_touched.ensures;
   rules = c.cache_rules_are_right.ensures;
+  untouched = c.untouched_rules_stay.ensures;
 })

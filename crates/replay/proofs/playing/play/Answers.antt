@@ -9,6 +9,7 @@ use Rattle.update_machine.proofs.CallerLemmas.{start_laws}
 use Rattle.replay.specs.Leavings.{left_in}
 use Rattle.replay.proofs.Asked.{brought_few}
 use Rattle.replay.proofs.Events.{PlaysOn, plays_from_start, plays_no_more, plays_on_by, stops_by}
+use Rattle.replay.specs.InForce.{IsPlanInForce}
 use Rattle.replay.proofs.Keeping.{kept_up}
 use Rattle.replay.proofs.Refining.{tie_of}
 use Rattle.replay.proofs.playing.play.Goals as goal
@@ -121,3 +122,20 @@ returns-clause-held g c =
     c.ended-2.result.journal c.ended-2.result.full
     (tie_of c.args.world (c.refines.ensures c.requires.begun.able)).sound c.requires.events
     (returns-clause-play g c)
+
+pub returns-in-Err-Refused-clause-plan : goal.returns-in-Err-Refused-clause-plan
+returns-in-Err-Refused-clause-plan g c =
+    let same = c.in-Err-Refused.ensures.setting ∙ c.loop-event.invariant.setting in
+    rw (c.ended.ensures.journal, c.ended.ensures.plan)
+    (subst (λ setting. IsPlanInForce setting c.take_steps.new.world.journal c.in_ok-plan-in-Err-Refused.plan) same
+    c.in_ok-plan-in-Err-Refused.ensures)
+
+pub returns-clause-plan : goal.returns-clause-plan
+returns-clause-plan g c =
+    rw (c.ended-2.ensures.journal, c.ended-2.ensures.plan)
+    (subst (λ setting. IsPlanInForce setting c.loop-event.world.journal c.in_ok-plan.plan)
+    c.loop-event.invariant.setting c.in_ok-plan.ensures)
+
+pub plan_in_force-requires : goal.plan_in_force-requires
+plan_in_force-requires g c =
+    c.in-Err-Refused.ensures.able_full (ap Err c.in-Err-Refused.field-0-is)

@@ -1,4 +1,5 @@
 use Rattle.switch_table.proofs.CacheLemmas.{cache_accepted, cache_begun, cache_cleared, cache_expired, cache_raised}
+use Rattle.switch_table.proofs.CarryLemmas.{cache_carried}
 use Rattle.switch_table.proofs.cache.cache_laws.Goals as goal
 
 pub returns : goal.returns
@@ -8,4 +9,5 @@ returns c = record {
   kept_by_expire = cache_expired;
   kept_by_raise = cache_raised;
   kept_by_clear = cache_cleared;
+  kept_by_carry = cache_carried;
 }

@@ -6,7 +6,7 @@ use Rattle.wire.proofs.list.read_items.Goals as goal
 pub returns-in_err-read : goal.returns-in_err-read
 returns-in_err-read g c =
     let f = g.T.Part.format in
-    let p = err_from_is_err_and c.from_residual.result c.from_residual.ensures.1 in
+    let p = err_from_is_err_and c.from_residual-in_err-read.result c.from_residual-in_err-read.ensures.1 in
     rw (p.1, p.2)
     (stops f c.loop.items.items c.args.count c.loop.counter c.loop.reader
     (read_items f c.args.count c.args.reader.now) c.in_err-read.field-0.0 c.loop-test.true

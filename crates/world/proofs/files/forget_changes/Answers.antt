@@ -3,7 +3,7 @@ use Rattle.std.specs.Prelude.{Option}
 use Rattle.world.specs.declared.files.Compiled.{Compiled}
 use Rattle.world.proofs.KeptFiles.{AreForgotten, all_forgotten, change_forgotten, none_forgotten, whole_kept, whole_own}
 use Rattle.world.proofs.files.forget_changes.Goals as goal
-use Rattle.world.proofs.files.forget_changes.Goals.{in-Whole, in-Change+in-None-1, in-Change+in-Some+in-Planned-1, in-Change+in-Some+in-Refused-1}
+use Rattle.world.proofs.files.forget_changes.Goals.{in-Whole, in-Change+in-None-1, in-Change+in-Some+in-Planned+in-All-1, in-Change+in-Some+in-Planned+in-Words-1, in-Change+in-Some+in-Refused-1}
 
 pub loop-place-init : goal.loop-place-init
 loop-place-init c = none_forgotten c.args.files.now c.args.compiled.now.items
@@ -23,7 +23,9 @@ loop-place-preserved c =
           (whole_kept files place file old kept c.loop-place-test.true c.index-files-place.is
           (whole_own file _ w.in-Whole.is) c.loop-place.invariant)
       | in-Change+in-None-1 w ↦ subst Forgotten (sym (ap (λ v. v.items) w.compiled-is)) changed
-      | in-Change+in-Some+in-Planned-1 w ↦
+      | in-Change+in-Some+in-Planned+in-All-1 w ↦
+          subst Forgotten (sym (ap (λ v. v.items) w.compiled-is)) changed
+      | in-Change+in-Some+in-Planned+in-Words-1 w ↦
           subst Forgotten (sym (ap (λ v. v.items) w.compiled-is)) changed
       | in-Change+in-Some+in-Refused-1 w ↦
           subst Forgotten (sym (ap (λ v. v.items) w.compiled-is)) changed

@@ -1,33 +1,43 @@
-use Rattle.std.proofs.Common.{ℕ, ◌≡◌, ◌+◌, [], ◌∷◌, ◌++◌, map, ap, ◌∙◌}
+use Rattle.std.proofs.Common.{ℕ, ◌≡◌, ◌+◌, [], ◌∷◌, ◌++◌, map, refl, ap, ◌∙◌}
 use Rattle.std.specs.Prelude.{not}
 use Rattle.version_update.specs.Marks.{with_version}
 use Rattle.version_update.specs.Record.{is_over}
-use Rattle.controller.specs.Controller.{KeptPlan, ControllerValue, StaysController, plans_from}
+use Rattle.controller.specs.Controller.{KeptPlan, ControllerValue, StaysController, current_touched, plans_from}
 use Rattle.controller.specs.Sends.{boot_recorded, install_act, switches_where, settling_acts, submit_acts}
 use Rattle.controller.specs.Submit.{SubmitsPlan}
 use Rattle.controller.proofs.Newest.{newest_added}
-use Rattle.controller.proofs.Versions.{IsWhole, pushed_next, whole_more, stays_more}
+use Rattle.controller.proofs.Versions.{IsWhole, whole_more, stays_more}
 use Rattle.controller.proofs.controller.Controller.add.Goals as goal
 use Rattle.controller.proofs.controller.Controller.add.Goals.{After-settle}
 
+-- the version that comes next
+abbrev Next : After-settle → ℕ → KeptPlan
+Next c count = record {
+  version = count + 1;
+  plan = c.args.plan;
+  touched = c.args.touched;
+}
+
+next_is : (c : After-settle) → c.in_ok-version.version ≡ Next c c.self.inside.marks.count
+next_is c = c.in_ok-version.ensures ∙ ap (Next c) c.count-number.ensures.count
+
 pushed : (c : After-settle) → c.push.new.self.items ≡ c.self.inside.versions.items
-    ++ (record { version = c.self.inside.marks.count + 1; plan = c.args.plan }) ∷ []
-pushed c = pushed_next c.self.inside.versions.items c.push.new.self.items _ c.count.result
-    c.self.inside.marks.count c.args.plan c.in_ok-push.ensures.items c.in_ok-version.ensures
-    c.count.ensures.count
+    ++ Next c c.self.inside.marks.count ∷ []
+pushed c = c.in_ok-push.ensures.items
+    ∙ ap (λ v. c.self.inside.versions.items ++ v ∷ []) (next_is c)
 
 whole : (c : After-settle) → IsWhole c.add_version-settled.new.marks
     c.settle.new.versions.items
-whole c = whole_more c.self.inside.marks c.self.inside.versions.items c.args.plan _ _ _ _
-    c.hosted.ensures.sound c.self.invariant c.add_version-settled.ensures.rule
+whole c = whole_more c.self.inside.marks c.self.inside.versions.items
+    (Next c c.self.inside.marks.count) _ _ _ _ c.hosted.ensures.sound refl c.self.invariant c.add_version-settled.ensures.rule
     c.add_version-settled.ensures.settled (pushed c) c.settle.ensures.versions
 
 stays : (c : After-settle) → StaysController c.args.self.now (record {
   marks = c.add_version-settled.new.marks;
   plans = c.settle.new.versions.items;
 })
-stays c = stays_more c.self.inside.marks c.self.inside.versions.items c.args.plan _ _ _ _
-    c.hosted.ensures.sound _ c.self.view_is c.self.invariant c.add_version-settled.ensures.rule
+stays c = stays_more c.self.inside.marks c.self.inside.versions.items
+    (Next c c.self.inside.marks.count) _ _ _ _ c.hosted.ensures.sound refl _ c.self.view_is c.self.invariant c.add_version-settled.ensures.rule
     c.add_version-settled.ensures.settled (pushed c) c.settle.ensures.versions
 
 pub invariant_of-self-in_err-settle : goal.invariant_of-self-in_err-settle
@@ -47,25 +57,27 @@ returns-clause-newest c =
     let marks = c.add_version-settled.new.marks in
     let new : ControllerValue = record { marks = marks; plans = c.settle.new.versions.items } in
     let at = (goal.at.returns-clause-newest c).After-settle in
-    let submits : SubmitsPlan old c.args.plan new = record {
+    let submits : SubmitsPlan old (Next at c.self.inside.marks.count) new = record {
       marks = (_, c.add_version-settled.ensures.settled);
       plans = c.settle.ensures.versions ∙ ap (plans_from marks.current) (pushed at);
     } in
-    newest_added old new c.args.plan c.self.invariant (whole at) submits
+    newest_added old new (Next at c.self.inside.marks.count) c.self.invariant (whole at) refl submits
 
 pub returns-clause-sends : goal.returns-clause-sends
 returns-clause-sends c =
     let old = c.self.inside.marks in
-    let new = c.add_version-settled.new.marks in
-    let Next : ℕ → KeptPlan = λ n. record { version = n + 1; plan = c.args.plan } in
-    let next : c.in_ok-version.version ≡ Next old.count = c.in_ok-version.ensures
-    ∙ ap Next c.count.ensures.count in
+    let at = (goal.at.returns-clause-sends c).After-settle in
+    let new : ControllerValue = record {
+      marks = c.add_version-settled.new.marks;
+      plans = c.settle.new.versions.items;
+    } in
     c.from_items.ensures ∙ c.in_ok-settle.ensures.acts _ c.add_version-settled.ensures.settled
-    ∙ ap (λ l. l ++ settling_acts (with_version old) new)
+    ∙ ap (λ l. l ++ settling_acts (current_touched new) (with_version old) new.marks)
     (c.in_ok-acts.ensures ∙ ap
     (λ (version : KeptPlan). map (λ s. install_act s (boot_recorded old s) version)
-    (switches_where (λ known. not (is_over known.phase)) old.switches)) next)
-    ∙ ap (λ (value : ControllerValue). submit_acts value.marks c.args.plan new) c.self.view_is
+    (switches_where (λ known. not (is_over known.phase)) old.switches)) (next_is at))
+    ∙ ap (λ (value : ControllerValue). submit_acts value.marks (Next at value.marks.count) new)
+    c.self.view_is
 
 pub returns-clause-rule : goal.returns-clause-rule
 returns-clause-rule c = stays (goal.at.returns-clause-rule c).After-settle

@@ -3,7 +3,7 @@ use Rattle.std.proofs.lemmas.Result.{IfOk-weaker}
 use Rattle.ctrl_msg.specs.declared.message.Body.TheVariants.{Hello}
 use Rattle.version_update.specs.Marks.{at_switch, record_of}
 use Rattle.version_update.specs.Record.{hello_recorded, takes_hello}
-use Rattle.controller.specs.Controller.{KeptPlan, ControllerValue, plans_from}
+use Rattle.controller.specs.Controller.{KeptPlan, ControllerValue, kept_touched, plans_from}
 use Rattle.controller.specs.Sends.{install_act, settling_acts, hear_acts}
 use Rattle.controller.proofs.Versions.{plans_twice, whole_at, settles_at, stays_at}
 use Rattle.controller.proofs.controller.Controller.hello.Goals as goal
@@ -18,7 +18,8 @@ returns c =
     let old = c.self.inside.marks in
     let marks = c.hello-settled.new.self in
     let kept = c.hello_sends.new.versions.items in
-    let told = settling_acts (at_switch s (hello_recorded boot) old) marks in
+    let told = settling_acts (kept_touched kept marks.current) (at_switch s (hello_recorded boot) old)
+    marks in
     let once : plans_from marks.current kept ≡ kept = ap (plans_from marks.current)
     c.hello_sends.ensures.versions ∙ plans_twice marks.current c.self.inside.versions.items
     ∙ sym c.hello_sends.ensures.versions in

@@ -1,6 +1,6 @@
 use Rattle.std.proofs.Common.{true, sym, ap, ◌∙◌, subst, arith}
 use Rattle.version_update.specs.Laws.{nothing_rose}
-use Rattle.controller.specs.Controller.{ControllerValue, IsController, SettlesWith}
+use Rattle.controller.specs.Controller.{ControllerValue, IsController, SettlesWith, current_touched}
 use Rattle.controller.specs.Sends.{settling_acts}
 use Rattle.controller.proofs.Unheard.{nothing_sent, all_kept}
 use Rattle.controller.proofs.controller.Controller.unheard.Goals as goal
@@ -12,8 +12,9 @@ returns c =
     let Stay : ControllerValue → Type 0 = λ value. SettlesWith value.marks value.plans value in
     record {
       none = c.from_items.ensures ∙ c.new.ensures.items;
-      idle = ap (λ (value : ControllerValue). settling_acts value.marks value.marks) (sym c.self.view_is)
-          ∙ nothing_sent marks is.marks;
+      idle = ap (λ (value : ControllerValue). settling_acts (current_touched value) value.marks
+          value.marks) (sym c.self.view_is)
+          ∙ nothing_sent _ marks is.marks;
       after = subst Stay c.self.view_is (record {
         marks = (nothing_rose true, c.settling_laws.ensures.idle marks true is.marks);
         plans = sym (all_kept marks.current marks.current _ c.self.inside.versions.items

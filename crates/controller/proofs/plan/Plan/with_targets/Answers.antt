@@ -1,4 +1,4 @@
-use Rattle.std.proofs.Common.{◌≡◌, ◌∙◌, ◌<◌, List, length, map, ap, subst, sym, All}
+use Rattle.std.proofs.Common.{◌∙◌, map, ap, subst, sym}
 use Rattle.std.specs.List.{zip}
 use Rattle.switch_table.specs.Tables.{part_of}
 use Rattle.controller.specs.Leads.{LeadEveryHeader}

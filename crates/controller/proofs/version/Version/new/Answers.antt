@@ -1,7 +1,7 @@
-use Rattle.std.proofs.Common.{length, sym, ap, ◌∙◌}
+use Rattle.std.proofs.Common.{length, map, sym, ap, ◌∙◌}
+use Rattle.std.specs.List.{range_with_len}
 use Rattle.std.proofs.lemmas.List.FromFn.{length-map-range_with_len}
 use Rattle.switch_table.specs.Tables.{tables_of}
-use Rattle.controller.specs.Controller.{tables_by_switch}
 use Rattle.controller.proofs.version.Version.new.Goals as goal
 
 pub invariant_of-result : goal.invariant_of-result
@@ -9,5 +9,5 @@ invariant_of-result c =
     let number = ap length c.in_ok-made.ensures
     ∙ length-map-range_with_len (tables_of c.args.plan.hosted c.args.version) 0
     c.args.switches in
-    c.in_ok-made.ensures ∙ ap
-    (tables_by_switch (record { version = c.args.version; plan = c.args.plan })) (sym number)
+    c.in_ok-made.ensures
+    ∙ ap (λ n. map (tables_of c.args.plan.hosted c.args.version) (range_with_len 0 n)) (sym number)

@@ -1,9 +1,7 @@
 use Rattle.std.proofs.Common.{subst, ◌∙◌}
-use Rattle.policy_rules.specs.declared.applying.Inapplicable.{Inapplicable}
 use Rattle.policy_rules.specs.declared.file.PolicyFile.{PolicyFile}
-use Rattle.policy_rules.specs.declared.policy.Row.{Row}
-use Rattle.std.specs.Prelude.{List, Result}
-use Rattle.world.specs.Files.{IsMade, KeepsWhole, file_or_none}
+use Rattle.std.specs.Prelude.{List}
+use Rattle.world.specs.Files.{IsMade, KeepsWhole, Making, file_or_none}
 use Rattle.world.proofs.KeptFiles.{own_made}
 use Rattle.world.proofs.files.Files.set_newest.Goals as goal
 
@@ -16,7 +14,7 @@ invariant_of-self c =
       many = keeps.many ∙ c.self.invariant.many;
       each = λ place compiled at.
           let kept = keeps.each place compiled at in
-          subst (λ (made : Result (List Row) Inapplicable). IsMade c.self.inside.net made compiled)
+          subst (λ (making : Making). IsMade c.self.inside.net making compiled)
           (own_made (file_or_none c.self.inside.files.items place) c.self.inside.newest.policy
           c.args.plan.policy kept.1)
           (c.self.invariant.each place compiled kept.0);

@@ -1,5 +1,5 @@
 use Rattle.std.proofs.Common.{List, refl, sym, subst, ◌∙◌, arith}
-use Rattle.controller.specs.Controller.{ControllerValue}
+use Rattle.controller.specs.Controller.{ControllerValue, current_touched}
 use Rattle.controller.specs.Sends.{settling_acts}
 use Rattle.controller.specs.declared.sends.Act.{Act}
 use Rattle.journal.specs.declared.item.Item.TheVariants as item
@@ -54,7 +54,8 @@ returns c = λ before row begins.
     let ready = begins.ready in
     let new : ControllerValue = c.over.new.self in
     let acts : List Act =
-    settling_acts (at_switch s after_over c.args.self.now.controller.marks) new.marks in
+    settling_acts (current_touched new)
+    (at_switch s after_over c.args.self.now.controller.marks) new.marks in
     let down = sym c.is_up.ensures ∙ c.if-is_up.false in
     let its = c.note_acts.ensures in
     goes_acting (item.OverNow s) acts c.into_items.result.items c.push-2.new.self begins

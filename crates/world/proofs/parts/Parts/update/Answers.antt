@@ -6,15 +6,17 @@ use Rattle.controller.specs.Controller.{ControllerValue}
 use Rattle.controller.specs.Plan.{PlanValue}
 use Rattle.controller.specs.Sends.{submit_acts}
 use Rattle.controller.specs.declared.sends.Act.{Act}
+use Rattle.controller.specs.Submit.{next_kept}
 use Rattle.journal.specs.declared.item.Item.{Item}
 use Rattle.journal.specs.declared.item.Item.TheVariants as item
 use Rattle.policy_rules.specs.declared.applying.Inapplicable.{Inapplicable}
 use Rattle.policy_rules.specs.declared.policy.Row.{Row}
 use Rattle.steps.specs.declared.step.Step.TheVariants.{Update}
 use Rattle.version_update.specs.declared.marks.SubmitError.TheVariants.{TooManyLive, TooManyVersions}
-use Rattle.world.specs.Files.{FilesValue, IsMade, made_at}
+use Rattle.world.specs.Files.{FilesValue, IsMade, Making, made_at}
 use Rattle.update_machine.specs.Pieces.{piece, update_code}
 use Rattle.update_machine.specs.Setting.{made_by}
+use Rattle.update_machine.specs.Touched.{touched_of}
 use Rattle.world.specs.Parts.{BeginsStep, Goes, KeepNet, setting_in}
 use Rattle.world.specs.declared.parts.Parts.{Parts}
 use Rattle.world_log.specs.Sending.{MayNote}
@@ -27,7 +29,10 @@ use Rattle.world.proofs.parts.Parts.update.Goals.{In-Planned, in-Err-Refused-Too
 
 -- what the file makes of the newest policy
 abbrev made_of : Parts → ℕ → Result (List Row) Inapplicable
-made_of self file = made_at self.files.files self.files.newest (file - 1)
+made_of self file = (made_at self.files.files self.files.newest (file - 1)).0
+
+abbrev making_of : Parts → ℕ → Making
+making_of self file = made_at self.files.files self.files.newest (file - 1)
 
 -- as that of a file which is there
 made_there : (self : Parts) (file : ℕ) → 1 ≤ file → file ≤ length self.files.files
@@ -70,7 +75,7 @@ returns-in-Refused c = λ before row begins.
     let file = c.args.file in
     let code = c.in-Refused.code in
     let ready = begins.ready in
-    let cause = subst (IsMade self.files.net (made_of self file)) c.in-Refused.is
+    let cause = subst (IsMade self.files.net (making_of self file)) c.in-Refused.is
     c.in_ok-code.ensures.compiled in
     let own = newest_refines _ _ _ _ _ _ row (Update file) self.files.newest ready.refines
     ready.newest in
@@ -102,16 +107,20 @@ changed_net self new files rows changed same ports = record {
 planned : (c : In-Planned) (before : List Item) (row : ℕ)
     → BeginsStep before row (Update c.args.file) c.args.self.now
     → IsPlanOfNext (setting_in c.args.self.now) before c.args.file c.in-Planned.plan
+    c.in-Planned.touched
 planned c before row begins =
     let self = c.args.self.now in
     let file = c.args.file in
     let ready = begins.ready in
-    let made = subst (IsMade self.files.net (made_of self file)) c.in-Planned.is
+    let made = subst (IsMade self.files.net (making_of self file)) c.in-Planned.is
     c.in_ok-code.ensures.compiled in
     let own = newest_refines _ _ _ _ _ _ row (Update file) self.files.newest ready.refines
     ready.newest in
     planned_next self.files.net self.files.files before file self.files.newest c.in-Planned.plan
-    ready.may.0 own.0 (made_there self file ready.may.0 ready.may.1 ∙ made.0) made.1
+    c.in-Planned.touched ready.may.0 own.0
+    (made_there self file ready.may.0 ready.may.1 ∙ made.policy) made.planned
+    (made.told_is ∙ ap (λ o. touched_of o (Some self.files.newest))
+    (sym (file_there self.files.files (file - 1) (omega (arith, ready.may.0, ready.may.1)))))
 
 pub returns-in_err-newest : goal.returns-in_err-newest
 returns-in_err-newest c = λ before row begins.
@@ -133,7 +142,7 @@ note_acts-requires c =
     c.requires.begins in
     subst (MayNote self.log.bag) (sym (c.into_items.ensures ∙ c.in-Ok.ensures.sends))
     (submitted_may _ _ _ _ _ _ c.requires.row file ready.refines
-    ready.may c.in-Planned.plan c.submit.new.self of_next
+    ready.may c.in-Planned.plan c.in-Planned.touched c.submit.new.self of_next
     (λ e. not_err _ _ (c.in-Ok.ensures.live.1 e))
     (λ e. not_err _ _ (c.in-Ok.ensures.versions.1 (
       λ f. not_err _ _ (c.in-Ok.ensures.live.1 f),
@@ -152,7 +161,8 @@ returns-in-Ok c = λ before row begins.
     let versions : self.controller.marks.count ≢ 64 =
     λ e. not_err _ _ (c.in-Ok.ensures.versions.1 (live, e)) in
     let new : ControllerValue = c.submit.new.self in
-    let acts : List Act = submit_acts self.controller.marks c.in-Planned.plan new.marks in
+    let acts : List Act = submit_acts self.controller.marks
+    (next_kept self.controller c.in-Planned.plan c.in-Planned.touched) new in
     let one = item.Submitted file (self.controller.marks.count + 1) in
     let its = c.note_acts.ensures in
     goes_acting one acts c.into_items.result.items c.push-in-Ok.new.self begins
@@ -162,13 +172,13 @@ returns-in-Ok c = λ before row begins.
           ∙ ap Some (sym (ap (λ (f : FilesValue). f.newest) c.set_newest.ensures
           ∙ ap (λ (plan : PlanValue). plan.policy) c.in_ok-newest.ensures.cases));
     }) (none_in _)
-    (submitted_piece _ _ _ _ _ _ row file ready.refines ready.may c.in-Planned.plan new of_next live
+    (submitted_piece _ _ _ _ _ _ row file ready.refines ready.may c.in-Planned.plan c.in-Planned.touched new of_next live
     versions c.in-Ok.ensures.after)
     (subst (λ v. c.push-in-Ok.new.self ≡ self.log.journal ++ item.Submitted file (v + 1) ∷ [])
     (c.count-version.ensures.count ∙ ap (λ marks. marks.count) c.marks.ensures)
     c.in_ok-push-in-Ok.ensures.pushed)
     (c.into_items.ensures ∙ c.in-Ok.ensures.sends) its.travelling its.written its.posted its.part
-    (submitted_refines _ _ _ _ _ _ row file ready.refines ready.may c.in-Planned.plan new of_next
+    (submitted_refines _ _ _ _ _ _ row file ready.refines ready.may c.in-Planned.plan c.in-Planned.touched new of_next
     live
     versions c.in-Ok.ensures.after)
 
@@ -187,14 +197,14 @@ returns c = λ before row begins.
       | in-Err-Refused-TooManyLive w ↦
           let live : c.submit.result ≡ Err (Refused TooManyLive) = search rules in (
             rw live at submitted.refused,
-            rw w.code-is (live_piece _ _ _ _ _ _ row file c.in-Planned.plan begins.ready.refines of_next
+            rw w.code-is (live_piece _ _ _ _ _ _ row file c.in-Planned.plan c.in-Planned.touched begins.ready.refines of_next
                 (submitted.live.0 live)),
           )
       | in-Err-Refused-TooManyVersions w ↦
           let versions : c.submit.result ≡ Err (Refused TooManyVersions) = search rules in
           let many = submitted.versions.0 versions in (
             rw versions at submitted.refused,
-            rw w.code-is (versions_piece _ _ _ _ _ _ row file c.in-Planned.plan begins.ready.refines
+            rw w.code-is (versions_piece _ _ _ _ _ _ row file c.in-Planned.plan c.in-Planned.touched begins.ready.refines
                 of_next many.0 many.1),
           )
     ] in

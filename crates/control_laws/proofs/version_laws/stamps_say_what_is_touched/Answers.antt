@@ -1,0 +1,6 @@
+use Rattle.control_laws.proofs.Pieces.{always}
+use Rattle.control_laws.proofs.Touched.{stamps_touched}
+use Rattle.control_laws.proofs.version_laws.stamps_say_what_is_touched.Goals as goal
+
+pub returns : goal.returns
+returns c = always _ stamps_touched

@@ -1,0 +1,24 @@
+-- What switches are told of the changes that made versions.
+use Rattle.std.specs.Prelude.{ℕ, ◌≡◌, ◌≤◌, Some, List}
+use Rattle.ctrl_msg.specs.declared.message.Body.TheVariants.{Stamp}
+use Rattle.ternary.specs.Word.{WordValue}
+use Rattle.journal.specs.declared.item.Item.{Item}
+use Rattle.update_machine.specs.Links.{message_of}
+use Rattle.update_machine.specs.Setting.{Setting}
+use Rattle.update_machine.specs.Settling.{to_switch}
+use Rattle.update_machine.specs.Touched.{touched_by}
+use Rattle.update_machine.specs.Versions.{version_count}
+
+-- the version is there, and these words are what its change touches
+pub record IsTouched (setting : Setting) (journal : List Item) (version : ℕ)
+    (touched : List WordValue) : Type 0 where
+  pub first : 1 ≤ version
+  pub last : version ≤ version_count journal
+  pub says : touched ≡ touched_by setting journal version
+
+-- each message that tells a switch to stamp with a version, sent again or not, says what the change
+-- of that version touches
+pub record StampsSayTouched (setting : Setting) (journal : List Item) : Type 0 where
+  pub sent : (n s boot version : ℕ) (touched : List WordValue)
+      → message_of journal n ≡ Some (to_switch s (Stamp boot version touched))
+      → IsTouched setting journal version touched

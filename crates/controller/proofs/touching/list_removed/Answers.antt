@@ -1,0 +1,28 @@
+use Rattle.std.proofs.Common.{ℕ, ◌==◌, List, Option, subst, arith, rules}
+use Rattle.std.specs.Prelude.{find}
+use Rattle.std.specs.List.{filter_map, flat_map}
+use Rattle.std.proofs.lemmas.List.{take_all}
+use Rattle.policy_rules.specs.Words.{words_of_row}
+use Rattle.policy_rules.specs.declared.policy.Row.{Row}
+use Rattle.controller.specs.Touching.{ListsMore}
+use Rattle.controller.proofs.Listing.{found_more, lists_then}
+use Rattle.controller.proofs.touching.list_removed.Goals as goal
+
+pub loop-priority-preserved : goal.loop-priority-preserved
+loop-priority-preserved c =
+    let row_of : ℕ → Option Row =
+    λ priority. find (λ (row : Row). row.priority == priority) c.args.rows.now in
+    subst (ListsMore c.args.words.now.items c.list_row_of.new.words.items)
+    (found_more words_of_row row_of c.args.removed.now c.loop-priority.priority-index _
+    c.loop-priority-test.true (search rules))
+    (lists_then _ _ _ _ _ c.loop-priority.invariant c.in_ok-list_row_of.ensures)
+
+pub returns : goal.returns
+returns c =
+    let row_of : ℕ → Option Row =
+    λ priority. find (λ (row : Row). row.priority == priority) c.args.rows.now in
+    subst (λ (removed : List ℕ). ListsMore c.args.words.now.items c.loop-priority.words.items
+    (flat_map words_of_row (filter_map row_of removed)))
+    (take_all c.loop-priority.priority-index c.args.removed.now
+    (omega (arith, c.loop-priority-test.false)))
+    c.loop-priority.invariant

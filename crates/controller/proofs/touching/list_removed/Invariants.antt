@@ -1,0 +1,12 @@
+use Rattle.std.proofs.Common.{◌==◌, take}
+use Rattle.std.specs.Prelude.{find}
+use Rattle.std.specs.List.{filter_map, flat_map}
+use Rattle.policy_rules.specs.Words.{words_of_row}
+use Rattle.controller.specs.Touching.{ListsMore}
+use Rattle.controller.proofs.touching.list_removed.Given as goal
+
+-- those of the priorities so far are listed
+abbrev pub invariant-loop-priority : goal.invariant-loop-priority
+invariant-loop-priority l = ListsMore l.initial.words.items l.words.items
+    (flat_map words_of_row (filter_map (λ priority. find (λ row. row.priority == priority) l.rows)
+    (take l.priority-index l.removed)))

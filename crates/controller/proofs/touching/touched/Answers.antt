@@ -1,0 +1,42 @@
+use Rattle.std.proofs.Common.{ℕ, ◌==◌, ◌∙◌, ◌++◌, List, [], All, refl, inl, ap, sym, subst}
+use Rattle.std.specs.Prelude.{filter_map, find}
+use Rattle.std.specs.List.{flat_map}
+use Rattle.std.proofs.lemmas.List.Concat.{flat_map-append}
+use Rattle.ternary.specs.Word.{WordValue}
+use Rattle.policy_rules.specs.Applied.{additions, removals}
+use Rattle.policy_rules.specs.SoundPolicies.{IsSoundRow}
+use Rattle.policy_rules.specs.Touched.{removed_rows}
+use Rattle.policy_rules.specs.Words.{words_of_row}
+use Rattle.policy_rules.specs.declared.policy.Row.{Row}
+use Rattle.switch_table.specs.Carried.{few_touched}
+use Rattle.controller.specs.Touching.{ListsMore}
+use Rattle.controller.proofs.Listing.{added_sound, lists_then, told_alike}
+use Rattle.controller.proofs.touching.touched.Goals as goal
+
+pub list_added-requires : goal.list_added-requires
+list_added-requires c = subst (All IsSoundRow) (sym c.added.ensures.rows)
+    (added_sound c.args.change.now c.added.ensures.amendment.sound)
+
+pub returns : goal.returns
+returns c =
+    let rows : List Row = c.args.policy.now in
+    let removed : List Row = removed_rows rows c.args.change.now in
+    let added : List Row = additions c.args.change.now in
+    let some : List WordValue = c.list_removed.new.words.items in
+    let listed : List WordValue = c.list_added.new.words.items in
+    let words_of : List Row → List ℕ → List WordValue = λ rows gone. flat_map words_of_row
+    (filter_map (λ priority. find (λ (row : Row). row.priority == priority) rows) gone) in
+    let first : ListsMore [] some (flat_map words_of_row removed) =
+    subst (λ these. ListsMore these some (words_of rows (removals c.args.change.now)))
+    c.new-words.ensures.items
+    (subst (λ these. ListsMore c.new-words.result.items some
+    (words_of these (removals c.args.change.now))) c.rows.ensures.rows
+    (subst (λ gone. ListsMore c.new-words.result.items some (words_of c.rows.result.now gone))
+    c.removed.ensures c.in_ok-list_removed.ensures)) in
+    let last : ListsMore some listed (flat_map words_of_row added) =
+    subst (λ these. ListsMore some listed (flat_map words_of_row these)) c.added.ensures.rows
+    c.in_ok-list_added.ensures in
+    let all : ListsMore [] listed (flat_map words_of_row removed ++ flat_map words_of_row added) =
+    lists_then [] some listed _ _ first last in
+    c.told.ensures ∙ told_alike listed _ (all [] (inl refl))
+    ∙ ap few_touched (sym (flat_map-append words_of_row removed added))

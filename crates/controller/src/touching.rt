@@ -1,0 +1,98 @@
+//! What a change of a policy touches, as switches are told.
+ghost use Rattle.std.specs.Prelude.{◌≡◌, ◌==◌, [], IfOk, OnOk, All, filter_map, find};
+ghost use Rattle.std.specs.List.{flat_map};
+ghost use Rattle.std.specs.Option.{option_copied, option_map_or};
+ghost use Rattle.policy_rules.specs.Exports.{IsSoundRow};
+ghost use Rattle.policy_rules.specs.Words.{words_of_row};
+ghost use Rattle.switch_table.specs.Carried.{few_touched};
+ghost use Rattle.controller.specs.Exports.{ListsMore, touched_few};
+
+use policy_rules::{Amendment, Policy, Row, push_row_words};
+use std::alloc::{AllocError, Global};
+use switch_table::Touched;
+use ternary::Word;
+
+/// The most words that switches are told.
+const MOST: usize = 16;
+
+/// What a change touches of the policy to which it is applied: the words of the rows that it
+/// removes, in the order of the removals, and then those of the rows that it adds; everything,
+/// where these are more than 16.
+///
+/// # Errors
+/// Want of memory alone.
+pub fn touched(alloc: Global, policy: &Policy, change: &Amendment) -> Result<Touched, AllocError>
+    ensures { IfOk result (λ touched. touched ≡ touched_few policy.now change.now) }
+{
+    let mut words = Vec::new(alloc);
+    list_removed(&mut words, policy.rows(), change.removed())?;
+    list_added(&mut words, change.added())?;
+    Ok(told(words))
+}
+
+// These words, or everything, where they are too many to be told.
+fn told(words: Vec<Word>) -> Touched
+    ensures { result ≡ few_touched words.items }
+{
+    match Touched::new(words) {
+        Some(touched) => touched,
+        None => Touched::all(),
+    }
+}
+
+// Adds the words of the rows of these priorities, as far as they may be told.
+fn list_removed(words: &mut Vec<Word>, rows: &[Row], removed: &[u32]) -> Result<(), AllocError>
+    requires { All IsSoundRow rows.now }
+    ensures { OnOk result (ListsMore words.old.items words.new.items (flat_map words_of_row
+        (filter_map (λ priority. find (λ row. row.priority == priority) rows.now) removed.now))) }
+{
+    for priority in removed {
+        list_row_of(words, rows, *priority)?;
+    }
+    Ok(())
+}
+
+// Adds the words of the rows, as far as they may be told.
+fn list_added(words: &mut Vec<Word>, rows: &[Row]) -> Result<(), AllocError>
+    requires { All IsSoundRow rows.now }
+    ensures { OnOk result (ListsMore words.old.items words.new.items
+        (flat_map words_of_row rows.now)) }
+{
+    for row in rows {
+        list_row(words, row)?;
+    }
+    Ok(())
+}
+
+// Adds the words of the row of this priority, unless there are more than may be told: then it isn't
+// sought.
+fn list_row_of(words: &mut Vec<Word>, rows: &[Row], priority: u32) -> Result<(), AllocError>
+    requires { All IsSoundRow rows.now }
+    ensures { OnOk result (ListsMore words.old.items words.new.items
+        (option_map_or words_of_row (find (λ row. row.priority == priority) rows.now) [])) }
+{
+    if words.len() > MOST {
+        return Ok(());
+    }
+    match find_row(rows, priority) {
+        Some(row) => list_row(words, row),
+        None => Ok(()),
+    }
+}
+
+fn find_row(rows: &[Row], priority: u32) -> Option<&Row>
+    ensures { option_copied result ≡ find (λ row. row.priority == priority) rows.now }
+{
+    rows.iter().find(|row| row.priority == priority)
+}
+
+// Adds the words of a row, unless there are more than may be told.
+fn list_row(words: &mut Vec<Word>, row: &Row) -> Result<(), AllocError>
+    requires { IsSoundRow row.now }
+    ensures { OnOk result (ListsMore words.old.items words.new.items (words_of_row row.now)) }
+{
+    if words.len() > MOST {
+        return Ok(());
+    }
+    push_row_words(words, row)
+}

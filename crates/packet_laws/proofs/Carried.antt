@@ -1,0 +1,62 @@
+-- Cache rules that go over to a version decide as its policy does.
+use Rattle.std.proofs.Common.{ℕ, suc, ◌≡◌, ◌≤◌, ◌∙◌, ◌⊎◌, Some, List, sym, subst, inl, inr, arith, All, Contains, false}
+use Rattle.std.proofs.lemmas.List.Elements.{All-contains, All-weaker}
+use Rattle.switch_table.specs.Cache.{CacheValue}
+use Rattle.switch_table.specs.CacheLaws.{WentOver}
+use Rattle.switch_table.specs.Carried.{after_carry, meets_any}
+use Rattle.switch_table.specs.declared.cache.CacheEntry.{CacheEntry}
+use Rattle.switch_table.proofs.CarryLemmas.{only_carried}
+use Rattle.journal.specs.declared.item.Item.{Item}
+use Rattle.update_machine.specs.Marks.{current_mark}
+use Rattle.update_machine.specs.Setting.{IsSetting, Setting, policy_in}
+use Rattle.update_machine.specs.Touched.{touched_by}
+use Rattle.update_machine.specs.Versions.{HasPlan, policy_at}
+use Rattle.update_machine.proofs.CallerLemmas.{touched_apart}
+use Rattle.packet_laws.specs.Rules.{IsRightEntry}
+use Rattle.policy_rules.specs.Scan.{scan}
+use Rattle.ternary.specs.Word.{WordValue}
+
+module _ (setting : Setting) (before : List Item) (version : ℕ) (cache : CacheValue)
+    (is : IsSetting setting) (has : HasPlan setting before version)
+    (current : version ≤ current_mark before)
+    (all : All (IsRightEntry setting before) cache.entries) where
+  abbrev touched : List WordValue
+  touched = touched_by setting before version
+
+  there : (old : CacheEntry) → Contains cache.entries old → IsRightEntry setting before old
+  there old inside = All-contains (IsRightEntry setting before) cache.entries old all inside
+
+  -- an entry of the version before whose word meets no touched word
+  over : (entry : CacheEntry) → WentOver version touched cache entry
+      → IsRightEntry setting before entry
+  over entry went =
+      let old = went.old in
+      let right = there old went.there in
+      let next : suc old.version ≡ version = omega (arith, went.before) in
+      let policy : policy_in setting before (suc old.version)
+      ≡ Some (policy_at setting before (suc old.version)) =
+      subst (λ v. policy_in setting before v ≡ Some (policy_at setting before v)) (sym next)
+      has.policy in
+      let apart = subst (λ v. meets_any (touched_by setting before v) old.word ≡ false) (sym next)
+      went.apart in
+      subst (IsRightEntry setting before) (sym went.is) (record {
+        known = omega (arith, went.before);
+        current = current;
+        decides = λ header sound held.
+            subst (λ v. scan (policy_at setting before v) header
+            ≡ scan (policy_at setting before old.version) header) next
+            (touched_apart setting before old.version old.word header is policy apart sound held)
+            ∙ right.decides header sound held;
+      })
+
+  each : (entry : CacheEntry)
+      → ((version ≤ entry.version) × Contains cache.entries entry)
+      ⊎ WentOver version touched cache entry → IsRightEntry setting before entry
+  each entry (inl stays) = there entry stays.1
+  each entry (inr went) = over entry went
+
+  pub carried_right : All (IsRightEntry setting before) (after_carry version touched cache).entries
+  carried_right =
+      All-weaker (λ entry. ((version ≤ entry.version) × Contains cache.entries entry)
+      ⊎ WentOver version touched cache entry) (IsRightEntry setting before) each _
+      (only_carried version touched cache)

@@ -1,0 +1,6 @@
+use Rattle.packet_laws.proofs.Reached.{reached}
+use Rattle.packet_laws.proofs.Untouched.{untouched_stay}
+use Rattle.packet_laws.proofs.laws.untouched_rules_stay.Goals as goal
+
+pub returns : goal.returns
+returns c = reached _ untouched_stay

@@ -1,0 +1,24 @@
+use Rattle.std.proofs.Common.{ap, subst, sym, ◌∙◌, Some}
+use Rattle.control_laws.specs.Bounds.{MarksAreBounded}
+use Rattle.control_laws.specs.Planned.{VersionsArePlanned}
+use Rattle.controller.specs.Controller.{current_plan}
+use Rattle.world.specs.State.{setting_at}
+use Rattle.replay.proofs.Planned.{kept_in_force}
+use Rattle.replay.proofs.Refining.{tie_of}
+use Rattle.replay.proofs.in_force.plan_in_force.Goals as goal
+
+pub returns : goal.returns
+returns c =
+    let world = c.args.world.now in
+    let setting = setting_at world in
+    let tie = tie_of world (c.refines.ensures c.requires) in
+    let bounds : MarksAreBounded setting world.journal =
+    subst (MarksAreBounded setting) (sym tie.reached.written)
+    (c.marks_are_bounded.ensures.behind.ends.stepped setting tie.reached.steps) in
+    let planned : VersionsArePlanned setting world.journal =
+    subst (VersionsArePlanned setting) (sym tie.reached.written)
+    (c.versions_are_planned.ensures.behind.ends.stepped setting tie.reached.steps) in
+    kept_in_force setting world.journal world.controller c.in_ok-plan.plan tie.sound tie.controller
+    bounds planned
+    (ap current_plan (sym c.controller.ensures) ∙ c.current_plan.ensures
+    ∙ ap Some (sym c.in_ok-plan.ensures.cases))

@@ -1,0 +1,15 @@
+-- The plan that is in force behind a journal: that of the version that is current.
+use Rattle.std.specs.Prelude.{◌≡◌, List}
+use Rattle.controller.specs.Plan.{PlanValue}
+use Rattle.journal.specs.declared.item.Item.{Item}
+use Rattle.partition.specs.Plan.{IsPlan}
+use Rattle.update_machine.specs.Marks.{current_mark}
+use Rattle.update_machine.specs.Setting.{Setting}
+use Rattle.update_machine.specs.Versions.{plan_at, policy_at}
+
+-- it has the policy of that version, and its partitions with their targets are the policy's plan on
+-- the network
+pub record IsPlanInForce (setting : Setting) (journal : List Item) (plan : PlanValue) : Type 0 where
+  pub policy : plan.policy ≡ policy_at setting journal (current_mark journal)
+  pub hosted : plan.hosted ≡ plan_at setting journal (current_mark journal)
+  pub parts : IsPlan plan.policy setting.net plan.hosted

@@ -1,0 +1,24 @@
+//! The plan that is in force behind a play.
+ghost use Rattle.std.specs.Prelude.{◌≡◌, false, IfOk};
+ghost use Rattle.replay.specs.InForce.{IsPlanInForce};
+ghost use Rattle.world.specs.State.{setting_at};
+
+use control_laws::{marks_are_bounded, versions_are_planned};
+use controller::Plan;
+use std::alloc::AllocError;
+use world::World;
+
+/// The plan of the version that is current, shared.
+///
+/// # Errors
+/// Want of memory alone.
+pub fn plan_in_force(world: &World) -> Result<Plan, AllocError>
+    requires { world.now.is_spent ≡ false }
+    ensures { IfOk result (IsPlanInForce (setting_at world.now) world.now.journal) }
+{
+    world.refines();
+    marks_are_bounded();
+    versions_are_planned();
+    let plan = world.controller().current_plan().clone()?;
+    Ok(plan)
+}

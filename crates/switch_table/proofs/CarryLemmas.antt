@@ -1,0 +1,405 @@
+-- What a cache keeps as it goes over to a version.
+use Rattle.std.proofs.Common.{ℕ, zero, suc, ◌≡◌, ◌∙◌, ◌+◌, ◌≤◌, Bool, true, false, cond, leb, eqb, not, ◌&&◌, ◌||◌, ◌⊎◌, Option, Some, None, Result, Ok, Err, IfSome, List, [], ◌∷◌, ◌++◌, append-nil, length, map, filter, filter_map, get_or, refl, ap, sym, subst, inl, inr, arith, All, AllPairs, Any, Contains}
+use Rattle.std.specs.List.{cons_option, list_any}
+use Rattle.std.specs.Prelude.{OnErr, OnOk}
+use Rattle.std.proofs.lemmas.Bool.{eq-eqb, eqb-true, false_from_ne_true, le-leb, leb-true}
+use Rattle.std.proofs.lemmas.List.{get_or_default}
+use Rattle.std.proofs.lemmas.List.Elements.{All-cons, All-contains_itself, All-head, All-nil, All-tail, All-weaker, filter_map-append}
+use Rattle.std.proofs.lemmas.List.Folds.{Any-from_list_any, list_any-from_Any}
+use Rattle.std.proofs.lemmas.List.Kept.{AllPairs-cons}
+use Rattle.ternary.specs.Meets.{any_word}
+use Rattle.ternary.specs.Word.{WordValue}
+use Rattle.ternary.proofs.CallerLemmas.{any_covers, meets_cover}
+use Rattle.indexmap.specs.IndexMap.{insert_entry}
+use Rattle.switch_table.specs.Cache.{CacheValue, HaveDistinctKeys, IsCache, after_raise, same_key}
+use Rattle.switch_table.specs.CacheLaws.{WentOver}
+use Rattle.switch_table.specs.Carried.{after_carry, all_touched, carried_entry, goes_over, meets_any, under}
+use Rattle.switch_table.specs.Queue.{IsRing, Pair, equal_keys, key_of, pair_of, ring_entries}
+use Rattle.switch_table.specs.declared.cache.CacheEntry.{CacheEntry}
+use Rattle.switch_table.specs.declared.key.CacheKey.{CacheKey}
+use Rattle.switch_table.proofs.QueueLemmas.{IsRingOf, apart-sym, key_equals_itself, keys_equal, ring_straight, same_key-is, straight_grown}
+
+-- ---- what is left of a list
+
+length-cons_option : {X : Type 0} (first : Option X) (rest : List X) (most : ℕ) → length rest ≤ most
+    → length (cons_option first rest) ≤ suc most
+length-cons_option None rest most few = omega (arith, few)
+length-cons_option (Some x) rest most few = omega (arith, few)
+
+pub length-filter_map : {X Y : Type 0} (f : X → Option Y) (xs : List X)
+    → length (filter_map f xs) ≤ length xs
+length-filter_map f [] = omega arith
+length-filter_map f (x ∷ xs) =
+    length-cons_option (f x) (filter_map f xs) (length xs) (length-filter_map f xs)
+
+All-filter_map : {X Y : Type 0} (P : Y → Type 0) (f : X → Option Y) (xs : List X)
+    → All (λ x. IfSome (f x) P) xs → All P (filter_map f xs)
+All-filter_map P f [] all = All-nil P
+All-filter_map {X} {Y} P f (x ∷ xs) all =
+    by_case (f x) (All-head (λ z. IfSome (f z) P) x xs all)
+    (All-filter_map P f xs (All-tail (λ z. IfSome (f z) P) x xs all))
+  where
+    by_case : (o : Option Y) → IfSome o P → All P (filter_map f xs)
+        → All P (cons_option o (filter_map f xs))
+    by_case None here rest = rest
+    by_case (Some y) here rest = All-cons P y (filter_map f xs) here rest
+
+in_cons_option : {X : Type 0} (first : Option X) (rest : List X) (x : X) → Contains rest x
+    → Contains (cons_option first rest) x
+in_cons_option None rest x there = there
+in_cons_option (Some y) rest x (k, within, is) = (suc k, omega (arith, within), is)
+
+contains_left : {X Y : Type 0} (f : X → Option Y) (xs : List X) (x : X) (y : Y) → Contains xs x
+    → f x ≡ Some y → Contains (filter_map f xs) y
+contains_left f [] x y (k, within, is) made = absurd (omega (arith, within))
+contains_left f (z ∷ zs) x y (zero, within, is) made =
+    subst (λ o. Contains (cons_option o (filter_map f zs)) y) (sym (ap f is ∙ made))
+    (0, omega arith, refl)
+contains_left f (z ∷ zs) x y (suc k, within, is) made =
+    in_cons_option (f z) (filter_map f zs) y
+    (contains_left f zs x y (k, omega (arith, within), is) made)
+
+-- what is left of two elements of a list is related where they are
+AllPairs-filter_map : {X Y : Type 0} (R : X → X → Type 0) (S : Y → Y → Type 0)
+    (f : X → Option Y)
+    → ((a b : X) → R a b → IfSome (f a) (λ y. IfSome (f b) (λ z. S y z)))
+    → (xs : List X) → AllPairs R xs → AllPairs S (filter_map f xs)
+AllPairs-filter_map R S f each [] pairs = λ i j d less within. absurd (omega (arith, within))
+AllPairs-filter_map {X} {Y} R S f each (x ∷ xs) pairs =
+    by_case (f x) (λ k d within. each x (get_or xs k d) (pairs 0 (suc k) d (omega arith)
+    (omega (arith, within))))
+    (AllPairs-filter_map R S f each xs
+    (λ i j d less within. pairs (suc i) (suc j) d (omega (arith, less))
+    (omega (arith, within))))
+  where
+    by_case : (o : Option Y) → All (λ b. IfSome o (λ y. IfSome (f b) (λ z. S y z))) xs
+        → AllPairs S (filter_map f xs) → AllPairs S (cons_option o (filter_map f xs))
+    by_case None first rest = rest
+    by_case (Some y) first rest =
+        AllPairs-cons S y (filter_map f xs) (All-filter_map (S y) f xs first) rest
+
+-- ---- an entry that goes over
+
+pub meets_all : (word : WordValue) → meets_any all_touched word ≡ true
+meets_all word = ap (λ b. b || false) (meets_cover any_word word (any_covers word))
+
+record GoesOver (version : ℕ) (touched : List WordValue) (entries : List CacheEntry)
+    (entry : CacheEntry) : Type 0 where
+  before : entry.version + 1 ≡ version
+  apart : meets_any touched entry.word ≡ false
+  alone : list_any (same_key (under version entry)) entries ≡ false
+
+over_parts : (before met there : Bool) → (before && not met && not there) ≡ true
+    → (before ≡ true) × (met ≡ false) × (there ≡ false)
+over_parts true false false is = (refl, refl, refl)
+over_parts true false true is = absurd (cc is)
+over_parts true true false is = absurd (cc is)
+over_parts true true true is = absurd (cc is)
+over_parts false false false is = absurd (cc is)
+over_parts false false true is = absurd (cc is)
+over_parts false true false is = absurd (cc is)
+over_parts false true true is = absurd (cc is)
+
+over_from : (before met there : Bool) → before ≡ true → met ≡ false → there ≡ false
+    → (before && not met && not there) ≡ true
+over_from true false false b m t = refl
+over_from true false true b m t = absurd (cc t)
+over_from true true false b m t = absurd (cc m)
+over_from true true true b m t = absurd (cc m)
+over_from false met there b m t = absurd (cc b)
+
+gone_over : (version : ℕ) (touched : List WordValue) (entries : List CacheEntry)
+    (entry : CacheEntry) → goes_over version touched entries entry ≡ true
+    → GoesOver version touched entries entry
+gone_over version touched entries entry is =
+    let parts = over_parts (eqb (entry.version + 1) version) (meets_any touched entry.word)
+    (list_any (same_key (under version entry)) entries) is in record {
+      before = eqb-true _ _ parts.0;
+      apart = parts.1;
+      alone = parts.2;
+    }
+
+in_list : (test : CacheEntry → Bool) (entries : List CacheEntry) (entry : CacheEntry)
+    → Contains entries entry → test entry ≡ true → list_any test entries ≡ true
+in_list test entries entry (k, within, is) passes =
+    list_any-from_Any test entries (k, entry, within, is, passes)
+
+none_in : (test : CacheEntry → Bool) (entries : List CacheEntry) (entry : CacheEntry)
+    → Contains entries entry → list_any test entries ≡ false → test entry ≡ false
+none_in test entries entry there none =
+    false_from_ne_true (test entry) (λ passes.
+    let found = in_list test entries entry there passes in absurd (cc (none, found)))
+
+-- ---- no two entries of one key
+
+-- two entries of the cache, of different keys
+abbrev IsPair : List CacheEntry → CacheEntry → CacheEntry → Type 0
+IsPair entries a b =
+    Contains entries a × (Contains entries b × (same_key a b ≡ false))
+
+pairs_within : (entries : List CacheEntry) → HaveDistinctKeys entries
+    → AllPairs (IsPair entries) entries
+pairs_within entries distinct = λ i j d less within. (
+  (
+    i,
+    omega (arith, less, within),
+    get_or_default entries i (get_or entries i d) d (omega (arith, less, within)),
+  ),
+  (
+    (j, within, get_or_default entries j (get_or entries j d) d within),
+    distinct i j d less within,
+  ),
+)
+
+-- entries of the version before that have one word under the version are of one key
+both_over : (version : ℕ) (a b : CacheEntry) → a.version + 1 ≡ version → b.version + 1 ≡ version
+    → same_key a b ≡ false → same_key (under version a) (under version b) ≡ false
+both_over version a b before_a before_b apart =
+    false_from_ne_true (same_key (under version a) (under version b)) (λ same.
+    let keys = keys_equal (key_of (under version a)) (key_of (under version b))
+    (sym (same_key-is (under version a) (under version b)) ∙ same) in
+    let versions : a.version ≡ b.version = omega (arith, before_a, before_b) in
+    let equal : key_of a ≡ key_of b =
+    λ i. record { version = versions i; word = (keys i).word } in
+    let one : same_key a b ≡ true =
+    same_key-is a b ∙ subst (λ k. equal_keys (key_of a) k ≡ true) equal
+    (key_equals_itself (key_of a)) in
+    absurd (cc (apart, one)))
+
+pair_carried : (version : ℕ) (touched : List WordValue) (entries : List CacheEntry)
+    (a b : CacheEntry) → IsPair entries a b
+    → IfSome (carried_entry version touched entries a) (λ y.
+    IfSome (carried_entry version touched entries b) (λ z. same_key y z ≡ false))
+pair_carried version touched entries a b (in_a, (in_b, apart)) =
+    by_case (leb version a.version) (goes_over version touched entries a)
+    (leb version b.version) (goes_over version touched entries b) refl refl
+  where
+    over : CacheEntry → CacheEntry
+    over entry = under version entry
+
+    left : Bool → Bool → CacheEntry → Option CacheEntry
+    left stays goes entry = cond stays (Some entry) (cond goes (Some (over entry)) None)
+
+    by_case : (stays_a goes_a stays_b goes_b : Bool)
+        → goes_over version touched entries a ≡ goes_a
+        → goes_over version touched entries b ≡ goes_b
+        → IfSome (left stays_a goes_a a) (λ y. IfSome (left stays_b goes_b b) (λ z. same_key y z ≡ false))
+    by_case true _ true _ _ _ = apart
+    by_case true _ false true _ is = apart-sym (over b) a
+        (none_in (same_key (over b)) entries a in_a (gone_over version touched entries b is).alone)
+    by_case true _ false false _ _ = tt
+    by_case false true true _ is _ =
+        none_in (same_key (over a)) entries b in_b (gone_over version touched entries a is).alone
+    by_case false true false true is_a is_b = both_over version a b
+        (gone_over version touched entries a is_a).before
+        (gone_over version touched entries b is_b).before apart
+    by_case false true false false _ _ = tt
+    by_case false false _ _ _ _ = tt
+
+pub carried_distinct : (version : ℕ) (touched : List WordValue) (entries : List CacheEntry)
+    → HaveDistinctKeys entries
+    → HaveDistinctKeys (filter_map (carried_entry version touched entries) entries)
+carried_distinct version touched entries distinct =
+    AllPairs-filter_map (IsPair entries) (λ a b. same_key a b ≡ false)
+    (carried_entry version touched entries) (pair_carried version touched entries) entries
+    (pairs_within entries distinct)
+
+pub cache_carried : (version : ℕ) (touched : List WordValue) (cache : CacheValue) → IsCache cache
+    → IsCache (after_carry version touched cache)
+cache_carried version touched cache is = record {
+  distinct = carried_distinct version touched cache.entries is.distinct;
+  few = omega (
+    arith,
+    length-filter_map (carried_entry version touched cache.entries) cache.entries,
+    is.few,
+  );
+}
+
+-- ---- what isn't touched stays
+
+pub untouched_stays : (version : ℕ) (touched : List WordValue) (cache : CacheValue)
+    (entry : CacheEntry) → Contains cache.entries entry → entry.version + 1 ≡ version
+    → meets_any touched entry.word ≡ false
+    → Any (λ (kept : CacheEntry). (kept.version ≡ version) × (kept.word ≡ entry.word))
+    (after_carry version touched cache).entries
+untouched_stays version touched cache entry there before apart =
+    by_case (list_any (same_key (under version entry)) entries) refl
+  where
+    entries : List CacheEntry
+    entries = cache.entries
+
+    carried : List CacheEntry
+    carried = filter_map (carried_entry version touched entries) entries
+
+    IsIt : CacheEntry → Type 0
+    IsIt kept = (kept.version ≡ version) × (kept.word ≡ entry.word)
+
+    found : (kept : CacheEntry) → Contains carried kept → IsIt kept → Any IsIt carried
+    found kept (k, within, is) same = (k, kept, within, is, same)
+
+    below : leb version entry.version ≡ false
+    below = false_from_ne_true (leb version entry.version) (λ le.
+        absurd (omega (arith, leb-true version entry.version le, before)))
+
+    by_case : (twin : Bool) → list_any (same_key (under version entry)) entries ≡ twin
+        → Any IsIt carried
+    by_case false alone =
+        let goes : goes_over version touched entries entry ≡ true =
+        over_from (eqb (entry.version + 1) version) (meets_any touched entry.word)
+        (list_any (same_key (under version entry)) entries) (eq-eqb _ _ before) apart alone in
+        let left : carried_entry version touched entries entry ≡ Some (under version entry) =
+        ap (λ b. cond b (Some entry)
+        (cond (goes_over version touched entries entry) (Some (under version entry)) None)) below
+        ∙ ap (λ b. cond b (Some (under version entry)) None) goes in
+        found (under version entry)
+        (contains_left (carried_entry version touched entries) entries entry (under version entry)
+        there left) (refl, refl)
+    by_case true twins =
+        let any = Any-from_list_any (same_key (under version entry)) entries twins in
+        let twin = any.1 in
+        let keys = keys_equal (key_of (under version entry)) (key_of twin)
+        (sym (same_key-is (under version entry) twin) ∙ any.4) in
+        let versions : version ≡ twin.version = λ i. (keys i).version in
+        let words : entry.word ≡ twin.word = λ i. (keys i).word in
+        let stays : leb version twin.version ≡ true =
+        le-leb version twin.version (omega (arith, versions)) in
+        let left : carried_entry version touched entries twin ≡ Some twin =
+        ap (λ b. cond b (Some twin)
+        (cond (goes_over version touched entries twin) (Some (under version twin)) None)) stays in
+        found twin
+        (contains_left (carried_entry version touched entries) entries twin twin
+        (any.0, any.2, any.3) left) (sym versions, sym words)
+
+-- ---- what is there was there, or went over
+
+pub only_carried : (version : ℕ) (touched : List WordValue) (cache : CacheValue)
+    → All (λ (entry : CacheEntry). ((version ≤ entry.version) × Contains cache.entries entry)
+    ⊎ WentOver version touched cache entry) (after_carry version touched cache).entries
+only_carried version touched cache =
+    All-filter_map Is (carried_entry version touched entries) entries
+    (All-weaker (Contains entries) (λ entry. IfSome (carried_entry version touched entries entry) Is)
+    each entries (All-contains_itself entries))
+  where
+    entries : List CacheEntry
+    entries = cache.entries
+
+    Is : CacheEntry → Type 0
+    Is entry = ((version ≤ entry.version) × Contains entries entry)
+        ⊎ WentOver version touched cache entry
+
+    by_case : (entry : CacheEntry) (stays goes : Bool) → Contains entries entry
+        → leb version entry.version ≡ stays → goes_over version touched entries entry ≡ goes
+        → IfSome (cond stays (Some entry) (cond goes (Some (under version entry)) None)) Is
+    by_case entry true _ there le _ = inl (leb-true version entry.version le, there)
+    by_case entry false true there _ is =
+        let goes = gone_over version touched entries entry is in
+        inr (record {
+          old = entry;
+          there = there;
+          before = goes.before;
+          apart = goes.apart;
+          is = refl;
+        })
+    by_case entry false false there _ _ = tt
+
+    each : (entry : CacheEntry) → Contains entries entry
+        → IfSome (carried_entry version touched entries entry) Is
+    each entry there = by_case entry (leb version entry.version)
+        (goes_over version touched entries entry) there refl refl
+
+-- ---- where all is touched
+
+none_over : (version : ℕ) (entries : List CacheEntry) (entry : CacheEntry)
+    → goes_over version all_touched entries entry ≡ false
+none_over version entries entry =
+    false_from_ne_true (goes_over version all_touched entries entry) (λ is.
+    let met = (gone_over version all_touched entries entry is).apart in
+    absurd (cc (met, meets_all entry.word)))
+
+all_left : (version : ℕ) (entries rest : List CacheEntry)
+    → filter_map (carried_entry version all_touched entries) rest
+    ≡ filter (λ (entry : CacheEntry). leb version entry.version) rest
+all_left version entries [] = refl
+all_left version entries (entry ∷ rest) =
+    ap (λ b. cons_option (cond (leb version entry.version) (Some entry)
+    (cond b (Some (under version entry)) None)) left) (none_over version entries entry)
+    ∙ by_case (leb version entry.version) (all_left version entries rest)
+  where
+    left : List CacheEntry
+    left = filter_map (carried_entry version all_touched entries) rest
+
+    kept : List CacheEntry
+    kept = filter (λ (x : CacheEntry). leb version x.version) rest
+
+    by_case : (stays : Bool) → left ≡ kept
+        → cons_option (cond stays (Some entry) None) left ≡ cond stays (entry ∷ kept) kept
+    by_case true same = ap (λ es. entry ∷ es) same
+    by_case false same = same
+
+pub all_carried : (version : ℕ) (cache : CacheValue)
+    → after_carry version all_touched cache ≡ after_raise version cache
+all_carried version cache =
+    ap (λ es. record { entries = es; capacity = cache.capacity })
+    (all_left version cache.entries cache.entries)
+
+-- ---- a map of what is left
+
+-- an entry of which nothing is left ..
+pub left_out : (f : CacheEntry → Option CacheEntry) (before : List CacheEntry)
+    (entry : CacheEntry) (pairs : List Pair) → f entry ≡ None
+    → pairs ≡ map pair_of (filter_map f before)
+    → pairs ≡ map pair_of (filter_map f (before ++ entry ∷ []))
+left_out f before entry pairs none are =
+    are ∙ ap (map pair_of) (sym (filter_map-append f before (entry ∷ [])
+    ∙ ap (λ o. filter_map f before ++ cons_option o []) none
+    ∙ append-nil (filter_map f before)))
+
+-- .. or something
+pub left_in : (f : CacheEntry → Option CacheEntry) (before : List CacheEntry)
+    (entry left : CacheEntry) (rest : List CacheEntry) (pairs new : List Pair) (key : CacheKey)
+    → HaveDistinctKeys (filter_map f (before ++ entry ∷ rest)) → f entry ≡ Some left
+    → pairs ≡ map pair_of (filter_map f before) → key ≡ key_of left
+    → new ≡ insert_entry equal_keys pairs key left
+    → new ≡ map pair_of (filter_map f (before ++ entry ∷ []))
+left_in f before entry left rest pairs new key distinct some are own made =
+    let all : filter_map f (before ++ entry ∷ rest) ≡ filter_map f before ++ left ∷ filter_map f rest =
+    filter_map-append f before (entry ∷ rest)
+    ∙ ap (λ o. filter_map f before ++ cons_option o (filter_map f rest)) some in
+    let grown = straight_grown (filter_map f before) left (filter_map f rest) pairs new key
+    (subst HaveDistinctKeys all distinct) are own made in
+    grown ∙ ap (map pair_of) (sym (filter_map-append f before (entry ∷ [])
+    ∙ ap (λ o. filter_map f before ++ cons_option o []) some))
+
+-- it is a ring, which begins at its end
+pub ring_left : (first : ℕ) (pairs : List Pair) (entries : List CacheEntry)
+    → HaveDistinctKeys entries → pairs ≡ map pair_of entries → first ≡ length pairs
+    → IsRingOf first pairs entries
+ring_left first pairs entries distinct are end =
+    rw (end, are) (ring_straight entries distinct)
+
+pub ring_left_is : (first : ℕ) (pairs : List Pair) (entries : List CacheEntry)
+    → HaveDistinctKeys entries → pairs ≡ map pair_of entries → first ≡ length pairs
+    → IsRing first pairs
+ring_left_is first pairs entries distinct are end =
+    (ring_left first pairs entries distinct are end).ring
+
+pub ring_left_entries : (first : ℕ) (pairs : List Pair) (entries : List CacheEntry)
+    → HaveDistinctKeys entries → pairs ≡ map pair_of entries → first ≡ length pairs
+    → ring_entries first pairs ≡ entries
+ring_left_entries first pairs entries distinct are end =
+    (ring_left first pairs entries distinct are end).entries_are
+
+-- there are no more of them
+pub left_few : (version capacity : ℕ) (touched : List WordValue) (old new : List CacheEntry)
+    → length old ≤ capacity → new ≡ filter_map (carried_entry version touched old) old
+    → length new ≤ capacity
+left_few version capacity touched old new few are =
+    omega (arith, ap length are, length-filter_map (carried_entry version touched old) old, few)
+
+pub few_after : {T E : Type 0} (r : Result T E) (version capacity : ℕ) (touched : List WordValue)
+    (old new : List CacheEntry) → length old ≤ capacity
+    → OnOk r (new ≡ filter_map (carried_entry version touched old) old) → OnErr r (new ≡ old)
+    → length new ≤ capacity
+few_after (Ok x) version capacity touched old new few are same =
+    left_few version capacity touched old new few are
+few_after (Err e) version capacity touched old new few are same = omega (arith, ap length same, few)

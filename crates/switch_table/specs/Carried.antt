@@ -1,0 +1,44 @@
+-- Cache entries that outlive a change of the policy: those that meet nothing of what the change
+-- touches go over to the version that it makes.
+use Rattle.std.specs.Prelude.{ℕ, ◌+◌, Bool, not, ◌&&◌, ◌==◌, nat_le, nat_lt, if◌then◌else◌, Option, Some, None, List, [], ◌∷◌, length, filter_map}
+use Rattle.std.specs.List.{list_any}
+use Rattle.ternary.specs.Word.{WordValue}
+use Rattle.ternary.specs.Meets.{any_word, meets}
+use Rattle.switch_table.specs.Cache.{CacheValue, same_key}
+use Rattle.switch_table.specs.declared.cache.CacheEntry.{CacheEntry}
+
+-- the one word that every word meets
+abbrev pub all_touched : List WordValue
+all_touched = any_word ∷ []
+
+-- these words, where a list has room for them, and otherwise that word alone
+abbrev pub few_touched : List WordValue → List WordValue
+few_touched words = if nat_lt 16 (length words) then all_touched else words
+
+-- the word meets one of these
+abbrev pub meets_any : List WordValue → WordValue → Bool
+meets_any touched word = list_any (meets word) touched
+
+-- the entry under another version
+abbrev pub under : ℕ → CacheEntry → CacheEntry
+under version entry = record entry { version = version }
+
+-- the entry is one of the version before, its word meets no touched word, and no entry of the
+-- version has its word
+abbrev pub goes_over : ℕ → List WordValue → List CacheEntry → CacheEntry → Bool
+goes_over version touched entries entry =
+    (entry.version + 1 == version) && not (meets_any touched entry.word)
+    && not (list_any (same_key (under version entry)) entries)
+
+-- what becomes of an entry of a cache as it goes over to a version: one of that version or a later
+-- one stays, and one of an earlier version goes over or is gone
+abbrev pub carried_entry : ℕ → List WordValue → List CacheEntry → CacheEntry → Option CacheEntry
+carried_entry version touched entries entry =
+    if nat_le version entry.version then Some entry
+    else if goes_over version touched entries entry then Some (under version entry)
+    else None
+
+-- the cache goes over to the version, where these words were touched: what is left keeps its order
+abbrev pub after_carry : ℕ → List WordValue → CacheValue → CacheValue
+after_carry version touched cache =
+    record cache { entries = filter_map (carried_entry version touched cache.entries) cache.entries }

@@ -1,0 +1,9 @@
+-- The words of a list of what a change touches, as it is held.
+use Rattle.std.specs.Prelude.{List}
+use Rattle.ternary.specs.Word.{WordValue}
+use Rattle.switch_table.specs.declared.touched.Listed.{Listed}
+use Rattle.switch_table.specs.declared.touched.Listed.TheVariants.{Words, All}
+
+abbrev pub listed_words : Listed → List WordValue
+listed_words (Words words) = words.items
+listed_words (All any) = any

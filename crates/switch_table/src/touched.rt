@@ -1,0 +1,98 @@
+ghost use Rattle.std.specs.Prelude.{◌≡◌, ◌≤◌, ◌<◌, ◌↔◌, length, vec_len, IfSome, IsNone};
+ghost use Rattle.switch_table.specs.Carried.{all_touched, meets_any};
+ghost use Rattle.ternary.specs.Meets.{meets};
+
+use std::alloc::AllocError;
+use std::marker::Model;
+use ternary::Word;
+
+/// The most words of a list.
+const MOST: usize = 16;
+
+/// What a change of a policy touches: a list of at most 16 words, so that each header which the
+/// change decides anew is in one of them. Contracts see the list.
+#[derive(Debug, Drop)]
+pub struct Touched {
+    listed: Listed,
+}
+
+// The words, or the one word of every header, which takes no memory.
+#[derive(Debug, Drop)]
+enum Listed {
+    Words(Vec<Word>),
+    All([Word; 1]),
+}
+
+impl Model for Touched {
+    ghost use Rattle.std.specs.Prelude.{◌≤◌, List, length};
+    ghost use Rattle.ternary.specs.Word.{WordValue};
+    ghost use Rattle.switch_table.specs.Listed.{listed_words};
+
+    ghost Value = { List WordValue };
+
+    ghost view = { λ t. listed_words t.listed };
+
+    ghost invariant = { λ t. length (listed_words t.listed) ≤ 16 };
+}
+
+impl Touched {
+    /// The list of these words; `None` where there are more than 16.
+    pub fn new(words: Vec<Word>) -> Option<Touched>
+        ensures list { IfSome result (λ touched. touched ≡ words.items) }
+        ensures none { IsNone result ↔ (16 < vec_len words) }
+    {
+        if words.len() > MOST {
+            return None;
+        }
+        Some(Touched {
+            listed: Listed::Words(words),
+        })
+    }
+
+    /// The word of every header alone.
+    pub fn all() -> Touched
+        ensures { result ≡ all_touched }
+    {
+        Touched {
+            listed: Listed::All([Word::any()]),
+        }
+    }
+
+    /// The words, in order.
+    pub fn words(&self) -> &[Word]
+        ensures words { result.now ≡ self.now }
+        ensures few { length self.now ≤ 16 }
+    {
+        match &self.listed {
+            Listed::Words(words) => words,
+            Listed::All(any) => any,
+        }
+    }
+
+    /// Whether the word meets one of these.
+    pub fn meets(&self, word: &Word) -> bool
+        ensures { result ≡ meets_any self.now word.now }
+    {
+        self.words().iter().any(|touched| meets(word, touched))
+    }
+}
+
+// Whether a header is in both words.
+#[tactic(auto, using(ternary::proofs::CallerLemmas::meet_is_some))]
+fn meets(a: &Word, b: &Word) -> bool
+    ensures { result ≡ meets a.now b.now }
+{
+    a.meet(b).is_some()
+}
+
+impl Clone for Touched {
+    ghost is_clone = { λ touched copy. copy ≡ touched };
+
+    fn clone(&self) -> Result<Touched, AllocError> {
+        let listed = match &self.listed {
+            Listed::Words(words) => Listed::Words(Vec::from_slice(*words.allocator(), words)?),
+            Listed::All(any) => Listed::All(*any),
+        };
+        Ok(Touched { listed })
+    }
+}

@@ -1,0 +1,29 @@
+-- What the change that made a version touches, as the controller tells it to the switches.
+use Rattle.std.specs.Prelude.{ℕ, zero, suc, Option, Some, List, option_and_then}
+use Rattle.policy_rules.specs.Touched.{touched_words}
+use Rattle.policy_rules.specs.declared.file.PolicyFile.{PolicyFile}
+use Rattle.policy_rules.specs.declared.file.PolicyFile.TheVariants.{Change}
+use Rattle.policy_rules.specs.declared.policy.Row.{Row}
+use Rattle.switch_table.specs.Carried.{all_touched, few_touched}
+use Rattle.ternary.specs.Word.{WordValue}
+use Rattle.journal.specs.declared.item.Item.{Item}
+use Rattle.update_machine.specs.Setting.{Setting, file_at, file_of, policy_in}
+use Rattle.update_machine.specs.Versions.{version_count}
+
+-- what a file touches of an earlier policy: the words of the rows that a change removes and adds,
+-- where these are few; a policy of its own touches everything
+abbrev pub touched_of : Option PolicyFile → Option (List Row) → List WordValue
+touched_of (Some (Change edits)) (Some rows) = few_touched (touched_words rows edits)
+touched_of _ _ = all_touched
+
+-- what this file touches of the policy of the newest version, if it is submitted next
+abbrev pub next_touched : Setting → List Item → ℕ → List WordValue
+next_touched setting journal file =
+    touched_of (file_at setting file) (policy_in setting journal (version_count journal))
+
+-- what the file of a version touches of the policy of the version before, if there is one
+unfoldable pub touched_by : Setting → List Item → ℕ → List WordValue
+touched_by setting journal zero = all_touched
+touched_by setting journal (suc version) =
+    touched_of (option_and_then (file_at setting) (file_of journal (suc version)))
+    (policy_in setting journal version)

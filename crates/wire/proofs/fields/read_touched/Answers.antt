@@ -1,0 +1,12 @@
+use Rattle.std.proofs.Common.{◌≡◌, length, refl, arith}
+use Rattle.wire.specs.Fields.{word}
+use Rattle.wire.proofs.Laws.{items_count}
+use Rattle.wire.proofs.fields.read_touched.Goals as goal
+
+-- there are as many words as were counted, so they aren't too many
+pub returns-in-None : goal.returns-in-None
+returns-in-None c =
+    let count : length c.in_ok-words.words.items ≡ c.in_ok-count.count =
+    items_count word c.in_ok-count.count c.read_touched_count.new.reader
+    c.in_ok-words.words.items c.read_items.new.reader c.in_ok-words.ensures in
+    absurd (omega (arith, count, c.in_ok-count.ensures.few, c.in-None.ensures.none.0 refl))
