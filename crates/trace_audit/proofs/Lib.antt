@@ -5,3 +5,5 @@ mod Verdicts
 mod Moves
 mod Runs
 mod Known
+mod Indexed
+mod Numbered

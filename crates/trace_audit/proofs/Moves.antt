@@ -1,5 +1,5 @@
 -- Moves of the machine that a line may tell, and such that it may not.
-use Rattle.std.proofs.Common.{◌≡◌, ℕ, Option, Some, None, option_map, true, false, is_some, List, length, ltb, get_or, slice_get, refl, sym, subst}
+use Rattle.std.proofs.Common.{◌≡◌, ℕ, Option, Some, None, option_map, true, false, is_some, List, length, ltb, get_or, slice_get, refl, sym, ap, subst}
 use Rattle.std.proofs.lemmas.Bool.{ltb-true}
 use Rattle.std.proofs.lemmas.Option.{slice_get_read}
 use Rattle.policy_rules.specs.Policy.{IsFirstMatch}
@@ -14,6 +14,12 @@ pub none_seen : {A B : Type 0} (seen : A → B) (found : Option A) (there : Opti
     → option_map seen found ≡ there → is_some found ≡ false → there ≡ None
 none_seen seen None there e f = sym e
 none_seen seen (Some x) there e f = absurd cc
+
+-- what is made of an item is there where the item is
+pub none_made_of : {A B : Type 0} (of : A → B) (item : Option A) (made : Option B)
+    → made ≡ option_map of item → is_some made ≡ false → item ≡ None
+none_made_of of None made e none = refl
+none_made_of of (Some x) made e none = absurd (let no = ap is_some e in cc)
 
 -- the item at a place of a slice is there in the list
 pub policy_there : (slice items : List (List Row)) (place : ℕ) (rows : List Row) → slice ≡ items

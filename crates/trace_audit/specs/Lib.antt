@@ -3,4 +3,5 @@ pub mod Reading
 pub mod Verdicts
 pub mod Run
 pub mod Decided
+pub mod Index
 pub mod Seen

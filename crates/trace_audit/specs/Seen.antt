@@ -1,15 +1,24 @@
 -- How the code's values are seen, and what its parts say of them.
-use Rattle.std.specs.Prelude.{ℕ, ◌==◌, if◌then◌else◌, Bool, MatchBool, Option, Some, option_map, List}
-use Rattle.std.specs.Prelude.{nat_eq}
+use Rattle.std.specs.Prelude.{ℕ, ◌-◌, ◌==◌, nat_eq, nat_le, if◌then◌else◌, Bool, MatchBool, Option, Some, None, option_map, List, slice_get}
 use Rattle.std.specs.HashMap.{get}
+use Rattle.std.specs.Option.{option_or}
+use Rattle.five_tuple.specs.HeaderNumbers.{header_of}
 use Rattle.policy_rules.specs.declared.file.PolicyFile.{PolicyFile}
+use Rattle.policy_rules.specs.declared.policy.Action.{Action}
+use Rattle.policy_rules.specs.declared.policy.Action.TheVariants.{Drop, Out}
+use Rattle.policy_rules.specs.declared.policy.Hit.{Hit}
 use Rattle.update_machine.specs.Machine.{End, Dropped, LeftBy, Lost, Stuck, Packet}
 use Rattle.trace_audit.specs.Reading.{Follows, Line, ReadsLine, State}
 use Rattle.trace_audit.specs.Told.{Told}
 use Rattle.trace_audit.specs.Told as told
 use Rattle.trace_audit.specs.declared.auditor.Auditor.{Auditor}
+use Rattle.trace_audit.specs.declared.packets.Ending.{Ending}
+use Rattle.trace_audit.specs.declared.packets.Ending.TheVariants.{Going, AsDecided}
+use Rattle.trace_audit.specs.declared.packets.Ending.TheVariants as ending
 use Rattle.trace_audit.specs.declared.packets.Packet as code_packet
 use Rattle.trace_audit.specs.declared.packets.Packets.{Packets}
+use Rattle.trace_audit.specs.declared.packets.Rule.{Rule}
+use Rattle.trace_audit.specs.declared.packets.Rule.TheVariants.{Undecided, Default, Row}
 use Rattle.trace_audit.specs.declared.told.End as code_end
 use Rattle.trace_audit.specs.declared.told.End.TheVariants as end
 use Rattle.trace_audit.specs.declared.told.Told as code_told
@@ -31,17 +40,49 @@ told_seen (line.Decided packet version rule action) =
 told_seen (line.Ended packet end) = told.Ended packet (end_seen end)
 told_seen line.Nothing = told.Nothing
 
+-- what the decision of a packet says, where it has one
+abbrev pub action_seen : code_packet.Packet → Action
+action_seen p = if p.is_out then Out p.port else Drop
+
+-- the decision of this rule
+abbrev pub decision_by : Rule → ℕ → Action → Option Hit
+decision_by Undecided priority action = None
+decision_by Default priority action = Some (record { rule = None; action = action })
+decision_by Row priority action = Some (record { rule = Some priority; action = action })
+
+-- an end as the action says
+abbrev pub end_by : Action → End
+end_by Drop = Dropped
+end_by (Out port) = LeftBy port
+
+abbrev pub ending_by : Ending → Action → Option End
+ending_by Going action = None
+ending_by AsDecided action = Some (end_by action)
+ending_by ending.Lost action = Some Lost
+ending_by ending.Stuck action = Some Stuck
+
 abbrev pub packet_seen : code_packet.Packet → Packet
 packet_seen p = record {
-  header = p.header;
+  header = header_of (record {
+    src = p.src;
+    dst = p.dst;
+    sport = p.sport;
+    dport = p.dport;
+    proto = p.proto;
+  });
   entry_mark = p.entry_mark;
-  decision = p.decision;
-  end = option_map end_seen p.end;
+  decision = decision_by p.rule p.priority (action_seen p);
+  end = ending_by p.ending (action_seen p);
 }
 
--- of each number the packet that is known there, if one is
+-- of a run of items that have numbers from the first one on, the one of this number
+abbrev pub run_get : {A : Type 0} → ℕ → List A → ℕ → Option A
+run_get first run number = if nat_le first number then slice_get run (number - first) else None
+
+-- of each number the packet that is known there, if one is: in the run, or else among the others
 abbrev pub packets_seen : Packets → ℕ → Option Packet
-packets_seen p number = option_map packet_seen (get nat_eq p.packets number)
+packets_seen p number = option_map packet_seen
+    (option_or (run_get p.first p.run.items number) (get nat_eq p.others number))
 
 -- the machine, and the header that waits
 abbrev pub state_seen : Auditor → State

@@ -1,21 +1,18 @@
 ghost use Rattle.std.specs.Prelude.{◌≡◌, ◌↔◌, IfOk, IsTrue, List, Some, option_copied};
 ghost use Rattle.std.specs.Result.{result_ok};
 ghost use Rattle.policy_rules.specs.Applied.{applied};
-ghost use Rattle.policy_rules.specs.Policy.{IsFirstMatch};
 ghost use Rattle.policy_rules.specs.declared.file.PolicyFile.{PolicyFile};
-ghost use Rattle.policy_rules.specs.declared.policy.Hit.{Hit};
 ghost use Rattle.update_machine.specs.Machine.{MayEnd};
-ghost use Rattle.trace_audit.specs.Reading.{file_in, first_state, policy_by};
+ghost use Rattle.trace_audit.specs.Reading.{file_in, first_state, newest_policy, policy_by};
 ghost use Rattle.update_machine.specs.Setting.{made_by};
 ghost use Rattle.trace_audit.specs.Seen.{IsTaken, end_seen, packet_seen, state_seen, told_seen};
 ghost use Rattle.trace_audit.specs.Told as told;
 
+use crate::index::Version;
 use crate::packets::{Packet, Packets};
 use crate::printed::is_printed;
 use crate::told::{End, Told};
-use policy_rules::{
-    Action, Amendment, ApplyError, Header, Hit, Policy, PolicyFile, apply, policy_laws,
-};
+use policy_rules::{Action, Amendment, ApplyError, Header, Policy, PolicyFile, apply};
 use std::alloc::{AllocError, Global};
 
 /// At most so many versions are submitted.
@@ -25,7 +22,7 @@ const MAX_VERSIONS: u32 = 64;
 /// mark, the packets, and the header of a packet's row that waits for its entry.
 #[derive(Drop)]
 pub(crate) struct Auditor {
-    policies: Vec<Policy>,
+    policies: Vec<Version>,
     mark: u32,
     packets: Packets,
     pending: Option<Header>,
@@ -87,16 +84,6 @@ fn changed(alloc: Global, policy: &Policy, change: &Amendment) -> Result<Option<
     }
 }
 
-// The first match of a header: there is only one.
-fn first_match(policy: &Policy, header: &Header) -> Hit
-    ensures is { IsFirstMatch policy.now header.now result }
-    ensures only { (hit : Hit) → IsFirstMatch policy.now header.now hit → hit ≡ result }
-{
-    policy_laws();
-    let _rows = policy.rows();
-    policy.scan(header)
-}
-
 impl Auditor {
     /// What is known before the first line.
     ///
@@ -107,7 +94,7 @@ impl Auditor {
     {
         let mut policies = Vec::new(alloc);
         if let Some(policy) = policy_by(alloc, files, 1, None)? {
-            policies.push(policy)?;
+            policies.push(Version::new(alloc, policy)?)?;
         }
         Ok(Auditor {
             policies,
@@ -115,6 +102,16 @@ impl Auditor {
             packets: Packets::new(alloc),
             pending: None,
         })
+    }
+
+    // The policy of the newest version, if there is one.
+    fn newest(&self) -> Option<&Policy>
+        ensures { option_copied result ≡ newest_policy self.now.policies.items }
+    {
+        match self.policies.last() {
+            Some(version) => Some(version.policy()),
+            None => None,
+        }
     }
 
     fn enter(&mut self, number: u32) -> Result<bool, AllocError>
@@ -127,15 +124,7 @@ impl Auditor {
         if self.packets.get(number).is_some() {
             return Ok(false);
         }
-        self.packets.put(
-            number,
-            Packet {
-                header,
-                entry_mark: self.mark,
-                decision: None,
-                end: None,
-            },
-        )?;
+        self.packets.put(number, Packet::new(header, self.mark))?;
         self.pending = None;
         Ok(true)
     }
@@ -152,10 +141,10 @@ impl Auditor {
         if version > MAX_VERSIONS || version as usize != self.policies.len() + 1 {
             return Ok(false);
         }
-        match policy_by(alloc, files, file, self.policies.last())? {
+        match policy_by(alloc, files, file, self.newest())? {
             None => Ok(false),
             Some(policy) => {
-                self.policies.push(policy)?;
+                self.policies.push(Version::new(alloc, policy)?)?;
                 Ok(true)
             }
         }
@@ -185,23 +174,17 @@ impl Auditor {
         let Some(packet) = self.packets.get(number) else {
             return Ok(false);
         };
-        if packet.decision.is_some() || packet.end.is_some() || version <= packet.entry_mark {
+        if packet.action().is_some() || packet.has_ended() || version <= packet.entry_mark() {
             return Ok(false);
         }
         let Some(policy) = self.policies.get(version as usize - 1) else {
             return Ok(false);
         };
-        let hit = first_match(policy, &packet.header);
+        let hit = policy.first_match(&packet.header());
         if !is_printed(rule, action, hit) {
             return Ok(false);
         }
-        self.packets.put(
-            number,
-            Packet {
-                decision: Some(hit),
-                ..packet
-            },
-        )?;
+        self.packets.put(number, packet.decided(hit))?;
         Ok(true)
     }
 
@@ -212,16 +195,10 @@ impl Auditor {
         let Some(packet) = self.packets.get(number) else {
             return Ok(false);
         };
-        if packet.end.is_some() || !may_end(&packet, end) {
+        if packet.has_ended() || !may_end(&packet, end) {
             return Ok(false);
         }
-        self.packets.put(
-            number,
-            Packet {
-                end: Some(end),
-                ..packet
-            },
-        )?;
+        self.packets.put(number, packet.ended(end))?;
         Ok(true)
     }
 
@@ -261,10 +238,9 @@ impl Auditor {
 fn may_end(packet: &Packet, end: End) -> bool
     ensures { IsTrue result ↔ MayEnd (packet_seen packet.now) (end_seen end) }
 {
-    let action = packet.decision.map(|hit| hit.action);
     match end {
-        End::Dropped => action == Some(Action::Drop),
-        End::LeftBy(port) => action == Some(Action::Out(port)),
+        End::Dropped => packet.action() == Some(Action::Drop),
+        End::LeftBy(port) => packet.action() == Some(Action::Out(port)),
         End::Lost | End::Stuck => true,
     }
 }

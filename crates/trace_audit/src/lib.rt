@@ -15,6 +15,7 @@
 #![tactic(auto)]
 
 mod auditor;
+mod index;
 mod packets;
 mod printed;
 mod told;

@@ -1,25 +1,172 @@
-ghost use Rattle.std.specs.Prelude.{◌≡◌, None, OnOk, option_map};
-ghost use Rattle.trace_audit.specs.Seen.{packet_seen, packets_seen, with_one};
+ghost use Rattle.std.specs.Prelude.{◌≡◌, None, OnOk, Some, is_some, option_map};
+ghost use Rattle.update_machine.specs.Machine.{MayEnd};
+ghost use Rattle.trace_audit.specs.Seen.{action_seen, end_seen, packet_seen, packets_seen, run_get, with_one};
 
 use crate::told::End;
-use policy_rules::{Header, Hit};
+use five_tuple::{Fields, Header};
+use policy_rules::{Action, Hit};
 use std::alloc::{AllocError, Global};
 use std::collections::HashMap;
 
-/// What the machine knows of a packet.
+/// Which rule decided a packet.
+#[derive(Clone, Copy)]
+pub(crate) enum Rule {
+    /// None yet.
+    Undecided,
+    Default,
+    /// The row of the packet's `priority`.
+    Row,
+}
+
+/// How a packet ended.
+#[derive(Clone, Copy)]
+pub(crate) enum Ending {
+    /// Not yet.
+    Going,
+    /// As its decision says.
+    AsDecided,
+    Lost,
+    Stuck,
+}
+
+/// What the machine knows of a packet, in few bytes: a trace may have millions of them.
 #[derive(Clone, Copy)]
 pub(crate) struct Packet {
-    pub header: Header,
+    src: u32,
+    dst: u32,
+    // The mark as it came in.
+    entry_mark: u32,
+    // Of the row that decided it.
+    priority: u32,
+    // By which it is to leave, where it is.
+    port: u32,
+    sport: u16,
+    dport: u16,
+    proto: u8,
+    rule: Rule,
+    is_out: bool,
+    ending: Ending,
+}
+
+const _: () = prove!(size_of::<Packet>() <= 28);
+
+impl Packet {
+    /// A packet that came in with this header under this mark.
+    pub fn new(header: Header, mark: u32) -> Packet
+        ensures { packet_seen result ≡
+            record { header = header; entry_mark = mark; decision = None; end = None } }
+    {
+        let fields = header.fields();
+        Packet {
+            src: fields.src,
+            dst: fields.dst,
+            entry_mark: mark,
+            priority: 0,
+            port: 0,
+            sport: fields.sport,
+            dport: fields.dport,
+            proto: fields.proto,
+            rule: Rule::Undecided,
+            is_out: false,
+            ending: Ending::Going,
+        }
+    }
+
+    /// Its header.
+    pub fn header(&self) -> Header
+        ensures { result ≡ (packet_seen self.now).header }
+    {
+        Header::pack(&Fields {
+            src: self.src,
+            dst: self.dst,
+            sport: self.sport,
+            dport: self.dport,
+            proto: self.proto,
+        })
+    }
+
     /// The mark as it came in.
-    pub entry_mark: u32,
-    pub decision: Option<Hit>,
-    pub end: Option<End>,
+    pub fn entry_mark(&self) -> u32
+        ensures { result ≡ (packet_seen self.now).entry_mark }
+    {
+        self.entry_mark
+    }
+
+    // What its decision says, where it has one.
+    fn decided_action(&self) -> Action
+        ensures { result ≡ action_seen self.now }
+    {
+        if self.is_out {
+            Action::Out(self.port)
+        } else {
+            Action::Drop
+        }
+    }
+
+    /// The action of its decision, if it has one.
+    pub fn action(&self) -> Option<Action>
+        ensures { result ≡ option_map (λ hit. hit.action) (packet_seen self.now).decision }
+    {
+        match self.rule {
+            Rule::Undecided => None,
+            Rule::Default | Rule::Row => Some(self.decided_action()),
+        }
+    }
+
+    /// Whether it has ended.
+    pub fn has_ended(&self) -> bool
+        ensures { result ≡ is_some (packet_seen self.now).end }
+    {
+        match self.ending {
+            Ending::Going => false,
+            Ending::AsDecided | Ending::Lost | Ending::Stuck => true,
+        }
+    }
+
+    /// The packet with this decision.
+    pub fn decided(self, hit: Hit) -> Packet
+        requires { (packet_seen self).end ≡ None }
+        ensures { packet_seen result ≡ record (packet_seen self) { decision = Some hit } }
+    {
+        let (rule, priority) = match hit.rule {
+            Some(priority) => (Rule::Row, priority),
+            None => (Rule::Default, 0),
+        };
+        let (is_out, port) = match hit.action {
+            Action::Out(port) => (true, port),
+            Action::Drop => (false, 0),
+        };
+        Packet {
+            rule,
+            priority,
+            is_out,
+            port,
+            ..self
+        }
+    }
+
+    /// The packet with this end.
+    pub fn ended(self, end: End) -> Packet
+        requires { MayEnd (packet_seen self) (end_seen end) }
+        ensures { packet_seen result ≡ record (packet_seen self) { end = Some (end_seen end) } }
+    {
+        let ending = match end {
+            End::Dropped | End::LeftBy(_) => Ending::AsDecided,
+            End::Lost => Ending::Lost,
+            End::Stuck => Ending::Stuck,
+        };
+        Packet { ending, ..self }
+    }
 }
 
 /// The packets by their numbers.
 #[derive(Drop)]
 pub(crate) struct Packets {
-    packets: HashMap<u32, Packet>,
+    // The number of the first one of the run.
+    first: u32,
+    // Packets whose numbers follow one another, as in the trace of a replay.
+    run: Vec<Packet>,
+    others: HashMap<u32, Packet>,
 }
 
 impl Packets {
@@ -28,15 +175,28 @@ impl Packets {
         ensures { packets_seen result ≡ (λ _. None) }
     {
         Packets {
-            packets: HashMap::new(alloc),
+            first: 0,
+            run: Vec::new(alloc),
+            others: HashMap::new(alloc),
         }
+    }
+
+    // The packet of the run that has this number, if one has it.
+    fn in_run(&self, number: u32) -> Option<Packet>
+        ensures { result ≡ run_get self.now.first self.now.run.items number }
+    {
+        let place = number.checked_sub(self.first)?;
+        self.run.get(place as usize).copied()
     }
 
     /// The packet of this number, if there is one.
     pub fn get(&self, number: u32) -> Option<Packet>
         ensures { option_map packet_seen result ≡ packets_seen self.now number }
     {
-        self.packets.get(&number).copied()
+        match self.in_run(number) {
+            Some(packet) => Some(packet),
+            None => self.others.get(&number).copied(),
+        }
     }
 
     /// Puts the packet in the place of what was known of its number.
@@ -46,7 +206,23 @@ impl Packets {
     pub fn put(&mut self, number: u32, packet: Packet) -> Result<(), AllocError>
         ensures { OnOk result (packets_seen self.new ≡ with_one (packets_seen self.old) number (packet_seen packet)) }
     {
-        self.packets.insert(number, packet)?;
+        if self.run.is_empty() {
+            self.first = number;
+            self.run.push(packet)?;
+            return Ok(());
+        }
+        if number >= self.first {
+            let place = (number - self.first) as usize;
+            if place < self.run.len() {
+                self.run[place] = packet;
+                return Ok(());
+            }
+            if place == self.run.len() {
+                self.run.push(packet)?;
+                return Ok(());
+            }
+        }
+        self.others.insert(number, packet)?;
         Ok(())
     }
 }

@@ -2,13 +2,14 @@ ghost use Rattle.std.specs.Prelude.{◌≡◌, ◌∷◌, ◌==◌, [], IfNone, 
 ghost use Rattle.five_tuple.specs.Texts.{parts_round};
 ghost use Rattle.trace_audit.specs.Told.{words_of};
 
+use memchr::memchr;
 use std::marker::Model;
 
 // The place of the first such byte.
 fn place_of(text: &[u8], byte: u8) -> Option<usize>
     ensures { result ≡ position (λ b. b == byte) text.now }
 {
-    text.iter().position(|b| *b == byte)
+    memchr(byte, text)
 }
 
 /// What stands before and after the first such byte; `None` where there is none.

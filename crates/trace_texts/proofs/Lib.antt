@@ -1,4 +1,4 @@
-mod Pieces
+pub mod Pieces
 mod OneLine
 mod Told
 mod Lines

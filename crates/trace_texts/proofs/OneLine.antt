@@ -118,7 +118,7 @@ module _ (laws : NameLaws) (net : Net) (sound : IsNet net) where
   body_line (Install boot tables) =
       version_line (tested (codes "install") refl) boot tables.version
   body_line (OpenAt boot version) = version_line (tested (codes "open") refl) boot version
-  body_line (Stamp boot version) = version_line (tested (codes "stamp") refl) boot version
+  body_line (Stamp boot version touched) = version_line (tested (codes "stamp") refl) boot version
   body_line (Collect boot version) = version_line (tested (codes "collect") refl) boot version
   body_line (CacheRule version word rule action) =
       joined (joined (onto (numbered (tested (codes "cache version") refl) version) (codes " word ")

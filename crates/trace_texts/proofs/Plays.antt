@@ -1,4 +1,4 @@
--- The text of a play's journal: what is known at its beginning.
+-- The text of a journal that answers a schedule: what is known at its beginning.
 use Rattle.std.proofs.Common.{ℕ, ◌≡◌, ◌+◌, ◌-◌, ◌≤◌, Option, Some, None, List, [], ◌∷◌, ◌++◌, length, length-append, sym, ap, subst, ◌∙◌, take, append-nil, arith}
 use Rattle.std.specs.Prelude.{All, get_or, map, option_to_list}
 use Rattle.std.specs.Result.{result_ok}
@@ -21,11 +21,13 @@ use Rattle.steps.specs.declared.step.Step.TheVariants.{Packet, Hop, Deliver}
 use Rattle.trace_audit.specs.Reading.{Reads, Whole, first_state, lines_of}
 use Rattle.update_machine.specs.Causes.{HasCause, HaveCauses}
 use Rattle.update_machine.specs.Folds.{count_of}
+use Rattle.update_machine.proofs.CallerLemmas.{answers_so_far, begins_itself}
+use Rattle.update_machine.specs.Answers.{Answers, BeginsAnswer}
 use Rattle.update_machine.specs.Full.{IsPlay}
 use Rattle.update_machine.specs.Machine.{IsRun, first_machine}
 use Rattle.update_machine.specs.Setting.{IsSetting, Setting, policy_by}
 use Rattle.update_machine.specs.Versions.{is_submission, version_count}
-use Rattle.trace_texts.specs.Texts.{TextsAreGood, with_line_feeds}
+use Rattle.trace_texts.specs.Texts.{IsAnsweredTo, TextsAreGood, with_line_feeds}
 use Rattle.trace_texts.proofs.Lines.{last_read, lines_each, none_behind}
 use Rattle.trace_texts.proofs.OneLine.{item_one_line}
 use Rattle.trace_texts.proofs.Reading.{IsOwnRow, Known, reads_from}
@@ -36,10 +38,30 @@ pub record PlayLaws : Type 0 where
   pub ports : PortLaws
   pub planned : HoldsAlways (λ setting journal. VersionsArePlanned setting journal)
   pub entered : (setting : Setting) (events : List Event) (journal : List Item) (full : Option ℕ)
-      → IsPlay setting events journal full → AreEntered (rows_played full events) journal
+      → IsAnsweredTo setting events journal full → AreEntered (rows_played full events) journal
   pub runs : HoldsReached (λ setting journal. IsSetting setting → IsRun setting journal)
   pub causes : HoldsReached (λ setting journal.
       IsSetting setting → HaveCauses (HasCause setting) [] journal)
+
+-- ---- whole answers, and those that stop full
+
+pub answered_entered : ((setting : Setting) (events : List Event) (journal : List Item)
+    → Answers setting events journal → AreEntered (step_rows 1 events) journal)
+    → ((setting : Setting) (events : List Event) (journal : List Item) (full : Option ℕ)
+    → IsPlay setting events journal full → AreEntered (rows_played full events) journal)
+    → (setting : Setting) (events : List Event) (journal : List Item) (full : Option ℕ)
+    → IsAnsweredTo setting events journal full → AreEntered (rows_played full events) journal
+answered_entered answered played setting events journal None is =
+    answered setting events journal is
+answered_entered answered played setting events journal (Some row) is =
+    played setting events journal (Some row) is
+
+answered_begins : (setting : Setting) (events : List Event) (journal : List Item) (full : Option ℕ)
+    → IsAnsweredTo setting events journal full → BeginsAnswer setting events journal
+answered_begins setting events journal None answers =
+    begins_itself setting events journal (answers_so_far setting events journal answers)
+answered_begins setting events journal (Some row) stop =
+    play_begins setting events journal (Some row) stop
 
 -- ---- the rows of a schedule
 
@@ -118,11 +140,11 @@ one_policy (Some x) = omega arith
 
 known_first : (laws : PlayLaws) (setting : Setting) (events : List Event) (journal : List Item)
     (full : Option ℕ) → IsSetting setting → AreEvents setting events
-    → IsPlay setting events journal full → length events ≤ max_events
+    → IsAnsweredTo setting events journal full → length events ≤ max_events
     → Known setting [] (first_machine setting) journal
 unfolding version_count
 known_first laws setting events journal full is own play most =
-    let begins = play_begins setting events journal full play in
+    let begins = answered_begins setting events journal full play in
     let entered = laws.entered setting events journal full play in
     let rows : AreFewOwn setting.net (step_rows_in journal) =
     subst (AreFewOwn setting.net) (sym entered.in_order)
@@ -143,7 +165,7 @@ texts_good laws setting events journal full last is own play most numbered are =
     let names = laws.texts.names in
     let ends = map (λ (text : List ℕ). Whole text) last in
     let run = laws.runs.begun setting events journal own
-    (play_begins setting events journal full play) is in
+    (answered_begins setting events journal full play) is in
     let read = reads_from laws.texts laws.ports setting is.net numbered ends
     (λ state. last_read setting.files state last are) [] (first_machine setting) None journal run.0
     (known_first laws setting events journal full is own play most)

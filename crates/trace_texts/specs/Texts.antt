@@ -1,5 +1,5 @@
--- The text of a play's journal, and the lines that may stand behind it.
-use Rattle.std.specs.Prelude.{ℕ, ◌≡◌, ◌≢◌, ◌≤◌, ◌⊎◌, Option, List, ◌∷◌, [], ◌++◌, All, codes, length}
+-- The text of a journal that answers a schedule, and the lines that may stand behind it.
+use Rattle.std.specs.Prelude.{ℕ, ◌≡◌, ◌≢◌, ◌≤◌, ◌⊎◌, Option, None, Some, List, ◌∷◌, [], ◌++◌, All, codes, length}
 use Rattle.std.specs.List.{flat_map}
 use Rattle.control_laws.specs.Always.{AreEvents}
 use Rattle.journal.specs.declared.item.Item.{Item}
@@ -8,7 +8,8 @@ use Rattle.steps.specs.Limits.{max_events}
 use Rattle.steps.specs.Steps.{max_number}
 use Rattle.steps.specs.declared.step.Event.{Event}
 use Rattle.trace_audit.specs.Reading.{AreGood, lines_of}
-use Rattle.update_machine.specs.Full.{IsPlay}
+use Rattle.update_machine.specs.Answers.{Answers}
+use Rattle.update_machine.specs.Full.{StopsFull}
 use Rattle.update_machine.specs.Setting.{IsSetting, Setting}
 
 -- the line of a meter, or that of whether the network is quiet
@@ -20,12 +21,17 @@ pub record IsLastLine (line : List ℕ) : Type 0 where
 abbrev pub with_line_feeds : List (List ℕ) → List ℕ
 with_line_feeds lines = flat_map (λ line. line ++ 10 ∷ []) lines
 
--- of each play of at most 100,000 events, on a network whose files have numbers that a trace may
--- have, the text of its journal and whole last lines behind it are good lines
+-- the journal answers the events, or those in front of the row at which it is full
+abbrev pub IsAnsweredTo : Setting → List Event → List Item → Option ℕ → Type 0
+IsAnsweredTo setting events journal None = Answers setting events journal
+IsAnsweredTo setting events journal (Some row) = StopsFull setting events journal row
+
+-- of each journal that answers at most 100,000 events, on a network whose files have numbers that a
+-- trace may have, its text and whole last lines behind it are good lines
 abbrev pub TextsAreGood : Type 0
 TextsAreGood = (setting : Setting) (events : List Event) (journal : List Item) (full : Option ℕ)
     (last : List (List ℕ)) → IsSetting setting → AreEvents setting events
-    → IsPlay setting events journal full → length events ≤ max_events
+    → IsAnsweredTo setting events journal full → length events ≤ max_events
     → length setting.files ≤ max_number → All IsLastLine last
     → AreGood setting.files
     (lines_of (journal_text setting.net journal ++ with_line_feeds last))

@@ -3,10 +3,12 @@ ghost use Rattle.trace_texts.specs.Texts.{TextsAreGood};
 use control_laws::versions_are_planned;
 use five_tuple::printed_forms_are_read_back;
 use net_file::{name_laws, port_laws};
-use packet_laws::{answers_are_runs, ends_have_causes, packet_rows_are_entered};
+use packet_laws::{
+    answered_rows_are_entered, answers_are_runs, ends_have_causes, packet_rows_are_entered,
+};
 
-/// Each line of the text of a play's journal is good, and so are whole lines of meters, and of
-/// whether the network is quiet, behind it: `audit` answers Yes for them.
+/// Each line of the text of a journal that answers a schedule is good, and so are whole lines of
+/// meters, and of whether the network is quiet, behind it: `audit` answers Yes for them.
 pub fn texts_are_good()
     ensures { TextsAreGood }
 {
@@ -15,6 +17,7 @@ pub fn texts_are_good()
     port_laws();
     versions_are_planned();
     packet_rows_are_entered();
+    answered_rows_are_entered();
     answers_are_runs();
     ends_have_causes();
 }

@@ -1,5 +1,5 @@
-//! The texts of journals as traces: the text of each play's journal is one that the checker of
-//! traces answers Yes.
+//! The texts of journals as traces: the text of each journal that answers a schedule is one that the
+//! checker of traces answers Yes.
 //!
 //! No code: the function stands for the law that it ensures. `audit` of `trace_audit` answers Yes
 //! exactly where each line is good; by the law each line of such a text is.

@@ -1,4 +1,4 @@
-use Rattle.trace_texts.proofs.Plays.{texts_good}
+use Rattle.trace_texts.proofs.Plays.{answered_entered, texts_good}
 use Rattle.trace_texts.proofs.laws.texts_are_good.Goals as goal
 
 pub returns : goal.returns
@@ -11,7 +11,7 @@ returns c = texts_good (record {
   };
   ports = c.port_laws.ensures;
   planned = c.versions_are_planned.ensures;
-  entered = c.packet_rows_are_entered.ensures;
+  entered = answered_entered c.answered_rows_are_entered.ensures c.packet_rows_are_entered.ensures;
   runs = c.answers_are_runs.ensures;
   causes = c.ends_have_causes.ensures;
 })

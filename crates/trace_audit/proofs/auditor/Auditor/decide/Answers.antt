@@ -1,7 +1,10 @@
-use Rattle.std.proofs.Common.{ℕ, Option, refl, sym, ap, rules, arith}
+use Rattle.std.proofs.Common.{ℕ, ◌∙◌, Option, refl, sym, ap, subst, rules, arith}
+use Rattle.policy_rules.specs.Policy.{IsFirstMatch}
+use Rattle.policy_rules.specs.declared.policy.Hit.{Hit}
+use Rattle.policy_rules.proofs.CallerLemmas.{none_from_not_some}
 use Rattle.update_machine.specs.Machine.{Packet}
-use Rattle.trace_audit.specs.Seen.{packet_seen}
-use Rattle.trace_audit.proofs.Moves.{not_decided, policy_there}
+use Rattle.trace_audit.specs.Seen.{packet_seen, packets_seen, with_one}
+use Rattle.trace_audit.proofs.Moves.{none_made_of, not_decided, policy_there}
 use Rattle.trace_audit.proofs.auditor.Auditor.decide.Goals as goal
 
 pub returns-then-not-is_printed : goal.returns-then-not-is_printed
@@ -9,7 +12,8 @@ returns-then-not-is_printed c = λ files other f.
     not_decided _ other.machine c.args.number c.args.version c.args.rule.now c.args.action.now
     (packet_seen c.in-Some.packet) c.in-Some-get.policy.now c.first_match-hit.result f.0
     (sym c.in-Some.ensures) (policy_there _ _ _ _ c.deref.ensures.value (sym c.in-Some-get.ensures.lookup.0)
-    c.in-Some-get.ensures.lookup.1) c.first_match-hit.ensures.only
+    c.in-Some-get.ensures.lookup.1) (λ hit is. c.first_match-hit.ensures.only hit
+    (subst (λ header. IsFirstMatch c.in-Some-get.policy.now header hit) (sym c.header.ensures) is))
     (λ printed. absurd (search (rules, c.is_printed.ensures.1 printed))) f.1 f.2
 
 pub returns : goal.returns
@@ -20,17 +24,22 @@ returns c = λ files. (
     packet = packet_seen c.in-Some.packet;
     policy = c.in-Some-get.policy.now;
     entered = sym c.in-Some.ensures;
-    undecided = search rules;
-    not_ended = search rules;
+    undecided = none_made_of (λ (hit : Hit). hit.action)
+        (packet_seen c.in-Some.packet).decision c.action.result c.action.ensures
+        (sym c.is_some.ensures ∙ c.if-is_some.false);
+    not_ended = none_from_not_some (packet_seen c.in-Some.packet).end (search rules);
     not_retired = omega arith;
     submitted = policy_there _ _ _ _ c.deref.ensures.value (sym c.in-Some-get.ensures.lookup.0)
         c.in-Some-get.ensures.lookup.1;
-    first_match = c.first_match-hit.ensures.is;
+    first_match = subst
+        (λ header. IsFirstMatch c.in-Some-get.policy.now header c.first_match-hit.result)
+        c.header.ensures c.first_match-hit.ensures.is;
     after = ap (λ (packets : ℕ → Option Packet). record {
       policies = c.args.self.now.policies.items;
       mark = c.args.self.now.mark;
       packets = packets;
-    }) c.in_ok-put.ensures;
+    }) (c.in_ok-put.ensures
+        ∙ ap (with_one (packets_seen c.args.self.now.packets) c.args.number) c.decided.ensures);
   },
   refl,
 )

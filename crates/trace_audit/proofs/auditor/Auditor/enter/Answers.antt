@@ -1,6 +1,6 @@
-use Rattle.std.proofs.Common.{ℕ, Option, refl, ap, rules}
+use Rattle.std.proofs.Common.{ℕ, ◌∙◌, Option, refl, ap, rules}
 use Rattle.update_machine.specs.Machine.{Packet}
-use Rattle.trace_audit.specs.Seen.{packet_seen}
+use Rattle.trace_audit.specs.Seen.{packet_seen, packets_seen, with_one}
 use Rattle.trace_audit.proofs.Moves.{none_seen}
 use Rattle.trace_audit.proofs.auditor.Auditor.enter.Goals as goal
 
@@ -14,7 +14,8 @@ returns c = λ files. (
       policies = c.args.self.now.policies.items;
       mark = c.args.self.now.mark;
       packets = packets;
-    }) c.in_ok-put.ensures;
+    }) (c.in_ok-put.ensures
+        ∙ ap (with_one (packets_seen c.args.self.now.packets) c.args.number) c.new.ensures);
   },
   refl,
 )

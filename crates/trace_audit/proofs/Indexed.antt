@@ -1,0 +1,443 @@
+-- An index of a policy's rows: how it grows, and that what it finds is the first match.
+use Rattle.std.proofs.Common.{◌≡◌, ◌≢◌, ◌∙◌, ℕ, suc, zero, ◌+◌, ◌*◌, ◌/◌, ◌-◌, ◌^◌, ◌<◌, ◌≤◌, ◌&&◌, Bool, true, false, ltb, Option, Some, None, MatchOption, List, [], ◌∷◌, ◌++◌, length, get_or, set, take, replicate, filter, slice_get, All, Contains, refl, sym, ap, subst, inl, inr, arith}
+use Rattle.std.specs.Option.{option_map_or}
+use Rattle.std.proofs.lemmas.Bool.{and_cases, and_parts, both_ways, cases_eq, cases_lt, cond_both, eqb-true, false≢true, ltb-false, ltb-true, true≢false}
+use Rattle.std.proofs.lemmas.List.{length-replicate, length-set, length_push, take_more}
+use Rattle.std.proofs.lemmas.List.Elements.{All-filter, All-head, Contains-append_right, Contains-push_cases, filter_passes}
+use Rattle.std.proofs.lemmas.Nat.{shr_split}
+use Rattle.std.proofs.lemmas.Option.{get_or_from_slice_get, same_Some, slice_get-get_or, slice_get_within}
+use Rattle.five_tuple.specs.Header.{AddressBlock, fields_of, prefix_matches, proto_matches, range_matches}
+use Rattle.five_tuple.specs.SoundFields.{IsAddressBlock}
+use Rattle.five_tuple.specs.Texts.{block_round}
+use Rattle.five_tuple.specs.declared.header.Fields.{Fields}
+use Rattle.five_tuple.specs.declared.header.Header.{Header}
+use Rattle.policy_rules.specs.Policy.{IsFirstMatch, row_matches}
+use Rattle.policy_rules.specs.Scan.{hit_of}
+use Rattle.policy_rules.specs.SoundPolicies.{IsPolicy, IsSoundRow}
+use Rattle.policy_rules.specs.declared.policy.Action.{Action}
+use Rattle.policy_rules.specs.declared.policy.Hit.{Hit}
+use Rattle.policy_rules.specs.declared.policy.Row.{Row}
+use Rattle.trace_audit.specs.Index.{IsBest, IsBetter, IsIndexOf, IsIndexUpTo, IsLastBefore, IsMatchIn, IsReached, IsSoundShape, LackSlot, Notes, better_of, shape_of, slot_of, slot_of_row}
+use Rattle.trace_audit.specs.declared.index.Index.{Index}
+use Rattle.trace_audit.specs.declared.index.Shape.{Shape}
+
+-- ---- what is at a place
+
+pub get_set_same : {X : Type 0} (xs : List X) (i : ℕ) (y : X) → i < length xs
+    → slice_get (set xs i y) i ≡ Some y
+get_set_same [] i y within = absurd (omega (arith, within))
+get_set_same (x ∷ xs) zero y within = refl
+get_set_same (x ∷ xs) (suc i) y within = get_set_same xs i y (omega (arith, within))
+
+pub get_set_other : {X : Type 0} (xs : List X) (i j : ℕ) (y : X) → (j ≡ i → ⊥)
+    → slice_get (set xs i y) j ≡ slice_get xs j
+get_set_other [] i j y other = refl
+get_set_other (x ∷ xs) zero zero y other = absurd (other refl)
+get_set_other (x ∷ xs) zero (suc j) y other = refl
+get_set_other (x ∷ xs) (suc i) zero y other = refl
+get_set_other (x ∷ xs) (suc i) (suc j) y other = get_set_other xs i j y (λ e. other (ap suc e))
+
+pub get_push_left : {X : Type 0} (xs : List X) (y : X) (k : ℕ) → k < length xs
+    → slice_get (xs ++ y ∷ []) k ≡ slice_get xs k
+get_push_left [] y k within = absurd (omega (arith, within))
+get_push_left (x ∷ xs) y zero within = refl
+get_push_left (x ∷ xs) y (suc k) within = get_push_left xs y k (omega (arith, within))
+
+pub get_push_at : {X : Type 0} (xs : List X) (y : X) (k : ℕ) → k ≡ length xs
+    → slice_get (xs ++ y ∷ []) k ≡ Some y
+get_push_at [] y zero e = refl
+get_push_at [] y (suc k) e = absurd (omega (arith, e))
+get_push_at (x ∷ xs) y zero e = absurd (omega (arith, e))
+get_push_at (x ∷ xs) y (suc k) e = get_push_at xs y k (omega (arith, e))
+
+get_replicate : {X : Type 0} (n : ℕ) (y : X) (k : ℕ) (x : X)
+    → slice_get (replicate n y) k ≡ Some x → y ≡ x
+get_replicate zero y k x there = absurd cc
+get_replicate (suc n) y zero x there = same_Some y x there
+get_replicate (suc n) y (suc k) x there = get_replicate n y k x there
+
+-- one place has one item
+one_item : {X : Type 0} (xs : List X) (i k : ℕ) (x y : X) → slice_get xs i ≡ Some x → k ≡ i
+    → slice_get xs k ≡ Some y → x ≡ y
+one_item xs i k x y here same there = same_Some x y (sym here ∙ ap (slice_get xs) (sym same) ∙ there)
+
+contains_at : {X : Type 0} (xs : List X) (k : ℕ) (x : X) → slice_get xs k ≡ Some x → Contains xs x
+contains_at xs k x there =
+    (k, slice_get_within xs k x there, get_or_from_slice_get xs k x x there)
+
+-- ---- slots
+
+-- the block of an address that a row's block holds begins as that one does
+same_start : (p : AddressBlock) (address : ℕ) → IsAddressBlock p
+    → prefix_matches p address ≡ true → (block_round address p.len).address ≡ p.address
+same_start p address sound matches =
+    let same = eqb-true (address / 2 ^ (32 - p.len)) (p.address / 2 ^ (32 - p.len)) matches in
+    let back : p.address / 2 ^ (32 - p.len) * 2 ^ (32 - p.len) ≡ p.address =
+    omega (arith, shr_split p.address (32 - p.len), sound.cleared) in
+    ap (λ n. n * 2 ^ (32 - p.len)) same ∙ back
+
+both_blocks : (a b c d e : Bool) → (a && b && c && d && e) ≡ true → (a ≡ true) × (b ≡ true)
+both_blocks true true c d e h = (refl, refl)
+both_blocks true false c d e h = absurd (false≢true h)
+both_blocks false b c d e h = absurd (false≢true h)
+
+-- a header is sought in the slot of each row that matches it
+slot_same : (row : Row) (fields : Fields) (src dst : ℕ) → IsSoundRow row
+    → row_matches row fields ≡ true → src ≡ (block_round fields.src row.src.len).address
+    → dst ≡ (block_round fields.dst row.dst.len).address → slot_of_row row ≡ slot_of src dst
+slot_same row fields src dst sound matches s d =
+    let both = both_blocks (prefix_matches row.src fields.src) (prefix_matches row.dst fields.dst)
+    (range_matches row.sport fields.sport) (range_matches row.dport fields.dport)
+    (proto_matches row.proto fields.proto) matches in
+    ap (λ n. slot_of n row.dst.address) (sym (s ∙ same_start row.src fields.src sound.src both.0))
+    ∙ ap (λ n. slot_of src n) (sym (d ∙ same_start row.dst fields.dst sound.dst both.1))
+
+sound_row : (rows : List Row) (k : ℕ) (row : Row) → IsPolicy rows → slice_get rows k ≡ Some row
+    → IsSoundRow row
+sound_row rows k row policy there =
+    subst IsSoundRow (get_or_from_slice_get rows k row row there)
+    (policy.sound k row (slice_get_within rows k row there))
+
+shape_sound : (row : Row) → IsSoundRow row → IsSoundShape (shape_of row)
+shape_sound row sound = record { src = sound.src.len; dst = sound.dst.len }
+
+-- ---- one more row
+
+lack_more : (rows : List Row) (slot from bound : ℕ) (row : Row) → slice_get rows bound ≡ Some row
+    → slot_of_row row ≢ slot → LackSlot rows slot from bound → LackSlot rows slot from (bound + 1)
+lack_more rows slot from bound row here other lack = λ k next above below there.
+    elim (cases_lt k bound) [
+      | inl less ↦ lack k next above less there
+      | inr more ↦ subst (λ (r : Row). slot_of_row r ≢ slot)
+          (one_item rows bound k row next here (omega arith) there) other
+    ]
+
+last_more : (rows : List Row) (slot bound : ℕ) (row : Row) (at : Option ℕ)
+    → slice_get rows bound ≡ Some row → slot_of_row row ≢ slot → IsLastBefore rows slot bound at
+    → IsLastBefore rows slot (bound + 1) at
+last_more rows slot bound row None here other lack =
+    lack_more rows slot 0 bound row here other lack
+last_more rows slot bound row (Some place) here other (first, below, there, is, lack) = (
+  first,
+  omega (arith, below),
+  there,
+  is,
+  lack_more rows slot (place + 1) bound row here other lack,
+)
+
+last_here : (rows : List Row) (bound : ℕ) (row : Row) → slice_get rows bound ≡ Some row
+    → IsLastBefore rows (slot_of_row row) (bound + 1) (Some bound)
+last_here rows bound row here =
+    (row, omega arith, here, refl, λ k next above below there. absurd (omega (arith, above, below)))
+
+-- an index of no row
+pub none_indexed : (rows : List Row) (index : Index) → index.shapes.items ≡ []
+    → index.last.items ≡ replicate 4096 None → index.earlier.items ≡ []
+    → IsIndexUpTo rows 0 index
+none_indexed rows index shapes last earlier = record {
+  sound = subst (All IsSoundShape) (sym shapes) (λ k d within. absurd (omega (arith, within)));
+  shapes = λ k row below there. absurd (omega (arith, below));
+  slots = ap length last ∙ length-replicate {A = Option ℕ} 4096 None;
+  last = λ slot at there. subst (IsLastBefore rows slot 0)
+      (get_replicate 4096 None slot at (ap (λ xs. slice_get xs slot) (sym last) ∙ there))
+      (λ k row above below there. absurd (omega (arith, below)));
+  places = ap length earlier;
+  earlier = λ k row at there got. absurd
+      (let no : slice_get [] k ≡ Some at = ap (λ xs. slice_get xs k) (sym earlier) ∙ got in cc);
+}
+
+module _ (rows : List Row) (bound : ℕ) (row : Row) (at : Option ℕ) (old new : Index)
+    (here : slice_get rows bound ≡ Some row) (is : IsIndexUpTo rows bound old)
+    (was : slice_get old.last.items (slot_of_row row) ≡ Some at)
+    (last : new.last.items ≡ set old.last.items (slot_of_row row) (Some bound))
+    (earlier : new.earlier.items ≡ old.earlier.items ++ at ∷ []) where
+  last_next : (slot : ℕ) (next : Option ℕ) → slice_get new.last.items slot ≡ Some next
+      → IsLastBefore rows slot (bound + 1) next
+  last_next slot next there =
+      let there : slice_get (set old.last.items (slot_of_row row) (Some bound)) slot ≡ Some next =
+      ap (λ xs. slice_get xs slot) (sym last) ∙ there in
+      elim (cases_eq slot (slot_of_row row)) [
+        | inl same ↦
+            let now = get_set_same old.last.items (slot_of_row row) (Some bound)
+            (slice_get_within old.last.items (slot_of_row row) at was) in
+            let place : Some bound ≡ next =
+            one_item (set old.last.items (slot_of_row row) (Some bound)) (slot_of_row row) slot
+            (Some bound) next now same there in
+            subst (λ n. IsLastBefore rows n (bound + 1) next) (sym same)
+            (subst (IsLastBefore rows (slot_of_row row) (bound + 1)) place
+            (last_here rows bound row here))
+        | inr other ↦
+            let before = sym (get_set_other old.last.items (slot_of_row row) slot (Some bound)
+            other) ∙ there in
+            last_more rows slot bound row next here (λ e. other (sym e)) (is.last slot next before)
+      ]
+
+  earlier_next : (k : ℕ) (next : Row) (place : Option ℕ) → slice_get rows k ≡ Some next
+      → slice_get new.earlier.items k ≡ Some place → IsLastBefore rows (slot_of_row next) k place
+  earlier_next k next place there got =
+      let got : slice_get (old.earlier.items ++ at ∷ []) k ≡ Some place =
+      ap (λ xs. slice_get xs k) (sym earlier) ∙ got in
+      elim (cases_lt k bound) [
+        | inl less ↦ is.earlier k next place there
+            (sym (get_push_left old.earlier.items at k (omega (arith, is.places, less))) ∙ got)
+        | inr more ↦
+            let within = slice_get_within (old.earlier.items ++ at ∷ []) k place got in
+            let long = length_push old.earlier.items at in
+            let e : k ≡ bound = omega (arith, within, long, is.places, more) in
+            let same = one_item rows bound k row next here e there in
+            let now = get_push_at old.earlier.items at k (e ∙ sym is.places) in
+            let item : at ≡ place = same_Some at place (sym now ∙ got) in
+            subst (λ n. IsLastBefore rows (slot_of_row next) n place) (sym e)
+            (subst (λ (r : Row). IsLastBefore rows (slot_of_row r) bound place) same
+            (subst (IsLastBefore rows (slot_of_row row) bound) item
+            (is.last (slot_of_row row) at was)))
+      ]
+
+  -- the index with the row at its bound
+  pub next_indexed : (shape : Shape) → shape ≡ shape_of row → IsPolicy rows
+      → Notes old.shapes.items shape new.shapes.items → IsIndexUpTo rows (bound + 1) new
+  next_indexed shape e policy notes = record {
+    sound = notes.sound (subst IsSoundShape (sym e) (shape_sound row
+        (sound_row rows bound row policy here))) is.sound;
+    shapes = λ k next below there. elim (cases_lt k bound) [
+      | inl less ↦ notes.kept (shape_of next) (is.shapes k next less there)
+      | inr more ↦ subst (λ (r : Row). Contains new.shapes.items (shape_of r))
+          (one_item rows bound k row next here (omega (arith, below, more)) there)
+          (subst (Contains new.shapes.items) e notes.there)
+    ];
+    slots =
+        ap length last ∙ length-set old.last.items (slot_of_row row) (Some bound) ∙ is.slots;
+    last = last_next;
+    places = ap length earlier ∙ length_push old.earlier.items at ∙ ap (λ n. n + 1) is.places;
+    earlier = earlier_next;
+  }
+
+-- ---- the better of a row and a hit
+
+less_or : (rule : Option ℕ) (n m : ℕ) → option_map_or (λ p. ltb p n) rule true ≡ true
+    → MatchOption rule ⊥ (λ p. m ≤ p) → m ≤ n
+less_or None n m above reached = absurd reached
+less_or (Some p) n m above reached = omega (arith, ltb-true p n above, reached)
+
+not_less : (rule : Option ℕ) (n : ℕ) → option_map_or (λ p. ltb p n) rule true ≡ false
+    → MatchOption rule ⊥ (λ p. n ≤ p)
+not_less None n below = absurd (true≢false below)
+not_less (Some p) n below = ltb-false p n below
+
+module _ (row : Row) (fields : Fields) (hit : Hit) where
+  abbrev above : Bool
+  above = option_map_or (λ p. ltb p row.priority) hit.rule true
+
+  better_kept : (other : Row) → IsReached hit other → IsReached (better_of row fields hit) other
+  better_kept other reached =
+      cond_both (above && row_matches row fields) (hit_of (Some row)) hit (λ h. IsReached h other)
+      (λ yes. less_or hit.rule row.priority other.priority
+      (and_parts above (row_matches row fields) yes).0 reached) (λ no. reached)
+
+  better_reached : row_matches row fields ≡ true → IsReached (better_of row fields hit) row
+  better_reached matches =
+      cond_both (above && row_matches row fields) (hit_of (Some row)) hit (λ h. IsReached h row)
+      (λ yes. omega arith) (λ no. elim (and_cases above (row_matches row fields) no) [
+        | inl below ↦ not_less hit.rule row.priority below
+        | inr not ↦ absurd (both_ways (row_matches row fields) not matches)
+      ])
+
+  better_matching : (rows : List Row) → Contains rows row → IsMatchIn rows fields hit
+      → IsMatchIn rows fields (better_of row fields hit)
+  better_matching rows has matching =
+      cond_both (above && row_matches row fields) (hit_of (Some row)) hit (IsMatchIn rows fields)
+      (λ yes. (row, has, (and_parts above (row_matches row fields) yes).1, refl, refl))
+      (λ no. matching)
+
+-- ---- the rows of a slot, from the last one on
+
+-- those from some bound on were looked at, and this is the last one before it
+pub record IsWalked (rows : List Row) (slot : ℕ) (fields : Fields) (first hit : Hit)
+    (at : Option ℕ) : Type 0 where
+  pub bound : ℕ
+  pub last : IsLastBefore rows slot bound at
+  pub matching : IsMatchIn rows fields first → IsMatchIn rows fields hit
+  pub kept : (row : Row) → IsReached first row → IsReached hit row
+  pub reached : (k : ℕ) (row : Row) → bound ≤ k → slice_get rows k ≡ Some row
+      → slot_of_row row ≡ slot → row_matches row fields ≡ true → IsReached hit row
+
+-- the place of the one to look at, and one more
+abbrev pub places_left : Option ℕ → ℕ
+places_left None = 0
+places_left (Some place) = place + 1
+
+pub walk_begins : (rows : List Row) (slot : ℕ) (fields : Fields) (hit : Hit) (at : Option ℕ)
+    (index : Index) → IsIndexOf rows index → slice_get index.last.items slot ≡ Some at
+    → IsWalked rows slot fields hit hit at
+walk_begins rows slot fields hit at index is there = record {
+  bound = length rows;
+  last = is.last slot at there;
+  matching = λ m. m;
+  kept = λ row reached. reached;
+  reached = λ k row above got same matches. absurd
+      (omega (arith, above, slice_get_within rows k row got));
+}
+
+falls : (rows : List Row) (slot place : ℕ) (next : Option ℕ) → IsLastBefore rows slot place next
+    → places_left next < places_left (Some place)
+falls rows slot place None is = omega arith
+falls rows slot place (Some other) is = omega (arith, is.1)
+
+-- the next one is before it
+pub walk_falls : (rows : List Row) (place : ℕ) (row : Row) (at next : Option ℕ) (index : Index)
+    → IsIndexOf rows index → at ≡ Some place → slice_get rows place ≡ Some row
+    → slice_get index.earlier.items place ≡ Some next → places_left next < places_left at
+walk_falls rows place row at next index is e here there =
+    subst (λ (now : Option ℕ). places_left next < places_left now) (sym e)
+    (falls rows (slot_of_row row) place next (is.earlier place row next here there))
+
+module _ (rows : List Row) (slot : ℕ) (fields : Fields) (first hit : Hit) where
+  -- the row is there
+  pub walk_within : (place : ℕ) → IsWalked rows slot fields first hit (Some place)
+      → place < length rows
+  walk_within place w = slice_get_within rows place w.last.0 w.last.2
+
+  pub walk_on : (place : ℕ) (row : Row) (next : Option ℕ) (better : Hit) (index : Index)
+      → IsIndexOf rows index → slice_get rows place ≡ Some row
+      → slice_get index.earlier.items place ≡ Some next → better ≡ better_of row fields hit
+      → IsWalked rows slot fields first hit (Some place)
+      → IsWalked rows slot fields first better next
+  walk_on place row next better index is here there e w =
+      let same : w.last.0 ≡ row = same_Some w.last.0 row (sym w.last.2 ∙ here) in
+      let own : slot_of_row row ≡ slot = ap slot_of_row (sym same) ∙ w.last.3 in
+      subst (λ h. IsWalked rows slot fields first h next) (sym e) (
+      record {
+        bound = place;
+        last = subst (λ n. IsLastBefore rows n place next) own
+            (is.earlier place row next here there);
+        matching = λ m. better_matching row fields hit rows (contains_at rows place row here)
+            (w.matching m);
+        kept = λ other reached. better_kept row fields hit other (w.kept other reached);
+        reached = λ k other above got lies matches. elim (cases_eq k place) [
+          | inl at ↦
+              let one = one_item rows place k row other here at got in
+              subst (IsReached (better_of row fields hit)) one
+              (better_reached row fields hit
+              (subst (λ (r : Row). row_matches r fields ≡ true) (sym one) matches))
+          | inr more ↦ elim (cases_lt k w.bound) [
+            | inl less ↦ absurd (w.last.4 k other (omega (arith, above, more)) less got lies)
+            | inr beyond ↦ better_kept row fields hit other
+                (w.reached k other beyond got lies matches)
+          ]
+        ];
+      }
+      )
+
+  pub walk_ends : IsWalked rows slot fields first hit None → IsBetter rows slot fields first hit
+  walk_ends w = record {
+    matching = w.matching;
+    kept = w.kept;
+    reached = λ k row got lies matches. elim (cases_lt k w.bound) [
+      | inl less ↦ absurd (w.last k row (omega arith) less got lies)
+      | inr beyond ↦ w.reached k row beyond got lies matches
+    ];
+  }
+
+-- ---- one shape after another
+
+-- the rows of these shapes were looked at
+pub record IsSought (rows : List Row) (fields : Fields) (shapes : List Shape) (hit : Hit) : Type 0
+  where
+    pub matching : IsMatchIn rows fields hit
+    pub reached : (k : ℕ) (row : Row) → slice_get rows k ≡ Some row
+        → Contains shapes (shape_of row) → row_matches row fields ≡ true → IsReached hit row
+
+pub sought_none : (rows : List Row) (fields : Fields) → IsSought rows fields [] (hit_of None)
+sought_none rows fields = record {
+  matching = refl;
+  reached = λ k row got has matches. absurd (omega (arith, has.1));
+}
+
+pub sought_more : (rows : List Row) (fields : Fields) (shapes : List Shape) (i : ℕ) (shape : Shape)
+    (src dst : ℕ) (hit better : Hit) → IsPolicy rows → i < length shapes
+    → shape ≡ get_or shapes i shape → src ≡ (block_round fields.src shape.src).address
+    → dst ≡ (block_round fields.dst shape.dst).address
+    → IsBetter rows (slot_of src dst) fields hit better → IsSought rows fields (take i shapes) hit
+    → IsSought rows fields (take (i + 1) shapes) better
+sought_more rows fields shapes i shape src dst hit better policy within item s d b sought =
+    record {
+      matching = b.matching sought.matching;
+      reached = λ k row got has matches.
+          let has : Contains (take i shapes ++ shape ∷ []) (shape_of row) =
+          subst (λ (xs : List Shape). Contains xs (shape_of row))
+          (take_more shapes i shape within ∙ ap (λ (x : Shape). take i shapes ++ x ∷ []) (sym item))
+          has in
+          elim (Contains-push_cases (take i shapes) shape (shape_of row) has) [
+            | inl before ↦ b.kept row (sought.reached k row got before matches)
+            | inr now ↦
+                b.reached k row got (slot_same row fields src dst
+                (sound_row rows k row policy got) matches
+                (s ∙ ap (λ (x : Shape). (block_round fields.src x.src).address) now)
+                (d ∙ ap (λ (x : Shape). (block_round fields.dst x.dst).address) now)) matches
+          ];
+    }
+
+pub sought_all : (rows : List Row) (fields : Fields) (index : Index) (hit : Hit)
+    → IsIndexOf rows index → IsSought rows fields index.shapes.items hit → IsBest rows fields hit
+sought_all rows fields index hit is sought = record {
+  matching = sought.matching;
+  reached = λ k d within matches.
+      let got = slice_get-get_or rows k d within in
+      sought.reached k (get_or rows k d) got (is.shapes k (get_or rows k d) within got) matches;
+}
+
+-- ---- the first match
+
+none_left : (p : Row → Bool) (rows : List Row) → All (λ row. p row ≡ true → ⊥) rows
+    → All (λ row. p row ≡ true) rows → rows ≡ []
+none_left p [] none all = refl
+none_left p (row ∷ rows) none all =
+    absurd (All-head (λ row. p row ≡ true → ⊥) row rows none
+    (All-head (λ row. p row ≡ true) row rows all))
+
+-- an element that passes is kept
+kept_by : (p : Row → Bool) (rows : List Row) (k : ℕ) (row : Row) → slice_get rows k ≡ Some row
+    → p row ≡ true → Contains (filter p rows) row
+kept_by p [] k row there passes = absurd cc
+kept_by p (first ∷ rows) zero row there passes =
+    let same = same_Some first row there in
+    cond_both (p first) (first ∷ filter p rows) (filter p rows) (λ xs. Contains xs row)
+    (λ yes. (0, omega arith, same))
+    (λ no. absurd (both_ways (p row) (ap p (sym same) ∙ no) passes))
+kept_by p (first ∷ rows) (suc k) row there passes =
+    cond_both (p first) (first ∷ filter p rows) (filter p rows) (λ xs. Contains xs row)
+    (λ yes. Contains-append_right (first ∷ []) (filter p rows) row
+    (kept_by p rows k row there passes))
+    (λ no. kept_by p rows k row there passes)
+
+abbrev hit_with : Option ℕ → Action → Hit
+hit_with rule action = record { rule = rule; action = action }
+
+best_by : (rows : List Row) (header : Header) (rule : Option ℕ) (action : Action)
+    → IsBest rows (fields_of header) (hit_with rule action)
+    → IsFirstMatch rows header (hit_with rule action)
+best_by rows header None action best =
+    let p : Row → Bool = λ row. row_matches row (fields_of header) in (
+      none_left p (filter p rows) (All-filter p (λ row. p row ≡ true → ⊥) rows best.reached)
+          (filter_passes p rows),
+      best.matching,
+    )
+best_by rows header (Some priority) action best =
+    let p : Row → Bool = λ row. row_matches row (fields_of header) in
+    let (row, (k, within, is), matches, names, acts) = best.matching in (
+      row,
+      record {
+        member = kept_by p rows k row (slice_get-get_or rows k row within ∙ ap Some is) matches;
+        highest = λ i d inside.
+            let below : (get_or (filter p rows) i d).priority ≤ priority =
+            All-filter p (λ row. p row ≡ true → row.priority ≤ priority) rows best.reached i d
+            inside (filter_passes p rows i d inside) in
+            omega (arith, below, names);
+      },
+      names,
+      acts,
+    )
+
+pub best_first : (rows : List Row) (header : Header) (hit : Hit)
+    → IsBest rows (fields_of header) hit → IsFirstMatch rows header hit
+best_first rows header hit = best_by rows header hit.rule hit.action

@@ -1,0 +1,90 @@
+-- An index of a policy's rows: which of them lie in one slot, and which are looked at for a header.
+use Rattle.std.specs.Prelude.{ℕ, ◌≡◌, ◌≢◌, ◌+◌, ◌*◌, ◌/◌, ◌%◌, ◌^◌, ◌<◌, ◌≤◌, ◌&&◌, nat_lt, true, if◌then◌else◌, Option, Some, None, MatchOption, List, All, Contains, length, slice_get}
+use Rattle.std.specs.Option.{option_map_or}
+use Rattle.five_tuple.specs.declared.header.Fields.{Fields}
+use Rattle.policy_rules.specs.Policy.{row_matches}
+use Rattle.policy_rules.specs.Scan.{hit_of}
+use Rattle.policy_rules.specs.declared.policy.Action.TheVariants.{Drop}
+use Rattle.policy_rules.specs.declared.policy.Hit.{Hit}
+use Rattle.policy_rules.specs.declared.policy.Row.{Row}
+use Rattle.trace_audit.specs.declared.index.Index.{Index}
+use Rattle.trace_audit.specs.declared.index.Shape.{Shape}
+
+-- ---- slots
+
+-- of blocks that begin with these addresses: the highest 12 bits of a mixture of 32
+abbrev pub slot_of : ℕ → ℕ → ℕ
+slot_of src dst = (src * 2654435769 % 2 ^ 32 + dst * 2246822519 % 2 ^ 32) % 2 ^ 32 / 2 ^ 20
+
+abbrev pub slot_of_row : Row → ℕ
+slot_of_row row = slot_of row.src.address row.dst.address
+
+abbrev pub shape_of : Row → Shape
+shape_of row = record { src = row.src.len; dst = row.dst.len }
+
+pub record IsSoundShape (shape : Shape) : Type 0 where
+  pub src : shape.src ≤ 32
+  pub dst : shape.dst ≤ 32
+
+-- shapes with one more, where it isn't there yet
+pub record Notes (before : List Shape) (shape : Shape) (after : List Shape) : Type 0 where
+  pub there : Contains after shape
+  pub kept : (other : Shape) → Contains before other → Contains after other
+  pub sound : IsSoundShape shape → All IsSoundShape before → All IsSoundShape after
+
+-- none of the rows from one place on and before the other is in the slot
+abbrev pub LackSlot : List Row → ℕ → ℕ → ℕ → Type 0
+LackSlot rows slot from bound = (k : ℕ) (row : Row) → from ≤ k → k < bound
+    → slice_get rows k ≡ Some row → slot_of_row row ≢ slot
+
+-- the place of the last row before the bound that is in the slot, if one is
+abbrev pub IsLastBefore : List Row → ℕ → ℕ → Option ℕ → Type 0
+IsLastBefore rows slot bound None = LackSlot rows slot 0 bound
+IsLastBefore rows slot bound (Some place) = (row : Row) × (place < bound)
+    × (slice_get rows place ≡ Some row) × (slot_of_row row ≡ slot)
+    × LackSlot rows slot (place + 1) bound
+
+-- the index has the rows before this bound
+pub record IsIndexUpTo (rows : List Row) (bound : ℕ) (index : Index) : Type 0 where
+  pub sound : All IsSoundShape index.shapes.items
+  pub shapes : (k : ℕ) (row : Row) → k < bound → slice_get rows k ≡ Some row
+      → Contains index.shapes.items (shape_of row)
+  pub slots : length index.last.items ≡ 4096
+  pub last : (slot : ℕ) (at : Option ℕ) → slice_get index.last.items slot ≡ Some at
+      → IsLastBefore rows slot bound at
+  pub places : length index.earlier.items ≡ bound
+  pub earlier : (k : ℕ) (row : Row) (at : Option ℕ) → slice_get rows k ≡ Some row
+      → slice_get index.earlier.items k ≡ Some at → IsLastBefore rows (slot_of_row row) k at
+
+abbrev pub IsIndexOf : List Row → Index → Type 0
+IsIndexOf rows index = IsIndexUpTo rows (length rows) index
+
+-- ---- the best of some rows
+
+-- the hit is a matching row's, or the default
+abbrev pub IsMatchIn : List Row → Fields → Hit → Type 0
+IsMatchIn rows fields hit = MatchOption hit.rule (hit.action ≡ Drop)
+    (λ priority. (row : Row) × Contains rows row × (row_matches row fields ≡ true)
+    × (row.priority ≡ priority) × (row.action ≡ hit.action))
+
+-- the row has no greater priority than the hit
+abbrev pub IsReached : Hit → Row → Type 0
+IsReached hit row = MatchOption hit.rule ⊥ (λ priority. row.priority ≤ priority)
+
+-- the better of the row, where it matches, and of the hit
+abbrev pub better_of : Row → Fields → Hit → Hit
+better_of row fields hit =
+    if option_map_or (λ priority. nat_lt priority row.priority) hit.rule true
+    && row_matches row fields then hit_of (Some row) else hit
+
+-- with the matching rows of a slot, a hit that reaches what the first one reaches
+pub record IsBetter (rows : List Row) (slot : ℕ) (fields : Fields) (first hit : Hit) : Type 0 where
+  pub matching : IsMatchIn rows fields first → IsMatchIn rows fields hit
+  pub kept : (row : Row) → IsReached first row → IsReached hit row
+  pub reached : (k : ℕ) (row : Row) → slice_get rows k ≡ Some row → slot_of_row row ≡ slot
+      → row_matches row fields ≡ true → IsReached hit row
+
+-- a matching row's hit, or the default, which each matching row has no greater priority than
+pub record IsBest (rows : List Row) (fields : Fields) (hit : Hit) : Type 0 where
+  pub matching : IsMatchIn rows fields hit
+  pub reached : All (λ row. row_matches row fields ≡ true → IsReached hit row) rows
