@@ -10,7 +10,7 @@ use Rattle.clap.specs.declared.parser.matches.ArgMatches.{ArgMatches}
 use Rattle.clap.proofs.WalkLemmas.{both}
 use Rattle.command_line.specs.Line.{line_app, net_and, none, options_of}
 use Rattle.command_line.specs.Named.{command_in, kind_name}
-use Rattle.command_line.specs.Grammar.{Line, command_by, line_of, load_from, load_number, load_of, play_from, print_of}
+use Rattle.command_line.specs.Grammar.{Line, audit_from, audit_of, command_by, line_of, load_from, load_number, load_of, play_from, print_of}
 use Rattle.command_line.proofs.Parses.{Found, IsWithin, WalksTo, matches_found, reads, taken}
 use Rattle.command_line.specs.declared.grammar.Kind.{Kind}
 use Rattle.command_line.specs.Commands.{Command}
@@ -57,15 +57,30 @@ load_names line e = go (is_some line.net || line.quiet) line.names e
     go false (n ∷ []) e = (omega arith, omega arith)
     go false (n ∷ m ∷ ns) e = absurd (true≢false (sym e))
 
+audit_names : (line : Line) → is_some (audit_of line) ≡ true → HaveNames line.names
+audit_names line e = go (is_some line.net || line.quiet) line.names e
+  where
+    go : (b : Bool) (names : List (List ℕ)) → is_some (cond b None (audit_from names)) ≡ true
+        → HaveNames names
+    go true names e = absurd (true≢false (sym e))
+    go false [] e = absurd (true≢false (sym e))
+    go false (s ∷ ps) e =
+        let may = both (nat_le 1 (length ps)) _ (passes _ _ e) in
+        let most : length ps ≤ 64 = leb-true (length ps) 64 may.1 in
+        (omega arith, omega (arith, most))
+
 -- each line of a command has names
 line_names : (k : Kind) (line : Line) → is_some (command_by (kind_name k) line) ≡ true
     → HaveNames line.names
 line_names kind.Replay line e = play_names (report.Lines line.quiet) line line.names e
 line_names kind.Flows line e =
     play_names report.Flows line line.names (unflagged line.quiet _ e).1
+line_names kind.Rebalance line e =
+    play_names report.Placement line line.names (unflagged line.quiet _ e).1
 line_names kind.Compile line e = print_names 1 line (omega arith) (omega arith) e
 line_names kind.Show line e = print_names 2 line (omega arith) (omega arith) e
 line_names kind.Load line e = load_names line e
+line_names kind.Audit line e = audit_names line e
 
 -- ---- options
 
@@ -82,9 +97,11 @@ print_within count line e =
     not-true line.quiet (both (length line.names == count) _ (passes _ _ e)).1 in
     record { has_net = λ some. refl; has_flag = λ some. sym none ∙ some }
 
-load_within : (line : Line) → is_some (load_of line) ≡ true → IsWithin none line.net line.quiet
-load_within line e =
-    let bare = neither (is_some line.net) line.quiet (load_from (load_number line.names)) e in
+bare_within : (line : Line) (o : Option Command)
+    → is_some (cond (is_some line.net || line.quiet) None o) ≡ true
+    → IsWithin none line.net line.quiet
+bare_within line o e =
+    let bare = neither (is_some line.net) line.quiet o e in
     record { has_net = λ some. sym bare.0 ∙ some; has_flag = λ some. sym bare.1 ∙ some }
 
 -- each line of a command has options of its own alone
@@ -94,9 +111,13 @@ line_within kind.Replay line e = record { has_net = λ some. refl; has_flag = λ
 line_within kind.Flows line e =
     let none = (unflagged line.quiet _ e).0 in
     record { has_net = λ some. refl; has_flag = λ some. sym none ∙ some }
+line_within kind.Rebalance line e =
+    let none = (unflagged line.quiet _ e).0 in
+    record { has_net = λ some. refl; has_flag = λ some. sym none ∙ some }
 line_within kind.Compile line e = print_within 1 line e
 line_within kind.Show line e = print_within 2 line e
-line_within kind.Load line e = load_within line e
+line_within kind.Load line e = bare_within line (load_from (load_number line.names)) e
+line_within kind.Audit line e = bare_within line (audit_from line.names) e
 
 -- the line of arguments that are a command of this kind, and the walk of that command over them
 pub record Walked (k : Kind) (args : List (List ℕ)) : Type 0 where

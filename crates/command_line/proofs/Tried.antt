@@ -3,7 +3,7 @@ use Rattle.std.proofs.Common.{◌≡◌, true, false, Some, None, [], ◌∷◌,
 use Rattle.five_tuple.specs.Texts.{number_up_to}
 use Rattle.command_line.specs.Grammar.{command_of}
 use Rattle.command_line.specs.Commands.{Print, Replay}
-use Rattle.command_line.specs.declared.report.Report.TheVariants.{Flows, Lines}
+use Rattle.command_line.specs.declared.report.Report.TheVariants.{Flows, Lines, Placement}
 
 two_names : command_of (codes "replay" ∷ codes "s.csv" ∷ codes "p.csv" ∷ []) ≡ Some
     (Replay (record {
@@ -113,6 +113,15 @@ flows_too : command_of
       report = Flows;
     }))
 flows_too = refl
+
+rebalance_too : command_of (codes "rebalance" ∷ codes "s.csv" ∷ codes "p.csv" ∷ []) ≡ Some
+    (Replay (record {
+      schedule = codes "s.csv";
+      policies = codes "p.csv" ∷ [];
+      net = None;
+      report = Placement;
+    }))
+rebalance_too = refl
 
 no_quiet_flows : command_of
     (codes "flows" ∷ codes "--quiet" ∷ codes "s.csv" ∷ codes "p.csv" ∷ []) ≡ None

@@ -2,8 +2,9 @@
 use Rattle.std.specs.Prelude.{ℕ, Option, List, map, string_bytes, String, Vec}
 use Rattle.std.specs.Global.{Global}
 use Rattle.command_line.specs.declared.report.Report.{Report}
+pub use Rattle.command_line.specs.Others.{AuditCommand, PrintCommand}
 
--- `replay SCHEDULE POLICY ..` or `flows`; on the network of a file, or on that of one switch
+-- `replay SCHEDULE POLICY ..`, `flows` or `rebalance`; on a file's network, or that of one switch
 pub record ReplayCommand : Type 0 where
   pub schedule : List ℕ
   -- an update names one of them by its place, from 1
@@ -11,17 +12,12 @@ pub record ReplayCommand : Type 0 where
   pub net : Option (List ℕ)
   pub report : Report
 
--- `compile POLICY`, or `show POLICY SWITCH`; on the network of a file, or on that of one switch
-pub record PrintCommand : Type 0 where
-  pub policy : List ℕ
-  pub switch : Option (List ℕ)
-  pub net : Option (List ℕ)
-
 -- `load N` has the number alone
 pub data Command : Type 0 where
   Replay : ReplayCommand → Command
   Print : PrintCommand → Command
   Load : ℕ → Command
+  Audit : AuditCommand → Command
 
 -- the bytes of the arguments
 abbrev pub argument_texts : Vec (String Global) Global → List (List ℕ)

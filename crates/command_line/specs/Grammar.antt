@@ -3,7 +3,7 @@ use Rattle.std.specs.Prelude.{ℕ, Bool, true, false, not, ◌&&◌, ◌||◌, �
 use Rattle.std.specs.List.{prefix_len, starts_with}
 use Rattle.std.specs.Option.{option_map_or, option_or}
 use Rattle.five_tuple.specs.Texts.{number_up_to}
-use Rattle.command_line.specs.Commands.{Command, Replay, Print, Load}
+use Rattle.command_line.specs.Commands.{Command, Replay, Print, Load, Audit}
 use Rattle.command_line.specs.declared.report.Report.{Report}
 use Rattle.command_line.specs.declared.report.Report.TheVariants as report
 
@@ -126,6 +126,10 @@ replay_of line = play_from (report.Lines line.quiet) line line.names
 abbrev pub flows_of : Line → Option Command
 flows_of line = if line.quiet then None else play_from report.Flows line line.names
 
+-- nor has `rebalance`
+abbrev pub rebalance_of : Line → Option Command
+rebalance_of line = if line.quiet then None else play_from report.Placement line line.names
+
 abbrev pub print_from : Line → List (List ℕ) → Option Command
 print_from line (policy ∷ []) =
     Some (Print (record { policy = policy; switch = None; net = line.net }))
@@ -155,14 +159,28 @@ abbrev pub load_of : Line → Option Command
 load_of line =
     if is_some line.net || line.quiet then None else load_from (load_number line.names)
 
+-- an audit names policies as a replay does
+abbrev pub audit_from : List (List ℕ) → Option Command
+audit_from [] = None
+audit_from (trace ∷ policies) =
+    if may_be_policies (length policies)
+    then Some (Audit (record { trace = trace; policies = policies }))
+    else None
+
+-- `audit` has no option
+abbrev pub audit_of : Line → Option Command
+audit_of line = if is_some line.net || line.quiet then None else audit_from line.names
+
 -- the command of this name, with these arguments behind it
 abbrev pub command_by : List ℕ → Line → Option Command
 command_by name line =
     if bytes_eq name (codes "replay") then replay_of line
     else if bytes_eq name (codes "flows") then flows_of line
+    else if bytes_eq name (codes "rebalance") then rebalance_of line
     else if bytes_eq name (codes "compile") then print_of 1 line
     else if bytes_eq name (codes "show") then print_of 2 line
     else if bytes_eq name (codes "load") then load_of line
+    else if bytes_eq name (codes "audit") then audit_of line
     else None
 
 -- the command that the arguments are, if they are in the grammar

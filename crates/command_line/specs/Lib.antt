@@ -1,4 +1,5 @@
 pub mod Grammar
 pub mod Commands
+pub mod Others
 pub mod Named
 pub mod Line

@@ -30,9 +30,11 @@ pub data Options : Type 0 where
 abbrev pub options_of : Kind → Options
 options_of kind.Replay = net_and true
 options_of kind.Flows = net_and false
+options_of kind.Rebalance = net_and false
 options_of kind.Compile = net_and false
 options_of kind.Show = net_and false
 options_of kind.Load = none
+options_of kind.Audit = none
 
 abbrev pub flag_args : Bool → List Rule
 flag_args true = quiet_arg ∷ []

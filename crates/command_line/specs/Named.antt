@@ -5,6 +5,8 @@ use Rattle.std.specs.Global.{Global}
 use Rattle.command_line.specs.Grammar as grammar
 use Rattle.command_line.specs.Commands as grammar_commands
 use Rattle.command_line.specs.Grammar.{command_by, line_of, most_load, most_policies}
+use Rattle.command_line.specs.Others.{AuditCommand, PrintCommand}
+use Rattle.command_line.specs.declared.command.AuditArgs.{AuditArgs}
 use Rattle.command_line.specs.declared.command.Command.{Command}
 use Rattle.command_line.specs.declared.command.Command.TheVariants as given
 use Rattle.command_line.specs.declared.command.PrintArgs.{PrintArgs}
@@ -30,25 +32,33 @@ replay_named args = record {
   report = args.report;
 }
 
-abbrev pub print_named : PrintArgs → grammar_commands.PrintCommand
+abbrev pub print_named : PrintArgs → PrintCommand
 print_named args =
     record { policy = args.policy.now; switch = net_named args.switch; net = net_named args.net }
+
+abbrev pub audit_named : AuditArgs → AuditCommand
+audit_named args =
+    record { trace = args.trace.now; policies = names_seen args.policies.items }
 
 -- the command that names these files
 abbrev pub command_named : Command → grammar_commands.Command
 command_named (given.Replay args) = grammar_commands.Replay (replay_named args)
 command_named (given.Print args) = grammar_commands.Print (print_named args)
 command_named (given.Load n) = grammar_commands.Load n
+command_named (given.Audit args) = grammar_commands.Audit (audit_named args)
 
 -- the arguments name one policy, or more, but not too many, or a load case
+abbrev pub MayBePolicies : ℕ → Type 0
+MayBePolicies count = (1 ≤ count) × (count ≤ most_policies)
+
 abbrev pub HasPolicies : ReplayArgs → Type 0
-HasPolicies args =
-    (1 ≤ length args.policies.items) × (length args.policies.items ≤ most_policies)
+HasPolicies args = MayBePolicies (length args.policies.items)
 
 abbrev pub NamesPolicies : Command → Type 0
 NamesPolicies (given.Replay args) = HasPolicies args
 NamesPolicies (given.Print args) = ⊤
 NamesPolicies (given.Load n) = (1 ≤ n) × (n ≤ most_load)
+NamesPolicies (given.Audit args) = MayBePolicies (length args.policies.items)
 
 -- the line that was read
 abbrev pub line_seen : Line → grammar.Line
@@ -79,9 +89,11 @@ parts_seen parts = record {
 abbrev pub kind_name : Kind → List ℕ
 kind_name kind.Replay = codes "replay"
 kind_name kind.Flows = codes "flows"
+kind_name kind.Rebalance = codes "rebalance"
 kind_name kind.Compile = codes "compile"
 kind_name kind.Show = codes "show"
 kind_name kind.Load = codes "load"
+kind_name kind.Audit = codes "audit"
 
 -- the command of this kind that the arguments behind its name are
 abbrev pub command_in : Kind → List (List ℕ) → Option grammar_commands.Command

@@ -1,7 +1,7 @@
-ghost use Rattle.std.specs.Prelude.{◌≡◌, ◌≤◌, true, IfOk, IfErr, IfSome, Some, is_some, map, string_bytes, option_map};
-ghost use Rattle.command_line.specs.Named.{HasPolicies, NamesPolicies, command_named, kind_name, line_seen, names_seen, replay_named};
+ghost use Rattle.std.specs.Prelude.{◌≡◌, ◌≤◌, true, IfOk, IfErr, IfSome, Some, is_some, length, map, string_bytes, option_map};
+ghost use Rattle.command_line.specs.Named.{HasPolicies, MayBePolicies, NamesPolicies, audit_named, command_named, kind_name, line_seen, names_seen, replay_named};
 ghost use Rattle.command_line.specs.Commands as grammar;
-ghost use Rattle.command_line.specs.Grammar.{command_by, command_of, load_from, play_from};
+ghost use Rattle.command_line.specs.Grammar.{audit_from, command_by, command_of, load_from, play_from};
 ghost use Rattle.five_tuple.specs.Texts.{number_up_to};
 
 use crate::grammar::{Kind, kind_of};
@@ -34,7 +34,16 @@ pub struct PrintArgs<'a> {
     pub net: Option<&'a str>,
 }
 
-/// A replay names at most so many policies.
+/// A trace that is to be checked, and the policies that it speaks of.
+#[derive(Drop)]
+pub struct AuditArgs<'a> {
+    /// The name of the trace's file.
+    pub trace: &'a str,
+    /// The names of the policies' files.
+    pub policies: Vec<&'a str>,
+}
+
+/// A replay names at most so many policies, and so does an audit.
 pub const MAX_POLICIES: usize = 64;
 
 /// The greatest number of a load case.
@@ -47,6 +56,7 @@ pub enum Command<'a> {
     Print(PrintArgs<'a>),
     /// The load case of this number is to be played.
     Load(u32),
+    Audit(AuditArgs<'a>),
 }
 
 /// The command that the arguments are, or `None` exactly where they are off the grammar.
@@ -80,12 +90,14 @@ fn command_from<'a>(kind: Kind, line: Line<'a>) -> Command<'a>
             Command::Replay(replay_from(Report::Lines { quiet }, line))
         }
         Kind::Flows => Command::Replay(replay_from(Report::Flows, line)),
+        Kind::Rebalance => Command::Replay(replay_from(Report::Placement, line)),
         Kind::Compile | Kind::Show => Command::Print(PrintArgs {
             policy: line.names[0],
             switch: line.names.get(1).copied(),
             net: line.net,
         }),
         Kind::Load => Command::Load(load_from(line.names[0])),
+        Kind::Audit => Command::Audit(audit_from(line.names)),
     }
 }
 
@@ -103,6 +115,20 @@ fn replay_from<'a>(report: Report, line: Line<'a>) -> ReplayArgs<'a>
         policies: names,
         net: line.net,
         report,
+    }
+}
+
+fn audit_from<'a>(names: Vec<&'a str>) -> AuditArgs<'a>
+    requires { is_some (audit_from (names_seen names.items)) ≡ true }
+    ensures args { Some (grammar.Audit (audit_named result))
+        ≡ audit_from (names_seen names.entry.items) }
+    ensures few { MayBePolicies (length result.policies.items) }
+{
+    let mut names = names;
+    let trace = names.remove(0);
+    AuditArgs {
+        trace,
+        policies: names,
     }
 }
 

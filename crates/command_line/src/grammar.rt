@@ -2,7 +2,7 @@
 ghost use Rattle.std.specs.Prelude.{◌≡◌, ◌≤◌, ◌⊎◌, true, IfSome, IfNone, None, drop, is_some, length, map, option_map, string_bytes};
 ghost use Rattle.std.specs.List.{prefix_len};
 ghost use Rattle.command_line.specs.Named.{command_in, cut_seen, kind_name, net_named, pair_seen, parts_seen};
-ghost use Rattle.command_line.specs.Grammar.{Line as Stated, command_by, command_of, cut_net, cut_options, cut_pair, cut_quiet, end_together, is_file_name, joined_net, line_from, line_of, load_of, net_and_quiet, print_of, play_from, quiet_and_net};
+ghost use Rattle.command_line.specs.Grammar.{Line as Stated, audit_of, command_by, command_of, cut_net, cut_options, cut_pair, cut_quiet, end_together, is_file_name, joined_net, line_from, line_of, load_of, net_and_quiet, print_of, play_from, quiet_and_net};
 ghost use Rattle.command_line.specs.declared.report.Report.{Report};
 
 use crate::command::{MAX_LOAD, MAX_POLICIES};
@@ -13,9 +13,11 @@ use five_tuple::read_number;
 pub(crate) enum Kind {
     Replay,
     Flows,
+    Rebalance,
     Compile,
     Show,
     Load,
+    Audit,
 }
 
 // The options in front of some arguments, and the arguments behind them.
@@ -59,9 +61,11 @@ impl Kind {
         match arg {
             "replay" => Some(Kind::Replay),
             "flows" => Some(Kind::Flows),
+            "rebalance" => Some(Kind::Rebalance),
             "compile" => Some(Kind::Compile),
             "show" => Some(Kind::Show),
             "load" => Some(Kind::Load),
+            "audit" => Some(Kind::Audit),
             _ => None,
         }
     }
@@ -72,10 +76,11 @@ impl Kind {
     {
         match self {
             Kind::Replay => takes_replay(parts),
-            Kind::Flows => !parts.quiet && takes_replay(parts),
+            Kind::Flows | Kind::Rebalance => !parts.quiet && takes_replay(parts),
             Kind::Compile => takes_print(1, parts),
             Kind::Show => takes_print(2, parts),
             Kind::Load => takes_load(parts),
+            Kind::Audit => takes_audit(parts),
         }
     }
 }
@@ -86,6 +91,18 @@ fn takes_replay(parts: &Parts<'_>) -> bool
         is_some (play_from report (parts_seen parts.now) (map string_bytes parts.now.names.now)) }
 {
     let [_schedule, policies @ ..] = parts.names else {
+        return false;
+    };
+    !policies.is_empty() && policies.len() <= MAX_POLICIES
+}
+
+fn takes_audit(parts: &Parts<'_>) -> bool
+    ensures { result ≡ is_some (audit_of (parts_seen parts.now)) }
+{
+    if parts.net.is_some() || parts.quiet {
+        return false;
+    }
+    let [_trace, policies @ ..] = parts.names else {
         return false;
     };
     !policies.is_empty() && policies.len() <= MAX_POLICIES

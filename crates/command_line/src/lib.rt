@@ -11,5 +11,7 @@ mod grammar;
 mod read;
 mod report;
 
-pub use command::{Command, MAX_LOAD, MAX_POLICIES, PrintArgs, ReplayArgs, read_command};
+pub use command::{
+    AuditArgs, Command, MAX_LOAD, MAX_POLICIES, PrintArgs, ReplayArgs, read_command,
+};
 pub use report::Report;

@@ -51,9 +51,11 @@ fn line_command<'a>(alloc: Global, kind: Kind) -> Result<Command<'a>, AllocError
     match kind {
         Kind::Replay => replay_command(alloc),
         Kind::Flows => unflagged_command(alloc, "flows"),
+        Kind::Rebalance => unflagged_command(alloc, "rebalance"),
         Kind::Compile => unflagged_command(alloc, "compile"),
         Kind::Show => unflagged_command(alloc, "show"),
-        Kind::Load => load_command(alloc),
+        Kind::Load => bare_command(alloc, "load"),
+        Kind::Audit => bare_command(alloc, "audit"),
     }
 }
 
@@ -77,10 +79,10 @@ fn unflagged_command<'a>(alloc: Global, name: &'a str) -> Result<Command<'a>, Al
     Ok(command.args_override_self(true))
 }
 
-fn load_command<'a>(alloc: Global) -> Result<Command<'a>, AllocError>
-    ensures { IfOk result (λ command. app_of command ≡ app_with (codes "load") none) }
+fn bare_command<'a>(alloc: Global, name: &'a str) -> Result<Command<'a>, AllocError>
+    ensures { IfOk result (λ command. app_of command ≡ app_with name.entry.now none) }
 {
-    let command = Command::new(alloc, "load").arg(names_arg(alloc))?;
+    let command = Command::new(alloc, name).arg(names_arg(alloc))?;
     Ok(command.args_override_self(true))
 }
 
@@ -139,8 +141,10 @@ fn net_in<'a>(kind: Kind, matches: &ArgMatches<'a>) -> Option<&'a str>
         (first_value (found_of matches.now) (codes "net")) (net_named result) }
 {
     match kind {
-        Kind::Replay | Kind::Flows | Kind::Compile | Kind::Show => matches.get_str("net"),
-        Kind::Load => None,
+        Kind::Replay | Kind::Flows | Kind::Rebalance | Kind::Compile | Kind::Show => {
+            matches.get_str("net")
+        }
+        Kind::Load | Kind::Audit => None,
     }
 }
 
@@ -152,6 +156,7 @@ fn flag_in(kind: Kind, matches: &ArgMatches<'_>) -> bool
 {
     match kind {
         Kind::Replay => matches.get_flag("quiet"),
-        Kind::Flows | Kind::Compile | Kind::Show | Kind::Load => false,
+        Kind::Flows | Kind::Rebalance | Kind::Compile | Kind::Show => false,
+        Kind::Load | Kind::Audit => false,
     }
 }

@@ -8,6 +8,8 @@ pub enum Report {
     Lines { quiet: bool },
     /// How many packets of each header left each port, as the meters recorded it.
     Flows,
+    /// A placement of the partitions with a lower peak, where one is found.
+    Placement,
     /// How many packets, decisions by cached rules and messages there were, and what became of the
     /// packets.
     Summary,

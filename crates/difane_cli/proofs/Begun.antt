@@ -1,5 +1,6 @@
 -- A network on which a policy begins to be in force, and the events that may happen on it.
 use Rattle.std.proofs.Common.{ℕ, ◌≡◌, ◌<◌, ◌≤◌, true, false, Option, Result, Ok, Err, List, [], ◌∷◌, arith, length, map, refl, sym, ap, subst, ◌∙◌, All}
+use Rattle.std.specs.Borrow.{Bor}
 use Rattle.std.specs.Prelude.{IsOk, IsSome, IsTrue, slice_index_or, unwrap_or}
 use Rattle.std.proofs.lemmas.List.{get_or-map, length-map}
 use Rattle.std.specs.Option.{ForSome}
@@ -32,6 +33,8 @@ use Rattle.shelf.specs.Shelf.{Files}
 use Rattle.difane_cli.specs.Inputs.{and_then, case_files, first_plan, inputs_of, plan_from, read_files, read_net, read_schedule}
 use Rattle.difane_cli.specs.Run.{IsReplayOf}
 use Rattle.command_line.specs.Commands.{ReplayCommand}
+use Rattle.command_line.specs.Grammar.{most_policies}
+use Rattle.command_line.specs.Named.{MayBePolicies, names_seen}
 use Rattle.difane_cli.specs.declared.status.Refusal.{Refusal}
 use Rattle.difane_cli.specs.Tasks.{IsNetOf}
 
@@ -122,23 +125,39 @@ all_are_events net files count setting events same many may =
     subst (λ (s : Setting). All (IsEvent s.net (length s.files)) events) (sym same)
     (subst (λ n. All (IsEvent net n) events) (sym many) may)
 
+-- there are as many names as the command has
+pub as_many : (names owned : List (Bor (List ℕ))) → names ≡ owned
+    → length names ≡ length (names_seen owned)
+as_many names owned same = ap length same ∙ sym (length-map owned (λ name. name.now))
+
+-- a command names at most so many
+pub few_named : (owned : List (Bor (List ℕ))) → MayBePolicies (length owned)
+    → length (names_seen owned) ≤ most_policies
+few_named owned may =
+    subst (λ (count : ℕ). count ≤ most_policies) (sym (length-map owned (λ name. name.now))) may.1
+
 -- ---- the inputs of a replay
 
 -- they are as the command asks for them
 pub asked_for : (args : ReplayCommand) (net : Net) (read : List PolicyFile)
     (events : List Event) (setting : Setting) → IsNetOf args.net net
     → setting ≡ setting_of net read → length read ≡ length args.policies
-    → length events ≤ max_events → All (λ file. file_length file ≤ 2000) read → IsReplayOf args
+    → length args.policies ≤ most_policies → length events ≤ max_events
+    → All (λ file. file_length file ≤ 2000) read → IsReplayOf args
     (record { setting = setting; events = events; report = args.report })
-asked_for args net read events setting named own many few short = record {
+asked_for args net read events setting named own many some few short = record {
   net = subst (λ s. IsNetOf args.net s.net) (sym own) named;
-  policies = ap (λ s. length s.files) own ∙ many;
+  policies = named_each;
   report = refl;
   limits = record {
+    files = subst (λ (count : ℕ). count ≤ most_policies) (sym named_each) some;
     events = few;
     rows = subst (λ s. All (λ file. file_length file ≤ 2000) s.files) (sym own) short;
   };
 }
+  where
+    named_each : length setting.files ≡ length args.policies
+    named_each = ap (λ s. length s.files) own ∙ many
 
 -- what is planned goes on
 and_then_ok : {X Y : Type 0} (read : Result X Refusal) (result : Result Y Refusal) → IsOk read

@@ -1,7 +1,10 @@
 mod AfterTexts
+mod AuditEnds
+mod AuditReads
 mod Begun
 mod CalmReads
 mod Gains
+mod GoodTraces
 mod MeterLines
 mod OneSwitch
 mod Plays
@@ -11,3 +14,5 @@ mod ShelfReads
 mod Stated
 mod Verdicts
 mod Worked
+mod Reports
+mod Proposals

@@ -1,10 +1,14 @@
 -- What comes of a play, by what became of its text.
 use Rattle.std.specs.Prelude.{⊤, is_some}
-use Rattle.std.proofs.Common.{ℕ, ◌≡◌, ◌⊎◌, IsTrue, arith, inl, inr, length, refl, subst, Bool, Option, Some, None, Result, Ok, Err, List}
+use Rattle.std.proofs.Common.{ℕ, ◌≡◌, ◌⊎◌, ◌++◌, All, IsTrue, arith, inl, inr, length, refl, subst, sym, Bool, Option, Some, None, Result, Ok, Err, List}
+use Rattle.std.specs.List.{flat_map}
 use Rattle.std.proofs.lemmas.List.{take_all}
 use Rattle.std.specs.Option.{ForSome}
 use Rattle.journal.specs.declared.item.Item.{Item}
+use Rattle.flow_export.specs.Counted.{FlowLaws, IsCounted}
+use Rattle.meters.specs.Meters.{records_of}
 use Rattle.meters.specs.Seen.{Seen}
+use Rattle.net_file.specs.Owners.{port_mask}
 use Rattle.net_file.specs.declared.net.Net.{Net}
 use Rattle.update_machine.specs.Full.{IsPlay}
 use Rattle.packet_laws.specs.OnTheWay.{HeldOnTheWay, HoldsSoFar}
@@ -14,10 +18,11 @@ use Rattle.shelf.specs.Shelf.{Files}
 use Rattle.shelf.specs.Sink.{SinkState}
 use Rattle.shelf.specs.declared.output.SinkError.{SinkError}
 use Rattle.shelf.specs.declared.output.SinkError.TheVariants as sink
-use Rattle.difane_cli.specs.FlowLines.{gone_by}
+use Rattle.difane_cli.specs.FlowLines.{CountFlows, gone_by}
 use Rattle.difane_cli.specs.Texts.{play_text}
 use Rattle.difane_cli.specs.Verdict.{IsWhetherQuiet, IsVerdict, asks_quiet, is_asked}
 use Rattle.difane_cli.specs.Inputs.{known_task}
+use Rattle.difane_cli.proofs.GoodTraces.{good_trace}
 use Rattle.difane_cli.proofs.Stated.{stated_by}
 use Rattle.difane_cli.specs.Laws.{AnswerLaws}
 use Rattle.difane_cli.proofs.Verdicts.{verdict}
@@ -25,7 +30,7 @@ use Rattle.difane_cli.specs.Run.{IsAnswer, IsPlayOf, MayBePlayed, PlayOutcome, P
 use Rattle.difane_cli.specs.Ending.{status_after}
 use Rattle.difane_cli.specs.Prints.{IsAfterText}
 use Rattle.command_line.specs.Commands.{Command}
-use Rattle.replay.specs.Leavings.{kept_by}
+use Rattle.replay.specs.Leavings.{kept_by, left_in}
 
 -- what the journal of a play is, and what follows
 pub played : AnswerLaws → (command : Command) (files : Option Files) (inputs : Inputs)
@@ -79,9 +84,24 @@ unjudged command files takes_memory inputs journal full taken given now answer k
   written = inl refl;
 }
 
+-- flow meters that held nothing count so
+counted_so : FlowLaws → (net : Net) (journal : List Item) (taken given : List Seen)
+    → given ≡ kept_by net journal taken → CountFlows net journal taken given
+counted_so laws net journal taken given kept = λ most new.
+    let ports = port_mask net.switches in
+    let left = left_in journal in
+    record {
+      stayed = subst (λ (meters : List Seen). All (IsCounted left) (flat_map records_of meters))
+          (sym kept) (laws.stayed most ports left taken new);
+      all = λ none.
+          subst (λ (meters : List Seen).
+          All (IsCounted left) (gone_by net journal taken ++ flat_map records_of meters))
+          (sym kept) (laws.counted most ports left taken new none);
+    }
+
 -- a journal that was played, and what is to be told of it that was written, or not
-pub told : (command : Command) (files : Option Files) (inputs : Inputs) (journal : List Item)
-    (full : Option ℕ) (taken given : List Seen) (said : Option Bool) (before now : SinkState)
+pub told : AnswerLaws → (command : Command) (files : Option Files) (inputs : Inputs)
+    (journal : List Item) (full : Option ℕ) (taken given : List Seen) (said : Option Bool) (before now : SinkState)
     (takes_memory : Bool) (written : Result (⊤) SinkError)
     → IsAnswer command files inputs journal full
     → given ≡ kept_by inputs.setting.net journal taken
@@ -90,15 +110,18 @@ pub told : (command : Command) (files : Option Files) (inputs : Inputs) (journal
     (gone_by inputs.setting.net journal taken) given said)
     (is_made inputs.report full) takes_memory before now written
     → PlayOutcome command files takes_memory (status_after written full) journal taken given before now
-told command files inputs journal full taken given said before now takes_memory
+told laws command files inputs journal full taken given said before now takes_memory
     (Ok done) answer kept judged after =
     ended full (record {
       inputs = inputs;
       played = answer;
       kept = kept;
+      counted = counted_so laws.flows inputs.setting.net journal taken given kept;
       answer = said;
       verdict = judged;
       written = record { whole = after.whole; untouched = after.untouched };
+      good = good_trace laws.texts inputs journal full (gone_by inputs.setting.net journal taken)
+          given said answer.sound answer.play command answer.asked;
     })
   where
     ended : (full : Option ℕ) → Played command files full journal taken given before now
@@ -106,7 +129,7 @@ told command files inputs journal full taken given said before now takes_memory
         before now
     ended None played = played
     ended (Some row) played = played
-told command files inputs journal full taken given said before now takes_memory
+told laws command files inputs journal full taken given said before now takes_memory
     (Err sink.Failed) answer kept judged after =
     record {
       inputs = inputs;
@@ -117,7 +140,7 @@ told command files inputs journal full taken given said before now takes_memory
       verdict = judged;
       written = after.part refl;
     }
-told command files inputs journal full taken given said before now takes_memory
+told laws command files inputs journal full taken given said before now takes_memory
     (Err sink.NoMemory) answer kept judged after =
     inr (record {
       inputs = inputs;

@@ -39,7 +39,7 @@ same_value : {X : Type 0} (read : Result X Refusal) (x y : X) → read ≡ Ok x 
 same_value read x y one two = cc (one, two)
 
 content_is : (name : List ℕ) (found : Option (List ℕ)) (bytes : List ℕ)
-    → content_from name found ≡ Ok bytes → found ≡ Some bytes
+    → content_from most_bytes name found ≡ Ok bytes → found ≡ Some bytes
 content_is name None bytes is = absurd (cc is)
 content_is name (Some held) bytes is = by (nat_le (length held) most_bytes) is
   where
@@ -173,3 +173,4 @@ stated_by files (asked.Replay replay) inputs accepted = λ all known.
     (accepted _ (ap (λ held. task_of held (asked.Replay replay)) known)))
 stated_by files (asked.Print print) inputs accepted = tt
 stated_by files (asked.Load n) inputs accepted = tt
+stated_by files (asked.Audit args) inputs accepted = tt

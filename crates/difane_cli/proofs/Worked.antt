@@ -5,8 +5,8 @@ use Rattle.journal.specs.declared.item.Item.{Item}
 use Rattle.shelf.specs.Sink.{SinkState}
 use Rattle.shelf.specs.declared.output.SinkError.{SinkError}
 use Rattle.shelf.specs.declared.output.SinkError.TheVariants as sink
-use Rattle.difane_cli.specs.Ending.{IsAfterWork, status_after}
-use Rattle.difane_cli.specs.Run.{IsPlayOf, MayWantMemory, RanOut, is_made}
+use Rattle.difane_cli.specs.Ending.{IsAfterWork, MayWantMemory, RanOut, status_after}
+use Rattle.difane_cli.specs.Run.{IsPlayOf, is_made}
 use Rattle.difane_cli.specs.Tasks.{Inputs}
 use Rattle.difane_cli.specs.Verdict.{asks_quiet, is_asked}
 use Rattle.command_line.specs.declared.report.Report.{Report}
@@ -54,6 +54,7 @@ wants_to_judge (asked.Replay named) inputs None own is =
 wants_to_judge (asked.Replay named) inputs (Some row) own is = absurd (cc is)
 wants_to_judge (asked.Print named) inputs full own is = absurd own
 wants_to_judge (asked.Load n) inputs full own is = tt
+wants_to_judge (asked.Audit named) inputs full own is = absurd own
 
 -- what is made in memory is that of a play that didn't stop full
 made_whole : (report : Report) (full : Option ℕ) → IsTrue (is_made report full)
@@ -61,6 +62,7 @@ made_whole : (report : Report) (full : Option ℕ) → IsTrue (is_made report fu
 made_whole report None is = is
 made_whole (told.Lines quiet) (Some row) is = is
 made_whole told.Flows (Some row) is = absurd (cc is)
+made_whole told.Placement (Some row) is = absurd (cc is)
 made_whole told.Summary (Some row) is = absurd (cc is)
 
 wants_to_make : (command : Command) (inputs : Inputs) (full : Option ℕ) → IsPlayOf command inputs
@@ -70,6 +72,7 @@ wants_to_make (asked.Replay named) inputs full own is =
     (subst (λ (report : Report). IsTrue (is_made report full)) own.report is))
 wants_to_make (asked.Print named) inputs full own is = absurd own
 wants_to_make (asked.Load n) inputs full own is = tt
+wants_to_make (asked.Audit named) inputs full own is = absurd own
 
 -- what holds at an error
 pub on_err : {T E : Type 0} (r : Result T E) (P : Type 0) → OnErr r P

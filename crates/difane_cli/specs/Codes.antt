@@ -7,6 +7,10 @@ use Rattle.std.specs.Prelude.{ℕ}
 abbrev pub most_bytes : ℕ
 most_bytes = 16_777_216
 
+-- a trace has at most so many
+abbrev pub most_trace_bytes : ℕ
+most_trace_bytes = 268_435_456
+
 -- there is no such file
 abbrev pub missing_file : ℕ
 missing_file = 0

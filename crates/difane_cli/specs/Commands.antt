@@ -1,11 +1,13 @@
 -- What the files that a command read are to the definitions.
-use Rattle.std.specs.Prelude.{◌≡◌, ◌≤◌, length}
+use Rattle.std.specs.Prelude.{⊤, ◌≡◌, ◌≤◌, length}
 use Rattle.net_file.specs.Net.{IsNet}
 use Rattle.steps.specs.Limits.{max_events}
 use Rattle.world.specs.State.{IsBegun, setting_at}
 use Rattle.difane_cli.specs.Run.{IsPlayOf, MayBePlayed}
-use Rattle.difane_cli.specs.Tasks.{Inputs, Printing, Task, Play, Print}
+use Rattle.difane_cli.specs.Tasks.{Auditing, Inputs, Printing, Task, Audit, Play, Print}
 use Rattle.command_line.specs.Commands as grammar
+use Rattle.difane_cli.specs.Audits.{IsAuditingOf}
+use Rattle.difane_cli.specs.declared.auditing.AuditInputs.{AuditInputs}
 use Rattle.difane_cli.specs.declared.inputs.PlayInputs.{PlayInputs}
 use Rattle.difane_cli.specs.declared.printing.PrintInputs.{PrintInputs}
 use Rattle.difane_cli.specs.Prints.{IsPrintingOf}
@@ -28,9 +30,13 @@ printing_stated inputs = record {
   switch = inputs.switch;
 }
 
+abbrev pub auditing_stated : AuditInputs → Auditing
+auditing_stated inputs = record { trace = inputs.trace.items; files = inputs.files.items }
+
 abbrev pub task_stated : declared_task.Task → Task
 task_stated (asked.Play inputs) = Play (inputs_stated inputs)
 task_stated (asked.Print inputs) = Print (printing_stated inputs)
+task_stated (asked.Audit inputs) = Audit (auditing_stated inputs)
 
 -- in the world of a play nothing happened yet, its network is the one that was read, and the
 -- events may happen on it
@@ -40,13 +46,15 @@ pub record AreReadyToPlay (inputs : PlayInputs) : Type 0 where
   pub sound : MayBePlayed (inputs_stated inputs)
   pub few : length inputs.events.items ≤ max_events
 
--- a plan is on a network
+-- a plan is on a network; of a trace nothing is asked
 abbrev pub IsReadyTask : declared_task.Task → Type 0
 IsReadyTask (asked.Play inputs) = AreReadyToPlay inputs
 IsReadyTask (asked.Print inputs) = IsNet inputs.net
+IsReadyTask (asked.Audit inputs) = ⊤
 
 -- the task is of the kind that the command asks for, and as it asks for it
 abbrev pub IsTaskOf : grammar.Command → Task → Type 0
 IsTaskOf command (Play inputs) = IsPlayOf command inputs
 IsTaskOf (grammar.Print args) (Print printing) = IsPrintingOf args printing
-IsTaskOf _ (Print printing) = ⊥
+IsTaskOf (grammar.Audit args) (Audit auditing) = IsAuditingOf args auditing
+IsTaskOf _ _ = ⊥

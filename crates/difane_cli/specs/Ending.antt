@@ -1,10 +1,15 @@
 -- Which status a command ends with, and what brings one about.
-use Rattle.std.specs.Prelude.{⊤, ℕ, ◌≡◌, ◌≢◌, ◌≤◌, ◌⊎◌, Option, Some, None, Result, Ok, Err, IsOk}
+use Rattle.std.specs.Prelude.{⊤, ℕ, ◌≡◌, ◌≢◌, ◌≤◌, ◌⊎◌, Bool, Option, Some, None, Result, Ok, Err, IsOk, IsTrue, List, []}
 use Rattle.std.specs.Option.{ForSome}
+use Rattle.journal.specs.declared.item.Item.{Item}
 use Rattle.shelf.specs.Shelf.{Files, ShelfState}
 use Rattle.shelf.specs.Sink.{Rose, SinkState}
 use Rattle.shelf.specs.declared.output.SinkError.{SinkError}
+use Rattle.command_line.specs.Commands.{Command}
+use Rattle.command_line.specs.Commands as asked
+use Rattle.command_line.specs.declared.report.Report.TheVariants as report
 use Rattle.difane_cli.specs.Codes.{missing_file, too_long}
+use Rattle.difane_cli.specs.Run.{WantsMemory}
 use Rattle.difane_cli.specs.declared.status.Refusal.{Refusal}
 use Rattle.difane_cli.specs.declared.status.Status.{Status}
 use Rattle.difane_cli.specs.declared.status.Stop.{Stop}
@@ -29,6 +34,7 @@ status_after (Err sink.NoMemory) full = status.NoMemory
 -- a status that comes behind work that was begun
 abbrev pub IsAfterWork : Status → Type 0
 IsAfterWork status.Ok = ⊤
+IsAfterWork (status.No line) = ⊤
 IsAfterWork status.WriteFault = ⊤
 IsAfterWork (status.Full row) = ⊤
 IsAfterWork status.NoMemory = ⊤
@@ -44,6 +50,7 @@ pub record EndsWork (ended : Status) (before now : SinkState) : Type 0 where
 
 abbrev pub status_number : Status → ℕ
 status_number status.Ok = 0
+status_number (status.No line) = 1
 status_number status.Words = 2
 status_number (status.Input file code row) = 3
 status_number status.ReadFault = 4
@@ -73,6 +80,7 @@ Accounts read (status.Input file code row) =
     read ≡ Err (record { file = file; code = code; row = row })
 Accounts read status.Words = ⊥
 Accounts read status.Ok = IsOk read
+Accounts read (status.No line) = IsOk read
 Accounts read status.WriteFault = IsOk read
 Accounts read (status.Full row) = IsOk read
 Accounts read _ = ⊤
@@ -93,6 +101,30 @@ abbrev pub IsCalmRead : {V : Type 0} → (old new : ShelfState) → Result V Sto
 IsCalmRead old new (Ok value) = new.faults ≡ old.faults
 IsCalmRead old new (Err stop) =
     ¬ MayFollowFault old.files (status_of stop) → new.faults ≡ old.faults
+
+-- ---- what is wanted, and what is given back
+
+-- behind its play a command may want memory; to write the lines of a journal it wants none
+abbrev pub MayWantMemory : Option Command → Type 0
+MayWantMemory (Some (asked.Replay args)) = WantsMemory args.report None
+MayWantMemory (Some (asked.Load n)) = ⊤
+MayWantMemory _ = ⊥
+
+-- memory ran out in the output's own writes, if they take any. Or the output wasn't touched, and
+-- either the journal is empty, or the command is one that may want memory behind its play
+abbrev pub RanOut : Option Command → (takes_memory : Bool) → List Item → (before now : SinkState)
+    → Type 0
+RanOut command takes_memory journal before now =
+    IsTrue takes_memory ⊎ ((now ≡ before) × ((journal ≡ []) ⊎ MayWantMemory command))
+
+-- arguments off the grammar, a command that plays nothing, and one that proposes a placement give
+-- the meters back as they came
+abbrev pub GivesBack : Option Command → Type 0
+GivesBack None = ⊤
+GivesBack (Some (asked.Print args)) = ⊤
+GivesBack (Some (asked.Audit args)) = ⊤
+GivesBack (Some (asked.Replay args)) = args.report ≡ report.Placement
+GivesBack _ = ⊥
 
 -- ---- checks of what was read
 

@@ -1,6 +1,8 @@
--- What `flows` writes: the flow records of the meters that left, and then of those that stayed.
-use Rattle.std.specs.Prelude.{ℕ, Option, Some, None, List, [], ◌++◌}
+-- What `flows` writes: the flow records of the meters that left, and then of those that stayed; and
+-- what these count.
+use Rattle.std.specs.Prelude.{ℕ, All, Option, Some, None, List, [], ◌++◌}
 use Rattle.std.specs.List.{flat_map}
+use Rattle.flow_export.specs.Counted.{IsCounted, IsNewMeter, NoneLeaves}
 use Rattle.flow_export.specs.Lines.{flow_lines}
 use Rattle.journal.specs.declared.item.Item.{Item}
 use Rattle.meters.specs.Gone.{gone_records}
@@ -23,3 +25,17 @@ flow_text gone meters = flow_lines gone ++ flow_lines (flat_map records_of meter
 abbrev pub flows_text : Option ℕ → List FlowRecord → List Seen → List ℕ
 flows_text None gone meters = flow_text gone meters
 flows_text (Some row) gone meters = []
+
+-- ---- counts
+
+-- each record of a meter that stayed counts all packets that left by its port with its header; and
+-- where none of the meters at ports of the network left, each record that there is does
+pub record AreCounted (net : Net) (journal : List Item) (taken given : List Seen) : Type 0 where
+  pub stayed : All (IsCounted (left_in journal)) (flat_map records_of given)
+  pub all : NoneLeaves (port_mask net.switches) (left_in journal) taken
+      → All (IsCounted (left_in journal)) (gone_by net journal taken ++ flat_map records_of given)
+
+-- so it is where the meters that were taken are flow meters that held nothing
+abbrev pub CountFlows : Net → List Item → (taken given : List Seen) → Type 0
+CountFlows net journal taken given =
+    (most : ℕ) → All (IsNewMeter most) taken → AreCounted net journal taken given

@@ -26,12 +26,12 @@ use Rattle.shelf.specs.Shelf.{Files, file_named}
 use Rattle.update_machine.specs.Pieces.{plan_code}
 use Rattle.update_machine.specs.Setting.{setting_of}
 use Rattle.world.specs.Files.{first_policy}
-use Rattle.command_line.specs.Commands.{Command, PrintCommand, ReplayCommand}
+use Rattle.command_line.specs.Commands.{AuditCommand, Command, PrintCommand, ReplayCommand}
 use Rattle.command_line.specs.Commands as asked
-use Rattle.difane_cli.specs.Codes.{first_change, missing_file, most_bytes, no_port, no_such_switch, too_long}
+use Rattle.difane_cli.specs.Codes.{first_change, missing_file, most_bytes, most_trace_bytes, no_port, no_such_switch, too_long}
 use Rattle.command_line.specs.declared.report.Report.TheVariants as report
 use Rattle.difane_cli.specs.declared.status.Refusal.{Refusal}
-use Rattle.difane_cli.specs.Tasks.{Inputs, Printing, Task, Play, Print}
+use Rattle.difane_cli.specs.Tasks.{Auditing, Inputs, Printing, Task, Audit, Play, Print}
 
 -- what goes on from a value that was read; a refusal ends the reading
 abbrev pub and_then : {X Y : Type 0} → Result X Refusal → (X → Result Y Refusal) → Result Y Refusal
@@ -44,14 +44,18 @@ and_then (Err refusal) next = Err refusal
 abbrev pub refused_whole : List ℕ → ℕ → Refusal
 refused_whole name code = record { file = name; code = code; row = 0 }
 
-abbrev pub content_from : List ℕ → Option (List ℕ) → Result (List ℕ) Refusal
-content_from name None = Err (refused_whole name missing_file)
-content_from name (Some bytes) =
-    if nat_le (length bytes) most_bytes then Ok bytes else Err (refused_whole name too_long)
+abbrev pub content_from : ℕ → List ℕ → Option (List ℕ) → Result (List ℕ) Refusal
+content_from most name None = Err (refused_whole name missing_file)
+content_from most name (Some bytes) =
+    if nat_le (length bytes) most then Ok bytes else Err (refused_whole name too_long)
 
--- the content of the file of this name, unless there is none or it is too long
+-- the content of the file of this name, unless there is none or it has more than so many bytes
+abbrev pub content_within : ℕ → Files → List ℕ → Result (List ℕ) Refusal
+content_within most files name = content_from most name (file_named files name)
+
+-- the same of any file but a trace
 abbrev pub content_of : Files → List ℕ → Result (List ℕ) Refusal
-content_of files name = content_from name (file_named files name)
+content_of files name = content_within most_bytes files name
 
 -- what the file was read to; a row that is refused is told by the refusal's code
 abbrev pub read_from : {X R : Type 0} → (R → ℕ) → List ℕ → Result X (InRow R)
@@ -202,6 +206,19 @@ printing_of files command =
     and_then (plan_on command.policy asked.0 rows) (λ hosted.
     Ok (record { policy = rows; net = asked.0; hosted = hosted; switch = asked.1 }))))
 
+-- ---- all files of an audit
+
+-- the ports of a network of one switch, which are 0 to 63
+abbrev pub solo_ports : ℕ
+solo_ports = 18446744073709551615
+
+-- the trace is read, then the policies and changes in their order
+abbrev pub auditing_of : Files → AuditCommand → Result Auditing Refusal
+auditing_of files command =
+    and_then (content_within most_trace_bytes files command.trace) (λ trace.
+    and_then (read_files true solo_ports files command.policies) (λ read.
+    Ok (record { trace = trace; files = read })))
+
 -- ---- all commands
 
 abbrev pub play_task : Result Inputs Refusal → Result Task Refusal
@@ -210,12 +227,16 @@ play_task read = and_then read (λ inputs. Ok (Play inputs))
 abbrev pub print_task : Result Printing Refusal → Result Task Refusal
 print_task read = and_then read (λ printing. Ok (Print printing))
 
+abbrev pub audit_task : Result Auditing Refusal → Result Task Refusal
+audit_task read = and_then read (λ auditing. Ok (Audit auditing))
+
 -- the task or the refusal, where it is known: that of a load case always is, since it reads no
 -- files, and that of another command where the files are known
 abbrev pub task_of : Option Files → Command → Option (Result Task Refusal)
 task_of files (asked.Replay args) = option_map (λ all. play_task (inputs_of all args)) files
 task_of files (asked.Print args) = option_map (λ all. print_task (printing_of all args)) files
 task_of files (asked.Load n) = Some (play_task (load_inputs n))
+task_of files (asked.Audit args) = option_map (λ all. audit_task (auditing_of all args)) files
 
 -- the same, where the arguments are a command
 abbrev pub known_task : Option Files → Option Command → Option (Result Task Refusal)
@@ -258,14 +279,22 @@ replay_reads files args (Ok net) =
     up_to_refusal (is_ok (read_schedule net (length args.policies) files args.schedule)
     ∷ are_accepted true (port_mask net.switches) files args.policies)
 
+-- how many reads an audit makes at most
+abbrev pub audit_reads : Files → AuditCommand → ℕ
+audit_reads files args =
+    up_to_refusal (is_ok (content_within most_trace_bytes files args.trace)
+    ∷ are_accepted true solo_ports files args.policies)
+
 -- how many reads a command makes at most
 abbrev pub most_reads : Option Files → Option Command → ℕ
 most_reads files None = 0
 most_reads None (Some (asked.Replay args)) = net_reads args.net + 1 + length args.policies
 most_reads None (Some (asked.Print args)) = net_reads args.net + 1
 most_reads None (Some (asked.Load n)) = 0
+most_reads None (Some (asked.Audit args)) = 1 + length args.policies
 most_reads (Some files) (Some (asked.Replay args)) =
     net_reads args.net + replay_reads files args (read_net files args.net)
 most_reads (Some files) (Some (asked.Print args)) =
     net_reads args.net + (if is_ok (net_asked files args) then 1 else 0)
 most_reads (Some files) (Some (asked.Load n)) = 0
+most_reads (Some files) (Some (asked.Audit args)) = audit_reads files args

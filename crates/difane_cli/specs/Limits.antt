@@ -2,9 +2,12 @@
 use Rattle.std.specs.Prelude.{◌≤◌, All, length}
 use Rattle.policy_file.specs.Changes.{file_length}
 use Rattle.steps.specs.Limits.{max_events}
+use Rattle.command_line.specs.Grammar.{most_policies}
 use Rattle.difane_cli.specs.Tasks.{Inputs}
 
--- there are at most 100,000 events, and each policy and each change has at most 2,000 rows
+-- there are at most 64 files and 100,000 events, and each policy and each change has at most 2,000
+-- rows
 pub record AreWithinLimits (inputs : Inputs) : Type 0 where
+  pub files : length inputs.setting.files ≤ most_policies
   pub events : length inputs.events ≤ max_events
   pub rows : All (λ file. file_length file ≤ 2000) inputs.setting.files

@@ -74,6 +74,7 @@ PrintOutcome command files status.NoMemory journal before now =
     Unplayed journal before now
     ⊎ Printed command files (λ text. GainedPart before.bytes text now.bytes) journal
 PrintOutcome command files (status.Full row) journal before now = ⊥
+PrintOutcome command files (status.No line) journal before now = ⊥
 PrintOutcome command files _ journal before now = Unplayed journal before now
 
 -- what writing a text leaves of the output: all of it where it succeeds, and else a part of it, or

@@ -19,7 +19,7 @@ use Rattle.packet_laws.specs.OnTheWay.{HeldOnTheWay}
 use Rattle.packet_laws.specs.Entries.{AreEntered, rows_played}
 use Rattle.schedule.specs.Case.{load_case}
 use Rattle.difane_cli.specs.Limits.{AreWithinLimits}
-use Rattle.difane_cli.specs.FlowLines.{gone_by}
+use Rattle.difane_cli.specs.FlowLines.{CountFlows, gone_by}
 use Rattle.difane_cli.specs.Inputs.{case_inputs, known_task}
 use Rattle.difane_cli.specs.Texts.{play_text}
 use Rattle.difane_cli.specs.Verdict.{IsVerdict, asks_quiet, is_asked}
@@ -29,7 +29,9 @@ use Rattle.command_line.specs.declared.report.Report.{Report}
 use Rattle.command_line.specs.declared.report.Report.TheVariants as report
 use Rattle.difane_cli.specs.declared.status.Status.{Status}
 use Rattle.difane_cli.specs.Writes.{Wrote, WrotePart, Unplayed}
+use Rattle.difane_cli.specs.Audits.{AuditOutcome, IsGoodTrace}
 use Rattle.difane_cli.specs.Prints.{PrintOutcome}
+use Rattle.difane_cli.specs.Proposed.{ProposalOutcome}
 use Rattle.difane_cli.specs.Tasks.{Inputs, Play, IsNetOf}
 use Rattle.replay.specs.Leavings.{kept_by}
 use Rattle.difane_cli.specs.declared.status.Status.TheVariants as status
@@ -47,7 +49,7 @@ pub record IsReplayOf (command : ReplayCommand) (inputs : Inputs) : Type 0 where
 abbrev pub IsPlayOf : Command → Inputs → Type 0
 IsPlayOf (asked.Replay args) inputs = IsReplayOf args inputs
 IsPlayOf (asked.Load n) inputs = inputs ≡ case_inputs (load_case n)
-IsPlayOf (asked.Print args) inputs = ⊥
+IsPlayOf _ inputs = ⊥
 
 -- the bytes of the file of this name are read as this value
 abbrev pub States : {V E : Type 0} → Files → (List ℕ → Result V E) → List ℕ → V → Type 0
@@ -91,19 +93,23 @@ pub record IsAnswer (command : Command) (files : Option Files) (inputs : Inputs)
   pub held : HeldOnTheWay inputs.setting journal
 
 -- there are inputs such that the journal is that of their play, to its end or to a row at which it
--- stopped full; the meters that were given back are those that stayed of the ones that were taken;
--- and the output gained what is to be told. Of a replay this is the text of the journal, and where
--- it didn't stop full the meters' lines, and with `--quiet` whether the network is quiet: where it
--- is, all have converged, on the newest version. Else flow records or a summary, unless it did
+-- stopped full; the meters that were given back are those that stayed of the ones that were taken,
+-- and flow meters counted right; and the output gained what is to be told. Of a replay this is the
+-- text of the journal, and where it didn't stop full the meters' lines, and with `--quiet` whether
+-- the network is quiet: where it is, all have converged, on the newest version; and as a trace
+-- `audit` answers Yes for it. Else it is flow records or a summary, unless it did
 pub record Played (command : Command) (files : Option Files) (full : Option ℕ)
     (journal : List Item) (taken given : List Seen) (before now : SinkState) : Type 0 where
   pub inputs : Inputs
   pub played : IsAnswer command files inputs journal full
   pub kept : given ≡ kept_by inputs.setting.net journal taken
+  pub counted : CountFlows inputs.setting.net journal taken given
   pub answer : Option Bool
   pub verdict : IsVerdict (asks_quiet inputs.report) inputs.setting journal full answer
   pub written : Wrote (play_text inputs.report inputs.setting.net journal full
       (gone_by inputs.setting.net journal taken) given answer) before now
+  pub good : IsGoodTrace inputs (play_text inputs.report inputs.setting.net journal full
+      (gone_by inputs.setting.net journal taken) given answer)
 
 -- the same of either play, but that the output failed and gained a part of the text
 pub record CutShort (command : Command) (files : Option Files) (journal : List Item)
@@ -157,10 +163,16 @@ PlayOutcome command files takes_memory status.WriteFault journal taken given bef
 PlayOutcome command files takes_memory status.NoMemory journal taken given before now =
     (Unplayed journal before now × ((given ≡ []) ⊎ (given ≡ taken)))
     ⊎ Unfinished command files takes_memory journal taken given before now
+PlayOutcome command files takes_memory (status.No line) journal taken given before now = ⊥
 PlayOutcome command files takes_memory _ journal taken given before now =
     Unplayed journal before now × (given ≡ [])
 
 -- ---- all commands
+
+-- what comes of a play by what it is to tell: a proposal, or all else
+abbrev pub ByReport : Report → (proposes plays : Type 0) → Type 0
+ByReport report.Placement proposes plays = proposes
+ByReport _ proposes plays = plays
 
 -- the journal, the meters that were taken and given back, and the output that a status of a command
 -- comes with
@@ -170,24 +182,11 @@ Outcome None files takes_memory status journal taken given before now =
     Unplayed journal before now
 Outcome (Some (asked.Print args)) files takes_memory status journal taken given before now =
     PrintOutcome args files status journal before now
+Outcome (Some (asked.Audit args)) files takes_memory status journal taken given before now =
+    AuditOutcome args files status journal before now
+Outcome (Some (asked.Replay args)) files takes_memory status journal taken given before now =
+    ByReport args.report
+    (ProposalOutcome (IsAnswer (asked.Replay args) files) takes_memory status journal before now)
+    (PlayOutcome (asked.Replay args) files takes_memory status journal taken given before now)
 Outcome (Some command) files takes_memory status journal taken given before now =
     PlayOutcome command files takes_memory status journal taken given before now
-
--- behind its play a command may want memory; to write the lines of a journal it wants none
-abbrev pub MayWantMemory : Option Command → Type 0
-MayWantMemory (Some (asked.Replay args)) = WantsMemory args.report None
-MayWantMemory (Some (asked.Load n)) = ⊤
-MayWantMemory _ = ⊥
-
--- memory ran out in the output's own writes, if they take any. Or the output wasn't touched, and
--- either the journal is empty, or the command is one that may want memory behind its play
-abbrev pub RanOut : Option Command → (takes_memory : Bool) → List Item → (before now : SinkState)
-    → Type 0
-RanOut command takes_memory journal before now =
-    IsTrue takes_memory ⊎ ((now ≡ before) × ((journal ≡ []) ⊎ MayWantMemory command))
-
--- arguments off the grammar, and a command that plays nothing
-abbrev pub PlaysNothing : Option Command → Type 0
-PlaysNothing None = ⊤
-PlaysNothing (Some (asked.Print args)) = ⊤
-PlaysNothing _ = ⊥

@@ -2,11 +2,10 @@
 use Rattle.std.specs.Prelude.{ℕ, Option, List, ◌≡◌, Some, None}
 use Rattle.net_file.specs.declared.net.Net.{Net}
 use Rattle.net_file.specs.Net.{IsNet, solo_net}
-use Rattle.partition.specs.Plan.{Hosted}
-use Rattle.policy_rules.specs.declared.policy.Row.{Row}
 use Rattle.steps.specs.declared.step.Event.{Event}
 use Rattle.update_machine.specs.Setting.{Setting}
 use Rattle.command_line.specs.declared.report.Report.{Report}
+pub use Rattle.difane_cli.specs.NotPlayed.{Auditing, Printing}
 
 pub record Inputs : Type 0 where
   pub setting : Setting
@@ -14,17 +13,12 @@ pub record Inputs : Type 0 where
   -- what the play is to tell
   pub report : Report
 
--- a policy planned on a network, and the switch whose tables are asked for
-pub record Printing : Type 0 where
-  pub policy : List Row
-  pub net : Net
-  pub hosted : List Hosted
-  pub switch : Option ℕ
-
--- what a command is to do: to play inputs, or to print a plan or the tables of a switch
+-- what a command is to do: to play inputs, to print a plan or the tables of a switch, or to check a
+-- trace
 pub data Task : Type 0 where
   Play : Inputs → Task
   Print : Printing → Task
+  Audit : Auditing → Task
 
 -- the network is that of a file, or of one switch
 abbrev pub IsNetOf : Option (List ℕ) → Net → Type 0

@@ -51,6 +51,7 @@ abbrev pub play_text : Report → Net → List Item → Option ℕ → List Flow
 play_text (report.Lines quiet) net journal full gone meters answer =
     replay_text net journal full meters answer
 play_text report.Flows net journal full gone meters answer = flows_text full gone meters
+play_text report.Placement net journal full gone meters answer = []
 play_text report.Summary net journal full gone meters answer = counts_text journal full
 
 -- the line of a refused file, with its line feed
@@ -58,16 +59,17 @@ abbrev pub input_line : List ℕ → ℕ → ℕ → List ℕ
 input_line file code row = concat (codes "difane: input " ∷ file
     ∷ codes " code " ∷ decimal code ∷ codes " row " ∷ decimal row ∷ codes "\n" ∷ [])
 
--- the line of a play that stopped full, with its line feed
-abbrev pub full_line : ℕ → List ℕ
-full_line row = concat (codes "difane: full row " ∷ decimal row ∷ codes "\n" ∷ [])
+-- a line that ends with a number, with its line feed
+abbrev pub numbered_line : List ℕ → ℕ → List ℕ
+numbered_line text number = concat (text ∷ decimal number ∷ codes "\n" ∷ [])
 
 -- the line of a status, with its line feed; a command that did its work says nothing
 abbrev pub status_line : Status → List ℕ
 status_line status.Ok = []
+status_line (status.No line) = numbered_line (codes "difane: no line ") line
 status_line status.Words = codes "difane: words\n"
 status_line (status.Input file code row) = input_line file code row
 status_line status.ReadFault = codes "difane: read fault\n"
 status_line status.WriteFault = codes "difane: write fault\n"
-status_line (status.Full row) = full_line row
+status_line (status.Full row) = numbered_line (codes "difane: full row ") row
 status_line status.NoMemory = codes "difane: no memory\n"

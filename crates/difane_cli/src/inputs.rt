@@ -1,5 +1,5 @@
 //! The files of a command, read and checked one after another.
-ghost use Rattle.std.specs.Prelude.{◌≡◌, ◌<◌, ◌≤◌, All, IsSome, IsTrue, IfOk, IfErr, OnOk, Ok, Some, length, true};
+ghost use Rattle.std.specs.Prelude.{◌≡◌, ◌<◌, ◌≤◌, All, IsSome, IsTrue, IfOk, IfErr, Ok, Some, length, true};
 ghost use Rattle.net_file.specs.Net.{IsNet};
 ghost use Rattle.policy_file.specs.Ports.{names_port_of};
 ghost use Rattle.policy_rules.specs.Exports.{GivesOnly, IsPolicy, IsPolicyFile};
@@ -7,7 +7,7 @@ ghost use Rattle.schedule.specs.Reading.{AreSoundEvents};
 ghost use Rattle.shelf.specs.Shelf.{IsAfterReads};
 ghost use Rattle.policy_file.specs.Changes.{file_length};
 ghost use Rattle.world.specs.Files.{first_policy, own_policy};
-ghost use Rattle.difane_cli.specs.Exports.{AreReadyToPlay, EndsRead, IsCalmRead, IsReplayOf, RefusesInput, StopsCheck, content_of, file_reads, inputs_of, inputs_stated, most_reads, read_file, read_files, read_policy, read_schedule, schedule_in};
+ghost use Rattle.difane_cli.specs.Exports.{AreReadyToPlay, EndsRead, IsCalmRead, IsReplayOf, RefusesInput, StopsCheck, content_of, content_within, file_reads, inputs_of, inputs_stated, most_reads, read_file, read_files, read_policy, read_schedule, schedule_in};
 ghost use Rattle.command_line.specs.Named.{HasPolicies, names_seen, replay_named};
 ghost use Rattle.command_line.specs.Commands.{Replay};
 
@@ -49,7 +49,23 @@ pub fn read_bytes<F: Shelf>(alloc: Global, shelf: &mut F, name: &str) -> Result<
     ensures shelf { IsAfterReads 1 (F.state shelf.old) (F.state shelf.new) }
     ensures calm { IsCalmRead (F.state shelf.old) (F.state shelf.new) result }
 {
-    match shelf.read(name, MAX_BYTES) {
+    read_within(alloc, shelf, name, MAX_BYTES)
+}
+
+/// The content of the file of this name, which has at most so many bytes.
+pub fn read_within<F: Shelf>(
+    alloc: Global,
+    shelf: &mut F,
+    name: &str,
+    most: u64,
+) -> Result<Vec<u8>, Stop>
+    ensures read { EndsRead (F.state shelf.old).files
+        (λ files. content_within most files name.now)
+        (λ bytes. bytes.items) (F.state shelf.old) (F.state shelf.new) result }
+    ensures shelf { IsAfterReads 1 (F.state shelf.old) (F.state shelf.new) }
+    ensures calm { IsCalmRead (F.state shelf.old) (F.state shelf.new) result }
+{
+    match shelf.read(name, most) {
         Ok(bytes) => Ok(bytes),
         Err(ShelfError::Failed) => Err(Stop::ReadFault),
         Err(ShelfError::Missing) => Err(refused(alloc, name, MISSING, 0)),
@@ -147,7 +163,7 @@ fn read_file<F: Shelf>(
 
 /// The policies and changes of these names, each of which is read and checked before the next one
 /// is read. The first is a policy.
-fn read_files<F: Shelf>(
+pub fn read_files<F: Shelf>(
     alloc: Global,
     shelf: &mut F,
     names: &[&str],

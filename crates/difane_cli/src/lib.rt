@@ -10,11 +10,15 @@
 //! Where it answers `Full`, the same holds up to the row that it names, without the lines behind
 //! the journal's. Of `flows` all this holds too, but that the output gained the lines of the flow
 //! records of the meters that left, and then of those that stayed, and nothing where it answers
-//! `Full`. Of a load case it holds of the case of its number, and the output gained the counts of
-//! the journal in their place. A plan and tables are the defined ones, and so are their lines. Each
+//! `Full`. Of `rebalance` it holds with no meters, which are given back, and the output gained the
+//! placement that is proposed by how much each partition was asked. Of a load case it holds of the
+//! case of its number, and the output gained the counts of the journal in their place. A plan and
+//! tables are the defined ones, and so are their lines. Of an audit the verdict is the defined one,
+//! and it says yes of each text that a replay prints. Each
 //! status but want of memory has its cause in a clause.
 #![tactic(auto)]
 
+mod auditing;
 mod flow_lines;
 mod inputs;
 mod laws;
@@ -24,6 +28,7 @@ mod networks;
 mod playing;
 mod policies;
 mod printing;
+mod proposing;
 mod status;
 mod task;
 mod top_call;

@@ -1,12 +1,12 @@
 //! The play of accepted inputs, and the writing of its journal.
-ghost use Rattle.std.specs.Prelude.{◌≡◌, [], Ok, Option, Some, map};
+ghost use Rattle.std.specs.Prelude.{◌≡◌, ◌≢◌, [], Ok, Option, Some, map};
 ghost use Rattle.std.specs.Option.{ForSome};
 ghost use Rattle.net_file.specs.Net.{IsNet};
 ghost use Rattle.shelf.specs.Shelf.{Files};
 ghost use Rattle.shelf.specs.SinkWrites.{IsAfterWrite};
 ghost use Rattle.difane_cli.specs.Exports.{AnswerLaws, AreReadyToPlay, EndsWork, IsAfterText, IsPlayOf, Play, PlayOutcome, RanOut, flows_text, inputs_stated, is_made, known_task, last_lines, play_text, replay_text};
 ghost use Rattle.command_line.specs.Commands.{Command};
-ghost use Rattle.command_line.specs.declared.report.Report.TheVariants.{Flows, Summary};
+ghost use Rattle.command_line.specs.declared.report.Report.TheVariants.{Flows, Placement, Summary};
 ghost use Rattle.journal_reports.specs.Summary.{counts_text};
 ghost use Rattle.difane_cli.specs.declared.status.Status.TheVariants as status;
 
@@ -19,6 +19,7 @@ use command_line::Report;
 use convergence_laws::{
     packets_get_stuck_apart, quiet_networks_are_updated, quiet_networks_have_converged,
 };
+use flow_export::flow_laws;
 use journal::Journal;
 use journal_reports::{summarize, summary_text};
 use journal_text::write_text;
@@ -28,6 +29,7 @@ use packet_laws::packet_rows_are_entered;
 use replay::Played;
 use shelf::{Sink, SinkError, write_whole};
 use std::alloc::Global;
+use trace_texts::texts_are_good;
 
 /// Plays the inputs, to their end or as far as there is room, while the meters note the packets
 /// that leave; writes the journal, and behind its last line, where it didn't stop full, those of
@@ -39,7 +41,8 @@ pub fn play<M: Meter, K: Sink>(
     meters: Vec<M>,
     out: &mut K,
 ) -> Ended<M>
-    requires { AreReadyToPlay inputs }
+    requires ready { AreReadyToPlay inputs }
+    requires tells { inputs.report ≢ Placement }
     ensures outcome { (command : Command) (files : Option Files)
         → IsPlayOf command (inputs_stated inputs)
         → ForSome (known_task files (Some command))
@@ -83,13 +86,15 @@ pub fn play<M: Meter, K: Sink>(
 }
 
 /// What follows behind steps of the network, and at the end of a play.
-fn answer_laws()
+pub fn answer_laws()
     ensures { AnswerLaws }
 {
     packet_rows_are_entered();
     quiet_networks_have_converged();
     packets_get_stuck_apart();
     quiet_networks_are_updated();
+    texts_are_good();
+    flow_laws();
 }
 
 /// Writes what a play is to tell.
@@ -101,7 +106,8 @@ fn write_report<M: Meter, K: Sink>(
     net: &Net,
     out: &mut K,
 ) -> Result<(), SinkError>
-    requires { IsNet net.now }
+    requires net { IsNet net.now }
+    requires tells { report ≢ Placement }
     ensures { IsAfterText (play_text report net.now played.now.journal played.now.full
         played.now.gone (map M.seen played.now.meters.items) answer)
         (is_made report played.now.full) K.takes_memory
@@ -111,6 +117,7 @@ fn write_report<M: Meter, K: Sink>(
         Report::Lines { .. } => write_played(played, answer, net, out),
         Report::Flows => write_flows(alloc, played, out),
         Report::Summary => write_summary(alloc, played, out),
+        Report::Placement => unreachable!(),
     }
 }
 

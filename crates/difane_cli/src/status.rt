@@ -4,7 +4,7 @@ ghost use Rattle.std.specs.List.{flat_map};
 ghost use Rattle.shelf.specs.SinkWrites.{IsAfterWrite};
 ghost use Rattle.difane_cli.specs.declared.status.Status.TheVariants.{Ok as DoneStatus};
 ghost use Rattle.difane_cli.specs.declared.status.Stop.TheVariants.{NoMemory};
-ghost use Rattle.difane_cli.specs.Exports.{WritesLine, full_line, input_line, status_after, status_line, status_number, status_of};
+ghost use Rattle.difane_cli.specs.Exports.{WritesLine, input_line, numbered_line, status_after, status_line, status_number, status_of};
 
 use itoa::Buffer;
 use journal::Journal;
@@ -86,6 +86,8 @@ impl From<AllocError> for Stop {
 pub enum Status {
     /// It did its work.
     Ok,
+    /// A trace isn't one of the machine: this line, from 1, is the first bad one.
+    No { line: u32 },
     /// The words of the command line are off the grammar.
     Words,
     /// This file is refused, by this code in this row; 0 stands for the file as a whole.
@@ -147,6 +149,7 @@ impl Status {
     {
         match self {
             Status::Ok => 0,
+            Status::No { .. } => 1,
             Status::Words => 2,
             Status::Input { .. } => 3,
             Status::ReadFault => 4,
@@ -176,22 +179,23 @@ fn write_line<E: Sink>(status: &Status, errs: &mut E) -> Result<(), SinkError>
 {
     match status {
         Status::Ok => write_whole(errs, b""),
+        Status::No { line } => write_numbered(b"difane: no line ", *line, errs),
         Status::Words => write_whole(errs, b"difane: words\n"),
         Status::Input { file, code, row } => write_input_line(file, *code, *row, errs),
         Status::ReadFault => write_whole(errs, b"difane: read fault\n"),
         Status::WriteFault => write_whole(errs, b"difane: write fault\n"),
-        Status::Full { row } => write_full_line(*row, errs),
+        Status::Full { row } => write_numbered(b"difane: full row ", *row, errs),
         Status::NoMemory => write_whole(errs, b"difane: no memory\n"),
     }
 }
 
-fn write_full_line<E: Sink>(row: u32, errs: &mut E) -> Result<(), SinkError>
-    ensures { IsAfterWrite (full_line row) E.takes_memory
+fn write_numbered<E: Sink>(text: &[u8], number: u32, errs: &mut E) -> Result<(), SinkError>
+    ensures { IsAfterWrite (numbered_line text.now number) E.takes_memory
         (E.state errs.old) (E.state errs.new) result }
 {
     let mut digits = Buffer::new();
-    let row = digits.format(row).as_bytes();
-    let pieces: [&[u8]; 3] = [b"difane: full row ", row, b"\n"];
+    let number = digits.format(number).as_bytes();
+    let pieces: [&[u8]; 3] = [text, number, b"\n"];
     write_pieces(&pieces, errs)
 }
 

@@ -2,18 +2,20 @@
 ghost use Rattle.std.specs.Prelude.{◌≡◌, Ok, Option, Some, IfOk, Result, [], map};
 ghost use Rattle.std.specs.Option.{ForSome};
 ghost use Rattle.shelf.specs.Shelf.{Files, IsAfterReads};
-ghost use Rattle.difane_cli.specs.Exports.{Accounts, EndsRead, IsCalmRead, EndsWork, IsReadyTask, IsTaskOf, Outcome, PlaysNothing, RanOut, Task as Stated, known_task, most_reads, task_stated};
+ghost use Rattle.difane_cli.specs.Exports.{Accounts, EndsRead, IsCalmRead, EndsWork, IsReadyTask, IsTaskOf, Outcome, GivesBack, RanOut, Task as Stated, known_task, most_reads, task_stated};
 ghost use Rattle.difane_cli.specs.declared.status.Refusal.{Refusal};
 ghost use Rattle.command_line.specs.Named.{NamesPolicies, command_named};
 ghost use Rattle.command_line.specs.Commands as grammar;
 ghost use Rattle.difane_cli.specs.declared.status.Status.TheVariants as status;
 
+use crate::auditing::{AuditInputs, check_trace, read_auditing};
 use crate::inputs::{PlayInputs, read_inputs};
 use crate::load::draw_inputs;
 use crate::playing::play;
 use crate::printing::{PrintInputs, print, read_printing};
+use crate::proposing::propose;
 use crate::status::{Ended, Status, Stop};
-use command_line::Command;
+use command_line::{Command, Report};
 use journal::Journal;
 use meters::Meter;
 use shelf::{Shelf, Sink};
@@ -24,6 +26,7 @@ use std::alloc::Global;
 pub enum Task {
     Play(PlayInputs),
     Print(PrintInputs),
+    Audit(AuditInputs),
 }
 
 /// The task of a command, whose files are read and checked one after another, or whose load case is
@@ -58,6 +61,10 @@ pub fn read_task<F: Shelf>(
             let inputs = draw_inputs(alloc, *n)?;
             Ok(Task::Play(inputs))
         }
+        Command::Audit(args) => {
+            let inputs = read_auditing(alloc, shelf, args)?;
+            Ok(Task::Audit(inputs))
+        }
     }
 }
 
@@ -71,7 +78,7 @@ pub fn work<M: Meter, K: Sink>(alloc: Global, task: Task, meters: Vec<M>, out: &
         (map M.seen meters.items) (map M.seen result.meters.items)
         (K.state out.old) (K.state out.new) }
     ensures meters { (command : grammar.Command) → IsTaskOf command (task_stated task)
-        → PlaysNothing (Some command) → result.meters ≡ meters }
+        → GivesBack (Some command) → result.meters ≡ meters }
     ensures accounts { (read : Result Stated Refusal) → read ≡ Ok (task_stated task)
         → Accounts read result.status }
     ensures no_memory { (command : grammar.Command) → IsTaskOf command (task_stated task)
@@ -81,23 +88,35 @@ pub fn work<M: Meter, K: Sink>(alloc: Global, task: Task, meters: Vec<M>, out: &
     ensures ended { EndsWork result.status (K.state out.old) (K.state out.new) }
 {
     match task {
-        Task::Play(inputs) => play(alloc, inputs, meters, out),
+        Task::Play(inputs) => match inputs.report {
+            Report::Placement => propose(alloc, inputs, meters, out),
+            _ => play(alloc, inputs, meters, out),
+        },
         Task::Print(inputs) => Ended {
             status: Status::after(print(alloc, &inputs, out), None),
+            journal: Journal::new(alloc),
+            meters,
+        },
+        Task::Audit(inputs) => Ended {
+            status: check_trace(alloc, &inputs, out),
             journal: Journal::new(alloc),
             meters,
         },
     }
 }
 
-/// The meters that are left where nothing was played: none of a command that plays, and all of one
-/// that plays nothing.
+/// The meters that are left where nothing was played: all of a command that gives them back, and
+/// none of another.
 pub fn unplayed<M: Meter>(alloc: Global, command: &Command<'_>, meters: Vec<M>) -> Vec<M>
-    ensures none { ¬ PlaysNothing (Some (command_named command.now)) → result.items ≡ [] }
-    ensures all { PlaysNothing (Some (command_named command.now)) → result ≡ meters }
+    ensures none { ¬ GivesBack (Some (command_named command.now)) → result.items ≡ [] }
+    ensures all { GivesBack (Some (command_named command.now)) → result ≡ meters }
 {
     match command {
-        Command::Replay(_) | Command::Load(_) => Vec::new(alloc),
-        Command::Print(_) => meters,
+        Command::Replay(args) => match args.report {
+            Report::Placement => meters,
+            _ => Vec::new(alloc),
+        },
+        Command::Load(_) => Vec::new(alloc),
+        Command::Print(_) | Command::Audit(_) => meters,
     }
 }

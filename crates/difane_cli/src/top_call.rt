@@ -3,7 +3,7 @@ ghost use Rattle.std.specs.Prelude.{◌≡◌, ◌≢◌, ◌≤◌, ◌⊎◌, 
 ghost use Rattle.std.specs.Option.{ForSome};
 ghost use Rattle.shelf.specs.Sink.{Rose};
 ghost use Rattle.shelf.specs.Shelf.{IsAfterReads};
-ghost use Rattle.difane_cli.specs.Exports.{Accounts, IsAccepted, MayFollowFault, NeedsReadFault, Outcome, PlaysNothing, RanOut, WritesLine, known_task, most_reads, status_line};
+ghost use Rattle.difane_cli.specs.Exports.{Accounts, GivesBack, IsAccepted, MayFollowFault, NeedsReadFault, Outcome, RanOut, WritesLine, known_task, most_reads, status_line};
 ghost use Rattle.command_line.specs.Grammar.{command_of};
 ghost use Rattle.command_line.specs.Commands.{argument_texts};
 ghost use Rattle.difane_cli.specs.declared.status.Status.TheVariants as status;
@@ -20,10 +20,12 @@ use std::alloc::{AllocError, Global};
 /// Does what the arguments ask: `replay SCHEDULE POLICY ..` plays the schedule, whose updates name
 /// the policies by their places, and writes the journal to `out`, and with `--quiet` whether the
 /// network is quiet; `flows SCHEDULE POLICY ..` plays the same, and writes the flow records of the
-/// meters that left, and then of those that stayed; `compile POLICY` writes the plan of the policy,
-/// and `show POLICY SWITCH` the tables that it gives to the switch; each of these on the network of
-/// `--net NET` or on one switch. `load N` plays the load case of N, and writes the eleven counts of
-/// its journal.
+/// meters that left, and then of those that stayed; `rebalance SCHEDULE POLICY ..` plays it with no
+/// meters, and writes the placement that is proposed for the partitions of the current version;
+/// `compile POLICY` writes the plan of the policy, and `show POLICY SWITCH` the tables that it gives
+/// to the switch; each of these on the network of `--net NET` or on one switch. `load N` plays the
+/// load case of N, and writes the eleven counts of its journal. `audit TRACE POLICY ..` checks a
+/// printed trace, and writes `yes` where each of its lines is good.
 ///
 /// A status other than `Ok` writes its line to `errs`. The words are the arguments of the command
 /// line, without the program's name. The first refusal in the order of work ends the call: the
@@ -47,8 +49,9 @@ pub fn run<F: Shelf, K: Sink, E: Sink>(
         (map ⟦<Box<dyn Meter> as Meter>⟧.seen result.meters.items)
         (K.state out.old) (K.state out.new) }
 
-    // A command that plays nothing gives the meters back as it took them.
-    ensures meters { PlaysNothing (command_of (argument_texts words.now)) → result.meters ≡ meters }
+    // A command that plays nothing, and one that proposes a placement, give the meters back as they
+    // took them.
+    ensures meters { GivesBack (command_of (argument_texts words.now)) → result.meters ≡ meters }
 
     // Each status has its cause.
     ensures words { (result.status ≡ status.Words)
@@ -81,6 +84,7 @@ pub fn run<F: Shelf, K: Sink, E: Sink>(
         → Rose (F.state shelf.old).faults (F.state shelf.new).faults
         ⊎ Rose (K.state out.old).faults (K.state out.new).faults
         ⊎ (result.status ≡ status.Ok) ⊎ ((row : ℕ) × (result.status ≡ status.Full row))
+        ⊎ ((line : ℕ) × (result.status ≡ status.No line))
         ⊎ (result.status ≡ status.NoMemory) }
 
     // The line of the status is written, whole unless the sink of errors fails; of work that was

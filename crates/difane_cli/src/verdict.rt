@@ -18,7 +18,7 @@ pub fn asks_quiet(report: Report) -> bool
 {
     match report {
         Report::Lines { quiet } => quiet,
-        Report::Flows | Report::Summary => false,
+        Report::Flows | Report::Placement | Report::Summary => false,
     }
 }
 

@@ -3,15 +3,20 @@ _difane() {
     local word=${COMP_WORDS[COMP_CWORD]} command=${COMP_WORDS[1]}
     COMPREPLY=()
     if ((COMP_CWORD == 1)); then
-        mapfile -t COMPREPLY < <(compgen -W 'replay compile show flows load' -- "$word")
+        mapfile -t COMPREPLY < <(
+            compgen -W 'replay compile show flows rebalance audit load' -- "$word"
+        )
     elif [[ $command == load ]]; then
         return
     elif [[ ${COMP_WORDS[COMP_CWORD - 1]} == --net ]]; then
         mapfile -t COMPREPLY < <(compgen -f -X '!*.toml' -- "$word")
     elif [[ $word == -* ]]; then
+        [[ $command == audit ]] && return
         local options=--net
         [[ $command == replay ]] && options='--net --quiet'
         mapfile -t COMPREPLY < <(compgen -W "$options" -- "$word")
+    elif [[ $command == audit ]] && ((COMP_CWORD == 2)); then
+        mapfile -t COMPREPLY < <(compgen -f -X '!*.txt' -- "$word")
     else
         mapfile -t COMPREPLY < <(compgen -f -X '!*.csv' -- "$word")
     fi

@@ -7,5 +7,6 @@ mod loads;
 mod meter_runs;
 mod networks;
 mod one_switch;
+mod placements;
 mod plans;
 mod policies;

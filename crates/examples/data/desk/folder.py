@@ -9,6 +9,7 @@ from .network import CACHE, Network
 from .packets import Play
 from .policies import Change, read_policy
 from .script import Mistake
+from .touched import EVERYTHING, touched_words
 
 EXAMPLES = Path(__file__).resolve().parent.parent
 SOLO = {"switch": [{"name": "s0", "ports": list(range(64)), "authority": 8192}]}
@@ -89,10 +90,19 @@ class Case:
                           f"{code}): is it the change that was played?")
         return change.of(rows)
 
+    def touches(self, version):
+        """The words that the change of a version touches."""
+        stated = self.stated(version.file)
+        if not isinstance(stated, Change) or version.before is None:
+            return EVERYTHING
+        rows = self.policy(version.before)
+        return EVERYTHING if rows is None else touched_words(stated, rows)
+
     def start(self):
         """The network and its packets before the journal's first line."""
         net = self.net()
-        return Play(Network([row["name"] for row in net["switch"]], net.get("cache", CACHE)))
+        names = [row["name"] for row in net["switch"]]
+        return Play(Network(names, net.get("cache", CACHE), self.touches))
 
     def play(self):
         """The whole journal, followed to its end."""

@@ -1,7 +1,18 @@
 """What a journal says of switches, links, messages and versions, line by line."""
+from typing import NamedTuple
+
+from .touched import EVERYTHING, meets
+
 UP, CLOSED, DOWN = "up", "closed", "down"
 CACHE = 256  # the rules that a cache takes where the network file doesn't say
 MOST_VERSIONS = 64
+
+
+class Cached(NamedTuple):
+    """A cache rule, by its message, and the version under which it is held."""
+
+    version: int
+    rule: object
 
 
 class Switch:
@@ -41,14 +52,28 @@ class Switch:
         """Cache rules of earlier versions go as the stamp rises."""
         if version > self.stamp:
             self.stamp = version
-            self.cache = [rule for rule in self.cache if rule.said["version"] >= version]
+            self.cache = [held for held in self.cache if held.version >= version]
+
+    def carry(self, version, touched):
+        """Of the version before, cache rules that meet nothing touched go over."""
+        if version > self.stamp:
+            own = {held.rule.said["word"] for held in self.cache if held.version == version}
+            self.cache = [
+                Cached(max(held.version, version), held.rule)
+                for held in self.cache
+                if held.version >= version
+                or held.version == version - 1
+                and held.rule.said["word"] not in own
+                and not any(meets(held.rule.said["word"], word) for word in touched)
+            ]
+        self.raise_stamp(version)
 
     def keep(self, rule, capacity):
         """None below its stamp, and no word of a version twice; a full cache drops its first."""
         said = rule.said
-        words = [(held.said["version"], held.said["word"]) for held in self.cache]
+        words = [(held.version, held.rule.said["word"]) for held in self.cache]
         if said["version"] >= self.stamp and (said["version"], said["word"]) not in words:
-            self.cache.append(rule)
+            self.cache.append(Cached(said["version"], rule))
             del self.cache[: len(self.cache) - capacity]
 
 
@@ -81,11 +106,14 @@ class Version:
 
 
 class Network:
-    """The network as the journal tells it; its names and the room of a cache are the file's."""
+    """The network as the journal tells it; its names and the room of a cache are the file's.
 
-    def __init__(self, names=(), capacity=CACHE):
+    What the change of a version touches is told by its policies: everything, where they aren't there.
+    """
+
+    def __init__(self, names=(), capacity=CACHE, touches=lambda version: EVERYTHING):
         self.switches = {name: Switch() for name in names}
-        self.capacity = capacity
+        self.capacity, self.touches = capacity, touches
         self.links_down, self.messages, self.over = {}, {}, set()
         self.versions, self.refused = {}, []
         self.add_version(1, 1, 0)
@@ -126,7 +154,9 @@ class Network:
         if message.body == "installed":
             self.switch(message.switch).install(item.said["version"])
         elif message.body == "stamped":
-            self.switch(message.switch).raise_stamp(item.said["version"])
+            version = self.versions.get(item.said["version"])
+            touched = self.touches(version) if version else EVERYTHING
+            self.switch(message.switch).carry(item.said["version"], touched)
         else:
             return None
         return message.switch
@@ -152,7 +182,8 @@ class Network:
 
     def on_expired(self, item):
         switch = self.switch(item.said["switch"])
-        switch.cache = [rule for rule in switch.cache if rule.number != item.said["message"]]
+        gone = item.said["message"]
+        switch.cache = [held for held in switch.cache if held.rule.number != gone]
         return item.said["switch"]
 
     def on_link(self, item):

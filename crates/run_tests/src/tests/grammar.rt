@@ -8,7 +8,7 @@ const ONE_PACKET: &str = "event,arguments\npacket,b,10.1.1.1,9.9.9.9,5000,80,tcp
 const FILES: [(&str, &str); 3] = [("n.toml", PAIR), ("s.csv", ONE_PACKET), ("p.csv", NO_ROW)];
 
 /// Arguments off the grammar, whatever files there are.
-const OFF: [&[&str]; 20] = [
+const OFF: [&[&str]; 24] = [
     &[],
     &["load"],
     &["load", "0"],
@@ -36,6 +36,10 @@ const OFF: [&[&str]; 20] = [
     &["compile", "p.csv", "--quiet"],
     &["flows", "s.csv", "p.csv", "--quiet"],
     &["flows", "s.csv"],
+    &["rebalance", "s.csv", "p.csv", "--quiet"],
+    &["rebalance", "s.csv"],
+    &["audit", "s.csv"],
+    &["audit", "s.csv", "p.csv", "--net", "n.toml"],
 ];
 
 #[test]

@@ -1,22 +1,15 @@
 use Rattle.world.specs.State.{setting_at}
-use Rattle.std.specs.Borrow.{Bor}
-use Rattle.std.proofs.Common.{◌≡◌, ◌∙◌, ℕ, Some, List, ap, length, refl, sym}
-use Rattle.std.proofs.lemmas.List.{length-map}
+use Rattle.std.proofs.Common.{◌∙◌, Some, ap, refl}
 use Rattle.shelf.specs.Shelf.{IsAfterReads}
 use Rattle.command_line.specs.Commands.{Replay}
-use Rattle.command_line.specs.Named.{names_seen, replay_named}
+use Rattle.command_line.specs.Named.{replay_named}
 use Rattle.difane_cli.specs.Inputs.{most_reads, net_reads}
-use Rattle.difane_cli.proofs.Begun.{all_are_events, asked_for, inputs_are}
+use Rattle.difane_cli.proofs.Begun.{all_are_events, as_many, asked_for, few_named, inputs_are}
 use Rattle.difane_cli.proofs.CalmReads.{all_calm, stop_then, stopped}
 use Rattle.difane_cli.proofs.ShelfReads.{all_reads, reads_then, schedule_read}
 use Rattle.difane_cli.proofs.inputs.read_inputs.Goals as goal
 use Rattle.difane_cli.proofs.inputs.read_inputs.Goals.{In_ok-files}
 use Rattle.difane_cli.proofs.inputs.read_inputs.Given.{Over}
-
--- there are as many names as the command has
-as_many : (names owned : List (Bor (List ℕ))) → names ≡ owned
-    → length names ≡ length (names_seen owned)
-as_many names owned same = ap length same ∙ sym (length-map owned (λ name. name.now))
 
 pub returns-in_err-events-clause-shelf : goal.returns-in_err-events-clause-shelf
 returns-in_err-events-clause-shelf g c =
@@ -81,6 +74,7 @@ returns-clause-asked g c =
     c.in_ok-events.events.items (setting_at c.in_ok-world.world) c.in_ok-net.ensures.named
     c.in_ok-world.ensures.begun.own
     (c.in_ok-files.ensures.many ∙ as_many _ _ c.deref-names.ensures.value)
+    (few_named c.args.args.now.policies.items c.requires)
     c.in_ok-events.ensures.sound.few c.in_ok-files.ensures.few
 
 pub returns-in_err-events-clause-calm : goal.returns-in_err-events-clause-calm

@@ -8,4 +8,6 @@ returns c = record {
     apart = c.packets_get_stuck_apart.ensures;
     updated = c.quiet_networks_are_updated.ensures;
   };
+  texts = c.texts_are_good.ensures;
+  flows = c.flow_laws.ensures;
 }

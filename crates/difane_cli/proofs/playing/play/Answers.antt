@@ -25,10 +25,10 @@ returns-clause-outcome g c = λ command files asked read.
     let laws = c.answer_laws.ensures in
     let play = subst (λ (events : List Event). IsPlay inputs.setting events journal full)
     c.deref.ensures.value c.in-Ok.ensures.play in
-    let answer = played laws command files inputs journal full asked read c.requires.sound play
+    let answer = played laws command files inputs journal full asked read c.requires.ready.sound play
     c.in-Ok.ensures.held in
     let verdict = judged laws command files inputs journal full c.args.inputs.net said answer
-    c.requires.net
+    c.requires.ready.net
     (c.in-Ok-judge.ensures.asked ∙ ap (λ q. is_asked q full) c.asks_quiet.ensures)
     c.in-Ok-judge.ensures.decides in
     let taken = map g.M.Meter.seen c.args.meters.items in
@@ -40,17 +40,17 @@ returns-clause-outcome g c = λ command files asked read.
     let takes_memory = g.K.Sink.takes_memory in
     let kept = c.in-Ok.ensures.kept
     ∙ ap (λ (ports : ℕ). kept_meters ports (left_in journal) taken) c.port_mask.ensures
-    ∙ ap (λ (net : Net). kept_by net journal taken) (sym c.requires.net) in
+    ∙ ap (λ (net : Net). kept_by net journal taken) (sym c.requires.ready.net) in
     let gone = c.in-Ok.ensures.gone
     ∙ ap (λ (ports : ℕ). gone_records ports (left_in journal) taken) c.port_mask.ensures in
     let after = subst (λ (net : Net).
     IsAfterText (play_text inputs.report net journal full (gone_by net journal taken) given said)
     in_memory takes_memory before now written)
-    (sym c.requires.net)
+    (sym c.requires.ready.net)
     (subst (λ (records : List FlowRecord).
     IsAfterText (play_text inputs.report c.args.inputs.net journal full records given said)
     in_memory takes_memory before now written) gone c.write_report-written.ensures) in
-    rw c.after.ensures (told command files inputs journal full taken given said before now
+    rw c.after.ensures (told laws command files inputs journal full taken given said before now
     takes_memory written answer kept verdict after)
 
 pub returns-in_default-judge-clause-outcome : goal.returns-in_default-judge-clause-outcome
@@ -61,7 +61,7 @@ returns-in_default-judge-clause-outcome g c = λ command files asked read.
     let laws = c.answer_laws.ensures in
     let play = subst (λ (events : List Event). IsPlay inputs.setting events journal full)
     c.deref.ensures.value c.in-Ok.ensures.play in
-    let answer = played laws command files inputs journal full asked read c.requires.sound play
+    let answer = played laws command files inputs journal full asked read c.requires.ready.sound play
     c.in-Ok.ensures.held in
     let kept = c.in-Ok.ensures.kept
     ∙ ap (λ (ports : ℕ). kept_meters ports (left_in journal) (map g.M.Meter.seen c.args.meters.items))
@@ -70,7 +70,7 @@ returns-in_default-judge-clause-outcome g c = λ command files asked read.
     inr (unjudged command files g.K.Sink.takes_memory inputs journal full
     (map g.M.Meter.seen c.args.meters.items)
     (map g.M.Meter.seen c.in-Ok.played.meters.items) (g.K.Sink.state c.args.out.now) answer
-    (rw c.requires.net kept)
+    (rw c.requires.ready.net kept)
     (subst (λ (asked : Bool). IsTrue (is_asked asked full)) c.asks_quiet.ensures wants))
 
 pub returns-clause-ended : goal.returns-clause-ended

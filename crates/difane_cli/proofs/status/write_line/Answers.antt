@@ -13,4 +13,7 @@ pub returns-in-NoMemory-clause-after : goal.returns-in-NoMemory-clause-after
 returns-in-NoMemory-clause-after g c = rw c.in-NoMemory.is c.write_whole-in-NoMemory.ensures.after
 
 pub returns-in-Full-clause-after : goal.returns-in-Full-clause-after
-returns-in-Full-clause-after g c = rw c.in-Full.is c.write_full_line.ensures
+returns-in-Full-clause-after g c = rw c.in-Full.is c.write_numbered-in-Full.ensures
+
+pub returns-in-No-clause-after : goal.returns-in-No-clause-after
+returns-in-No-clause-after g c = rw c.in-No.is c.write_numbered.ensures

@@ -6,7 +6,8 @@ use Rattle.meters.specs.Seen.{Seen}
 use Rattle.shelf.specs.Shelf.{Files}
 use Rattle.shelf.specs.Sink.{SinkState}
 use Rattle.command_line.specs.Named.{command_named}
-use Rattle.difane_cli.specs.Run.{Outcome, RanOut}
+use Rattle.difane_cli.specs.Ending.{RanOut}
+use Rattle.difane_cli.specs.Run.{Outcome}
 use Rattle.command_line.specs.Grammar.{command_of}
 use Rattle.command_line.specs.Commands as grammar
 use Rattle.difane_cli.specs.declared.status.Ended.{Ended}

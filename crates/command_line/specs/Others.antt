@@ -1,0 +1,13 @@
+-- The arguments of commands that play nothing.
+use Rattle.std.specs.Prelude.{ℕ, Option, List}
+
+-- `compile POLICY`, or `show POLICY SWITCH`; on the network of a file, or on that of one switch
+pub record PrintCommand : Type 0 where
+  pub policy : List ℕ
+  pub switch : Option (List ℕ)
+  pub net : Option (List ℕ)
+
+-- `audit TRACE POLICY ..`
+pub record AuditCommand : Type 0 where
+  pub trace : List ℕ
+  pub policies : List (List ℕ)

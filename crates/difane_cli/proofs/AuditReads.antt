@@ -1,0 +1,61 @@
+-- The reads of an audit: of its trace and its policies.
+use Rattle.std.proofs.Common.{ℕ, ◌≡◌, ◌+◌, ◌≤◌, ◌∙◌, Bool, true, false, Option, Some, None, Ok, List, ◌∷◌, refl, subst, arith}
+use Rattle.std.specs.Option.{ForSome}
+use Rattle.policy_rules.specs.declared.file.PolicyFile.{PolicyFile}
+use Rattle.shelf.specs.Shelf.{Files, IsAfterReads, ShelfState}
+use Rattle.command_line.specs.Commands.{Audit, AuditCommand}
+use Rattle.difane_cli.specs.Codes.{most_trace_bytes}
+use Rattle.difane_cli.specs.Inputs.{auditing_of, content_within, file_reads, most_reads, read_files, solo_ports, up_to_refusal}
+use Rattle.difane_cli.proofs.ShelfReads.{reads_then}
+
+one_read : (accepted : Bool) (others : List Bool) → 1 ≤ up_to_refusal (accepted ∷ others)
+one_read true others = omega arith
+one_read false others = omega arith
+
+-- the trace is read
+trace_read : (known : Option Files) (command : AuditCommand)
+    → 1 ≤ most_reads known (Some (Audit command))
+trace_read None command = omega arith
+trace_read (Some files) command = one_read _ _
+
+-- and then the policies, where the trace is there
+policies_read : (known : Option Files) (command : AuditCommand) (trace : List ℕ)
+    → ForSome known (λ files. content_within most_trace_bytes files command.trace ≡ Ok trace)
+    → 1 + file_reads true solo_ports known command.policies
+    ≤ most_reads known (Some (Audit command))
+policies_read None command trace is = omega arith
+policies_read (Some files) command trace is = rw (is files refl) (omega arith)
+
+pub trace_alone : (command : AuditCommand) (old new : ShelfState) → IsAfterReads 1 old new
+    → IsAfterReads (most_reads old.files (Some (Audit command))) old new
+trace_alone command old new after =
+    let few = trace_read old.files command in record {
+      same_files = after.same_files;
+      faults = after.faults;
+      reads = (after.reads.0, omega (arith, few, after.reads.1), after.reads.2);
+    }
+
+pub both_read : (command : AuditCommand) (trace : List ℕ) (ports : ℕ) (old one new : ShelfState)
+    → ports ≡ solo_ports
+    → ForSome old.files (λ files. content_within most_trace_bytes files command.trace ≡ Ok trace)
+    → IsAfterReads 1 old one
+    → IsAfterReads (file_reads true ports one.files command.policies) one new
+    → IsAfterReads (most_reads old.files (Some (Audit command))) old new
+both_read command trace ports old one new mask is first second =
+    reads_then 1 (file_reads true solo_ports old.files command.policies) _ old one new
+    (policies_read old.files command trace is) first
+    (subst (λ (p : ℕ). IsAfterReads (file_reads true p old.files command.policies) one new) mask
+    (subst (λ (known : Option Files).
+    IsAfterReads (file_reads true ports known command.policies) one new) first.same_files second))
+
+pub auditing_is : (known middle : Option Files) (command : AuditCommand) (trace : List ℕ)
+    (read : List PolicyFile) (ports : ℕ) → middle ≡ known → ports ≡ solo_ports
+    → ForSome known (λ files. content_within most_trace_bytes files command.trace ≡ Ok trace)
+    → ForSome middle (λ files. read_files true ports files command.policies ≡ Ok read)
+    → ForSome known (λ files. auditing_of files command
+    ≡ Ok (record { trace = trace; files = read }))
+auditing_is known middle command trace read ports same mask trace_is files_are = λ files is.
+    let own : read_files true solo_ports files command.policies ≡ Ok read =
+    subst (λ (p : ℕ). read_files true p files command.policies ≡ Ok read) mask
+    (files_are files (same ∙ is)) in
+    rw (trace_is files is, own) refl

@@ -1,0 +1,113 @@
+-- What the lists that were made say, and so what the proposal is.
+use Rattle.std.proofs.Common.{◌≡◌, ◌∙◌, List, length, ap, arith}
+use Rattle.std.proofs.lemmas.Result.{IfOk-weaker}
+use Rattle.partition.specs.Plan.{Hosted}
+use Rattle.rebalance.specs.Loads.{weights_of}
+use Rattle.rebalance.specs.Spread.{IsProposal}
+use Rattle.difane_cli.specs.Proposals.{sizes_in, targets_of}
+use Rattle.difane_cli.proofs.Proposals.{AreMeasured, as_many_asked, as_many_sizes, as_many_targets, few_rooms, found_for, proposal_number}
+use Rattle.difane_cli.proofs.proposing.find_proposal.Goals as goal
+use Rattle.difane_cli.proofs.proposing.find_proposal.Goals.{In_ok-new, In_ok-old}
+
+measured : (c : In_ok-old)
+    → AreMeasured c.args.plan.hosted c.args.net.now c.args.journal.now c.in_ok-sizes.sizes.items
+    c.in_ok-weights.weights.items c.in_ok-rooms.rooms.items c.in_ok-old.old.items
+measured c = record {
+  sizes_are = c.in_ok-sizes.ensures ∙ ap sizes_in c.hosted-hosted.ensures.hosted;
+  weights_are = c.in_ok-weights.ensures.weights
+      ∙ ap (λ (hosts : List Hosted). weights_of c.args.journal.now (length hosts))
+      c.hosted-hosted.ensures.hosted;
+  rooms_are = c.in_ok-rooms.ensures;
+  old_is = c.in_ok-old.ensures ∙ ap targets_of c.hosted-hosted.ensures.hosted;
+}
+
+-- the placement that is proposed
+chosen : (c : In_ok-new)
+    → IsProposal c.in_ok-sizes.sizes.items c.in_ok-weights.weights.items
+    c.in_ok-rooms.rooms.items c.args.net.now.backups c.in_ok-old.old.items c.in_ok-new.new.items
+chosen c =
+    let spread = rw (c.deref-3.ensures.value, c.deref-4.ensures.value, c.deref-5.ensures.value)
+    at c.spread-found.ensures.spread in
+    let lacks = rw (c.deref-3.ensures.value, c.deref-4.ensures.value, c.deref-5.ensures.value)
+    at c.spread-found.ensures.refused in
+    (rw c.deref-6.ensures.value at c.in_ok-new.ensures) c.in_ok-sizes.sizes.items
+    c.in_ok-rooms.rooms.items c.args.net.now.backups spread lacks
+
+new_number : (c : In_ok-new)
+    → length c.in_ok-old.old.items ≡ length c.in_ok-weights.weights.items
+    → length c.in_ok-new.new.items ≡ length c.in_ok-weights.weights.items
+new_number c each =
+    proposal_number c.in_ok-sizes.sizes.items c.in_ok-weights.weights.items
+    c.in_ok-rooms.rooms.items c.args.net.now.backups c.in_ok-old.old.items c.in_ok-new.new.items
+    each (chosen c)
+
+pub sizes_of-requires : goal.sizes_of-requires
+sizes_of-requires c = rw c.hosted-hosted.ensures.hosted c.hosted-hosted.ensures.sound.few_rules
+
+pub peak-old_peak-requires-clause-each : goal.peak-old_peak-requires-clause-each
+peak-old_peak-requires-clause-each c =
+    rw (c.deref.ensures.value, c.deref-2.ensures.value)
+    (as_many_targets _ _ _ _ _ _ _
+    (measured (goal.at.peak-old_peak-requires-clause-each c).In_ok-old))
+
+pub spread-found-requires-clause-each : goal.spread-found-requires-clause-each
+spread-found-requires-clause-each c =
+    rw (c.deref-3.ensures.value, c.deref-4.ensures.value)
+    (as_many_sizes _ _ _ _ _ _ _
+    (measured (goal.at.spread-found-requires-clause-each c).In_ok-old))
+
+pub spread-found-requires-clause-partitions : goal.spread-found-requires-clause-partitions
+spread-found-requires-clause-partitions c =
+    omega (
+      arith,
+      ap length c.deref-4.ensures.value,
+      as_many_asked _ _ _ _ _ _ _
+          (measured (goal.at.spread-found-requires-clause-partitions c).In_ok-old),
+      c.requires.plan.few,
+    )
+
+pub spread-found-requires-clause-switches : goal.spread-found-requires-clause-switches
+spread-found-requires-clause-switches c =
+    rw (c.deref-5.ensures.value, c.in_ok-rooms.ensures) (few_rooms c.args.net.now c.requires.net)
+
+pub proposed-requires-clause-old : goal.proposed-requires-clause-old
+proposed-requires-clause-old c =
+    rw c.deref-6.ensures.value
+    (as_many_targets _ _ _ _ _ _ _ (measured (goal.at.proposed-requires-clause-old c).In_ok-old))
+
+pub proposed-requires-clause-new : goal.proposed-requires-clause-new
+proposed-requires-clause-new c =
+    rw c.deref-6.ensures.value
+    (IfOk-weaker c.spread-found.result _ _ (λ new is. is.number)
+    (rw c.deref-4.ensures.value at c.spread-found.ensures.spread))
+
+pub peak-new_peak-requires-clause-each : goal.peak-new_peak-requires-clause-each
+peak-new_peak-requires-clause-each c =
+    rw (c.deref-7.ensures.value, c.deref-8.ensures.value)
+    (new_number (goal.at.peak-new_peak-requires-clause-each c).In_ok-new
+    (as_many_targets _ _ _ _ _ _ _
+    (measured (goal.at.peak-new_peak-requires-clause-each c).In_ok-old)))
+
+pub with_targets-requires : goal.with_targets-requires
+with_targets-requires c =
+    let are = measured (goal.at.with_targets-requires c).In_ok-old in
+    new_number (goal.at.with_targets-requires c).In_ok-new (as_many_targets _ _ _ _ _ _ _ are)
+    ∙ as_many_asked _ _ _ _ _ _ _ are
+
+pub returns : goal.returns
+returns c =
+    found_for c.args.plan.policy c.args.plan.hosted c.args.net.now c.args.journal.now
+    (record {
+      plan = c.in_ok-plan.plan;
+      old_peak = c.peak-old_peak.result;
+      new_peak = c.peak-new_peak.result;
+      bound = c.bound-bound.result;
+    })
+    c.in_ok-sizes.sizes.items c.in_ok-weights.weights.items c.in_ok-rooms.rooms.items
+    c.in_ok-old.old.items c.in_ok-new.new.items c.spread_laws.ensures c.requires.net
+    c.requires.plan (measured (goal.at.returns c).In_ok-old)
+    (chosen (goal.at.returns c).In_ok-new) c.in_ok-plan.ensures.policy
+    c.in_ok-plan.ensures.hosted c.in_ok-plan.ensures.leads
+    (rw (c.deref.ensures.value, c.deref-2.ensures.value) at c.peak-old_peak.ensures)
+    (rw (c.deref-7.ensures.value, c.deref-8.ensures.value) at c.peak-new_peak.ensures)
+    (rw (c.deref-9.ensures.value, c.deref-10.ensures.value) at c.bound-bound.ensures)

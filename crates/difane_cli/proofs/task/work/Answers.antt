@@ -1,0 +1,36 @@
+-- What is to be told decides which play comes to pass.
+use Rattle.std.proofs.Common.{◌≡◌, Ok, Some, subst}
+use Rattle.std.specs.Option.{ForSome}
+use Rattle.command_line.specs.Commands.{Command}
+use Rattle.difane_cli.specs.Commands.{inputs_stated}
+use Rattle.difane_cli.specs.Inputs.{known_task}
+use Rattle.difane_cli.specs.Run.{IsPlayOf}
+use Rattle.difane_cli.specs.Tasks.{Play}
+use Rattle.difane_cli.proofs.Reports.{keeps_meters, play_outcome, proposal_out, proposal_outcome}
+use Rattle.difane_cli.proofs.task.work.Goals as goal
+
+pub returns-in-Placement-clause-outcome : goal.returns-in-Placement-clause-outcome
+returns-in-Placement-clause-outcome g c = λ command files own read.
+    let inputs = inputs_stated c.in-Play.inputs in
+    proposal_outcome command inputs files _ _ _ _ _ _ _ (rw c.in-Play.is at own) c.in-Placement.is
+    (λ args same. c.propose.ensures.outcome args files
+    (subst (λ (asked : Command). IsPlayOf asked inputs) same (rw c.in-Play.is at own))
+    (subst (λ (asked : Command).
+    ForSome (known_task files (Some asked)) (λ read. read ≡ Ok (Play inputs)))
+    same (rw c.in-Play.is at read)))
+
+pub returns-in-Placement-clause-no_memory : goal.returns-in-Placement-clause-no_memory
+returns-in-Placement-clause-no_memory g c = λ command own is.
+    proposal_out command (inputs_stated c.in-Play.inputs) _ _ _ _ (rw c.in-Play.is at own)
+    c.in-Placement.is (c.propose.ensures.no_memory is)
+
+pub returns-in_default-clause-outcome : goal.returns-in_default-clause-outcome
+returns-in_default-clause-outcome g c = λ command files own read.
+    play_outcome command (inputs_stated c.in-Play.inputs) files _ _ _ _ _ _ _
+    (rw c.in-Play.is at own) c.in_default.not-Placement
+    (c.play.ensures.outcome command files (rw c.in-Play.is at own) (rw c.in-Play.is at read))
+
+pub returns-in_default-clause-meters : goal.returns-in_default-clause-meters
+returns-in_default-clause-meters g c = λ command own back.
+    absurd (keeps_meters command (inputs_stated c.in-Play.inputs) (rw c.in-Play.is at own)
+    c.in_default.not-Placement back)

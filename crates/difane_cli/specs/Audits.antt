@@ -1,0 +1,80 @@
+-- What became of an audit, by its status; and that what a replay prints is a good trace.
+use Rattle.std.specs.Prelude.{⊤, ℕ, ◌≡◌, ◌≤◌, ◌⊎◌, All, Option, Some, Ok, List, [], codes, length}
+use Rattle.std.specs.Option.{ForSome}
+use Rattle.journal.specs.declared.item.Item.{Item}
+use Rattle.policy_file.specs.Changes.{file_length}
+use Rattle.policy_rules.specs.PolicyFiles.{IsPolicyFile}
+use Rattle.policy_rules.specs.declared.file.PolicyFile.{PolicyFile}
+use Rattle.shelf.specs.Shelf.{Files}
+use Rattle.shelf.specs.Sink.{GainedPart, SinkState}
+use Rattle.trace_audit.specs.Decided.{AreJustified}
+use Rattle.trace_audit.specs.Reading.{AreGood, Line, lines_of}
+use Rattle.trace_audit.specs.Run.{AreRun}
+use Rattle.trace_audit.specs.Verdicts.{IsVerdict}
+use Rattle.trace_audit.specs.declared.trace.Verdict.{Verdict}
+use Rattle.trace_audit.specs.declared.trace.Verdict.TheVariants.{Yes, No}
+use Rattle.command_line.specs.Commands.{AuditCommand}
+use Rattle.command_line.specs.Commands as asked
+use Rattle.command_line.specs.declared.report.Report.{Report}
+use Rattle.command_line.specs.declared.report.Report.TheVariants as report
+use Rattle.difane_cli.specs.Inputs.{known_task}
+use Rattle.difane_cli.specs.Tasks.{Audit, Auditing, Inputs}
+use Rattle.difane_cli.specs.Writes.{Unplayed, Wrote}
+use Rattle.difane_cli.specs.declared.status.Status.{Status}
+use Rattle.difane_cli.specs.declared.status.Status.TheVariants as status
+
+-- what is said of a trace each line of which is good
+abbrev pub yes_line : List ℕ
+yes_line = codes "yes\n"
+
+-- a file for each name, each with what its type has, and at most 2,000 rows
+pub record IsAuditingOf (command : AuditCommand) (auditing : Auditing) : Type 0 where
+  pub many : length auditing.files ≡ length command.policies
+  pub sound : All IsPolicyFile auditing.files
+  pub few : All (λ file. file_length file ≤ 2000) auditing.files
+
+-- this is the verdict on the lines; and where it is Yes, the moves that they tell are a run of the
+-- machine, and each packet that they print as dropped or as out by a port got one decision before,
+-- the first match for its header under one version that was not retired as it entered
+pub record IsJudged (files : List PolicyFile) (lines : List Line) (verdict : Verdict) : Type 0 where
+  pub holds : IsVerdict files lines verdict
+  pub run : verdict ≡ Yes → AreRun files lines
+  pub justified : verdict ≡ Yes → AreJustified files lines
+
+-- there are a trace and files as the command asks for them, which are the known ones where these
+-- are known; they are judged so; and the output is in this relation to the answer
+pub record Audited (command : AuditCommand) (files : Option Files) (verdict : Verdict)
+    (IsWritten : List ℕ → Type 0) (journal : List Item) : Type 0 where
+  pub auditing : Auditing
+  pub accepted : ForSome (known_task files (Some (asked.Audit command)))
+      (λ read. read ≡ Ok (Audit auditing))
+  pub asked : IsAuditingOf command auditing
+  pub judged : IsJudged auditing.files (lines_of auditing.trace) verdict
+  pub nothing_played : journal ≡ []
+  pub written : IsWritten yes_line
+
+-- the output that a status of an audit comes with: `No` leaves it as it is
+abbrev pub AuditOutcome : AuditCommand → Option Files → Status → List Item
+    → (before now : SinkState) → Type 0
+AuditOutcome command files status.Ok journal before now =
+    Audited command files Yes (λ text. Wrote text before now) journal
+AuditOutcome command files (status.No line) journal before now =
+    Audited command files (No line) (λ text. now ≡ before) journal
+AuditOutcome command files status.WriteFault journal before now =
+    Audited command files Yes (λ text. GainedPart before.bytes text now.bytes) journal
+AuditOutcome command files status.NoMemory journal before now =
+    Unplayed journal before now
+    ⊎ Audited command files Yes (λ text. GainedPart before.bytes text now.bytes) journal
+AuditOutcome command files (status.Full row) journal before now = ⊥
+AuditOutcome command files _ journal before now = Unplayed journal before now
+
+-- ---- what a replay prints
+
+abbrev pub TellsLines : Report → Type 0
+TellsLines (report.Lines quiet) = ⊤
+TellsLines _ = ⊥
+
+-- where the lines of a journal are to be told, the text is a trace each line of which is good with
+-- the files of the play: so `audit` answers Yes for it
+abbrev pub IsGoodTrace : Inputs → List ℕ → Type 0
+IsGoodTrace inputs text = TellsLines inputs.report → AreGood inputs.setting.files (lines_of text)

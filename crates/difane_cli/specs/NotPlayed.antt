@@ -1,0 +1,18 @@
+-- What a command that plays nothing is to do, once its files are read.
+use Rattle.std.specs.Prelude.{ℕ, Option, List}
+use Rattle.net_file.specs.declared.net.Net.{Net}
+use Rattle.partition.specs.Plan.{Hosted}
+use Rattle.policy_rules.specs.declared.file.PolicyFile.{PolicyFile}
+use Rattle.policy_rules.specs.declared.policy.Row.{Row}
+
+-- a policy planned on a network, and the switch whose tables are asked for
+pub record Printing : Type 0 where
+  pub policy : List Row
+  pub net : Net
+  pub hosted : List Hosted
+  pub switch : Option ℕ
+
+-- a trace, and the files of policies and changes that it speaks of
+pub record Auditing : Type 0 where
+  pub trace : List ℕ
+  pub files : List PolicyFile

@@ -1,0 +1,104 @@
+-- The placement that `rebalance` proposes behind a play: how much each partition was asked decides.
+use Rattle.std.specs.Prelude.{ℕ, ◌≡◌, ◌⊎◌, ◌≤◌, Bool, IsErrOf, OnOk, Result, Err, IsTrue, ◌≢◌, ⊤, List, [], ◌∷◌, length, map, codes, decimal}
+use Rattle.std.specs.List.{concat, zip}
+use Rattle.controller.specs.Leads.{LeadEveryHeader}
+use Rattle.journal.specs.declared.item.Item.{Item}
+use Rattle.net_file.specs.declared.net.Net.{Net}
+use Rattle.partition.specs.Plan.{Hosted, rooms_of}
+use Rattle.policy_rules.specs.declared.policy.Row.{Row}
+use Rattle.rebalance.specs.Loads.{Fits, bound, peak, weights_of}
+use Rattle.rebalance.specs.Spread.{IsProposal}
+use Rattle.shelf.specs.Sink.{GainedPart, Rose, SinkState}
+use Rattle.shelf.specs.declared.output.SinkError.{SinkError}
+use Rattle.shelf.specs.declared.output.SinkError.TheVariants.{Failed, NoMemory}
+use Rattle.show_text.specs.Text.{compile_text}
+use Rattle.switch_table.specs.Tables.{part_of}
+use Rattle.update_machine.specs.Marks.{current_mark}
+use Rattle.update_machine.specs.Setting.{Setting}
+use Rattle.update_machine.specs.Versions.{plan_at, policy_at}
+use Rattle.difane_cli.specs.Writes.{Wrote}
+use Rattle.difane_cli.specs.declared.proposing.Proposal.{Proposal}
+
+-- ---- a plan by how much its partitions were asked
+
+-- the targets of each partition
+abbrev pub targets_of : List Hosted → List (List ℕ)
+targets_of plan = map (λ (hosted : Hosted). hosted.1) plan
+
+-- how many rules each has
+abbrev pub sizes_in : List Hosted → List ℕ
+sizes_in plan = map (λ (hosted : Hosted). length hosted.0.rules) plan
+
+-- how often each was asked
+abbrev pub weights_in : List Item → List Hosted → List ℕ
+weights_in journal plan = weights_of journal (length plan)
+
+-- the same partitions with other targets
+abbrev pub with_targets : List Hosted → List (List ℕ) → List Hosted
+with_targets plan placement = zip (map part_of plan) placement
+
+-- ---- the proposal
+
+-- the placement is proposed in place of the plan's own, by how much its partitions were asked; it
+-- fits, its peak is at least the bound and not higher than the plan's, and with it the tables still
+-- lead each header to the policy's first match
+pub record IsProposedFor (rows : List Row) (plan : List Hosted) (net : Net) (journal : List Item)
+    (placement : List (List ℕ)) : Type 0 where
+  pub proposal : IsProposal (sizes_in plan) (weights_in journal plan) (rooms_of net) net.backups
+      (targets_of plan) placement
+  pub fits : Fits (sizes_in plan) (rooms_of net) net.backups placement
+  pub lower : peak (weights_in journal plan) placement
+      ≤ peak (weights_in journal plan) (targets_of plan)
+  pub bounded : bound (weights_in journal plan) (rooms_of net)
+      ≤ peak (weights_in journal plan) placement
+  pub leads : LeadEveryHeader rows (with_targets plan placement)
+
+-- the peaks of the old and the new placement, the bound, and the plan with the new one
+abbrev pub placement_text : List Row → List Hosted → Net → List Item → List (List ℕ) → List ℕ
+placement_text rows plan net journal placement =
+    let weights = weights_in journal plan in
+    concat (codes "peak " ∷ decimal (peak weights (targets_of plan)) ∷ codes " "
+    ∷ decimal (peak weights placement) ∷ codes "\nbound " ∷ decimal (bound weights (rooms_of net))
+    ∷ codes "\n" ∷ compile_text rows (with_targets plan placement) net ∷ [])
+
+-- what was found is the plan with the targets of a placement that is proposed, and what they and the
+-- plan's own come to
+pub record IsFoundFor (rows : List Row) (plan : List Hosted) (net : Net) (journal : List Item)
+    (found : Proposal) : Type 0 where
+  pub placement : List (List ℕ)
+  pub proposed : IsProposedFor rows plan net journal placement
+  pub policy : found.plan.policy ≡ rows
+  pub hosted : found.plan.hosted ≡ with_targets plan placement
+  pub old_peak : found.old_peak ≡ peak (weights_in journal plan) (targets_of plan)
+  pub new_peak : found.new_peak ≡ peak (weights_in journal plan) placement
+  pub least : found.bound ≡ bound (weights_in journal plan) (rooms_of net)
+
+-- ---- what is written
+
+-- a proposal, of whose text the output is in this relation
+pub record ProposesFor (rows : List Row) (plan : List Hosted) (net : Net) (journal : List Item)
+    (IsWritten : List ℕ → Type 0) : Type 0 where
+  pub placement : List (List ℕ)
+  pub proposed : IsProposedFor rows plan net journal placement
+  pub written : IsWritten (placement_text rows plan net journal placement)
+
+-- the same for the plan that is in force behind the journal
+abbrev pub Proposes : Setting → List Item → (List ℕ → Type 0) → Type 0
+Proposes setting journal IsWritten =
+    ProposesFor (policy_at setting journal (current_mark journal))
+    (plan_at setting journal (current_mark journal)) setting.net journal IsWritten
+
+-- what writing a proposal leaves of the output: all of its text, or a part of it; or memory ran out
+-- before the output was touched
+pub record IsAfterProposal (rows : List Row) (plan : List Hosted) (net : Net)
+    (journal : List Item) (takes_memory : Bool) (before now : SinkState)
+    (result : Result (⊤) SinkError) : Type 0 where
+  pub whole : OnOk result (ProposesFor rows plan net journal (λ text. Wrote text before now))
+  pub part : IsErrOf result Failed
+      → ProposesFor rows plan net journal (λ text. GainedPart before.bytes text now.bytes)
+  pub some : IsErrOf result NoMemory → (now ≡ before)
+      ⊎ (IsTrue takes_memory
+      × ProposesFor rows plan net journal (λ text. GainedPart before.bytes text now.bytes))
+  pub calm : result ≢ Err Failed → now.faults ≡ before.faults
+  pub failed : IsErrOf result Failed → Rose before.faults now.faults
+  pub faults : before.faults ≤ now.faults

@@ -1,0 +1,73 @@
+//! Audits: a trace and its policies are read, and then the trace is checked.
+ghost use Rattle.std.specs.Prelude.{◌≡◌, ◌⊎◌, [], Ok, Option, Some, IfOk, IsTrue, length};
+ghost use Rattle.std.specs.Option.{ForSome};
+ghost use Rattle.shelf.specs.Shelf.{Files, IsAfterReads};
+ghost use Rattle.difane_cli.specs.Exports.{Audit, AuditOutcome, EndsRead, EndsWork, IsAuditingOf, IsCalmRead, auditing_of, auditing_stated, known_task, most_reads};
+ghost use Rattle.difane_cli.specs.declared.status.Status.TheVariants as status;
+ghost use Rattle.command_line.specs.Named.{MayBePolicies, audit_named};
+ghost use Rattle.command_line.specs.Commands as grammar;
+ghost use Rattle.command_line.specs.Commands.{AuditCommand};
+
+use crate::inputs::{read_files, read_within};
+use crate::status::{Status, Stop};
+use command_line::AuditArgs;
+use policy_rules::PolicyFile;
+use shelf::{Shelf, Sink, write_whole};
+use std::alloc::{AllocError, Global};
+use trace_audit::{Verdict, audit};
+
+/// The most bytes of a trace.
+pub const MAX_TRACE_BYTES: u64 = 268_435_456;
+
+/// The ports of a network of one switch: all that there may be.
+const SOLO_PORTS: u64 = u64::MAX;
+
+/// A trace, and the files of policies and changes that it speaks of.
+#[derive(Drop)]
+pub struct AuditInputs {
+    pub trace: Vec<u8>,
+    pub files: Vec<PolicyFile>,
+}
+
+/// The trace is read, then the policies and changes are read and checked in their order. These may
+/// name the ports of a network of one switch, and none is planned.
+pub fn read_auditing<F: Shelf>(
+    alloc: Global,
+    shelf: &mut F,
+    args: &AuditArgs<'_>,
+) -> Result<AuditInputs, Stop>
+    requires { MayBePolicies (length args.now.policies.items) }
+    ensures read { EndsRead (F.state shelf.old).files
+        (λ files. auditing_of files (audit_named args.now)) auditing_stated
+        (F.state shelf.old) (F.state shelf.new) result }
+    ensures shelf { IsAfterReads
+        (most_reads (F.state shelf.old).files (Some (grammar.Audit (audit_named args.now))))
+        (F.state shelf.old) (F.state shelf.new) }
+    ensures calm { IsCalmRead (F.state shelf.old) (F.state shelf.new) result }
+    ensures asked { IfOk result (λ inputs.
+        IsAuditingOf (audit_named args.now) (auditing_stated inputs)) }
+{
+    let trace = read_within(alloc, shelf, args.trace, MAX_TRACE_BYTES)?;
+    let names: &[&str] = &args.policies;
+    let files = read_files(alloc, shelf, names, SOLO_PORTS)?;
+    Ok(AuditInputs { trace, files })
+}
+
+/// Checks the trace, and writes `yes` where each of its lines is good. What comes of it is told for
+/// whatever is known of the files.
+pub fn check_trace<K: Sink>(alloc: Global, inputs: &AuditInputs, out: &mut K) -> Status
+    ensures outcome { (command : AuditCommand) (files : Option Files)
+        → IsAuditingOf command (auditing_stated inputs.now)
+        → ForSome (known_task files (Some (grammar.Audit command)))
+        (λ read. read ≡ Ok (Audit (auditing_stated inputs.now)))
+        → AuditOutcome command files result [] (K.state out.old) (K.state out.new) }
+    ensures no_memory { result ≡ status.NoMemory
+        → IsTrue K.takes_memory ⊎ (K.state out.new ≡ K.state out.old) }
+    ensures ended { EndsWork result (K.state out.old) (K.state out.new) }
+{
+    match audit(alloc, &inputs.trace, &inputs.files) {
+        Err(AllocError) => Status::NoMemory,
+        Ok(Verdict::No { line }) => Status::No { line },
+        Ok(Verdict::Yes) => Status::after(write_whole(out, b"yes\n"), None),
+    }
+}

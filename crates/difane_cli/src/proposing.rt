@@ -1,0 +1,192 @@
+//! A placement of the partitions that a play asked, with a lower peak where one is found.
+ghost use Rattle.std.specs.Prelude.{◌≡◌, ◌<◌, ◌^◌, ◌⊎◌, All, IfOk, IsTrue, Ok, Option, Some, length};
+ghost use Rattle.std.specs.Option.{ForSome};
+ghost use Rattle.net_file.specs.Net.{IsNet};
+ghost use Rattle.partition.specs.Plan.{IsPlan, rooms_of};
+ghost use Rattle.shelf.specs.Shelf.{Files};
+ghost use Rattle.command_line.specs.Commands as grammar;
+ghost use Rattle.command_line.specs.Commands.{ReplayCommand};
+ghost use Rattle.difane_cli.specs.Exports.{AreReadyToPlay, EndsWork, IsAfterProposal, IsAnswer, IsFoundFor, IsPlayOf, Play, ProposalOutcome, inputs_stated, known_task, sizes_in, targets_of};
+ghost use Rattle.difane_cli.specs.declared.status.Status.TheVariants as status;
+
+use crate::inputs::PlayInputs;
+use crate::playing::answer_laws;
+use crate::status::{Ended, Status, write_pieces};
+use controller::Plan;
+use itoa::Buffer;
+use journal::Journal;
+use meters::Meter;
+use net_file::Net;
+use policy_rules::{Partition, Targets};
+use rebalance::{bound, peak, proposed, spread, spread_laws, weights};
+use replay::Played;
+use shelf::{Sink, SinkError};
+use show_text::compile_text;
+use std::alloc::{AllocError, Global};
+
+/// A plan with the targets that are proposed, and what its own and these come to.
+#[derive(Drop)]
+pub struct Proposal {
+    plan: Plan,
+    /// The peak of the plan's own targets.
+    old_peak: u64,
+    /// The peak of those that are proposed.
+    new_peak: u64,
+    /// No placement that fits has a lower peak.
+    bound: u64,
+}
+
+/// Plays the inputs, to their end or as far as there is room, and writes the placement that is
+/// proposed, where it didn't stop full. No meter notes anything, and all are given back. What comes
+/// of it is told for whatever is known of the files.
+pub fn propose<M: Meter, K: Sink>(
+    alloc: Global,
+    inputs: PlayInputs,
+    meters: Vec<M>,
+    out: &mut K,
+) -> Ended<M>
+    requires { AreReadyToPlay inputs }
+    ensures outcome { (command : ReplayCommand) (files : Option Files)
+        → IsPlayOf (grammar.Replay command) (inputs_stated inputs)
+        → ForSome (known_task files (Some (grammar.Replay command)))
+        (λ read. read ≡ Ok (Play (inputs_stated inputs)))
+        → ProposalOutcome (IsAnswer (grammar.Replay command) files) K.takes_memory result.status
+        result.journal (K.state out.old) (K.state out.new) }
+    ensures meters { result.meters ≡ meters }
+    ensures no_memory { result.status ≡ status.NoMemory
+        → IsTrue K.takes_memory ⊎ (K.state out.new ≡ K.state out.old) }
+    ensures ended { EndsWork result.status (K.state out.old) (K.state out.new) }
+{
+    let PlayInputs {
+        events,
+        net,
+        world,
+        ..
+    } = inputs;
+    answer_laws();
+    let none: Vec<M> = Vec::new(alloc);
+    let Ok(played) = replay::play(world, &events, none, net.port_mask()) else {
+        return Ended {
+            status: Status::NoMemory,
+            journal: Journal::new(alloc),
+            meters,
+        };
+    };
+    let Played {
+        journal,
+        plan,
+        full,
+        ..
+    } = played;
+    match full {
+        Some(row) => Ended {
+            status: Status::Full { row },
+            journal,
+            meters,
+        },
+        None => {
+            let written = write_proposal(alloc, &journal, plan, &net, out);
+            Ended {
+                status: Status::after(written, None),
+                journal,
+                meters,
+            }
+        }
+    }
+}
+
+/// Writes the proposal for the plan, by how much its partitions were asked in the journal.
+fn write_proposal<K: Sink>(
+    alloc: Global,
+    journal: &Journal,
+    plan: Plan,
+    net: &Net,
+    out: &mut K,
+) -> Result<(), SinkError>
+    requires net { IsNet net.now }
+    requires plan { IsPlan plan.policy net.now plan.hosted }
+    ensures { IsAfterProposal plan.policy plan.hosted net.now journal.now K.takes_memory
+        (K.state out.old) (K.state out.new) result }
+{
+    let proposal = find_proposal(alloc, journal, plan, net)?;
+    let text = compile_text(alloc, &proposal.plan, net)?;
+    let mut old_digits = Buffer::new();
+    let mut new_digits = Buffer::new();
+    let mut bound_digits = Buffer::new();
+    let pieces: [&[u8]; 8] = [
+        b"peak ",
+        old_digits.format(proposal.old_peak).as_bytes(),
+        b" ",
+        new_digits.format(proposal.new_peak).as_bytes(),
+        b"\nbound ",
+        bound_digits.format(proposal.bound).as_bytes(),
+        b"\n",
+        &text,
+    ];
+    write_pieces(&pieces, out)
+}
+
+/// The proposal for the plan, by how much its partitions were asked in the journal.
+///
+/// # Errors
+/// Want of memory alone.
+fn find_proposal(
+    alloc: Global,
+    journal: &Journal,
+    plan: Plan,
+    net: &Net,
+) -> Result<Proposal, AllocError>
+    requires net { IsNet net.now }
+    requires plan { IsPlan plan.policy net.now plan.hosted }
+    ensures { IfOk result (IsFoundFor plan.policy plan.hosted net.now journal.now) }
+{
+    spread_laws();
+    let hosted = plan.hosted();
+    let weights = weights(alloc, journal, hosted.len() as u32)?;
+    let sizes = sizes_of(alloc, hosted)?;
+    let rooms = rooms_of(alloc, net)?;
+    let old = targets_of(alloc, hosted)?;
+    let old_peak = peak(&weights, &old);
+    let found = spread(alloc, &sizes, &weights, &rooms, net.backups);
+    let new = proposed(&weights, found, old)?;
+    let new_peak = peak(&weights, &new);
+    let bound = bound(&weights, &rooms);
+    let plan = plan.with_targets(alloc, new)?;
+    Ok(Proposal {
+        plan,
+        old_peak,
+        new_peak,
+        bound,
+    })
+}
+
+// How many rules each partition has.
+fn sizes_of(alloc: Global, hosted: &[(Partition, Targets)]) -> Result<Vec<u32>, AllocError>
+    requires { All (λ host. length host.0.rules < 2 ^ 32) hosted.now }
+    ensures { IfOk result (λ sizes. sizes.items ≡ sizes_in hosted.now) }
+{
+    let mut sizes = Vec::with_capacity(alloc, hosted.len())?;
+    for (part, _) in hosted {
+        sizes.push(part.rules.items().len() as u32)?;
+    }
+    Ok(sizes)
+}
+
+// The targets of each partition.
+fn targets_of(alloc: Global, hosted: &[(Partition, Targets)]) -> Result<Vec<Targets>, AllocError>
+    ensures { IfOk result (λ targets. targets.items ≡ targets_of hosted.now) }
+{
+    let mut all = Vec::with_capacity(alloc, hosted.len())?;
+    for (_, targets) in hosted {
+        all.push(*targets)?;
+    }
+    Ok(all)
+}
+
+// For how many rules each switch has room.
+fn rooms_of(alloc: Global, net: &Net) -> Result<Vec<u32>, AllocError>
+    ensures { IfOk result (λ rooms. rooms.items ≡ rooms_of net.now) }
+{
+    let rows = net.switches.items();
+    rows.iter().map(|row| row.room).collect(alloc)
+}
