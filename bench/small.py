@@ -1,6 +1,7 @@
 #!/usr/bin/env python3
 """Times calls of single crates: `bench/small.py [NAME..]`, or all of these.
 
+    carries    `Cache::carry` over 4,096 cached rules and a change of one row, beside `Cache::raise`
     memory     the peak memory of a plan, of all switches' tables beside it, and of 64 versions of
                one plan at a controller
     networks   `read_net` over a large network, and over files of 16 MB that are refused
@@ -613,7 +614,59 @@ def widen(folder):
         print(f"{rows:4} earlier rules: {seconds(program) / turns * 1e6:.2f} microseconds a word")
 
 
-CALLS = (memory, networks, routes, rules, schedules, switches, widen)
+# ---- cache rules that outlive a change
+
+CARRY = """#![tactic(auto)]
+
+use anyhow::Result;
+use policy_rules::Action;
+use std::alloc::AllocError;
+use switch_table::{Cache, CacheEntry, Touched};
+use ternary::Word;
+
+fn main(rt: HostRuntime) -> Result<()> {
+    let mut cache = Cache::new(rt.alloc(), 4096);
+    for host in 0..4096u32 {
+        // From one host of 10.0.0.0/20.
+        let value = (u128::from(0x0a000000 | host) << 72) | 6;
+        if let Some(word) = Word::new(value, (0xffffffffu128 << 72) | 0xff) {
+            cache.accept(1, CacheEntry {
+                version: 1,
+                word,
+                rule: Some(100),
+                action: Action::Drop,
+                message: host,
+            })?;
+        }
+    }
+    let mut words = Vec::new(rt.alloc());
+    // A row of 10.0.0.0/24.
+    if let Some(word) = Word::new(0x0a0000u128 << 80, 0xffffffu128 << 80) {
+        words.push(word).map_err(AllocError::from)?;
+    }
+    if let Some(touched) = Touched::new(words) {
+        for version in 2..TURNSu32 {
+            CALL;
+        }
+    }
+    println!(rt; "{}", cache.entries().count())?;
+    Ok(())
+}
+"""
+
+
+def carries(folder, turns=20_000):
+    """How many entries stay, and microseconds a call."""
+    uses = ["anyhow", "policy_rules", "switch_table", "ternary"]
+    calls = {"carry": "cache.carry(version, &touched)?", "raise": "cache.raise(1)"}
+    for name, call in calls.items():
+        text = CARRY.replace("TURNS", str(turns)).replace("CALL", call)
+        program = build(folder, f"{name}_turns", uses, text)
+        stay = subprocess.run([program], capture_output=True, text=True, check=True).stdout.strip()
+        print(f"{name}: {stay} of 4096 stay, {seconds(program) / turns * 1e6:.0f} microseconds")
+
+
+CALLS = (carries, memory, networks, routes, rules, schedules, switches, widen)
 NAMES = {call.__name__: call for call in CALLS}
 
 

@@ -186,7 +186,7 @@ def state_told(play):
                 "boot": switch.boot,
                 "stamp": switch.stamp,
                 "tables": sorted(switch.tables),
-                "cache": [rule.number for rule in switch.cache],
+                "cache": [held.rule.number for held in switch.cache],
                 "packets": standing.count(name),
             }
             for name, switch in network.switches.items()
@@ -204,7 +204,8 @@ def newest_told(case, play):
 
 def state_faults(world, rows, folder):
     """The rows behind which a state, or the newest policy, is another one than the model's."""
-    play, case = Play(Network(world.network.names, world.network.cache)), case_of(str(folder))
+    case = case_of(str(folder))
+    play = Play(Network(world.network.names, world.network.cache, case.touches))
     wrong = []
 
     def lines():

@@ -1,9 +1,10 @@
 #!/usr/bin/env python3
-"""Compares the texts of examples/ with the models, and the README's picture with `examples/draw`.
+"""Compares the texts of examples/ with the models, and the pictures with the scripts that draw them.
 
-Plans and tables are those of `model/plan_model.py`, and what replays print is that of
-`model/slow_replay.py`. The gate compares the same texts with the program (crates/examples). What
-the gate told of commands that are refused is what `model/refusals.py` says.
+Plans and tables are those of `model/plan_model.py`, what replays print is that of
+`model/slow_replay.py`, and what is said of traces that of `model/slow_audit.py`. The gate compares
+the same texts with the program (crates/examples). What the gate told of commands that are refused,
+and of traces that aren't good, is what `model/refusals.py` says.
 """
 import re
 import subprocess
@@ -19,7 +20,19 @@ sys.path.insert(0, str(HOME / "model"))
 
 import refusals
 
-MODELS = {"compile": "plan_model.py", "show": "plan_model.py", "replay": "slow_replay.py", "flows": "slow_replay.py"}
+MODELS = {
+    "compile": "plan_model.py",
+    "show": "plan_model.py",
+    "replay": "slow_replay.py",
+    "flows": "slow_replay.py",
+    "audit": "slow_audit.py",
+    "rebalance": "rebalance.py",
+}
+# Each picture, and the script that draws it.
+PICTURES = {
+    "docs/campus.svg": ["examples/draw", "campus", "1"],
+    "examples/skewed/loads.svg": ["examples/skewed/loads"],
+}
 
 
 def wrong_refusals():
@@ -56,10 +69,11 @@ def main():
             if done.returncode != 0 or done.stdout != (FOLDER / name).read_bytes():
                 wrong.append(f"{name} is another text than the model's")
     wrong += wrong_records()
-    drawn = subprocess.run([str(FOLDER / "draw"), "campus", "1"], capture_output=True)
-    if drawn.stdout != (HOME / "docs/campus.svg").read_bytes():
-        wrong.append("docs/campus.svg is another picture than `examples/draw campus 1`")
-    print("\n".join(wrong) if wrong else "the texts are the model's, and the picture is drawn anew")
+    for picture, (script, *args) in PICTURES.items():
+        drawn = subprocess.run([str(HOME / script), *args], capture_output=True)
+        if drawn.stdout != (HOME / picture).read_bytes():
+            wrong.append(f"{picture} is another picture than `{' '.join([script, *args])}`")
+    print("\n".join(wrong) if wrong else "the texts are the model's, and the pictures are drawn anew")
     sys.exit(bool(wrong))
 
 

@@ -131,8 +131,10 @@ def plan_of(rows, network):
 
 
 def text_of(rows, switch, network):
-    names, words, parts, hosted = plan_of(rows, network)
+    return text_by(*plan_of(rows, network), switch)
 
+
+def text_by(names, words, parts, hosted, switch):
     def word(pair):
         return f"{pair[0]:026x}/{pair[1]:026x}"
 

@@ -4,9 +4,10 @@
 usage: model/refusals.py ARGUMENTS
 
 The arguments are those of the program. It prints the line that the program writes on standard error
-and ends with its status, 2 to 4; where nothing is refused it prints nothing and ends with 0. It
+and ends with its status, 1 to 4; where nothing is refused it prints nothing and ends with 0. It
 shares nothing with the program: records are those of Python's `csv`, documents those of `tomllib`,
-and plans those of `model/slow_replay.py`. What TOML 1.1 has beyond 1.0 it takes for a refusal.
+plans those of `model/slow_replay.py`, and verdicts on traces those of `model/slow_audit.py`. What
+TOML 1.1 has beyond 1.0 it takes for a refusal.
 """
 import csv
 import io
@@ -15,13 +16,16 @@ import sys
 import tomllib
 from pathlib import Path
 
+import slow_audit
 import slow_replay
 
 WORDS = "difane: words"
 MOST_BYTES, MOST_POLICIES, MOST_LOAD = 16_777_216, 64, 1000
+MOST_TRACE = 268_435_456
 POLICY_HEADING = ["priority", "src", "dst", "sport", "dport", "proto", "action"]
 CHANGE_HEADING = ["op", *POLICY_HEADING]
-PLAYS = "replay", "flows"
+PLAYS = "replay", "flows", "rebalance"
+SEVERAL = *PLAYS, "audit"
 MOST_ROWS, MOST_EVENTS, MOST_NUMBER = 2000, 100_000, 999_999_999
 NO_SWITCH, TOO_LARGE = 21, 20
 NO_EDIT, FIRST_CHANGE = 22, 23
@@ -96,7 +100,7 @@ HEADER_FIELDS = [is_address, is_address, is_port, is_port, is_protocol]
 # Files.
 
 
-def content(path):
+def content(path, most=MOST_BYTES):
     """The bytes of a file."""
     try:
         found = path.read_bytes()
@@ -104,7 +108,7 @@ def content(path):
         raise Refusal(0) from error
     except OSError as error:
         raise ReadFault from error
-    if len(found) > MOST_BYTES:
+    if len(found) > most:
         raise Refusal(TOO_LARGE)
     return found
 
@@ -353,11 +357,13 @@ def is_name(arg):
 def takes(command, line):
     """Whether the line is one of this command."""
     count = len(line.names)
+    plain = line.net is None and not line.quiet
     if command == "load":
-        plain = line.net is None and not line.quiet
         return plain and count == 1 and is_number(line.names[0], 1, MOST_LOAD)
+    if command == "audit":
+        return plain and 2 <= count <= 1 + MOST_POLICIES
     if command in PLAYS:
-        return 2 <= count <= 1 + MOST_POLICIES and not (line.quiet and command == "flows")
+        return 2 <= count <= 1 + MOST_POLICIES and not (line.quiet and command != "replay")
     return count == {"compile": 1, "show": 2}.get(command) and not line.quiet
 
 
@@ -367,9 +373,9 @@ class Files:
     def __init__(self, folder):
         self.folder, self.name = folder, ""
 
-    def read(self, name):
+    def read(self, name, most=MOST_BYTES):
         self.name = name
-        return content(self.folder / name)
+        return content(self.folder / name, most)
 
     def network(self, name):
         net = slow_replay.SOLO
@@ -393,17 +399,20 @@ class Files:
     def check(self, command, line):
         """All that the command reads, in its order."""
         network = self.network(line.net)
-        policies = line.names[1:] if command in PLAYS else line.names[:1]
+        policies = line.names[1:] if command in SEVERAL else line.names[:1]
         if command == "show":
             self.name = line.names[1]
             if self.name not in network.names:
                 raise Refusal(NO_SWITCH)
         if command in PLAYS:
             check_schedule(records(self.read(line.names[0])), network, len(policies))
-        first = self.policy(policies[0], network, FIRST_CHANGE if command in PLAYS else 1)
+        if command == "audit":
+            self.read(line.names[0], MOST_TRACE)
+        first = self.policy(policies[0], network, FIRST_CHANGE if command in SEVERAL else 1)
         for name in policies[1:]:
             self.policy(name, network, None)
-        self.plan(policies[0], first, network)
+        if command != "audit":
+            self.plan(policies[0], first, network)
 
 
 def answer(args, folder=Path()):
@@ -423,6 +432,9 @@ def answer(args, folder=Path()):
         return f"difane: input {files.name} code {refusal.code} row {refusal.row}", 3
     except ReadFault:
         return "difane: read fault", 4
+    if command == "audit":
+        bad = slow_audit.answer(*(folder / name for name in line.names))
+        return bad, int(bad != "")
     return "", 0
 
 

@@ -24,6 +24,7 @@ MOST_ROWS, MOST_WORDS, MOST_PARTS, MOST_LIVE, MOST_VERSIONS = 2000, 4096, 512, 8
 TOO_MANY_WORDS, TOO_MANY_PARTS, NO_ROOM, TOO_MANY_LIVE, TOO_MANY_VERSIONS = 12, 14, 15, 16, 17
 ABSENT, TAKEN, TOO_MANY_ROWS = 24, 25, 26
 MOST_HEADERS = 4096
+MOST_TOUCHED = 16
 CHANGE_HEADING = ["op", "priority", "src", "dst", "sport", "dport", "proto", "action"]
 
 
@@ -91,6 +92,12 @@ class Change:
             raise Refused(TOO_MANY_ROWS)
         return stay + self.added
 
+    def touches(self, rows):
+        """The words of the rows that go and of those that come, or of all headers if these are many."""
+        touched = [row for row in rows if row[0] in self.removed] + self.added
+        words = [rule[0] for row in touched for rule in plan_model.rules_of([row])[0][:-1]]
+        return words if len(words) <= MOST_TOUCHED else [(0, 0)]
+
 
 class Whole:
     """A policy, whatever stood before."""
@@ -100,6 +107,9 @@ class Whole:
 
     def of(self, rows):
         return self.rows
+
+    def touches(self, rows):
+        return [(0, 0)]
 
 
 def read_file(path):
@@ -116,6 +126,7 @@ class Plan:
         rules, words = plan_model.rules_of(rows)
         if words > MOST_WORDS:
             raise Refused(TOO_MANY_WORDS)
+        self.words = words
         self.parts = plan_model.leaves(rules, (0, 0), net.get("leaf_rules", 64))
         if len(self.parts) > MOST_PARTS:
             raise Refused(TOO_MANY_PARTS)
@@ -313,6 +324,20 @@ class Switch:
         if version > self.stamp:
             self.stamp = version
             self.cache = [entry for entry in self.cache if entry.version >= version]
+
+    def carry(self, version, touched):
+        """Of the version before, cache rules that meet nothing touched go over as the stamp rises."""
+        if version > self.stamp:
+            words = [entry.word for entry in self.cache if entry.version == version]
+            self.cache = [
+                entry._replace(version=max(entry.version, version))
+                for entry in self.cache
+                if entry.version >= version
+                or entry.version == version - 1
+                and entry.word not in words
+                and all(plan_model.meet(entry.word, word) is None for word in touched)
+            ]
+        self.raise_stamp(version)
 
     def keep(self, rule, message, capacity):
         """None that is too old, and no word of a version twice; a full cache drops its oldest."""
@@ -515,6 +540,7 @@ class World:
         self.files = [read_file(path) for path in policies]
         self.newest = self.files[0].of([])
         self.plans = {1: Plan(self.newest, net)}
+        self.touched = {}
         self.journal = Journal(self.network)
         self.say, self.send = self.journal.say, self.journal.send
         self.is_link_up = dict.fromkeys(self.network.links, True)
@@ -743,7 +769,7 @@ class World:
             switch.install(order.version)
             self.report(switch, "installed", order.version)
         elif order.kind == "stamp":
-            switch.raise_stamp(order.version)
+            switch.carry(order.version, self.touched[order.version])
             self.report(switch, "stamped", order.version)
         elif order.kind == "collect":
             switch.collect(order.version)
@@ -783,13 +809,15 @@ class World:
 
     def row_update(self, file):
         try:
-            rows = self.files[int(file) - 1].of(self.newest)
+            policy = self.files[int(file) - 1]
+            rows = policy.of(self.newest)
             plan = Plan(rows, self.network.net)
             self.controller.check_room()
         except Refused as refused:
             self.say(f"refused file {file} code {refused.code}")
             return
         version = self.controller.count + 1
+        self.touched[version] = policy.touches(self.newest)
         self.newest, self.plans[version] = rows, plan
         self.say(f"submitted file {file} version {version}")
         self.controller.submit()
@@ -929,6 +957,17 @@ class World:
                 self.step(row, kind, *fields)
 
 
+def played(net, schedule, policies):
+    """The world behind the schedule."""
+    try:
+        world = World(net, policies)
+    except Refused:
+        sys.exit(3)
+    with open(schedule, newline="") as file:
+        world.play([row for row in csv.reader(file) if row][1:])
+    return world
+
+
 def main():
     args, net = sys.argv[1:], SOLO
     quiet, flows = "--quiet" in args, "--flows" in args
@@ -940,13 +979,7 @@ def main():
         del args[at : at + 2]
     if len(args) < 2:
         sys.exit(__doc__)
-    schedule, *policies = args
-    try:
-        world = World(net, policies)
-    except Refused:
-        sys.exit(3)
-    with open(schedule, newline="") as file:
-        world.play([row for row in csv.reader(file) if row][1:])
+    world = played(net, args[0], args[1:])
     lines = [*world.journal.lines, *world.journal.meter_lines()]
     if flows:
         lines = world.journal.flow_lines()
