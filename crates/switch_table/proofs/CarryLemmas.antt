@@ -1,5 +1,5 @@
 -- What a cache keeps as it goes over to a version.
-use Rattle.std.proofs.Common.{ℕ, zero, suc, ◌≡◌, ◌∙◌, ◌+◌, ◌≤◌, Bool, true, false, cond, leb, eqb, not, ◌&&◌, ◌||◌, ◌⊎◌, Option, Some, None, Result, Ok, Err, IfSome, List, [], ◌∷◌, ◌++◌, append-nil, length, map, filter, filter_map, get_or, refl, ap, sym, subst, inl, inr, arith, All, AllPairs, Any, Contains}
+use Rattle.std.proofs.Common.{ℕ, zero, suc, ◌≡◌, ◌∙◌, ◌+◌, ◌≤◌, ◌^◌, Bool, true, false, cond, leb, eqb, not, ◌&&◌, ◌||◌, ◌⊎◌, Option, Some, None, Result, Ok, Err, IfSome, List, [], ◌∷◌, ◌++◌, append-nil, length, map, filter, filter_map, get_or, refl, ap, sym, subst, inl, inr, arith, All, AllPairs, Any, Contains}
 use Rattle.std.specs.List.{cons_option, list_any}
 use Rattle.std.specs.Prelude.{OnErr, OnOk}
 use Rattle.std.proofs.lemmas.Bool.{eq-eqb, eqb-true, false_from_ne_true, le-leb, leb-true}
@@ -17,7 +17,7 @@ use Rattle.switch_table.specs.Carried.{after_carry, all_touched, carried_entry, 
 use Rattle.switch_table.specs.Queue.{IsRing, Pair, equal_keys, key_of, pair_of, ring_entries}
 use Rattle.switch_table.specs.declared.cache.CacheEntry.{CacheEntry}
 use Rattle.switch_table.specs.declared.key.CacheKey.{CacheKey}
-use Rattle.switch_table.proofs.QueueLemmas.{IsRingOf, apart-sym, key_equals_itself, keys_equal, ring_straight, same_key-is, straight_grown}
+use Rattle.switch_table.proofs.QueueLemmas.{IsRingOf, apart-sym, ring_straight, same_key_from, same_key_parts, straight_grown}
 
 -- ---- what is left of a list
 
@@ -32,7 +32,7 @@ length-filter_map f [] = omega arith
 length-filter_map f (x ∷ xs) =
     length-cons_option (f x) (filter_map f xs) (length xs) (length-filter_map f xs)
 
-All-filter_map : {X Y : Type 0} (P : Y → Type 0) (f : X → Option Y) (xs : List X)
+pub All-filter_map : {X Y : Type 0} (P : Y → Type 0) (f : X → Option Y) (xs : List X)
     → All (λ x. IfSome (f x) P) xs → All P (filter_map f xs)
 All-filter_map P f [] all = All-nil P
 All-filter_map {X} {Y} P f (x ∷ xs) all =
@@ -156,14 +156,9 @@ both_over : (version : ℕ) (a b : CacheEntry) → a.version + 1 ≡ version →
     → same_key a b ≡ false → same_key (under version a) (under version b) ≡ false
 both_over version a b before_a before_b apart =
     false_from_ne_true (same_key (under version a) (under version b)) (λ same.
-    let keys = keys_equal (key_of (under version a)) (key_of (under version b))
-    (sym (same_key-is (under version a) (under version b)) ∙ same) in
     let versions : a.version ≡ b.version = omega (arith, before_a, before_b) in
-    let equal : key_of a ≡ key_of b =
-    λ i. record { version = versions i; word = (keys i).word } in
-    let one : same_key a b ≡ true =
-    same_key-is a b ∙ subst (λ k. equal_keys (key_of a) k ≡ true) equal
-    (key_equals_itself (key_of a)) in
+    let one = same_key_from a b versions
+    (same_key_parts (under version a) (under version b) same).1 in
     absurd (cc (apart, one)))
 
 pair_carried : (version : ℕ) (touched : List WordValue) (entries : List CacheEntry)
@@ -257,10 +252,8 @@ untouched_stays version touched cache entry there before apart =
     by_case true twins =
         let any = Any-from_list_any (same_key (under version entry)) entries twins in
         let twin = any.1 in
-        let keys = keys_equal (key_of (under version entry)) (key_of twin)
-        (sym (same_key-is (under version entry) twin) ∙ any.4) in
-        let versions : version ≡ twin.version = λ i. (keys i).version in
-        let words : entry.word ≡ twin.word = λ i. (keys i).word in
+        let keys = same_key_parts (under version entry) twin any.4 in
+        let versions : version ≡ twin.version = keys.0 in
         let stays : leb version twin.version ≡ true =
         le-leb version twin.version (omega (arith, versions)) in
         let left : carried_entry version touched entries twin ≡ Some twin =
@@ -268,7 +261,7 @@ untouched_stays version touched cache entry there before apart =
         (cond (goes_over version touched entries twin) (Some (under version twin)) None)) stays in
         found twin
         (contains_left (carried_entry version touched entries) entries twin twin
-        (any.0, any.2, any.3) left) (sym versions, sym words)
+        (any.0, any.2, any.3) left) (sym versions, sym keys.1)
 
 -- ---- what is there was there, or went over
 
@@ -345,49 +338,49 @@ all_carried version cache =
 -- ---- a map of what is left
 
 -- an entry of which nothing is left ..
-pub left_out : (f : CacheEntry → Option CacheEntry) (before : List CacheEntry)
+pub left_out : (shift : ℕ) (f : CacheEntry → Option CacheEntry) (before : List CacheEntry)
     (entry : CacheEntry) (pairs : List Pair) → f entry ≡ None
-    → pairs ≡ map pair_of (filter_map f before)
-    → pairs ≡ map pair_of (filter_map f (before ++ entry ∷ []))
-left_out f before entry pairs none are =
-    are ∙ ap (map pair_of) (sym (filter_map-append f before (entry ∷ [])
+    → pairs ≡ map (pair_of shift) (filter_map f before)
+    → pairs ≡ map (pair_of shift) (filter_map f (before ++ entry ∷ []))
+left_out shift f before entry pairs none are =
+    are ∙ ap (map (pair_of shift)) (sym (filter_map-append f before (entry ∷ [])
     ∙ ap (λ o. filter_map f before ++ cons_option o []) none
     ∙ append-nil (filter_map f before)))
 
 -- .. or something
-pub left_in : (f : CacheEntry → Option CacheEntry) (before : List CacheEntry)
+pub left_in : (shift : ℕ) (f : CacheEntry → Option CacheEntry) (before : List CacheEntry)
     (entry left : CacheEntry) (rest : List CacheEntry) (pairs new : List Pair) (key : CacheKey)
-    → HaveDistinctKeys (filter_map f (before ++ entry ∷ rest)) → f entry ≡ Some left
-    → pairs ≡ map pair_of (filter_map f before) → key ≡ key_of left
+    → shift ≤ 2 ^ 32 → HaveDistinctKeys (filter_map f (before ++ entry ∷ rest)) → f entry ≡ Some left
+    → pairs ≡ map (pair_of shift) (filter_map f before) → key ≡ key_of shift left
     → new ≡ insert_entry equal_keys pairs key left
-    → new ≡ map pair_of (filter_map f (before ++ entry ∷ []))
-left_in f before entry left rest pairs new key distinct some are own made =
+    → new ≡ map (pair_of shift) (filter_map f (before ++ entry ∷ []))
+left_in shift f before entry left rest pairs new key fits distinct some are own made =
     let all : filter_map f (before ++ entry ∷ rest) ≡ filter_map f before ++ left ∷ filter_map f rest =
     filter_map-append f before (entry ∷ rest)
     ∙ ap (λ o. filter_map f before ++ cons_option o (filter_map f rest)) some in
-    let grown = straight_grown (filter_map f before) left (filter_map f rest) pairs new key
+    let grown = straight_grown shift (filter_map f before) left (filter_map f rest) pairs new key fits
     (subst HaveDistinctKeys all distinct) are own made in
-    grown ∙ ap (map pair_of) (sym (filter_map-append f before (entry ∷ [])
+    grown ∙ ap (map (pair_of shift)) (sym (filter_map-append f before (entry ∷ [])
     ∙ ap (λ o. filter_map f before ++ cons_option o []) some))
 
 -- it is a ring, which begins at its end
-pub ring_left : (first : ℕ) (pairs : List Pair) (entries : List CacheEntry)
-    → HaveDistinctKeys entries → pairs ≡ map pair_of entries → first ≡ length pairs
-    → IsRingOf first pairs entries
-ring_left first pairs entries distinct are end =
-    rw (end, are) (ring_straight entries distinct)
+pub ring_left : (shift first : ℕ) (pairs : List Pair) (entries : List CacheEntry)
+    → shift ≤ 2 ^ 32 → HaveDistinctKeys entries → pairs ≡ map (pair_of shift) entries → first ≡ length pairs
+    → IsRingOf shift first pairs entries
+ring_left shift first pairs entries fits distinct are end =
+    rw (end, are) (ring_straight shift entries fits distinct)
 
-pub ring_left_is : (first : ℕ) (pairs : List Pair) (entries : List CacheEntry)
-    → HaveDistinctKeys entries → pairs ≡ map pair_of entries → first ≡ length pairs
-    → IsRing first pairs
-ring_left_is first pairs entries distinct are end =
-    (ring_left first pairs entries distinct are end).ring
+pub ring_left_is : (shift first : ℕ) (pairs : List Pair) (entries : List CacheEntry)
+    → shift ≤ 2 ^ 32 → HaveDistinctKeys entries → pairs ≡ map (pair_of shift) entries → first ≡ length pairs
+    → IsRing shift first pairs
+ring_left_is shift first pairs entries fits distinct are end =
+    (ring_left shift first pairs entries fits distinct are end).ring
 
-pub ring_left_entries : (first : ℕ) (pairs : List Pair) (entries : List CacheEntry)
-    → HaveDistinctKeys entries → pairs ≡ map pair_of entries → first ≡ length pairs
+pub ring_left_entries : (shift first : ℕ) (pairs : List Pair) (entries : List CacheEntry)
+    → shift ≤ 2 ^ 32 → HaveDistinctKeys entries → pairs ≡ map (pair_of shift) entries → first ≡ length pairs
     → ring_entries first pairs ≡ entries
-ring_left_entries first pairs entries distinct are end =
-    (ring_left first pairs entries distinct are end).entries_are
+ring_left_entries shift first pairs entries fits distinct are end =
+    (ring_left shift first pairs entries fits distinct are end).entries_are
 
 -- there are no more of them
 pub left_few : (version capacity : ℕ) (touched : List WordValue) (old new : List CacheEntry)

@@ -1,3 +1,4 @@
+mod OverLemmas
 pub mod QueueLemmas
 pub mod CacheLemmas
 pub mod CarryLemmas

@@ -1,6 +1,6 @@
 -- Cache entries in a ring: where they stand after a push, a replacement, a removal and a filter,
 -- and that no two have one key.
-use Rattle.std.proofs.Common.{ℕ, suc, ◌≡◌, ◌∙◌, ◌+◌, ◌-◌, ◌<◌, ◌≤◌, Bool, true, false, cond, Option, Some, None, leb, ◌||◌, eqb, is_some, List, [], ◌∷◌, ◌++◌, length, length-append, length-drop, length-set, append-nil, append_assoc, map, filter, remove, take, drop, set, slice_get, get_or, get_or-drop, get_or-take, option_map, take-append-drop, take_all, refl, ap, sym, subst, arith, All}
+use Rattle.std.proofs.Common.{ℕ, suc, ◌≡◌, ◌∙◌, ◌+◌, ◌-◌, ◌<◌, ◌≤◌, ◌^◌, Bool, true, false, cond, Option, Some, None, leb, ◌&&◌, ◌||◌, eqb, is_some, List, [], ◌∷◌, ◌++◌, length, length-append, length-drop, length-set, append-nil, append_assoc, map, filter, remove, take, drop, set, slice_get, get_or, get_or-drop, get_or-take, option_map, take-append-drop, take_all, refl, ap, sym, subst, arith, All}
 use Rattle.std.specs.List.{list_any, swap_remove}
 use Rattle.std.specs.Map.{lookup}
 use Rattle.std.specs.Option.{IfSome}
@@ -23,38 +23,54 @@ use Rattle.switch_table.specs.Queue.{IsRing, Pair, equal_keys, key_of, pair_of, 
 use Rattle.switch_table.specs.declared.cache.CacheEntry.{CacheEntry}
 use Rattle.switch_table.specs.declared.key.CacheKey.{CacheKey}
 
--- the entry has the key
-abbrev pub keyed : CacheKey → CacheEntry → Bool
-keyed key entry = equal_keys key (key_of entry)
+-- the entry has the key, where so much is added to versions
+abbrev pub keyed : ℕ → CacheKey → CacheEntry → Bool
+keyed shift key entry = equal_keys key (key_of shift entry)
 
-pub keys_equal : (a b : CacheKey) → equal_keys a b ≡ true → a ≡ b
-unfolding equal_keys
-keys_equal a b is =
+pub same_key_parts : (a b : CacheEntry) → same_key a b ≡ true
+    → (a.version ≡ b.version) × (a.word ≡ b.word)
+unfolding same_key
+same_key_parts a b is =
     let parts = and_parts (eqb a.version b.version) (word_eq a.word b.word) is in
     let words = and_parts (eqb a.word.value b.word.value) (eqb a.word.mask b.word.mask) parts.1 in
-    let versions = eqb-true a.version b.version parts.0 in
     let values = eqb-true a.word.value b.word.value words.0 in
-    let masks = eqb-true a.word.mask b.word.mask words.1 in
-    λ i. record { version = versions i; word = record { value = values i; mask = masks i } }
+    let masks = eqb-true a.word.mask b.word.mask words.1 in (
+      eqb-true a.version b.version parts.0,
+      λ i. record { value = values i; mask = masks i },
+    )
 
-pub key_equals_itself : (a : CacheKey) → equal_keys a a ≡ true
-unfolding equal_keys
-key_equals_itself a =
-    and_from (eqb a.version a.version) (word_eq a.word a.word) (eq-eqb a.version a.version refl)
-    (and_from (eqb a.word.value a.word.value) (eqb a.word.mask a.word.mask)
-    (eq-eqb a.word.value a.word.value refl) (eq-eqb a.word.mask a.word.mask refl))
+pub same_key_from : (a b : CacheEntry) → a.version ≡ b.version → a.word ≡ b.word
+    → same_key a b ≡ true
+unfolding same_key
+same_key_from a b versions words =
+    and_from (eqb a.version b.version) (word_eq a.word b.word) (eq-eqb a.version b.version versions)
+    (and_from (eqb a.word.value b.word.value) (eqb a.word.mask b.word.mask)
+    (eq-eqb a.word.value b.word.value (ap (λ w. w.value) words))
+    (eq-eqb a.word.mask b.word.mask (ap (λ w. w.mask) words)))
 
-pub same_key-is : (a b : CacheEntry) → same_key a b ≡ keyed (key_of a) b
+eqb-shift : (a b shift : ℕ) → eqb a b ≡ eqb (a + shift) (b + shift)
+eqb-shift a b shift = by_case (eqb a b) refl
+  where
+    by_case : (same : Bool) → eqb a b ≡ same → same ≡ eqb (a + shift) (b + shift)
+    by_case true is =
+        sym (eq-eqb (a + shift) (b + shift) (ap (λ n. n + shift) (eqb-true a b is)))
+    by_case false is =
+        sym (false_from_ne_true (eqb (a + shift) (b + shift)) (λ same.
+        let equal : a ≡ b = omega (arith, eqb-true (a + shift) (b + shift) same) in
+        false≢true (sym is ∙ eq-eqb a b equal)))
+
+pub same_key-is : (shift : ℕ) (a b : CacheEntry) →
+    same_key a b ≡ keyed shift (key_of shift a) b
 unfolding same_key equal_keys
-same_key-is a b = refl
+same_key-is shift a b =
+    ap (λ same. same && word_eq a.word b.word) (eqb-shift a.version b.version shift)
 
 -- two entries of different keys, in either order
 pub apart-sym : (a b : CacheEntry) → same_key a b ≡ false → same_key b a ≡ false
 apart-sym a b apart =
     false_from_ne_true (same_key b a) (λ same.
-    let equal = keys_equal (key_of b) (key_of a) (sym (same_key-is b a) ∙ same) in
-    false≢true (sym apart ∙ same_key-is a b ∙ subst (λ k. equal_keys (key_of a) k ≡ true)
-    (sym equal) (key_equals_itself (key_of a))))
+    let parts = same_key_parts b a same in
+    false≢true (sym apart ∙ same_key_from a b (sym parts.0) (sym parts.1)))
 
 pub none_at : (test : CacheEntry → Bool) (entries : List CacheEntry) (k : ℕ) (d : CacheEntry)
     → list_any test entries ≡ false → k < length entries → test (get_or entries k d) ≡ false
@@ -86,7 +102,7 @@ push_distinct entries entry distinct absent =
 
 -- ---- a list that is turned
 
-turned_parts : {X : Type 0} (front back : List X) →
+pub turned_parts : {X : Type 0} (front back : List X) →
     rotated_list (length front) (front ++ back) ≡ back ++ front
 turned_parts front back =
     ap (λ xs. xs ++ take (length front) (front ++ back)) (drop-append_seam front back)
@@ -98,7 +114,7 @@ parts_at : {X : Type 0} (place : ℕ) (front back : List X) → length front ≡
 parts_at place front back len =
     sym (ap (λ n. rotated_list n (front ++ back)) len) ∙ turned_parts front back
 
-turned_home : {X : Type 0} (xs : List X) → rotated_list (length xs) xs ≡ rotated_list 0 xs
+pub turned_home : {X : Type 0} (xs : List X) → rotated_list (length xs) xs ≡ rotated_list 0 xs
 turned_home xs =
     ap (λ ys. ys ++ take (length xs) xs) (drop_all (length xs) xs (omega arith))
     ∙ take_all (length xs) xs (omega arith) ∙ sym (append-nil xs)
@@ -207,8 +223,8 @@ rest_push : (entries : List CacheEntry) (entry : CacheEntry) → 0 < length entr
 rest_push [] entry some = absurd (omega arith)
 rest_push (x ∷ xs) entry some = refl
 
-abbrev pub IsOwn : Pair → Type 0
-IsOwn pair = pair.0 ≡ key_of pair.1
+abbrev pub IsOwn : ℕ → Pair → Type 0
+IsOwn shift pair = pair.0 ≡ key_of shift pair.1
 
 ring_at : (first place : ℕ) (pairs : List Pair) (pair : Pair) → first ≤ length pairs →
     place < length pairs → get_or (rotated_list first pairs) place pair ≡ pair →
@@ -231,13 +247,15 @@ lookup_any test (pair ∷ pairs) = by_case (test pair.0) (lookup_any test pairs)
     by_case true rest = refl
     by_case false rest = rest
 
-own_any : (key : CacheKey) (pairs : List Pair) → All IsOwn pairs →
-    list_any (λ pair. equal_keys key pair.0) pairs ≡ list_any (keyed key) (map entry_of pairs)
-own_any key [] own = refl
-own_any key (pair ∷ pairs) own =
+own_any : (shift : ℕ) (key : CacheKey) (pairs : List Pair) → All (IsOwn shift) pairs →
+    list_any (λ pair. equal_keys key pair.0) pairs
+    ≡ list_any (keyed shift key) (map entry_of pairs)
+own_any shift key [] own = refl
+own_any shift key (pair ∷ pairs) own =
     ap (λ k. equal_keys key k || list_any (λ p. equal_keys key p.0) pairs)
-    (All-head IsOwn pair pairs own)
-    ∙ ap (λ b. keyed key pair.1 || b) (own_any key pairs (All-tail IsOwn pair pairs own))
+    (All-head (IsOwn shift) pair pairs own)
+    ∙ ap (λ b. keyed shift key pair.1 || b)
+    (own_any shift key pairs (All-tail (IsOwn shift) pair pairs own))
 
 turned_any : {X : Type 0} (test : X → Bool) (place : ℕ) (xs : List X) →
     list_any test xs ≡ list_any test (rotated_list place xs)
@@ -248,28 +266,29 @@ turned_any test place xs =
     ∙ or_comm (list_any test front) (list_any test back) ∙ sym (list_any-append test back front)
 
 -- whether the map has the key of an entry
-pub ring_has : (first : ℕ) (pairs : List Pair) (entry : CacheEntry) → IsRing first pairs →
-    is_some (lookup (equal_keys (key_of entry)) pairs)
+pub ring_has : (shift first : ℕ) (pairs : List Pair) (entry : CacheEntry) →
+    IsRing shift first pairs → is_some (lookup (equal_keys (key_of shift entry)) pairs)
     ≡ list_any (same_key entry) (ring_entries first pairs)
-unfolding same_key equal_keys
-ring_has first pairs entry is =
-    lookup_any (equal_keys (key_of entry)) pairs
-    ∙ turned_any (λ pair. equal_keys (key_of entry) pair.0) first pairs
-    ∙ own_any (key_of entry) (rotated_list first pairs) (All-append IsOwn (drop first pairs)
-    (take first pairs) (All-drop IsOwn first pairs is.own) (All-take IsOwn first pairs is.own))
+ring_has shift first pairs entry is =
+    let own = All-append (IsOwn shift) (drop first pairs) (take first pairs)
+    (All-drop (IsOwn shift) first pairs is.own) (All-take (IsOwn shift) first pairs is.own) in
+    lookup_any (equal_keys (key_of shift entry)) pairs
+    ∙ turned_any (λ pair. equal_keys (key_of shift entry) pair.0) first pairs
+    ∙ own_any shift (key_of shift entry) (rotated_list first pairs) own
+    ∙ sym (λ i. list_any (λ other. same_key-is shift entry other i) (ring_entries first pairs))
 
 -- a new key goes last into the map
-pub ring_inserted : (first : ℕ) (pairs new : List Pair) (key : CacheKey) (entry : CacheEntry)
-    (entries : List CacheEntry) → IsRing first pairs → ring_entries first pairs ≡ entries →
-    list_any (same_key entry) entries ≡ false → key ≡ key_of entry →
-    new ≡ insert_entry equal_keys pairs key entry → new ≡ pairs ++ (key_of entry, entry) ∷ []
-ring_inserted first pairs new key entry entries is are absent own made =
-    let none : is_some (lookup (equal_keys (key_of entry)) pairs) ≡ false =
-    ring_has first pairs entry is ∙ ap (list_any (same_key entry)) are ∙ absent in
+pub ring_inserted : (shift first : ℕ) (pairs new : List Pair) (key : CacheKey) (entry : CacheEntry)
+    (entries : List CacheEntry) → IsRing shift first pairs → ring_entries first pairs ≡ entries →
+    list_any (same_key entry) entries ≡ false → key ≡ key_of shift entry →
+    new ≡ insert_entry equal_keys pairs key entry → new ≡ pairs ++ (key_of shift entry, entry) ∷ []
+ring_inserted shift first pairs new key entry entries is are absent own made =
+    let none : is_some (lookup (equal_keys (key_of shift entry)) pairs) ≡ false =
+    ring_has shift first pairs entry is ∙ ap (list_any (same_key entry)) are ∙ absent in
     made ∙ ap (λ k. insert_entry equal_keys pairs k entry) own
-    ∙ insert_entry-absent equal_keys (key_of entry) entry pairs
-    (absent_from_lookup (equal_keys (key_of entry)) pairs
-    (none_from_not_some (lookup (equal_keys (key_of entry)) pairs) none))
+    ∙ insert_entry-absent equal_keys (key_of shift entry) entry pairs
+    (absent_from_lookup (equal_keys (key_of shift entry)) pairs
+    (none_from_not_some (lookup (equal_keys (key_of shift entry)) pairs) none))
 
 -- the entry at a place, by where it stands in the map
 pub ring_later : (first place len : ℕ) (pairs : List Pair) (pair : Pair) → first ≤ length pairs →
@@ -303,38 +322,39 @@ ring_earlier first place len pairs pair within same here past is =
 -- ---- what each call makes of a ring
 
 -- a ring with these entries
-pub record IsRingOf (first : ℕ) (pairs : List Pair) (entries : List CacheEntry) : Type 0 where
-  pub ring : IsRing first pairs
+pub record IsRingOf (shift first : ℕ) (pairs : List Pair) (entries : List CacheEntry) : Type 0 where
+  pub ring : IsRing shift first pairs
   pub entries_are : ring_entries first pairs ≡ entries
 
-ring_of : (first : ℕ) (pairs : List Pair) (entries : List CacheEntry) → first ≤ length pairs →
-    All IsOwn pairs → ring_entries first pairs ≡ entries → HaveDistinctKeys entries →
-    IsRingOf first pairs entries
-ring_of first pairs entries within own are distinct = record {
-  ring = record { within = within; own = own; distinct = rw are distinct };
+pub ring_of : (shift first : ℕ) (pairs : List Pair) (entries : List CacheEntry) →
+    shift ≤ 2 ^ 32 → first ≤ length pairs → All (IsOwn shift) pairs →
+    ring_entries first pairs ≡ entries → HaveDistinctKeys entries →
+    IsRingOf shift first pairs entries
+ring_of shift first pairs entries fits within own are distinct = record {
+  ring = record { fits = fits; within = within; own = own; distinct = rw are distinct };
   entries_are = are;
 }
 
-none_own : All IsOwn []
-none_own = λ k d within. absurd (omega arith)
+none_own : (shift : ℕ) → All (IsOwn shift) []
+none_own shift = λ k d within. absurd (omega arith)
 
 -- an entry comes last, at the map's end
-pub ring_pushed : (first last : ℕ) (pairs new : List Pair) (entry : CacheEntry)
-    (entries : List CacheEntry) → IsRing first pairs → ring_entries first pairs ≡ entries →
+pub ring_pushed : (shift first last : ℕ) (pairs new : List Pair) (entry : CacheEntry)
+    (entries : List CacheEntry) → IsRing shift first pairs → ring_entries first pairs ≡ entries →
     length pairs ≤ first → list_any (same_key entry) entries ≡ false →
-    new ≡ pairs ++ pair_of entry ∷ [] → last ≡ length new →
-    IsRingOf last new (entries ++ entry ∷ [])
-ring_pushed first last pairs new entry entries is are home absent added len =
-    let pair = pair_of entry in
+    new ≡ pairs ++ pair_of shift entry ∷ [] → last ≡ length new →
+    IsRingOf shift last new (entries ++ entry ∷ [])
+ring_pushed shift first last pairs new entry entries is are home absent added len =
+    let pair = pair_of shift entry in
     let all : entries ≡ map entry_of pairs =
     sym are ∙ ap (map entry_of) (ap (λ n. rotated_list n pairs) (home_is first pairs is.within home)
     ∙ turned_home pairs ∙ append-nil pairs) in
     let now : ring_entries last new ≡ entries ++ entry ∷ [] =
     ap (map entry_of) (ap (λ n. rotated_list n new) len ∙ turned_home new ∙ append-nil new ∙ added)
     ∙ map-append entry_of pairs (pair ∷ []) ∙ ap (λ es. es ++ entry ∷ []) (sym all) in
-    ring_of last new (entries ++ entry ∷ []) (omega (arith, len))
-    (rw added (All-append IsOwn pairs (pair ∷ []) is.own
-    (All-cons IsOwn pair [] refl none_own))) now
+    ring_of shift last new (entries ++ entry ∷ []) is.fits (omega (arith, len))
+    (rw added (All-append (IsOwn shift) pairs (pair ∷ []) is.own
+    (All-cons (IsOwn shift) pair [] refl (none_own shift)))) now
     (push_distinct entries entry (subst HaveDistinctKeys are is.distinct) absent)
   where
     home_is : (first : ℕ) (pairs : List Pair) → first ≤ length pairs → length pairs ≤ first →
@@ -342,36 +362,37 @@ ring_pushed first last pairs new entry entries is are home absent added len =
     home_is first pairs within home = omega arith
 
 -- what a push makes of a ring that has not gone round, as the calls say it
-pub ring_put : (first last : ℕ) (pairs made new : List Pair) (key : CacheKey) (entry : CacheEntry)
-    (entries : List CacheEntry) → IsRing first pairs → ring_entries first pairs ≡ entries →
-    length pairs ≤ first → list_any (same_key entry) entries ≡ false → key ≡ key_of entry →
+pub ring_put : (shift first last : ℕ) (pairs made new : List Pair) (key : CacheKey) (entry : CacheEntry)
+    (entries : List CacheEntry) → IsRing shift first pairs → ring_entries first pairs ≡ entries →
+    length pairs ≤ first → list_any (same_key entry) entries ≡ false → key ≡ key_of shift entry →
     made ≡ insert_entry equal_keys pairs key entry → new ≡ made → last ≡ length new →
-    IsRingOf last new (entries ++ entry ∷ [])
-ring_put first last pairs made new key entry entries is are home absent own put now len =
-    ring_pushed first last pairs new entry entries is are home absent
-    (now ∙ ring_inserted first pairs made key entry entries is are absent own put) len
+    IsRingOf shift last new (entries ++ entry ∷ [])
+ring_put shift first last pairs made new key entry entries is are home absent own put now len =
+    ring_pushed shift first last pairs new entry entries is are home absent
+    (now ∙ ring_inserted shift first pairs made key entry entries is are absent own put) len
 
 -- ---- a map that holds entries in order
 
-length-pairs : (entries : List CacheEntry) → length (map pair_of entries) ≡ length entries
-length-pairs entries = length-map entries pair_of
+length-pairs : (shift : ℕ) (entries : List CacheEntry) → length (map (pair_of shift) entries) ≡ length entries
+length-pairs shift entries = length-map entries (pair_of shift)
 
-own_pairs : (entries : List CacheEntry) → All IsOwn (map pair_of entries)
-own_pairs [] = none_own
-own_pairs (entry ∷ entries) =
-    All-cons IsOwn (pair_of entry) (map pair_of entries) refl (own_pairs entries)
+own_pairs : (shift : ℕ) (entries : List CacheEntry) → All (IsOwn shift) (map (pair_of shift) entries)
+own_pairs shift [] = (none_own shift)
+own_pairs shift (entry ∷ entries) =
+    All-cons (IsOwn shift) (pair_of shift entry) (map (pair_of shift) entries) refl (own_pairs shift entries)
 
-entries_of_pairs : (entries : List CacheEntry) → map entry_of (map pair_of entries) ≡ entries
-entries_of_pairs [] = refl
-entries_of_pairs (entry ∷ entries) = ap (λ es. entry ∷ es) (entries_of_pairs entries)
+entries_of_pairs : (shift : ℕ) (entries : List CacheEntry) → map entry_of (map (pair_of shift) entries) ≡ entries
+entries_of_pairs shift [] = refl
+entries_of_pairs shift (entry ∷ entries) = ap (λ es. entry ∷ es) (entries_of_pairs shift entries)
 
 -- it is a ring that has not gone round
-pub ring_straight : (entries : List CacheEntry) → HaveDistinctKeys entries →
-    IsRingOf (length (map pair_of entries)) (map pair_of entries) entries
-ring_straight entries distinct =
-    let pairs = map pair_of entries in
-    ring_of (length pairs) pairs entries (omega arith) (own_pairs entries)
-    (ap (map entry_of) (turned_home pairs ∙ append-nil pairs) ∙ entries_of_pairs entries) distinct
+pub ring_straight : (shift : ℕ) (entries : List CacheEntry) → shift ≤ 2 ^ 32 →
+    HaveDistinctKeys entries →
+    IsRingOf shift (length (map (pair_of shift) entries)) (map (pair_of shift) entries) entries
+ring_straight shift entries fits distinct =
+    let pairs = map (pair_of shift) entries in
+    ring_of shift (length pairs) pairs entries fits (omega arith) (own_pairs shift entries)
+    (ap (map entry_of) (turned_home pairs ∙ append-nil pairs) ∙ entries_of_pairs shift entries) distinct
 
 -- no entry before another one has its key
 pub none_before : (before : List CacheEntry) (entry : CacheEntry) (rest : List CacheEntry) →
@@ -388,17 +409,18 @@ none_before (x ∷ before) entry rest distinct =
     ap (λ b. b || list_any (same_key entry) before) (apart-sym x entry apart) ∙ rest_apart
 
 -- one more entry comes in
-pub straight_grown : (before : List CacheEntry) (entry : CacheEntry) (rest : List CacheEntry)
-    (pairs new : List Pair) (key : CacheKey) → HaveDistinctKeys (before ++ entry ∷ rest) →
-    pairs ≡ map pair_of before → key ≡ key_of entry →
-    new ≡ insert_entry equal_keys pairs key entry → new ≡ map pair_of (before ++ entry ∷ [])
-straight_grown before entry rest pairs new key distinct are own made =
+pub straight_grown : (shift : ℕ) (before : List CacheEntry) (entry : CacheEntry) (rest : List CacheEntry)
+    (pairs new : List Pair) (key : CacheKey) → shift ≤ 2 ^ 32 →
+    HaveDistinctKeys (before ++ entry ∷ rest) →
+    pairs ≡ map (pair_of shift) before → key ≡ key_of shift entry →
+    new ≡ insert_entry equal_keys pairs key entry → new ≡ map (pair_of shift) (before ++ entry ∷ [])
+straight_grown shift before entry rest pairs new key fits distinct are own made =
     let absent = none_before before entry rest distinct in
-    let is = ring_straight before (before_distinct before (entry ∷ rest) distinct) in
-    let put = ring_inserted (length (map pair_of before)) (map pair_of before) new key entry before
+    let is = ring_straight shift before fits (before_distinct before (entry ∷ rest) distinct) in
+    let put = ring_inserted shift (length (map (pair_of shift) before)) (map (pair_of shift) before) new key entry before
     is.ring is.entries_are absent own
     (made ∙ ap (λ ps. insert_entry equal_keys ps key entry) are) in
-    put ∙ sym (map-append pair_of before (entry ∷ []))
+    put ∙ sym (map-append (pair_of shift) before (entry ∷ []))
   where
     before_distinct : (before rest : List CacheEntry) → HaveDistinctKeys (before ++ rest) →
         HaveDistinctKeys before
@@ -428,18 +450,18 @@ home_place first pairs within past some =
     (some, ap (map entry_of) (sym (turned_home pairs) ∙ ap (λ n. rotated_list n pairs) (sym home)))
 
 -- an entry comes last in the place of the first one
-pub ring_replace : (first place : ℕ) (pairs : List Pair) (entry : CacheEntry) →
-    IsRing first pairs → IsFirstPlace place first pairs →
+pub ring_replace : (shift first place : ℕ) (pairs : List Pair) (entry : CacheEntry) →
+    IsRing shift first pairs → IsFirstPlace place first pairs →
     list_any (same_key entry) (ring_entries first pairs) ≡ false →
-    IsRingOf (place + 1) (set pairs place (key_of entry, entry))
+    IsRingOf shift (place + 1) (set pairs place (key_of shift entry, entry))
     (drop 1 (ring_entries first pairs) ++ entry ∷ [])
-ring_replace first place pairs entry is at absent =
-    let pair : Pair = (key_of entry, entry) in
+ring_replace shift first place pairs entry is at absent =
+    let pair : Pair = (key_of shift entry, entry) in
     let old = ring_entries first pairs in
     let some : 0 < length old = omega (arith, at.0, length-ring first pairs is.within) in
-    ring_of (place + 1) (set pairs place pair) (drop 1 old ++ entry ∷ [])
+    ring_of shift (place + 1) (set pairs place pair) (drop 1 old ++ entry ∷ []) is.fits
     (omega (arith, at.0, length-set pairs place pair))
-    (All-set IsOwn pairs place pair refl is.own)
+    (All-set (IsOwn shift) pairs place pair refl is.own)
     (ap (map entry_of) (turned_set place pairs pair at.0)
     ∙ map-append entry_of (drop 1 (rotated_list place pairs)) (pair ∷ [])
     ∙ ap (λ es. es ++ entry ∷ []) (map-rest entry_of (rotated_list place pairs)
@@ -463,56 +485,56 @@ taken_at None more new place is within made = absurd (absent more place is withi
         cc
 
 -- an entry that was inserted last, and taken to the place of the first one
-pub ring_replaced : (first place : ℕ) (pairs more new : List Pair) (d : Pair) (entry : CacheEntry)
-    (entries : List CacheEntry) → IsRing first pairs → IsFirstPlace place first pairs →
+pub ring_replaced : (shift first place : ℕ) (pairs more new : List Pair) (d : Pair) (entry : CacheEntry)
+    (entries : List CacheEntry) → IsRing shift first pairs → IsFirstPlace place first pairs →
     ring_entries first pairs ≡ entries → list_any (same_key entry) entries ≡ false →
-    more ≡ pairs ++ (key_of entry, entry) ∷ [] → new ≡ swap_remove more place d →
-    IsRingOf (place + 1) new (drop 1 entries ++ entry ∷ [])
-ring_replaced first place pairs more new d entry entries is at are absent added made =
-    let pair : Pair = (key_of entry, entry) in
+    more ≡ pairs ++ (key_of shift entry, entry) ∷ [] → new ≡ swap_remove more place d →
+    IsRingOf shift (place + 1) new (drop 1 entries ++ entry ∷ [])
+ring_replaced shift first place pairs more new d entry entries is at are absent added made =
+    let pair : Pair = (key_of shift entry, entry) in
     let put : new ≡ set pairs place pair =
     made ∙ ap (λ ps. swap_remove ps place d) added ∙ swapped pairs place pair d at.0 in
-    rw (put, ← are) (ring_replace first place pairs entry is at
+    rw (put, ← are) (ring_replace shift first place pairs entry is at
     (ap (list_any (same_key entry)) are ∙ absent))
 
-All-remove : (pairs : List Pair) (k : ℕ) → All IsOwn pairs → All IsOwn (remove pairs k)
-All-remove pairs k own = All-append IsOwn (take k pairs) (drop (suc k) pairs)
-    (All-take IsOwn k pairs own) (All-drop IsOwn (suc k) pairs own)
+All-remove : (shift : ℕ) (pairs : List Pair) (k : ℕ) → All (IsOwn shift) pairs → All (IsOwn shift) (remove pairs k)
+All-remove shift pairs k own = All-append (IsOwn shift) (take k pairs) (drop (suc k) pairs)
+    (All-take (IsOwn shift) k pairs own) (All-drop (IsOwn shift) (suc k) pairs own)
 
 -- the entry at a place goes, which stands behind the first in the map or before it
-pub ring_remove_later : (first place len : ℕ) (pairs : List Pair) → IsRing first pairs →
-    len ≡ length pairs → place < len - first → IsRingOf first (remove pairs (first + place))
+pub ring_remove_later : (shift first place len : ℕ) (pairs : List Pair) → IsRing shift first pairs →
+    len ≡ length pairs → place < len - first → IsRingOf shift first (remove pairs (first + place))
     (remove (ring_entries first pairs) place)
-ring_remove_later first place len pairs is same here =
+ring_remove_later shift first place len pairs is same here =
     let within = is.within in
-    ring_of first (remove pairs (first + place)) _
+    ring_of shift first (remove pairs (first + place)) _ is.fits
     (omega (arith, length-remove pairs (first + place) (omega arith)))
-    (All-remove pairs (first + place) is.own)
+    (All-remove shift pairs (first + place) is.own)
     (ap (map entry_of) (turned_remove_later first place pairs within (omega arith))
     ∙ map-remove entry_of (rotated_list first pairs) place)
     (all_pairs_remove (λ a b. same_key a b ≡ false) (ring_entries first pairs) place
     (omega (arith, length-ring first pairs within)) is.distinct)
 
-pub ring_remove_earlier : (first place len : ℕ) (pairs : List Pair) → IsRing first pairs →
+pub ring_remove_earlier : (shift first place len : ℕ) (pairs : List Pair) → IsRing shift first pairs →
     len ≡ length pairs → place < len → len - first ≤ place →
-    IsRingOf (first - 1) (remove pairs (place - (len - first)))
+    IsRingOf shift (first - 1) (remove pairs (place - (len - first)))
     (remove (ring_entries first pairs) place)
-ring_remove_earlier first place len pairs is same here past =
+ring_remove_earlier shift first place len pairs is same here past =
     let within = is.within in
     let at = place - (len - first) in
-    ring_of (first - 1) (remove pairs at) _
+    ring_of shift (first - 1) (remove pairs at) _ is.fits
     (omega (arith, length-remove pairs at (omega arith)))
-    (All-remove pairs at is.own)
+    (All-remove shift pairs at is.own)
     (ap (map entry_of) (turned_remove_earlier first place len pairs within same here past)
     ∙ map-remove entry_of (rotated_list first pairs) place)
     (all_pairs_remove (λ a b. same_key a b ≡ false) (ring_entries first pairs) place
     (omega (arith, length-ring first pairs within)) is.distinct)
 
 -- the entries from a version on stay
-pub ring_keep : (version first : ℕ) (pairs : List Pair) → IsRing first pairs →
-    IsRingOf (length (pairs_from version (take first pairs))) (pairs_from version pairs)
+pub ring_keep : (shift version first : ℕ) (pairs : List Pair) → IsRing shift first pairs →
+    IsRingOf shift (length (pairs_from version (take first pairs))) (pairs_from version pairs)
     (filter (λ entry. leb version entry.version) (ring_entries first pairs))
-ring_keep version first pairs is =
+ring_keep shift version first pairs is =
     let kept = λ (entry : CacheEntry). leb version entry.version in
     let own_kept = λ (pair : Pair). kept pair.1 in
     let front = take first pairs in
@@ -522,14 +544,14 @@ ring_keep version first pairs is =
     ap (λ ps. length (pairs_from version ps)) (sym (take-append-drop first pairs))
     ∙ ap length (filter-append own_kept front back)
     ∙ length-append (pairs_from version front) (pairs_from version back) in
-    ring_of (length (pairs_from version front)) (pairs_from version pairs) _
-    (omega (arith, parts)) (All-filter own_kept IsOwn pairs is.own)
+    ring_of shift (length (pairs_from version front)) (pairs_from version pairs) _ is.fits
+    (omega (arith, parts)) (All-filter own_kept (IsOwn shift) pairs is.own)
     (ap (map entry_of) (turned_filter own_kept first pairs)
     ∙ filter-map kept entry_of (rotated_list first pairs))
     (AllPairs-filter (λ a b. same_key a b ≡ false) kept (ring_entries first pairs) is.distinct)
 
 -- how many of the values are from a version on
-length-kept : (version : ℕ) (pairs : List Pair) →
+pub length-kept : (version : ℕ) (pairs : List Pair) →
     length (filter (λ (entry : CacheEntry). leb version entry.version) (map entry_of pairs))
     ≡ length (pairs_from version pairs)
 length-kept version pairs =
@@ -537,15 +559,15 @@ length-kept version pairs =
     ∙ length-map (pairs_from version pairs) entry_of
 
 -- what stays, as the calls say it
-pub ring_kept : (version first next : ℕ) (pairs new : List Pair)
-    (front entries : List CacheEntry) → IsRing first pairs → ring_entries first pairs ≡ entries →
+pub ring_kept : (shift version first next : ℕ) (pairs new : List Pair)
+    (front entries : List CacheEntry) → IsRing shift first pairs → ring_entries first pairs ≡ entries →
     front ≡ map entry_of (take first pairs) →
     next ≡ length (filter (λ (entry : CacheEntry). leb version entry.version) front) →
     new ≡ pairs_from version pairs →
-    IsRingOf next new (filter (λ entry. leb version entry.version) entries)
-ring_kept version first next pairs new front entries is are values counted kept =
+    IsRingOf shift next new (filter (λ entry. leb version entry.version) entries)
+ring_kept shift version first next pairs new front entries is are values counted kept =
     let number : next ≡ length (pairs_from version (take first pairs)) =
     counted
     ∙ ap (λ es. length (filter (λ (entry : CacheEntry). leb version entry.version) es)) values
     ∙ length-kept version (take first pairs) in
-    rw (number, kept, ← are) (ring_keep version first pairs is)
+    rw (number, kept, ← are) (ring_keep shift version first pairs is)

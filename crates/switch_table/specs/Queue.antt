@@ -1,21 +1,24 @@
 -- Cache entries as a map holds them: each under its key, in a ring.
-use Rattle.std.specs.Prelude.{ℕ, ◌≡◌, ◌≤◌, Bool, ◌&&◌, ◌==◌, List, ◌++◌, length, map, filter, take, drop, nat_le, All}
+use Rattle.std.specs.Prelude.{ℕ, ◌+◌, ◌≡◌, ◌≤◌, ◌^◌, Bool, not, ◌&&◌, ◌==◌, if◌then◌else◌, Option, Some, None, List, ◌++◌, length, map, filter, take, drop, nat_le, All}
 use Rattle.ternary.specs.Meets.{word_eq}
+use Rattle.ternary.specs.Word.{WordValue}
 use Rattle.switch_table.specs.Cache.{HaveDistinctKeys}
+use Rattle.switch_table.specs.Carried.{meets_any, under}
 use Rattle.switch_table.specs.declared.cache.CacheEntry.{CacheEntry}
 use Rattle.switch_table.specs.declared.key.CacheKey.{CacheKey}
 
-abbrev pub key_of : CacheEntry → CacheKey
-key_of entry = record { version = entry.version; word = entry.word }
+-- the key of an entry, where so much is added to its version
+abbrev pub key_of : ℕ → CacheEntry → CacheKey
+key_of shift entry = record { number = entry.version + shift; word = entry.word }
 
 unfoldable pub equal_keys : CacheKey → CacheKey → Bool
-equal_keys a b = (a.version == b.version) && word_eq a.word b.word
+equal_keys a b = (a.number == b.number) && word_eq a.word b.word
 
 abbrev pub Pair : Type 0
 Pair = CacheKey × CacheEntry
 
-abbrev pub pair_of : CacheEntry → Pair
-pair_of entry = (key_of entry, entry)
+abbrev pub pair_of : ℕ → CacheEntry → Pair
+pair_of shift entry = (key_of shift entry, entry)
 
 -- the list as it is read from a place to the end, and then from the front to that place
 abbrev pub rotated_list : {X : Type 0} → ℕ → List X → List X
@@ -29,8 +32,24 @@ ring_entries first pairs = map (λ pair. pair.1) (rotated_list first pairs)
 abbrev pub pairs_from : ℕ → List Pair → List Pair
 pairs_from version pairs = filter (λ pair. nat_le version pair.1.version) pairs
 
+-- the entry is one of the version before, and its word meets no touched word
+abbrev pub over : ℕ → List WordValue → CacheEntry → Bool
+over version touched entry =
+    (entry.version + 1 == version) && not (meets_any touched entry.word)
+
+-- what becomes of an entry as the entries go over to a version
+abbrev pub entry_over : ℕ → List WordValue → CacheEntry → Option CacheEntry
+entry_over version touched entry =
+    if over version touched entry then Some (under version entry) else None
+
+-- what becomes of a pair then: its key stays
+abbrev pub pair_over : ℕ → List WordValue → Pair → Option Pair
+pair_over version touched pair =
+    if over version touched pair.1 then Some (pair.0, under version pair.1) else None
+
 -- the ring begins within the list, each entry has its own key, and no two have one key
-pub record IsRing (first : ℕ) (pairs : List Pair) : Type 0 where
+pub record IsRing (shift first : ℕ) (pairs : List Pair) : Type 0 where
+  pub fits : shift ≤ 2 ^ 32
   pub within : first ≤ length pairs
-  pub own : All (λ pair. pair.0 ≡ key_of pair.1) pairs
+  pub own : All (λ pair. pair.0 ≡ key_of shift pair.1) pairs
   pub distinct : HaveDistinctKeys (ring_entries first pairs)

@@ -1,4 +1,4 @@
-ghost use Rattle.std.specs.Prelude.{◌≡◌, [], slice_get, option_map, OnOk, OnErr};
+ghost use Rattle.std.specs.Prelude.{◌≡◌, ◌≤◌, ◌^◌, [], slice_get, option_map, OnOk, OnErr};
 ghost use Rattle.switch_table.specs.Cache.{IsCache, after_accept, after_expire, after_raise, after_clear, first_entry};
 ghost use Rattle.switch_table.specs.CacheLaws.{CacheLaws, CarryLaws};
 ghost use Rattle.switch_table.specs.Carried.{after_carry};
@@ -27,11 +27,13 @@ pub struct CacheEntry {
 }
 
 impl CacheEntry {
-    pub(crate) fn key(&self) -> CacheKey
-        ensures { result ≡ key_of self.now }
+    /// The key in a queue that adds so much to versions.
+    pub(crate) fn key(&self, shift: u64) -> CacheKey
+        requires { shift ≤ 2 ^ 32 }
+        ensures { result ≡ key_of shift self.now }
     {
         CacheKey {
-            version: self.version,
+            number: u64::from(self.version) + shift,
             word: self.word,
         }
     }

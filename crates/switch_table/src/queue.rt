@@ -1,27 +1,35 @@
-ghost use Rattle.std.specs.Prelude.{◌≡◌, ◌<◌, [], ◌∷◌, ◌++◌, length, drop, remove, map, filter, filter_map, nat_le, slice_get, IsFalse, IfOk, OnOk, OnErr};
+ghost use Rattle.std.specs.Prelude.{◌≡◌, ◌<◌, ◌≤◌, ◌^◌, [], ◌∷◌, ◌++◌, length, drop, remove, map, filter, filter_map, nat_le, slice_get, IsFalse, IfOk, OnOk, OnErr};
 ghost use Rattle.std.specs.List.{list_any};
 ghost use Rattle.switch_table.specs.Cache.{same_key, HaveDistinctKeys};
 ghost use Rattle.switch_table.specs.Carried.{carried_entry};
-ghost use Rattle.switch_table.specs.Queue.{pair_of};
+ghost use Rattle.switch_table.specs.Queue.{entry_over, over, pair_of, pair_over, ring_entries};
 
 use crate::cache::CacheEntry;
 use crate::items::CacheItems;
 use crate::key::CacheKey;
-use crate::touched::Touched;
+use crate::touched::{Touched, meets_any};
 use indexmap::IndexMap;
 use std::alloc::{AllocError, Global};
 use std::marker::Model;
+use ternary::Word;
 
 /// Entries in the order in which they came, no two of one key. Contracts see the list.
 ///
 /// The map holds them as a ring: the first entry stands at the place `first`, the later ones behind
 /// it and then from the map's front on, where all of them stand if `first` is the length. So an
 /// entry that comes for the first one takes its place, and no other entry moves.
+///
+/// The key of an entry has its version and the shift. So where entries go over to the next version,
+/// the shift falls by one, and their keys stay.
 #[derive(Drop)]
 pub struct EntryQueue {
     ring: IndexMap<CacheKey, CacheEntry>,
     first: usize,
+    shift: u64,
 }
+
+// The shift of a queue at first.
+const MOST_SHIFT: u64 = 1 << 32;
 
 impl Model for EntryQueue {
     ghost use Rattle.std.specs.Prelude.{List};
@@ -32,7 +40,7 @@ impl Model for EntryQueue {
 
     ghost view = { λ q. ring_entries q.first q.ring.entries };
 
-    ghost invariant = { λ q. IsRing q.first q.ring.entries };
+    ghost invariant = { λ q. IsRing q.shift q.first q.ring.entries };
 }
 
 impl EntryQueue {
@@ -42,6 +50,7 @@ impl EntryQueue {
         EntryQueue {
             ring: IndexMap::new(alloc),
             first: 0,
+            shift: MOST_SHIFT,
         }
     }
 
@@ -49,7 +58,7 @@ impl EntryQueue {
     pub fn has_key_of(&self, entry: &CacheEntry) -> bool
         ensures { result ≡ list_any (same_key entry.now) self.now }
     {
-        self.ring.contains_key(&entry.key())
+        self.ring.contains_key(&entry.key(self.shift))
     }
 
     /// Puts an entry last, whose key is not there. A ring that has gone round is straightened
@@ -60,24 +69,25 @@ impl EntryQueue {
         ensures err { OnErr result (self.new ≡ self.old) }
     {
         if self.first < self.ring.len() {
-            let mut ring = self.straight()?;
-            ring.insert(entry.key(), *entry)?;
+            let mut ring = self.straight(self.shift)?;
+            ring.insert(entry.key(self.shift), *entry)?;
             self.ring = ring;
         } else {
-            self.ring.insert(entry.key(), *entry)?;
+            self.ring.insert(entry.key(self.shift), *entry)?;
         }
         self.first = self.ring.len();
         Ok(())
     }
 
     // A map that holds the entries in order, with room for one more.
-    fn straight(&self) -> Result<IndexMap<CacheKey, CacheEntry>, AllocError>
-        ensures entries { IfOk result (λ ring. ring.entries ≡ map pair_of self.now) }
+    fn straight(&self, shift: u64) -> Result<IndexMap<CacheKey, CacheEntry>, AllocError>
+        requires { shift ≤ 2 ^ 32 }
+        ensures entries { IfOk result (λ ring. ring.entries ≡ map (pair_of shift) self.now) }
         ensures distinct { HaveDistinctKeys self.now }
     {
         let mut ring = IndexMap::with_capacity(*self.ring.allocator(), self.ring.len() + 1)?;
         for entry in self.iter() {
-            ring.insert(entry.key(), entry)?;
+            ring.insert(entry.key(shift), entry)?;
         }
         Ok(ring)
     }
@@ -94,7 +104,7 @@ impl EntryQueue {
         } else {
             0
         };
-        self.ring.insert(entry.key(), *entry)?;
+        self.ring.insert(entry.key(self.shift), *entry)?;
         self.first = first + 1;
         self.ring.swap_remove_index(first);
         Ok(())
@@ -129,15 +139,20 @@ impl EntryQueue {
         self.ring.retain(|_, entry| version <= entry.version);
     }
 
-    /// Carries the entries to this version: a new ring is made of what is left, and then takes the
-    /// place of the old one.
-    #[tactic(auto, using(crate::proofs::CarryLemmas::carried_distinct, crate::proofs::CarryLemmas::ring_left_is, crate::proofs::CarryLemmas::ring_left_entries))]
+    /// Carries the entries to this version. Where none is of this version or a later one, those
+    /// that go over keep their keys; otherwise a new ring is made of what is left, and then takes
+    /// the place of the old one.
     pub fn carry(&mut self, version: u32, touched: &Touched) -> Result<(), AllocError>
         ensures ok { OnOk result
             (self.new ≡ filter_map (carried_entry version touched.now self.old) self.old) }
         ensures err { OnErr result (self.new ≡ self.old) }
     {
-        let ring = self.carried(version, touched)?;
+        if self.shift > 0 && count_from(self.ring.as_slice().values().as_slice(), version) == 0 {
+            self.first = take_over(&mut self.ring, self.first, version, touched);
+            self.shift -= 1;
+            return Ok(());
+        }
+        let ring = self.carried(version, touched, self.shift)?;
         self.first = ring.len();
         self.ring = ring;
         Ok(())
@@ -148,15 +163,18 @@ impl EntryQueue {
         &self,
         version: u32,
         touched: &Touched,
+        shift: u64,
     ) -> Result<IndexMap<CacheKey, CacheEntry>, AllocError>
+        requires { shift ≤ 2 ^ 32 }
         ensures entries { IfOk result (λ ring. ring.entries
-            ≡ map pair_of (filter_map (carried_entry version touched.now self.now) self.now)) }
+            ≡ map (pair_of shift)
+            (filter_map (carried_entry version touched.now self.now) self.now)) }
         ensures distinct { HaveDistinctKeys self.now }
     {
         let mut ring = IndexMap::with_capacity(*self.ring.allocator(), self.ring.len())?;
         for entry in self.iter() {
             if let Some(left) = self.carried_entry(version, touched, &entry) {
-                ring.insert(left.key(), left)?;
+                ring.insert(left.key(shift), left)?;
             }
         }
         Ok(ring)
@@ -216,4 +234,51 @@ fn count_from(entries: &[CacheEntry], version: u32) -> usize
         }
     }
     count
+}
+
+// Takes the entries over to this version that go over to it, and the others out, where none is of
+// this version or a later one. Answers where the first one then stands.
+fn take_over(
+    ring: &mut IndexMap<CacheKey, CacheEntry>,
+    first: usize,
+    version: u32,
+    touched: &Touched,
+) -> usize
+    requires { first ≤ length ring.old.entries }
+    ensures pairs { ring.new.entries
+        ≡ filter_map (pair_over version touched.now) ring.old.entries }
+    ensures within { result ≤ length ring.new.entries }
+    ensures entries { ring_entries result ring.new.entries
+        ≡ filter_map (entry_over version touched.now) (ring_entries first ring.old.entries) }
+{
+    let words = touched.words();
+    let place = if first < ring.len() { first } else { 0 };
+    let (front, _) = ring.as_slice().split_at(place);
+    let before = count_over(front.values().as_slice(), version, words);
+    ring.retain(|_, entry| {
+        let goes = goes_over(entry, version, words);
+        entry.version = version;
+        goes
+    });
+    if before > 0 { before } else { ring.len() }
+}
+
+// How many of the entries go over to this version.
+fn count_over(entries: &[CacheEntry], version: u32, touched: &[Word]) -> usize
+    ensures { result ≡ length (filter (over version touched.now) entries.now) }
+{
+    let mut count = 0;
+    for entry in entries {
+        if goes_over(entry, version, touched) {
+            count += 1;
+        }
+    }
+    count
+}
+
+// Whether the entry is of the version before this one, and its word meets none of these.
+fn goes_over(entry: &CacheEntry, version: u32, touched: &[Word]) -> bool
+    ensures { result ≡ over version touched.now entry.now }
+{
+    u64::from(entry.version) + 1 == u64::from(version) && !meets_any(touched, &entry.word)
 }

@@ -73,8 +73,15 @@ impl Touched {
     pub fn meets(&self, word: &Word) -> bool
         ensures { result ≡ meets_any self.now word.now }
     {
-        self.words().iter().any(|touched| meets(word, touched))
+        meets_any(self.words(), word)
     }
+}
+
+/// Whether the word meets one of these.
+pub(crate) fn meets_any(touched: &[Word], word: &Word) -> bool
+    ensures { result ≡ meets_any touched.now word.now }
+{
+    touched.iter().any(|one| meets(word, one))
 }
 
 // Whether a header is in both words.

@@ -6,7 +6,7 @@ use Rattle.switch_table.proofs.QueueLemmas.{IsRingOf, entry_of, ring_kept}
 use Rattle.switch_table.proofs.queue.EntryQueue.keep_from.Goals as goal
 use Rattle.switch_table.proofs.queue.EntryQueue.keep_from.Goals.{After-retain}
 
-stays : (c : After-retain) → IsRingOf c.count_from-self-inside.result c.retain.new.self.entries
+stays : (c : After-retain) → IsRingOf c.self.inside.shift c.count_from-self-inside.result c.retain.new.self.entries
     (filter (λ (entry : CacheEntry). leb c.args.version entry.version) c.args.self.now)
 stays c =
     let version = c.args.version in
@@ -19,7 +19,7 @@ stays c =
     filter-RetainsPairs _ (λ (pair : Pair). leb version pair.1.version) _
     (λ k v b w g called. (search rules, search rules, search rules)) _ _
     c.retain.ensures.filtered in
-    ring_kept version first c.count_from-self-inside.result pairs c.retain.new.self.entries
+    ring_kept c.self.inside.shift version first c.count_from-self-inside.result pairs c.retain.new.self.entries
     c.as_slice-2.result.now c.args.self.now c.self.invariant c.self.view_is front
     c.count_from-self-inside.ensures kept
 

@@ -1,11 +1,11 @@
-use Rattle.std.proofs.Common.{◌∙◌, ◌∷◌, [], ◌++◌, ap, length, map, arith}
+use Rattle.std.proofs.Common.{◌∙◌, ◌∷◌, [], ◌++◌, ap, length, map, subst, sym, arith}
 use Rattle.indexmap.specs.IndexMap.{insert_entry}
 use Rattle.switch_table.specs.Queue.{equal_keys, pair_of}
 use Rattle.switch_table.proofs.QueueLemmas.{IsRingOf, ring_put, ring_straight}
 use Rattle.switch_table.proofs.queue.EntryQueue.push.Goals as goal
 use Rattle.switch_table.proofs.queue.EntryQueue.push.Goals.{After-self-1, then-self-len+in_ok-ring+in_ok-insert, else-self-len+in_ok-insert-2}
 
-pushed : (c : After-self-1) → IsRingOf c.len-self-inside.result
+pushed : (c : After-self-1) → IsRingOf c.if-self-len.self-inside.shift c.len-self-inside.result
     c.if-self-len.self-inside.ring.entries (c.args.self.now ++ c.args.entry.now ∷ [])
 unfolding equal_keys
 pushed c =
@@ -16,19 +16,24 @@ pushed c =
     let len = c.len-self-inside.ensures.len in
     elim c.if-self-len.branch [
       | then-self-len+in_ok-ring+in_ok-insert w ↦
-          let pairs = map pair_of entries in
-          let is = ring_straight entries w.in_ok-ring.ensures.distinct in
-          ring_put (length pairs) last pairs w.insert.new.self.entries new w.key.result entry
+          let shift = c.self.inside.shift in
+          let pairs = map (pair_of shift) entries in
+          let is = ring_straight shift entries c.self.invariant.fits w.in_ok-ring.ensures.distinct in
+          subst (λ n. IsRingOf n last new (entries ++ entry ∷ []))
+          (sym (ap (λ s. s.shift) w.self-inside-is))
+          (ring_put shift (length pairs) last pairs w.insert.new.self.entries new w.key.result entry
           entries is.ring is.entries_are (omega arith) c.requires w.key.ensures
           (w.in_ok-insert.ensures.entries
           ∙ ap (λ ps. insert_entry equal_keys ps w.key.result entry) w.in_ok-ring.ensures.entries)
-          (ap (λ s. s.ring.entries) w.self-inside-is) len
+          (ap (λ s. s.ring.entries) w.self-inside-is) len)
       | else-self-len+in_ok-insert-2 w ↦
-          ring_put c.self.inside.first last c.self.inside.ring.entries
+          subst (λ n. IsRingOf n last new (entries ++ entry ∷ []))
+          (sym (ap (λ s. s.shift) w.self-inside-is))
+          (ring_put c.self.inside.shift c.self.inside.first last c.self.inside.ring.entries
           w.insert-else-self-len.new.self.entries new w.key-else-self-len.result entry entries
           c.self.invariant c.self.view_is (omega (arith, w.if-self-len.false, c.len.ensures.len))
           c.requires w.key-else-self-len.ensures w.in_ok-insert-2.ensures.entries
-          (ap (λ s. s.ring.entries) w.self-inside-is) len
+          (ap (λ s. s.ring.entries) w.self-inside-is) len)
     ]
 
 pub invariant_of-self-2 : goal.invariant_of-self-2

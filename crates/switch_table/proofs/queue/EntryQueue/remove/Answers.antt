@@ -3,12 +3,12 @@ use Rattle.switch_table.proofs.queue.EntryQueue.remove.Goals as goal
 
 pub invariant_of-self-then-place-later : goal.invariant_of-self-then-place-later
 invariant_of-self-then-place-later c =
-    rw c.in_ok-entry.ensures.entries (ring_remove_later _ c.args.place _ _ c.self.invariant
+    rw c.in_ok-entry.ensures.entries (ring_remove_later _ _ c.args.place _ _ c.self.invariant
     c.len-len.ensures.len c.if-place-later.true).ring
 
 pub invariant_of-self-else-place-later : goal.invariant_of-self-else-place-later
 invariant_of-self-else-place-later c =
-    rw c.in_ok-entry-2.ensures.entries (ring_remove_earlier _ c.args.place _ _ c.self.invariant
+    rw c.in_ok-entry-2.ensures.entries (ring_remove_earlier _ _ c.args.place _ _ c.self.invariant
     c.len-len.ensures.len c.if-place-len.false c.if-place-later.false).ring
 
 pub returns-in_ok-entry-clause-entry : goal.returns-in_ok-entry-clause-entry
@@ -19,7 +19,7 @@ returns-in_ok-entry-clause-entry c =
 pub returns-in_ok-entry-clause-rest : goal.returns-in_ok-entry-clause-rest
 returns-in_ok-entry-clause-rest c =
     rw (← c.self.view_is, c.in_ok-entry.ensures.entries)
-    (ring_remove_later _ c.args.place _ _ c.self.invariant c.len-len.ensures.len
+    (ring_remove_later _ _ c.args.place _ _ c.self.invariant c.len-len.ensures.len
     c.if-place-later.true).entries_are
 
 pub returns-in_ok-entry-2-clause-entry : goal.returns-in_ok-entry-2-clause-entry
@@ -31,5 +31,5 @@ returns-in_ok-entry-2-clause-entry c =
 pub returns-in_ok-entry-2-clause-rest : goal.returns-in_ok-entry-2-clause-rest
 returns-in_ok-entry-2-clause-rest c =
     rw (← c.self.view_is, c.in_ok-entry-2.ensures.entries)
-    (ring_remove_earlier _ c.args.place _ _ c.self.invariant c.len-len.ensures.len
+    (ring_remove_earlier _ _ c.args.place _ _ c.self.invariant c.len-len.ensures.len
     c.if-place-len.false c.if-place-later.false).entries_are

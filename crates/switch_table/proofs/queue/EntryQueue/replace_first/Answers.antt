@@ -21,21 +21,21 @@ place_is c =
     ]
 
 replaced : (c : After-swap_remove_index)
-    → IsRingOf (c.if-self-len.first + 1) c.swap_remove_index.new.self.entries
+    → IsRingOf c.self.inside.shift (c.if-self-len.first + 1) c.swap_remove_index.new.self.entries
     (drop 1 c.args.self.now ++ c.args.entry.now ∷ [])
 unfolding equal_keys
 replaced c =
     let pairs = c.self.inside.ring.entries in
     let more = c.insert.new.self.entries in
     let at = place_is c in
-    let added = ring_inserted c.self.inside.first pairs more c.key.result c.args.entry.now
+    let added = ring_inserted c.self.inside.shift c.self.inside.first pairs more c.key.result c.args.entry.now
     c.args.self.now c.self.invariant c.self.view_is c.requires.absent c.key.ensures
     c.in_ok-insert.ensures.entries in
     let taken = taken_at c.swap_remove_index.result more c.swap_remove_index.new.self.entries
     c.if-self-len.first c.swap_remove_index.ensures.entry
     (omega (arith, ap length added, length-append pairs, at.0))
     c.swap_remove_index.ensures.entries in
-    ring_replaced c.self.inside.first c.if-self-len.first pairs more
+    ring_replaced c.self.inside.shift c.self.inside.first c.if-self-len.first pairs more
     c.swap_remove_index.new.self.entries taken.0 c.args.entry.now c.args.self.now c.self.invariant
     at c.self.view_is c.requires.absent added taken.1
 
