@@ -350,7 +350,8 @@ left_out shift f before entry pairs none are =
 -- .. or something
 pub left_in : (shift : ℕ) (f : CacheEntry → Option CacheEntry) (before : List CacheEntry)
     (entry left : CacheEntry) (rest : List CacheEntry) (pairs new : List Pair) (key : CacheKey)
-    → shift ≤ 2 ^ 32 → HaveDistinctKeys (filter_map f (before ++ entry ∷ rest)) → f entry ≡ Some left
+    → shift ≤ 2 ^ 32 → HaveDistinctKeys (filter_map f (before ++ entry ∷ rest))
+    → f entry ≡ Some left
     → pairs ≡ map (pair_of shift) (filter_map f before) → key ≡ key_of shift left
     → new ≡ insert_entry equal_keys pairs key left
     → new ≡ map (pair_of shift) (filter_map f (before ++ entry ∷ []))
@@ -358,29 +359,18 @@ left_in shift f before entry left rest pairs new key fits distinct some are own 
     let all : filter_map f (before ++ entry ∷ rest) ≡ filter_map f before ++ left ∷ filter_map f rest =
     filter_map-append f before (entry ∷ rest)
     ∙ ap (λ o. filter_map f before ++ cons_option o (filter_map f rest)) some in
-    let grown = straight_grown shift (filter_map f before) left (filter_map f rest) pairs new key fits
-    (subst HaveDistinctKeys all distinct) are own made in
+    let grown = straight_grown shift (filter_map f before) left (filter_map f rest) pairs new key
+    fits (subst HaveDistinctKeys all distinct) are own made in
     grown ∙ ap (map (pair_of shift)) (sym (filter_map-append f before (entry ∷ [])
     ∙ ap (λ o. filter_map f before ++ cons_option o []) some))
 
 -- it is a ring, which begins at its end
 pub ring_left : (shift first : ℕ) (pairs : List Pair) (entries : List CacheEntry)
-    → shift ≤ 2 ^ 32 → HaveDistinctKeys entries → pairs ≡ map (pair_of shift) entries → first ≡ length pairs
+    → shift ≤ 2 ^ 32 → HaveDistinctKeys entries → pairs ≡ map (pair_of shift) entries
+    → first ≡ length pairs
     → IsRingOf shift first pairs entries
 ring_left shift first pairs entries fits distinct are end =
     rw (end, are) (ring_straight shift entries fits distinct)
-
-pub ring_left_is : (shift first : ℕ) (pairs : List Pair) (entries : List CacheEntry)
-    → shift ≤ 2 ^ 32 → HaveDistinctKeys entries → pairs ≡ map (pair_of shift) entries → first ≡ length pairs
-    → IsRing shift first pairs
-ring_left_is shift first pairs entries fits distinct are end =
-    (ring_left shift first pairs entries fits distinct are end).ring
-
-pub ring_left_entries : (shift first : ℕ) (pairs : List Pair) (entries : List CacheEntry)
-    → shift ≤ 2 ^ 32 → HaveDistinctKeys entries → pairs ≡ map (pair_of shift) entries → first ≡ length pairs
-    → ring_entries first pairs ≡ entries
-ring_left_entries shift first pairs entries fits distinct are end =
-    (ring_left shift first pairs entries fits distinct are end).entries_are
 
 -- there are no more of them
 pub left_few : (version capacity : ℕ) (touched : List WordValue) (old new : List CacheEntry)

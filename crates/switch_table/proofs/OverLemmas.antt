@@ -24,7 +24,8 @@ module _ {K X F : Type 0} (T : F → K → X → Bool → X → F → Type 0) (t
   retained_changed [] kept ran = ran
   retained_changed (pair ∷ pairs) kept ran =
       let said = says pair.0 pair.1 ran.0 ran.1 ran.2 ran.4 in
-      let rest = retained_changed pairs ran.3 (subst (λ g. RetainsPairs T g pairs ran.3) said.2 ran.5) in
+      let rest = retained_changed pairs ran.3
+      (subst (λ g. RetainsPairs T g pairs ran.3) said.2 ran.5) in
       ran.6 ∙ (λ i. cond (said.0 i) ((pair.0, said.1 i) ∷ rest i) (rest i))
       ∙ by_case (test pair.1) (pair.0, change pair.1) _
     where

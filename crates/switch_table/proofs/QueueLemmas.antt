@@ -362,8 +362,8 @@ ring_pushed shift first last pairs new entry entries is are home absent added le
     home_is first pairs within home = omega arith
 
 -- what a push makes of a ring that has not gone round, as the calls say it
-pub ring_put : (shift first last : ℕ) (pairs made new : List Pair) (key : CacheKey) (entry : CacheEntry)
-    (entries : List CacheEntry) → IsRing shift first pairs → ring_entries first pairs ≡ entries →
+pub ring_put : (shift first last : ℕ) (pairs made new : List Pair) (key : CacheKey)
+    (entry : CacheEntry) (entries : List CacheEntry) → IsRing shift first pairs → ring_entries first pairs ≡ entries →
     length pairs ≤ first → list_any (same_key entry) entries ≡ false → key ≡ key_of shift entry →
     made ≡ insert_entry equal_keys pairs key entry → new ≡ made → last ≡ length new →
     IsRingOf shift last new (entries ++ entry ∷ [])
@@ -373,15 +373,19 @@ ring_put shift first last pairs made new key entry entries is are home absent ow
 
 -- ---- a map that holds entries in order
 
-length-pairs : (shift : ℕ) (entries : List CacheEntry) → length (map (pair_of shift) entries) ≡ length entries
+length-pairs : (shift : ℕ) (entries : List CacheEntry) →
+    length (map (pair_of shift) entries) ≡ length entries
 length-pairs shift entries = length-map entries (pair_of shift)
 
-own_pairs : (shift : ℕ) (entries : List CacheEntry) → All (IsOwn shift) (map (pair_of shift) entries)
-own_pairs shift [] = (none_own shift)
+own_pairs : (shift : ℕ) (entries : List CacheEntry) →
+    All (IsOwn shift) (map (pair_of shift) entries)
+own_pairs shift [] = none_own shift
 own_pairs shift (entry ∷ entries) =
-    All-cons (IsOwn shift) (pair_of shift entry) (map (pair_of shift) entries) refl (own_pairs shift entries)
+    All-cons (IsOwn shift) (pair_of shift entry) (map (pair_of shift) entries) refl
+    (own_pairs shift entries)
 
-entries_of_pairs : (shift : ℕ) (entries : List CacheEntry) → map entry_of (map (pair_of shift) entries) ≡ entries
+entries_of_pairs : (shift : ℕ) (entries : List CacheEntry) →
+    map entry_of (map (pair_of shift) entries) ≡ entries
 entries_of_pairs shift [] = refl
 entries_of_pairs shift (entry ∷ entries) = ap (λ es. entry ∷ es) (entries_of_pairs shift entries)
 
@@ -392,7 +396,8 @@ pub ring_straight : (shift : ℕ) (entries : List CacheEntry) → shift ≤ 2 ^ 
 ring_straight shift entries fits distinct =
     let pairs = map (pair_of shift) entries in
     ring_of shift (length pairs) pairs entries fits (omega arith) (own_pairs shift entries)
-    (ap (map entry_of) (turned_home pairs ∙ append-nil pairs) ∙ entries_of_pairs shift entries) distinct
+    (ap (map entry_of) (turned_home pairs ∙ append-nil pairs) ∙ entries_of_pairs shift entries)
+    distinct
 
 -- no entry before another one has its key
 pub none_before : (before : List CacheEntry) (entry : CacheEntry) (rest : List CacheEntry) →
@@ -409,16 +414,17 @@ none_before (x ∷ before) entry rest distinct =
     ap (λ b. b || list_any (same_key entry) before) (apart-sym x entry apart) ∙ rest_apart
 
 -- one more entry comes in
-pub straight_grown : (shift : ℕ) (before : List CacheEntry) (entry : CacheEntry) (rest : List CacheEntry)
-    (pairs new : List Pair) (key : CacheKey) → shift ≤ 2 ^ 32 →
+pub straight_grown : (shift : ℕ) (before : List CacheEntry) (entry : CacheEntry)
+    (rest : List CacheEntry) (pairs new : List Pair) (key : CacheKey) → shift ≤ 2 ^ 32 →
     HaveDistinctKeys (before ++ entry ∷ rest) →
     pairs ≡ map (pair_of shift) before → key ≡ key_of shift entry →
     new ≡ insert_entry equal_keys pairs key entry → new ≡ map (pair_of shift) (before ++ entry ∷ [])
 straight_grown shift before entry rest pairs new key fits distinct are own made =
     let absent = none_before before entry rest distinct in
     let is = ring_straight shift before fits (before_distinct before (entry ∷ rest) distinct) in
-    let put = ring_inserted shift (length (map (pair_of shift) before)) (map (pair_of shift) before) new key entry before
-    is.ring is.entries_are absent own
+    let pairs_before = map (pair_of shift) before in
+    let put = ring_inserted shift (length pairs_before) pairs_before new key entry before is.ring
+    is.entries_are absent own
     (made ∙ ap (λ ps. insert_entry equal_keys ps key entry) are) in
     put ∙ sym (map-append (pair_of shift) before (entry ∷ []))
   where
@@ -485,8 +491,8 @@ taken_at None more new place is within made = absurd (absent more place is withi
         cc
 
 -- an entry that was inserted last, and taken to the place of the first one
-pub ring_replaced : (shift first place : ℕ) (pairs more new : List Pair) (d : Pair) (entry : CacheEntry)
-    (entries : List CacheEntry) → IsRing shift first pairs → IsFirstPlace place first pairs →
+pub ring_replaced : (shift first place : ℕ) (pairs more new : List Pair) (d : Pair)
+    (entry : CacheEntry) (entries : List CacheEntry) → IsRing shift first pairs → IsFirstPlace place first pairs →
     ring_entries first pairs ≡ entries → list_any (same_key entry) entries ≡ false →
     more ≡ pairs ++ (key_of shift entry, entry) ∷ [] → new ≡ swap_remove more place d →
     IsRingOf shift (place + 1) new (drop 1 entries ++ entry ∷ [])
@@ -497,7 +503,8 @@ ring_replaced shift first place pairs more new d entry entries is at are absent 
     rw (put, ← are) (ring_replace shift first place pairs entry is at
     (ap (list_any (same_key entry)) are ∙ absent))
 
-All-remove : (shift : ℕ) (pairs : List Pair) (k : ℕ) → All (IsOwn shift) pairs → All (IsOwn shift) (remove pairs k)
+All-remove : (shift : ℕ) (pairs : List Pair) (k : ℕ) → All (IsOwn shift) pairs →
+    All (IsOwn shift) (remove pairs k)
 All-remove shift pairs k own = All-append (IsOwn shift) (take k pairs) (drop (suc k) pairs)
     (All-take (IsOwn shift) k pairs own) (All-drop (IsOwn shift) (suc k) pairs own)
 
@@ -515,8 +522,8 @@ ring_remove_later shift first place len pairs is same here =
     (all_pairs_remove (λ a b. same_key a b ≡ false) (ring_entries first pairs) place
     (omega (arith, length-ring first pairs within)) is.distinct)
 
-pub ring_remove_earlier : (shift first place len : ℕ) (pairs : List Pair) → IsRing shift first pairs →
-    len ≡ length pairs → place < len → len - first ≤ place →
+pub ring_remove_earlier : (shift first place len : ℕ) (pairs : List Pair) →
+    IsRing shift first pairs → len ≡ length pairs → place < len → len - first ≤ place →
     IsRingOf shift (first - 1) (remove pairs (place - (len - first)))
     (remove (ring_entries first pairs) place)
 ring_remove_earlier shift first place len pairs is same here past =
@@ -560,7 +567,8 @@ length-kept version pairs =
 
 -- what stays, as the calls say it
 pub ring_kept : (shift version first next : ℕ) (pairs new : List Pair)
-    (front entries : List CacheEntry) → IsRing shift first pairs → ring_entries first pairs ≡ entries →
+    (front entries : List CacheEntry) → IsRing shift first pairs →
+    ring_entries first pairs ≡ entries →
     front ≡ map entry_of (take first pairs) →
     next ≡ length (filter (λ (entry : CacheEntry). leb version entry.version) front) →
     new ≡ pairs_from version pairs →

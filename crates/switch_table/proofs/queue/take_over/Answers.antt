@@ -34,16 +34,20 @@ front c =
     c.words-words.ensures.words) (made c)
 
 pub returns-then-before-gt0-clause-pairs : goal.returns-then-before-gt0-clause-pairs
-returns-then-before-gt0-clause-pairs c = made (goal.at.returns-then-before-gt0-clause-pairs c).After-retain
+returns-then-before-gt0-clause-pairs c =
+    made (goal.at.returns-then-before-gt0-clause-pairs c).After-retain
 
 pub returns-then-before-gt0-clause-within : goal.returns-then-before-gt0-clause-within
-returns-then-before-gt0-clause-within c = (front (goal.at.returns-then-before-gt0-clause-within c).After-retain).within
+returns-then-before-gt0-clause-within c =
+    (front (goal.at.returns-then-before-gt0-clause-within c).After-retain).within
 
 pub returns-then-before-gt0-clause-entries : goal.returns-then-before-gt0-clause-entries
-returns-then-before-gt0-clause-entries c = (front (goal.at.returns-then-before-gt0-clause-entries c).After-retain).entries_are
+returns-then-before-gt0-clause-entries c =
+    (front (goal.at.returns-then-before-gt0-clause-entries c).After-retain).entries_are
 
 pub returns-else-before-gt0-clause-pairs : goal.returns-else-before-gt0-clause-pairs
-returns-else-before-gt0-clause-pairs c = made (goal.at.returns-else-before-gt0-clause-pairs c).After-retain
+returns-else-before-gt0-clause-pairs c =
+    made (goal.at.returns-else-before-gt0-clause-pairs c).After-retain
 
 pub returns-else-before-gt0-clause-entries : goal.returns-else-before-gt0-clause-entries
 returns-else-before-gt0-clause-entries c =

@@ -21,8 +21,8 @@ loop-entry-preserved-in_ok-insert c =
     (before ++ entry ∷ rest)) =
     subst (λ xs. HaveDistinctKeys (filter_map (carried_entry version touched entries) xs)) (sym all)
     (carried_distinct version touched entries c.iter-entry-items.ensures.distinct) in (
-      left_in c.args.shift (carried_entry version touched entries) before entry c.in-Some-carried_entry.left rest
-          c.loop-entry.ring.entries c.insert.new.self.entries c.key.result c.requires distinct
+      left_in c.args.shift (carried_entry version touched entries) before entry
+          c.in-Some-carried_entry.left rest c.loop-entry.ring.entries c.insert.new.self.entries c.key.result c.requires distinct
           (sym c.carried_entry.ensures ∙ c.in-Some-carried_entry.is)
           c.loop-entry.invariant.0 c.key.ensures c.in_ok-insert.ensures.entries,
       append_assoc before (entry ∷ []) rest ∙ all,
@@ -36,8 +36,8 @@ loop-entry-preserved c =
     let next : c.loop-entry.entry-iterator ≡ entry ∷ rest = c.in-Some.ensures.steps in
     let all : before ++ entry ∷ rest ≡ c.args.self.now =
     ap (λ xs. before ++ xs) (sym next) ∙ c.loop-entry.invariant.1 in (
-      left_out c.args.shift (carried_entry c.args.version c.args.touched.now c.args.self.now) before entry
-          c.loop-entry.ring.entries (sym c.carried_entry.ensures ∙ c.in_default.is)
+      left_out c.args.shift (carried_entry c.args.version c.args.touched.now c.args.self.now)
+          before entry c.loop-entry.ring.entries (sym c.carried_entry.ensures ∙ c.in_default.is)
           c.loop-entry.invariant.0,
       append_assoc before (entry ∷ []) rest ∙ all,
     )

@@ -6,5 +6,6 @@ use Rattle.switch_table.proofs.queue.EntryQueue.carried.Given as goal
 -- what is left of the entries that came is in the map, in order, and the others are to come
 abbrev pub invariant-loop-entry : goal.invariant-loop-entry
 invariant-loop-entry l =
-    (l.ring.entries ≡ map (pair_of l.shift) (filter_map (carried_entry l.version l.touched l.fn.self) l.yielded))
+    (l.ring.entries ≡ map (pair_of l.shift)
+    (filter_map (carried_entry l.version l.touched l.fn.self) l.yielded))
     × (l.yielded ++ l.entry-iterator ≡ l.fn.self)

@@ -33,7 +33,9 @@ pub invariant_of-self : goal.invariant_of-self
 invariant_of-self c = (gone_over (goal.at.invariant_of-self c).After-take_over-self-inside).ring
 
 pub returns-then-count_from-eq0-clause-ok : goal.returns-then-count_from-eq0-clause-ok
-returns-then-count_from-eq0-clause-ok c = (gone_over (goal.at.returns-then-count_from-eq0-clause-ok c).After-take_over-self-inside).entries_are
+returns-then-count_from-eq0-clause-ok c =
+    let at = goal.at.returns-then-count_from-eq0-clause-ok c in
+    (gone_over at.After-take_over-self-inside).entries_are
 
 pub invariant_of-self-2 : goal.invariant_of-self-2
 invariant_of-self-2 c = (left (goal.at.invariant_of-self-2 c).After-len-self-inside).ring

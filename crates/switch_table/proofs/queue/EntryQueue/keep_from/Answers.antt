@@ -6,7 +6,8 @@ use Rattle.switch_table.proofs.QueueLemmas.{IsRingOf, entry_of, ring_kept}
 use Rattle.switch_table.proofs.queue.EntryQueue.keep_from.Goals as goal
 use Rattle.switch_table.proofs.queue.EntryQueue.keep_from.Goals.{After-retain}
 
-stays : (c : After-retain) → IsRingOf c.self.inside.shift c.count_from-self-inside.result c.retain.new.self.entries
+stays : (c : After-retain) → IsRingOf c.self.inside.shift c.count_from-self-inside.result
+    c.retain.new.self.entries
     (filter (λ (entry : CacheEntry). leb c.args.version entry.version) c.args.self.now)
 stays c =
     let version = c.args.version in
@@ -19,8 +20,8 @@ stays c =
     filter-RetainsPairs _ (λ (pair : Pair). leb version pair.1.version) _
     (λ k v b w g called. (search rules, search rules, search rules)) _ _
     c.retain.ensures.filtered in
-    ring_kept c.self.inside.shift version first c.count_from-self-inside.result pairs c.retain.new.self.entries
-    c.as_slice-2.result.now c.args.self.now c.self.invariant c.self.view_is front
+    ring_kept c.self.inside.shift version first c.count_from-self-inside.result pairs
+    c.retain.new.self.entries c.as_slice-2.result.now c.args.self.now c.self.invariant c.self.view_is front
     c.count_from-self-inside.ensures kept
 
 pub invariant_of-self : goal.invariant_of-self

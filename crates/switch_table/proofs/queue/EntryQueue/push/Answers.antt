@@ -18,7 +18,8 @@ pushed c =
       | then-self-len+in_ok-ring+in_ok-insert w ↦
           let shift = c.self.inside.shift in
           let pairs = map (pair_of shift) entries in
-          let is = ring_straight shift entries c.self.invariant.fits w.in_ok-ring.ensures.distinct in
+          let is = ring_straight shift entries c.self.invariant.fits
+          w.in_ok-ring.ensures.distinct in
           subst (λ n. IsRingOf n last new (entries ++ entry ∷ []))
           (sym (ap (λ s. s.shift) w.self-inside-is))
           (ring_put shift (length pairs) last pairs w.insert.new.self.entries new w.key.result entry

@@ -28,8 +28,8 @@ replaced c =
     let pairs = c.self.inside.ring.entries in
     let more = c.insert.new.self.entries in
     let at = place_is c in
-    let added = ring_inserted c.self.inside.shift c.self.inside.first pairs more c.key.result c.args.entry.now
-    c.args.self.now c.self.invariant c.self.view_is c.requires.absent c.key.ensures
+    let added = ring_inserted c.self.inside.shift c.self.inside.first pairs more c.key.result
+    c.args.entry.now c.args.self.now c.self.invariant c.self.view_is c.requires.absent c.key.ensures
     c.in_ok-insert.ensures.entries in
     let taken = taken_at c.swap_remove_index.result more c.swap_remove_index.new.self.entries
     c.if-self-len.first c.swap_remove_index.ensures.entry

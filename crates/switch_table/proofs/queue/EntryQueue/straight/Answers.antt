@@ -13,8 +13,9 @@ loop-entry-preserved c =
     let next : c.loop-entry.entry-iterator ≡ entry ∷ rest = c.in-Some.ensures.steps in
     let all : before ++ entry ∷ rest ≡ c.args.self.now =
     ap (λ xs. before ++ xs) (sym next) ∙ c.loop-entry.invariant.1 in (
-      straight_grown c.args.shift before entry rest c.loop-entry.ring.entries c.insert.new.self.entries
-          c.key.result c.requires (subst HaveDistinctKeys (sym all) c.iter-entry-items.ensures.distinct)
+      straight_grown c.args.shift before entry rest c.loop-entry.ring.entries
+          c.insert.new.self.entries c.key.result c.requires
+          (subst HaveDistinctKeys (sym all) c.iter-entry-items.ensures.distinct)
           c.loop-entry.invariant.0 c.key.ensures c.in_ok-insert.ensures.entries,
       append_assoc before (entry ∷ []) rest ∙ all,
     )
