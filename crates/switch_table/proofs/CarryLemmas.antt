@@ -14,7 +14,7 @@ use Rattle.indexmap.specs.IndexMap.{insert_entry}
 use Rattle.switch_table.specs.Cache.{CacheValue, HaveDistinctKeys, IsCache, after_raise, same_key}
 use Rattle.switch_table.specs.CacheLaws.{WentOver}
 use Rattle.switch_table.specs.Carried.{after_carry, all_touched, carried_entry, goes_over, meets_any, under}
-use Rattle.switch_table.specs.Queue.{IsRing, Pair, equal_keys, key_of, pair_of, ring_entries}
+use Rattle.switch_table.specs.Queue.{Pair, equal_keys, key_of, pair_of}
 use Rattle.switch_table.specs.declared.cache.CacheEntry.{CacheEntry}
 use Rattle.switch_table.specs.declared.key.CacheKey.{CacheKey}
 use Rattle.switch_table.proofs.QueueLemmas.{IsRingOf, apart-sym, ring_straight, same_key_from, same_key_parts, straight_grown}
