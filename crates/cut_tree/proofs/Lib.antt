@@ -1,6 +1,7 @@
 pub mod CallerLemmas
 pub mod CountLemmas
 pub mod CutLemmas
+pub mod HalfLemmas
 pub mod LeastLemmas
 pub mod NarrowLaw
 pub mod NarrowLemmas

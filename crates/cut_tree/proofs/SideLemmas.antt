@@ -12,7 +12,7 @@ use Rattle.ternary.specs.Meets.{is_fixed_of, admits, meets, covers_of, fix_of, f
 use Rattle.ternary.proofs.CallerLemmas.{covers_decides, covers_half, meets_comm, meets_cover, meets_half, without_bit-other, without_bit-same}
 use Rattle.policy_rules.specs.declared.rules.Rule.{Rule}
 use Rattle.policy_rules.proofs.CallerLemmas.{at_item}
-use Rattle.cut_tree.specs.Counts.{IsCounting, HasCounted, count_on_side, expected_count}
+use Rattle.cut_tree.specs.Counts.{IsCounting, IsNarrowIn, HasCounted, count_on_side, expected_count}
 use Rattle.cut_tree.specs.Cuts.{IsFreeBit, side_of}
 use Rattle.cut_tree.specs.declared.choice.Side.{Side}
 use Rattle.cut_tree.specs.Narrow.{narrow}
@@ -212,6 +212,19 @@ side_step region rule rules bit one was met covered within free digit is_met is_
     let m : met ≡ from_bool (meets rule.word half) = is_met ∙ ap from_bool (sym meet) in
     side_sum was met covered _ _ digit (rw is_met (from_bool-lt _))
     (rw (m, is_covered) (kept_count half rule rules))
+
+-- the same for a rule that covers no half
+pub met_step : (region : WordValue) (rule : Rule) (rules : List Rule) (bit : ℕ) (one : Bool)
+    (left met : ℕ) → IsNarrowIn region rule → IsFreeBit region bit
+    → bit_at met bit ≡ from_bool (admits rule.word bit one)
+    → bit_at (bit_and left met) bit + bit_at left bit * length (side_of rules region bit one)
+    ≡ bit_at left bit * length (side_of (rule ∷ rules) region bit one)
+met_step region rule rules bit one left met fit free is_met =
+    let still : min (bit_at left bit) (1 - 0) ≡ bit_at left bit = omega
+    (arith, bit_at-lt left bit) in
+    let step = side_step region rule rules bit one (bit_at left bit) (bit_at met bit) 0 fit.within
+    free (bit_at-lt left bit) is_met (sym (ap from_bool (fit.covers bit one free))) in
+    rw (bit_at_and left met bit) (rw still at step)
 
 -- ---- a side goes on
 

@@ -1,9 +1,11 @@
 -- Counters for many bits at once.
-use Rattle.std.specs.Prelude.{ℕ, ◌≡◌, ◌+◌, ◌*◌, ◌≤◌, ◌==◌, if◌then◌else◌, Bool, List, [], ◌∷◌, length, drop}
+use Rattle.std.specs.Prelude.{ℕ, ◌≡◌, ◌+◌, ◌*◌, ◌≤◌, ◌==◌, if◌then◌else◌, Bool, IsFalse, List, [], ◌∷◌, length, drop}
 use Rattle.std.specs.Int.{bit_at}
 use Rattle.ternary.specs.Word.{WordValue}
+use Rattle.ternary.specs.Meets.{covers_of, fix_of}
 use Rattle.policy_rules.specs.declared.rules.Rule.{Rule}
 use Rattle.cut_tree.specs.Cuts.{IsFreeBit, cost_from, side_of}
+use Rattle.cut_tree.specs.Nodes.{LiesIn}
 use Rattle.cut_tree.specs.declared.choice.Cost.{Cost}
 use Rattle.cut_tree.specs.declared.choice.Side.{Side}
 
@@ -52,3 +54,16 @@ pub record IsCounting (side : Side) (upper : Bool) (rules : List Rule)
 abbrev pub HasCounted : Side → Bool → List Rule → WordValue → Type 0
 HasCounted side one rules region =
     (bit : ℕ) → IsFreeBit region bit → count_on_side side bit ≡ length (side_of rules region bit one)
+
+-- the rule lies in the region and covers no half of it
+pub record IsNarrowIn (region : WordValue) (rule : Rule) : Type 0 where
+  pub within : LiesIn region rule
+  pub covers : (bit : ℕ) (one : Bool) → IsFreeBit region bit →
+      IsFalse (covers_of rule.word (fix_of region bit one))
+
+-- four such rules
+pub record AreNarrowIn (region : WordValue) (a b c d : Rule) : Type 0 where
+  pub first : IsNarrowIn region a
+  pub second : IsNarrowIn region b
+  pub third : IsNarrowIn region c
+  pub fourth : IsNarrowIn region d

@@ -3,7 +3,7 @@ ghost use Rattle.std.specs.Int.{bit_at, from_bool};
 ghost use Rattle.ternary.specs.Word.{WordValue};
 ghost use Rattle.ternary.specs.Meets.{admits, covers_of, fix_of};
 ghost use Rattle.policy_rules.specs.declared.rules.Rule.{Rule};
-ghost use Rattle.cut_tree.specs.Counts.{IsHeight, count_on_side, counted_cost, expected_count, HasCounted, IsCounting};
+ghost use Rattle.cut_tree.specs.Counts.{IsHeight, count_on_side, counted_cost, expected_count, AreNarrowIn, HasCounted, IsCounting, IsNarrowIn};
 ghost use Rattle.cut_tree.specs.Cuts.{CostsAtMost, IsFreeBit, cost_from, least_below, side_of};
 ghost use Rattle.cut_tree.specs.Nodes.{LiesIn};
 
@@ -88,36 +88,52 @@ fn count_sides(rules: &[Rule], region: &Word) -> (Side, Side)
 {
     let mut low = Side::new(false);
     let mut high = Side::new(true);
-    let counted = count_fours(&mut low, &mut high, rules, region);
-    for place in counted..rules.len() {
-        let rule = &rules[place];
-        low.count(rule, region);
-        high.count(rule, region);
+    let mut place = 0;
+    while place < rules.len() {
+        place = count_next(&mut low, &mut high, rules, place, region);
     }
     (low, high)
 }
 
-// Counts four rules after four, as many as there are, and says how many it counted.
-fn count_fours(low: &mut Side, high: &mut Side, rules: &[Rule], region: &Word) -> usize
+// Counts the next four rules, or where one of them may cover a half, or they are fewer, the next
+// one. The place of the rule after these.
+fn count_next(low: &mut Side, high: &mut Side, rules: &[Rule], place: usize, region: &Word) -> usize
     requires few { length rules.now < 2 ^ 32 }
     requires within { All (LiesIn region.now) rules.now }
-    requires low { IsCounting low.old false rules.now region.now 0 }
-    requires high { IsCounting high.old true rules.now region.now 0 }
+    requires place { place < length rules.now }
+    requires low { IsCounting low.old false rules.now region.now place }
+    requires high { IsCounting high.old true rules.now region.now place }
     ensures low { IsCounting low.new false rules.now region.now result }
     ensures high { IsCounting high.new true rules.now region.now result }
-    ensures counted { result ≤ length rules.now }
+    ensures later { place < result }
+    ensures bound { result ≤ length rules.now }
 {
-    let mut place = 0;
-    while place + 4 <= rules.len() {
+    if rules.len() - place >= 4 {
         let a = &rules[place];
         let b = &rules[place + 1];
         let c = &rules[place + 2];
         let d = &rules[place + 3];
-        low.count_four(a, b, c, d, region);
-        high.count_four(a, b, c, d, region);
-        place += 4;
+        let fit = fix_many(a, b, region) && fix_many(c, d, region);
+        if fit {
+            low.count_four(a, b, c, d, false);
+            high.count_four(a, b, c, d, true);
+            return place + 4;
+        }
     }
-    place
+    let rule = &rules[place];
+    low.count(rule, region);
+    high.count(rule, region);
+    place + 1
+}
+
+// Whether neither of two rules covers a half of the region, since both fix two bits more than it.
+fn fix_many(one: &Rule, other: &Rule, region: &Word) -> bool
+    requires one { LiesIn region.now one.now }
+    requires other { LiesIn region.now other.now }
+    ensures one { IsTrue result → IsNarrowIn region.now one.now }
+    ensures other { IsTrue result → IsNarrowIn region.now other.now }
+{
+    !fixes_few(&one.word, region) && !fixes_few(&other.word, region)
 }
 
 /// Of each pair of halves of a region the one with this value of the bit which parts them: how
@@ -158,24 +174,25 @@ impl Side {
         self.counts.add(kept);
     }
 
-    // Counts the next four rules in each half that keeps them.
-    fn count_four(&mut self, a: &Rule, b: &Rule, c: &Rule, d: &Rule, region: &Word)
+    // Counts the next four rules, which cover no half, in each half that they meet.
+    #[inline(always)]
+    fn count_four(&mut self, a: &Rule, b: &Rule, c: &Rule, d: &Rule, one: bool)
+        requires one { self.old.one ≡ one }
         requires room { (bit : ℕ) → count_on_side self.old bit + 4 < 2 ^ 32 }
-        requires first { LiesIn region.now a.now }
-        requires second { LiesIn region.now b.now }
-        requires third { LiesIn region.now c.now }
-        requires fourth { LiesIn region.now d.now }
         ensures one { self.new.one ≡ self.old.one }
         ensures few { (bit : ℕ) → count_on_side self.new bit ≤ count_on_side self.old bit + 4 }
-        ensures expected { (bit : ℕ) (rules : List Rule) → IsFreeBit region.now bit →
-            expected_count self.new region.now bit rules
-            ≡ expected_count self.old region.now bit (a.now ∷ b.now ∷ c.now ∷ d.now ∷ rules) }
+        ensures expected { (region : WordValue) (bit : ℕ) (rules : List Rule) →
+            AreNarrowIn region a.now b.now c.now d.now → IsFreeBit region bit →
+            expected_count self.new region bit rules
+            ≡ expected_count self.old region bit (a.now ∷ b.now ∷ c.now ∷ d.now ∷ rules) }
     {
-        let first = pass(&mut self.open, self.one, a, region);
-        let second = pass(&mut self.open, self.one, b, region);
-        let third = pass(&mut self.open, self.one, c, region);
-        let fourth = pass(&mut self.open, self.one, d, region);
-        self.counts.add_four(first, second, third, fourth);
+        let left = self.open;
+        let first = halves_met(&a.word, one);
+        let second = halves_met(&b.word, one);
+        let third = halves_met(&c.word, one);
+        let fourth = halves_met(&d.word, one);
+        self.counts
+            .add_four(left & first, left & second, left & third, left & fourth);
     }
 }
 

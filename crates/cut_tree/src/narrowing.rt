@@ -1,9 +1,14 @@
-ghost use Rattle.std.specs.Prelude.{◌≡◌, IfOk};
+ghost use Rattle.std.specs.Prelude.{◌≡◌, ◌<◌, All, IfOk, IsTrue};
+ghost use Rattle.ternary.specs.Word.{WordValue};
+ghost use Rattle.ternary.specs.WordBits.{IsWord};
+ghost use Rattle.ternary.specs.Meets.{covers_of, fix_of, meet_of};
+ghost use Rattle.cut_tree.specs.Cuts.{IsFreeBit, side_of};
 ghost use Rattle.cut_tree.specs.Narrow.{narrow};
+ghost use Rattle.cut_tree.specs.Nodes.{LiesIn};
 
 use policy_rules::Rule;
 use std::alloc::{AllocError, Global};
-use ternary::Word;
+use ternary::{Word, holds_laws};
 
 /// The rules that decide the headers of the region: in order those that meet it, up to and
 /// including the first that covers it, each for its headers there.
@@ -24,4 +29,49 @@ pub fn narrow(alloc: Global, rules: &[Rule], region: &Word) -> Result<Vec<Rule>,
         }
     }
     Ok(kept)
+}
+
+/// The same for a half of a region that the rules lie in: in order those that meet the half, up to
+/// and including the first that covers it, each for its headers there.
+pub fn narrow_half(
+    alloc: Global,
+    rules: &[Rule],
+    region: &Word,
+    bit: u32,
+    one: bool,
+) -> Result<Vec<Rule>, AllocError>
+    requires free { IsFreeBit region.now bit }
+    requires within { All (LiesIn region.now) rules.now }
+    ensures { IfOk result (λ kept. kept.items ≡ side_of rules.now region.now bit one) }
+{
+    let _ = region.mask();
+    let whole = region.fix(bit, one).mask();
+    let mut kept = Vec::with_capacity(alloc, rules.len())?;
+    for rule in rules {
+        let Some(word) = with_bit(&rule.word, bit, one) else {
+            continue;
+        };
+        kept.push(Rule { word, ..*rule })?;
+        let is_whole = word.mask() == whole;
+        if is_whole {
+            return Ok(kept);
+        }
+    }
+    Ok(kept)
+}
+
+// The word of the headers of a word that have this bit: what it shares with the half of a region
+// that it lies in.
+fn with_bit(word: &Word, bit: u32, one: bool) -> Option<Word>
+    requires { bit < 104 }
+    ensures { (region : WordValue) → IsWord region → IsFreeBit region bit →
+        IsTrue (covers_of region word.now) → result ≡ meet_of word.now (fix_of region bit one) }
+{
+    holds_laws();
+    let _ = word.mask();
+    if !word.is_fixed(bit) {
+        return Some(word.fix(bit, one));
+    }
+    let is_one = (word.value() >> bit) & 1 == 1;
+    if is_one == one { Some(*word) } else { None }
 }

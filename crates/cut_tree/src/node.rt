@@ -5,7 +5,7 @@ ghost use Rattle.cut_tree.specs.Narrow.{narrow};
 ghost use Rattle.cut_tree.specs.Nodes.{AreNodeRules, AreWords};
 
 use crate::choice::{Cost, least_cut};
-use crate::narrowing::narrow;
+use crate::narrowing::{narrow, narrow_half};
 use policy_rules::Rule;
 use std::alloc::{AllocError, Global};
 use ternary::Word;
@@ -60,6 +60,10 @@ impl Node {
             half.rules.items ≡ side_of self.now.rules.items self.now.region bit one) }
         ensures region { IfOk result (λ half. half.region ≡ fix_of self.now.region bit one) }
     {
-        Node::new(alloc, &self.rules, &self.region.fix(bit, one))
+        let rules = narrow_half(alloc, &self.rules, &self.region, bit, one)?;
+        Ok(Node {
+            rules,
+            region: self.region.fix(bit, one),
+        })
     }
 }

@@ -1,9 +1,13 @@
-use Rattle.std.proofs.Common.{true, false}
+use Rattle.std.proofs.Common.{◌-◌, ◌≤◌, true, false, length}
 use Rattle.cut_tree.specs.Counts.{IsCounting}
 use Rattle.cut_tree.proofs.choice.count_sides.Given as goal
 
 abbrev pub invariant-loop-place : goal.invariant-loop-place
 invariant-loop-place l = record {
+  within : l.place ≤ length l.rules;
   low : IsCounting l.low false l.rules l.region l.place;
   high : IsCounting l.high true l.rules l.region l.place;
 }
+
+abbrev pub decreases-loop-place : goal.decreases-loop-place
+decreases-loop-place l = length l.rules - l.place

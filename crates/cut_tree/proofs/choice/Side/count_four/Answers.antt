@@ -1,39 +1,48 @@
-use Rattle.std.proofs.Common.{◌∷◌, arith}
+use Rattle.std.proofs.Common.{◌∷◌, bit_and, arith}
 use Rattle.std.proofs.lemmas.Nat.Bits.{bit_at-lt}
+use Rattle.cut_tree.proofs.SideLemmas.{met_step}
 use Rattle.cut_tree.proofs.choice.Side.count_four.Goals as goal
 
 pub add_four-requires : goal.add_four-requires
 add_four-requires c = λ bit.
+    let left = c.args.self.now.«open» in
     omega (
       arith,
       c.requires.room bit,
-      bit_at-lt c.pass-first.result bit,
-      bit_at-lt c.pass-second.result bit,
-      bit_at-lt c.pass-third.result bit,
-      bit_at-lt c.pass-fourth.result bit,
+      bit_at-lt (bit_and left c.halves_met-first.result) bit,
+      bit_at-lt (bit_and left c.halves_met-second.result) bit,
+      bit_at-lt (bit_and left c.halves_met-third.result) bit,
+      bit_at-lt (bit_and left c.halves_met-fourth.result) bit,
     )
 
 pub returns-clause-few : goal.returns-clause-few
 returns-clause-few c = λ bit.
+    let left = c.args.self.now.«open» in
     omega (
       arith,
       c.add_four.ensures bit,
-      bit_at-lt c.pass-first.result bit,
-      bit_at-lt c.pass-second.result bit,
-      bit_at-lt c.pass-third.result bit,
-      bit_at-lt c.pass-fourth.result bit,
+      bit_at-lt (bit_and left c.halves_met-first.result) bit,
+      bit_at-lt (bit_and left c.halves_met-second.result) bit,
+      bit_at-lt (bit_and left c.halves_met-third.result) bit,
+      bit_at-lt (bit_and left c.halves_met-fourth.result) bit,
     )
 
 pub returns-clause-expected : goal.returns-clause-expected
-returns-clause-expected c = λ bit rules free.
+returns-clause-expected c = λ region bit rules fit free.
+    let left = c.args.self.now.«open» in
+    let one = c.args.one in
     let b = c.args.b.now in
     let third = c.args.c.now in
     let d = c.args.d.now in
-    rw (c.add_four.ensures bit)
+    rw (c.requires.one, c.add_four.ensures bit)
     (omega (
       arith,
-      c.pass-first.ensures bit (b ∷ third ∷ d ∷ rules) free,
-      c.pass-second.ensures bit (third ∷ d ∷ rules) free,
-      c.pass-third.ensures bit (d ∷ rules) free,
-      c.pass-fourth.ensures bit rules free,
+      met_step region c.args.a.now (b ∷ third ∷ d ∷ rules) bit one left c.halves_met-first.result fit.first free
+          (c.halves_met-first.ensures bit free.bound),
+      met_step region b (third ∷ d ∷ rules) bit one left c.halves_met-second.result fit.second free
+          (c.halves_met-second.ensures bit free.bound),
+      met_step region third (d ∷ rules) bit one left c.halves_met-third.result fit.third free
+          (c.halves_met-third.ensures bit free.bound),
+      met_step region d rules bit one left c.halves_met-fourth.result fit.fourth free
+          (c.halves_met-fourth.ensures bit free.bound),
     ))

@@ -1,6 +1,23 @@
+use Rattle.std.proofs.Common.{arith}
+use Rattle.ternary.specs.Meets.{fix_of}
+use Rattle.cut_tree.proofs.NarrowLemmas.{narrow_few}
+use Rattle.cut_tree.proofs.TreeLemmas.{side_node}
 use Rattle.cut_tree.proofs.node.Node.half.Goals as goal
 
-pub new-requires : goal.new-requires
-new-requires c =
+pub narrow_half-requires : goal.narrow_half-requires
+narrow_half-requires c =
     let node = c.args.self.now in
-    rw c.deref.ensures.value (record { few = node.few; words = node.sound.words })
+    rw c.deref.ensures.value (record { free = c.requires; within = node.sound.within })
+
+pub invariant_of-result : goal.invariant_of-result
+invariant_of-result c =
+    let node = c.args.self.now in
+    rw (c.in_ok-rules.ensures, c.deref.ensures.value, c.fix.ensures.pair) (record {
+      sound = side_node node.rules.items node.region c.args.bit c.args.one node.sound
+          c.requires.bound;
+      few = omega (
+        arith,
+        narrow_few node.rules.items (fix_of node.region c.args.bit c.args.one),
+        node.few,
+      );
+    })

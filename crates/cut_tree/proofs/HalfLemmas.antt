@@ -1,0 +1,119 @@
+-- What a word shares with half of a region that it lies in.
+use Rattle.std.proofs.Common.{◌≡◌, ℕ, ◌<◌, ◌/◌, ◌^◌, ◌&&◌, ◌||◌, not, bit_and, Bool, true, false, Some, None, List, length, get_or, refl, sym, ◌∙◌, ap, subst, arith}
+use Rattle.std.specs.Bool.{IsTrue, IsFalse, ◌==◌, beq}
+use Rattle.std.specs.Int.{bit_at, from_bool}
+use Rattle.std.specs.List.{All}
+use Rattle.std.proofs.lemmas.Bool.{both_ways, eqb-true, eq-eqb, false_from_ne_true}
+use Rattle.std.proofs.lemmas.Bool.Decides.{nat_tests}
+use Rattle.std.proofs.lemmas.Nat.Bits.{bit_at-lt, shr_and_one}
+use Rattle.ternary.specs.Word.{WordValue, holds}
+use Rattle.ternary.specs.WordBits.{IsWord}
+use Rattle.ternary.specs.Laws.{HoldsLaws}
+use Rattle.ternary.specs.Meets.{is_fixed_of, admits, meets, meet_of, meeting_word, covers_of, fix_of}
+use Rattle.policy_rules.specs.declared.rules.Rule.{Rule}
+use Rattle.cut_tree.specs.Nodes.{LiesIn}
+use Rattle.ternary.proofs.CallerLemmas.{apart_none, covers_held, fix_holds, fix_word, meet_both, meet_word, meets_cover, meets_half, met_joined}
+
+both_within : (p q t : Bool) → (p ≡ true → q ≡ true) → (p && (q && t)) ≡ (p && t)
+both_within true q t is = ap (λ x. x && t) (is refl)
+both_within false q t is = refl
+
+meets_by : (w r : WordValue) (bit : ℕ) (one : Bool) → IsFalse (is_fixed_of r bit)
+    → IsTrue (covers_of r w) → meets w (fix_of r bit one) ≡ admits w bit one
+meets_by w r bit one free within = meets_half w r bit one free
+    ∙ ap (λ t. t && admits w bit one) (meets_cover r w within)
+
+-- ---- a word's own bit
+
+pub admits_free : (w : WordValue) (bit : ℕ) (one : Bool) → is_fixed_of w bit ≡ false
+    → admits w bit one ≡ true
+unfolding admits
+admits_free w bit one free = rw free refl
+
+-- a digit that is 1 or isn't, as it should be
+one_digit : (n : ℕ) (one : Bool) → n < 2 → (n == 1) ≡ one → n ≡ from_bool one
+one_digit n true small is = grind (arith, nat_tests)
+one_digit n false small is = grind (arith, nat_tests)
+
+other_digit : (n : ℕ) (one : Bool) → n < 2 → ((n == 1) ≡ one → ⊥) → (n == from_bool one) ≡ false
+other_digit n true small other = false_from_ne_true (n == 1) other
+other_digit n false small other = false_from_ne_true (n == 0) (λ e.
+    other (false_from_ne_true (n == 1) (λ set. omega
+    (arith, eqb-true n 0 e, eqb-true n 1 set))))
+
+same_bool : (a b : Bool) → beq a b ≡ true → a ≡ b
+same_bool true true e = refl
+same_bool true false e = sym e
+same_bool false true e = e
+same_bool false false e = refl
+
+other_bool : (a b : Bool) → beq a b ≡ false → a ≡ b → ⊥
+other_bool true true e same = both_ways true e refl
+other_bool true false e same = both_ways false refl (sym same)
+other_bool false true e same = both_ways false refl same
+other_bool false false e same = both_ways true e refl
+
+pub value_digit : (w : WordValue) (bit : ℕ) (one : Bool)
+    → beq (bit_and (w.value / 2 ^ bit) 1 == 1) one ≡ true → bit_at w.value bit ≡ from_bool one
+value_digit w bit one is = one_digit (bit_at w.value bit) one (bit_at-lt w.value bit)
+    (ap (λ n. n == 1) (sym (shr_and_one w.value bit)) ∙ same_bool _ one is)
+
+pub admits_digit : (w : WordValue) (bit : ℕ) (one : Bool) → bit_at w.value bit ≡ from_bool one
+    → admits w bit one ≡ true
+unfolding admits
+admits_digit w bit one is = by_case (not (is_fixed_of w bit))
+  where
+    by_case : (free : Bool) → (free || (bit_at w.value bit == from_bool one)) ≡ true
+    by_case true = refl
+    by_case false = eq-eqb (bit_at w.value bit) (from_bool one) is
+
+pub admits_other : (w : WordValue) (bit : ℕ) (one : Bool) → is_fixed_of w bit ≡ true
+    → beq (bit_and (w.value / 2 ^ bit) 1 == 1) one ≡ false → admits w bit one ≡ false
+unfolding admits
+admits_other w bit one fixed other = rw fixed
+    (other_digit (bit_at w.value bit) one (bit_at-lt w.value bit)
+    (λ e. other_bool _ one other (ap (λ n. n == 1) (shr_and_one w.value bit) ∙ e)))
+
+both_same : (p t : Bool) → (p ≡ true → t ≡ true) → p ≡ (p && t)
+both_same true t is = sym (is refl)
+both_same false t is = refl
+
+-- each header of a word has the bit that the word fixes
+pub held_bit : HoldsLaws → (w : WordValue) (bit : ℕ) (one : Bool) → is_fixed_of w bit ≡ true
+    → bit_at w.value bit ≡ from_bool one
+    → (h : ℕ) → holds w h ≡ (holds w h && (bit_at h bit == from_bool one))
+unfolding is_fixed_of
+held_bit laws w bit one fixed is h = both_same (holds w h) (bit_at h bit == from_bool one)
+    (λ held. eq-eqb (bit_at h bit) (from_bool one)
+    ((laws.bitwise w h).0 held bit (eqb-true (bit_at w.mask bit) 1 fixed) ∙ is))
+
+-- ---- half of a region
+
+pub lies_at : (region : WordValue) (rules : List Rule) (index : ℕ) (rule : Rule)
+    → All (LiesIn region) rules → index < length rules → rule ≡ get_or rules index rule
+    → LiesIn region rule
+lies_at region rules index rule all within is =
+    subst (LiesIn region) (sym is) (all index rule within)
+
+-- the word of those of its headers that have the bit
+pub half_met : HoldsLaws → (w r x : WordValue) (bit : ℕ) (one : Bool) → IsWord w → IsWord r
+    → IsWord x → bit < 104 → IsFalse (is_fixed_of r bit) → IsTrue (covers_of r w)
+    → admits w bit one ≡ true
+    → ((h : ℕ) → holds x h ≡ (holds w h && (bit_at h bit == from_bool one)))
+    → Some x ≡ meet_of w (fix_of r bit one)
+half_met laws w r x bit one w_word r_word x_word bound free within admitted each =
+    let half = fix_of r bit one in
+    let met = met_joined w half (meets_by w r bit one free within ∙ admitted) in
+    let both = meet_both w half (meeting_word w half) met in
+    let m_word = meet_word w half (meeting_word w half) w_word (fix_word r bit one r_word bound)
+    met in
+    sym (met ∙ ap Some (laws.same (meeting_word w half) x m_word x_word (λ h small.
+    both h ∙ ap (λ t. holds w h && t) (fix_holds r bit one free h)
+    ∙ both_within (holds w h) (holds r h) (bit_at h bit == from_bool one)
+    (λ held. covers_held r w h within held) ∙ sym (each h))))
+
+-- no header where the word has the other bit
+pub half_apart : (w r : WordValue) (bit : ℕ) (one : Bool) → IsFalse (is_fixed_of r bit)
+    → IsTrue (covers_of r w) → admits w bit one ≡ false → None ≡ meet_of w (fix_of r bit one)
+half_apart w r bit one free within lost =
+    sym (apart_none w (fix_of r bit one) (meets_by w r bit one free within ∙ lost))

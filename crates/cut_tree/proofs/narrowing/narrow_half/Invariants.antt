@@ -1,0 +1,7 @@
+use Rattle.std.proofs.Common.{◌≡◌, ◌++◌, drop}
+use Rattle.cut_tree.specs.Cuts.{side_of}
+use Rattle.cut_tree.proofs.narrowing.narrow_half.Given as goal
+
+abbrev pub invariant-loop-rule : goal.invariant-loop-rule
+invariant-loop-rule l = side_of l.rules l.region l.bit l.one
+    ≡ l.kept.items ++ side_of (drop l.rule-index l.rules) l.region l.bit l.one
