@@ -21,7 +21,9 @@ pub fn narrow(alloc: Global, rules: &[Rule], region: &Word) -> Result<Vec<Rule>,
         let Some(word) = rule.word.meet(region) else {
             continue;
         };
-        kept.push(Rule { word, ..*rule })?;
+        let mut own = *rule;
+        own.word = word;
+        kept.push(own)?;
         // A word that fixes no more bits in the region than this covers it.
         let is_whole = word.mask() == region.mask();
         if is_whole {
@@ -51,7 +53,9 @@ pub fn narrow_half(
         let Some(word) = with_bit(&rule.word, bit, one) else {
             continue;
         };
-        kept.push(Rule { word, ..*rule })?;
+        let mut own = *rule;
+        own.word = word;
+        kept.push(own)?;
         let is_whole = word.mask() == whole;
         if is_whole {
             return Ok(kept);
