@@ -1,4 +1,4 @@
-ghost use Rattle.std.specs.Prelude.{◌≡◌, find, bytes_eq};
+ghost use Rattle.std.specs.Prelude.{◌≡◌, find, bytes_eq, IfSome, IsTrue};
 ghost use Rattle.schedule.specs.Kinds.{kind_of, keyword_of};
 
 /// The kinds of a schedule's rows, each named as the step or the event that it stands for.
@@ -80,38 +80,32 @@ fn first_named(kinds: &[Kind], text: &[u8]) -> Option<Kind>
 pub fn read_kind(text: &[u8]) -> Option<Kind>
     ensures { result ≡ kind_of text.now }
 {
-    let likely = likely_kind(text);
-    let is_named = is_keyword(likely, text);
-    if is_named {
-        return Some(likely);
+    match named(text) {
+        Some(kind) => Some(kind),
+        None => first_named(&KINDS, text),
     }
-    first_named(&KINDS, text)
 }
 
-// Whether the text is the kind's keyword.
-fn is_keyword(kind: Kind, text: &[u8]) -> bool
-    ensures { result ≡ bytes_eq (keyword_of kind) text.now }
+// The kind that the keyword names, found letter by letter: no other needs to be tried.
+fn named(text: &[u8]) -> Option<Kind>
+    ensures { IfSome result (λ kind. IsTrue (bytes_eq (keyword_of kind) text.now)) }
 {
-    kind.keyword().as_bytes() == text
-}
-
-// The kind whose keyword begins as the text, if one does: other kinds needn't be tried for it.
-fn likely_kind(text: &[u8]) -> Kind {
     match text {
-        [b'p', ..] => Kind::Packet,
-        [b'h', ..] => Kind::Hop,
-        [b'd', b'r', ..] => Kind::Drain,
-        [b'd', ..] => Kind::Deliver,
-        [b'f', b'l', ..] => Kind::Flush,
-        [b'f', ..] => Kind::Forget,
-        [b'e', ..] => Kind::Expire,
-        [b'u', ..] => Kind::Update,
-        [b'l', b'o', ..] => Kind::Lose,
-        [b'l', _, _, _, b'd', ..] => Kind::LinkDown,
-        [b'l', ..] => Kind::LinkUp,
-        [b'c', b'r', ..] => Kind::Crash,
-        [b'c', ..] => Kind::Confirm,
-        [_, _, _, b't', ..] => Kind::Restart,
-        _ => Kind::Resend,
+        [b'p', b'a', b'c', b'k', b'e', b't'] => Some(Kind::Packet),
+        [b'h', b'o', b'p'] => Some(Kind::Hop),
+        [b'l', b'o', b's', b'e'] => Some(Kind::Lose),
+        [b'd', b'e', b'l', b'i', b'v', b'e', b'r'] => Some(Kind::Deliver),
+        [b'f', b'o', b'r', b'g', b'e', b't'] => Some(Kind::Forget),
+        [b'e', b'x', b'p', b'i', b'r', b'e'] => Some(Kind::Expire),
+        [b'u', b'p', b'd', b'a', b't', b'e'] => Some(Kind::Update),
+        [b'l', b'i', b'n', b'k', b'd', b'o', b'w', b'n'] => Some(Kind::LinkDown),
+        [b'l', b'i', b'n', b'k', b'u', b'p'] => Some(Kind::LinkUp),
+        [b'c', b'r', b'a', b's', b'h'] => Some(Kind::Crash),
+        [b'r', b'e', b's', b't', b'a', b'r', b't'] => Some(Kind::Restart),
+        [b'c', b'o', b'n', b'f', b'i', b'r', b'm'] => Some(Kind::Confirm),
+        [b'r', b'e', b's', b'e', b'n', b'd'] => Some(Kind::Resend),
+        [b'f', b'l', b'u', b's', b'h'] => Some(Kind::Flush),
+        [b'd', b'r', b'a', b'i', b'n'] => Some(Kind::Drain),
+        _ => None,
     }
 }

@@ -44,7 +44,9 @@ pub fn read_schedule(
         let refusal = ScheduleRefusal::Header;
         return Err(ScheduleError::Refused(InRow { refusal, row: 0 }));
     }
-    let mut events = Vec::new(alloc);
+    // Hardly a row has fewer bytes than these.
+    let likely = bytes.len() / 8;
+    let mut events = Vec::with_capacity(alloc, likely.min(MAX_EVENTS))?;
     while records.read_next(&mut fields)? {
         let row = events.len() as u32 + 1;
         if events.len() == MAX_EVENTS {

@@ -4,9 +4,7 @@ use Rattle.schedule.specs.Kinds.{kind_of, keyword_of}
 use Rattle.schedule.proofs.Keywords.{kind_back}
 use Rattle.schedule.proofs.kind.read_kind.Goals as goal
 
-pub returns-then-is_named : goal.returns-then-is_named
-returns-then-is_named c =
-    let kind = c.likely_kind-likely.result in
-    let same = (bytes_eq-Decides (keyword_of kind) c.args.text.now).0
-    (sym c.is_keyword-is_named.ensures ∙ c.if-is_named.true) in
-    sym (kind_back kind) ∙ ap kind_of same
+pub returns-in-Some : goal.returns-in-Some
+returns-in-Some c =
+    let same = (bytes_eq-Decides (keyword_of c.in-Some.kind) c.args.text.now).0 c.in-Some.ensures in
+    sym (kind_back c.in-Some.kind) ∙ ap kind_of same
