@@ -5,10 +5,11 @@ use Rattle.std.specs.Prelude.{IsTrue, IsNone, IsSomeAnd, not, ◌==◌, bit_or, 
 use Rattle.std.specs.Int.{bit_at}
 use Rattle.std.proofs.Math.Nat.{div-eq_of_lt-le}
 use Rattle.std.specs.List.{list_all}
-use Rattle.std.proofs.lemmas.Bool.{both_ways, cases_Bool, cases_lt, cases_eq, eq-eqb, eqb-true}
+use Rattle.std.proofs.lemmas.Bool.{both_ways, cases_Bool, cases_lt, cases_eq, eq-eqb, eqb-true, ne_eqb}
 use Rattle.std.proofs.lemmas.Bool.Decides.{nat_tests}
 use Rattle.std.proofs.lemmas.Option.{slice_get-get_or}
 use Rattle.std.proofs.lemmas.List.{take_more}
+use Rattle.std.proofs.lemmas.Nat.{and_shr, xor_shr}
 use Rattle.std.proofs.lemmas.List.Elements.{All-head, All-push, All-tail, All-take}
 use Rattle.std.proofs.lemmas.List.Sums.{list_all-from_AllPass}
 use Rattle.std.proofs.lemmas.Nat.Bits.{bit_at_and, bit_at_ones, bit_at_or, bit_at_xor, bit_at-lt, bit_at_above, bit_at-pow_other, bit_at-pow_same, same_from_bits}
@@ -16,10 +17,9 @@ use Rattle.ternary.specs.Word.{WordValue}
 use Rattle.ternary.specs.WordBits.{IsWord}
 use Rattle.ternary.specs.Laws.{CoversLaws, MeetLaws, ExactLaws, FreeLaws}
 use Rattle.ternary.specs.Meets.{covers_of, meets, meet_of, is_fixed_of, free_of, agrees_at, exact_word}
-use Rattle.ternary.proofs.CallerLemmas.{or_left, or_right}
 use Rattle.policy_rules.specs.declared.rules.Rule.{Rule}
 use Rattle.cache_maker.specs.Independent.{IsIndependent, is_apart, is_independent, widening_of}
-use Rattle.cache_maker.specs.Differing.{differing_bits, differs_alone, IsHighest, HaveHighest}
+use Rattle.cache_maker.specs.Differing.{differing_bits, differs_alone, HasHighest, IsHighest, HaveHighest}
 use Rattle.cache_maker.proofs.Independence.{true_not, is_independent_at}
 use Rattle.cache_maker.proofs.Widening.{widened_wider}
 
@@ -423,28 +423,51 @@ highest_set n bit k low high is = by_order (cases_eq k bit)
           absurd (omega arith)
     ]
 
--- one rule more: with its highest bit, or where it differs in other bits too
-pub have_more : (mask bit h free_bits : ℕ) (rules : List Rule) (i : ℕ) (d : Rule)
-    → i < length rules → HaveHighest mask h free_bits (take i rules)
-    → ((k : ℕ) → IsHighest (differing_bits h (get_or rules i d).word) k → bit_at bit k ≡ 1)
-    → HaveHighest (bit_or mask bit) h free_bits (take (i + 1) rules)
-have_more mask bit h free_bits rules i d within have next =
-    subst (λ rs. HaveHighest (bit_or mask bit) h free_bits rs) (sym (take_more rules i d within))
-    (All-push (λ (rule : Rule). (k : ℕ) → IsHighest (differing_bits h rule.word) k
-    → bit_and (differing_bits h rule.word) free_bits ≡ differing_bits h rule.word
-    → bit_at (bit_or mask bit) k ≡ 1) (take i rules) (get_or rules i d)
-    (λ j e below k is freely. or_left mask bit k (have j e below k is freely))
-    (λ k is freely. or_right mask bit k (next k is)))
+-- ---- the upper halves
 
-pub have_same : (mask h free_bits : ℕ) (rules : List Rule) (i : ℕ) (d : Rule)
-    → i < length rules → HaveHighest mask h free_bits (take i rules)
-    → (bit_and (differing_bits h (get_or rules i d).word) free_bits
-    ≡ differing_bits h (get_or rules i d).word → ⊥)
-    → HaveHighest mask h free_bits (take (i + 1) rules)
-have_same mask h free_bits rules i d within have not_freely =
-    subst (λ rs. HaveHighest mask h free_bits rs) (sym (take_more rules i d within))
-    (All-push (λ (rule : Rule). (k : ℕ) → IsHighest (differing_bits h rule.word) k
-    → bit_and (differing_bits h rule.word) free_bits ≡ differing_bits h rule.word → bit_at mask k
-    ≡ 1)
-    (take i rules) (get_or rules i d) have
-    (λ k is freely. absurd (not_freely freely)))
+pub upper_is : (h : ℕ) (word : WordValue) → differing_bits h word / 2 ^ 64
+    ≡ bit_and (bit_xor (h / 2 ^ 64) (word.value / 2 ^ 64)) (word.mask / 2 ^ 64)
+upper_is h word = and_shr (bit_xor h word.value) word.mask 64
+    ∙ ap (λ x. bit_and x (word.mask / 2 ^ 64)) (xor_shr h word.value 64)
+
+-- where they differ, the numbers do
+pub uppers_differ : (n fixed alone : ℕ)
+    → (bit_and (n / 2 ^ 64) (fixed / 2 ^ 64) ≡ alone / 2 ^ 64 → ⊥)
+    → (bit_and n fixed == alone) ≡ false
+uppers_differ n fixed alone other = ne_eqb (bit_and n fixed) alone
+    (λ same. other (sym (and_shr n fixed 64) ∙ ap (λ x. x / 2 ^ 64) same))
+
+-- what has open bits alone has no other one
+no_closed : (n open_bits : ℕ) → open_bits < 2 ^ 104 → bit_and n open_bits ≡ n
+    → bit_and n (bit_xor (2 ^ 104 - 1) open_bits) ≡ 0
+no_closed n open_bits small is = same_from_bits _ 0 (λ i. at i (cases_lt i 104))
+  where
+    at : (i : ℕ) → (i < 104) ⊎ (104 ≤ i)
+        → bit_at (bit_and n (bit_xor (2 ^ 104 - 1) open_bits)) i ≡ bit_at 0 i
+    at i side =
+        let whole = bit_at_and n (bit_xor (2 ^ 104 - 1) open_bits) i in
+        let closed = bit_at_xor (2 ^ 104 - 1) open_bits i in
+        let within = sym (bit_at_and n open_bits i) ∙ ap (λ x. bit_at x i) is in
+        elim side [
+          | inl below ↦ let one = bit_at_ones 104 i below in omega (arith, whole, closed, within, one)
+          | inr above ↦ let none = bit_at_above open_bits 104 i small above in
+              omega (arith, whole, closed, within, none)
+        ]
+
+-- nor has its upper half
+pub none_above : (n open_bits : ℕ) → open_bits < 2 ^ 104 → bit_and n open_bits ≡ n
+    → bit_and (n / 2 ^ 64) (bit_xor (2 ^ 104 - 1) open_bits / 2 ^ 64) ≡ 0
+none_above n open_bits small is = sym (and_shr n (bit_xor (2 ^ 104 - 1) open_bits) 64)
+    ∙ ap (λ x. x / 2 ^ 64) (no_closed n open_bits small is)
+
+-- one rule more
+pub have_more : (mask new h open_bits : ℕ) (rules : List Rule) (i : ℕ) (d : Rule)
+    → i < length rules → HaveHighest mask h open_bits (take i rules)
+    → ((k : ℕ) → bit_at mask k ≡ 1 → bit_at new k ≡ 1)
+    → HasHighest new h open_bits (get_or rules i d).word
+    → HaveHighest new h open_bits (take (i + 1) rules)
+have_more mask new h open_bits rules i d within have kept next =
+    subst (λ rs. HaveHighest new h open_bits rs) (sym (take_more rules i d within))
+    (All-push (λ (rule : Rule). HasHighest new h open_bits rule.word)
+    (take i rules) (get_or rules i d)
+    (λ j e below k is freely. kept k (have j e below k is freely)) next)

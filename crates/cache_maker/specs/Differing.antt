@@ -19,9 +19,12 @@ abbrev pub differs_alone : ℕ → ℕ → ℕ → List Rule → Bool
 differs_alone h fixed alone rules =
     list_any (λ (rule : Rule). bit_and (differing_bits h rule.word) fixed == alone) rules
 
--- the mask has the highest bit by which each of the rules differs from h, if it does in open bits
--- alone
+-- the mask has the highest bit by which the word differs from h, if it does in open bits alone
+abbrev pub HasHighest : ℕ → ℕ → ℕ → WordValue → Type 0
+HasHighest mask h open_bits word = (k : ℕ) → IsHighest (differing_bits h word) k
+    → bit_and (differing_bits h word) open_bits ≡ differing_bits h word → bit_at mask k ≡ 1
+
+-- so it has that of each of the rules
 abbrev pub HaveHighest : ℕ → ℕ → ℕ → List Rule → Type 0
-HaveHighest mask h open_bits rules = All (λ rule. (k : ℕ) → IsHighest (differing_bits h rule.word) k
-    → bit_and (differing_bits h rule.word) open_bits ≡ differing_bits h rule.word → bit_at mask k
-    ≡ 1) rules
+HaveHighest mask h open_bits rules =
+    All (λ (rule : Rule). HasHighest mask h open_bits rule.word) rules

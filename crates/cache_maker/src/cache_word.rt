@@ -1,4 +1,4 @@
-ghost use Rattle.std.specs.Prelude.{ℕ, ◌≡◌, ◌^◌, ◌<◌, ◌==◌, ◌&&◌, not, Some, All, position, IsTrue};
+ghost use Rattle.std.specs.Prelude.{ℕ, ◌≡◌, ◌^◌, ◌/◌, ◌<◌, ◌==◌, ◌&&◌, bit_and, not, Some, All, position, IsTrue};
 ghost use Rattle.std.specs.Int.{bit_at, trailing_zeros, w128};
 ghost use Rattle.five_tuple.specs.Header.{number_of};
 ghost use Rattle.ternary.specs.Word.{holds};
@@ -7,7 +7,7 @@ ghost use Rattle.ternary.specs.Meets.{is_fixed_of, free_of};
 ghost use Rattle.policy_rules.specs.Rules.{is_held};
 ghost use Rattle.policy_rules.specs.declared.rules.Rule.{Rule};
 ghost use Rattle.cache_maker.specs.Independent.{IsIndependent, widen};
-ghost use Rattle.cache_maker.specs.Differing.{HaveHighest, IsHighest, differing_bits, differs_alone};
+ghost use Rattle.cache_maker.specs.Differing.{HasHighest, HaveHighest, IsHighest, differing_bits, differs_alone};
 
 use five_tuple::Header;
 use policy_rules::Rule;
@@ -78,7 +78,24 @@ fn differs_alone(h: u128, fixed: u128, alone: u128, rules: &[Rule]) -> bool
 {
     rules
         .iter()
-        .any(|rule| differing(h, &rule.word) & fixed == alone)
+        .any(|rule| differs_in(h, &rule.word, fixed, alone))
+}
+
+// Whether the word differs from h, among these fixed bits, in these alone: the upper halves mostly
+// tell.
+fn differs_in(h: u128, word: &Word, fixed: u128, alone: u128) -> bool
+    ensures { result ≡ (bit_and (differing_bits h word.now) fixed == alone) }
+{
+    upper_differing(h, word) & upper_half(fixed) == upper_half(alone)
+        && differs_so(h, word, fixed, alone)
+}
+
+// The same by the whole numbers. Where this is inlined the compiler looks at both halves at once.
+#[inline(never)]
+fn differs_so(h: u128, word: &Word, fixed: u128, alone: u128) -> bool
+    ensures { result ≡ (bit_and (differing_bits h word.now) fixed == alone) }
+{
+    differing(h, word) & fixed == alone
 }
 
 // The bits that the word fixes to another value than that of h.
@@ -88,29 +105,56 @@ fn differing(h: u128, word: &Word) -> u128
     (h ^ word.value()) & word.mask()
 }
 
+// The upper half of them.
+fn upper_differing(h: u128, word: &Word) -> u64
+    ensures { result ≡ differing_bits h word.now / 2 ^ 64 }
+{
+    (upper_half(h) ^ upper_half(word.value())) & upper_half(word.mask())
+}
+
+fn upper_half(n: u128) -> u64
+    ensures { result ≡ n / 2 ^ 64 }
+{
+    (n >> 64) as u64
+}
+
 // For each rule that differs from the header in free bits alone, the highest of them.
 fn last_differences(h: u128, free: u128, rules: &[Rule]) -> u128
+    requires { free < 2 ^ 104 }
     ensures { HaveHighest result h free rules.now }
 {
     let mut bits = 0;
     for rule in rules {
-        let differing = differing(h, &rule.word);
-        if differing & free == differing {
-            bits |= highest_bit(differing);
-        }
+        bits = with_last(bits, h, free, &rule.word);
     }
     bits
 }
 
-// The number's highest bit alone, or 0 of 0: that of its high half, if this isn't 0.
-fn highest_bit(n: u128) -> u128
+// These bits, and the highest one in which the word differs from h, if it does in free bits alone:
+// where the upper half has it, the lower ones aren't looked at.
+#[tactic(auto, using(ternary::proofs::CallerLemmas::or_right))]
+fn with_last(bits: u128, h: u128, free: u128, word: &Word) -> u128
+    requires { free < 2 ^ 104 }
+    ensures bits { (k : ℕ) → bit_at bits k ≡ 1 → bit_at result k ≡ 1 }
+    ensures last { HasHighest result h free word.now }
+{
+    let high = upper_differing(h, word);
+    if high & upper_half(ALL_BITS ^ free) != 0 {
+        return bits;
+    }
+    if high != 0 {
+        return bits | u128::from(1u64 << high.ilog2()) << 64;
+    }
+    bits | highest_bit(differing(h, word) as u64)
+}
+
+// The number's highest bit alone, or 0 of 0.
+#[cold]
+#[inline(never)]
+fn highest_bit(n: u64) -> u128
     ensures { (k : ℕ) → IsHighest n k → bit_at result k ≡ 1 }
 {
-    let high = (n >> 64) as u64;
-    if high != 0 {
-        return u128::from(1u64 << high.ilog2()) << 64;
-    }
-    match (n as u64).checked_ilog2() {
+    match n.checked_ilog2() {
         Some(bit) => u128::from(1u64 << bit),
         None => 0,
     }
