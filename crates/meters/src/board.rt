@@ -42,6 +42,7 @@ impl<M: Meter> Board<M> {
     /// before that, its records are put behind those of the meters that left earlier.
     ///
     /// An error is want of memory; the meters and the records are then unknown.
+    #[inline(never)]
     pub fn note(&mut self, port: u32, leaving: &Leaving) -> Result<(), AllocError>
         ensures noted { OnOk result (map M.seen self.new.meters
             ≡ meters_after ((port, leaving.now) ∷ []) (map M.seen self.old.meters)) }
