@@ -10,3 +10,4 @@ pub mod Decisions
 pub mod OnWay
 pub mod Only
 pub mod Admitting
+pub mod FirstTargets

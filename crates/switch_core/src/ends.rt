@@ -1,4 +1,4 @@
-ghost use Rattle.std.specs.Prelude.{◌≡◌, ℕ, unwrap_or};
+ghost use Rattle.std.specs.Prelude.{◌≡◌, ℕ, IfOk, unwrap_or};
 ghost use Rattle.std.specs.Option.{option_copied};
 ghost use Rattle.failover.specs.Links.{no_links};
 ghost use Rattle.five_tuple.specs.declared.header.Header.{Header as HeaderValue};
@@ -6,8 +6,10 @@ ghost use Rattle.switch_core.specs.Exports.{are_isolated, begun_by, cause_of, pa
 
 use crate::packet::Packet;
 use crate::switch::Switch;
+use base::Shared;
 use failover::{DownSet, Route};
 use policy_rules::{Cause, Leg, Targets};
+use std::alloc::{AllocError, Global};
 use tunnel::Tunnel;
 
 impl Switch {
@@ -37,6 +39,60 @@ impl Switch {
         }
     }
 
+    /// The same, shared by the packets that take it and found no link down.
+    ///
+    /// # Errors
+    /// Want of memory alone. Why there is none is inside.
+    #[tactic(auto, unfolding(crate::specs::Ends::set_out))]
+    pub fn shared_way(
+        &mut self,
+        alloc: Global,
+        near: u64,
+        down: Option<&DownSet>,
+        leg: Leg,
+        targets: &Targets,
+    ) -> Result<Result<Shared<Route>, Cause>, AllocError>
+        ensures way { IfOk result (λ way. (number : ℕ) (header : HeaderValue) (ingress : ℕ) →
+            set_out self.old near
+            (packet_with number header ingress (unwrap_or (option_copied down.entry) no_links))
+            leg targets.now ≡ begun_by
+            (packet_with number header ingress (unwrap_or (option_copied down.entry) no_links))
+            leg targets.now way) }
+        ensures same { self.new ≡ self.old }
+    {
+        if down.is_none() {
+            let number = self.number;
+            if let Some(route) = self.database.to_first(alloc, number, targets, near)? {
+                return Ok(Ok(route));
+            }
+        }
+        self.own_way(alloc, near, down, leg, targets)
+    }
+
+    // The same, of a route of its own.
+    #[cold]
+    #[inline(never)]
+    fn own_way(
+        &self,
+        alloc: Global,
+        near: u64,
+        down: Option<&DownSet>,
+        leg: Leg,
+        targets: &Targets,
+    ) -> Result<Result<Shared<Route>, Cause>, AllocError>
+        ensures { IfOk result (λ way. (number : ℕ) (header : HeaderValue) (ingress : ℕ) →
+            set_out self.now near
+            (packet_with number header ingress (unwrap_or (option_copied down.entry) no_links))
+            leg targets.now ≡ begun_by
+            (packet_with number header ingress (unwrap_or (option_copied down.entry) no_links))
+            leg targets.now way) }
+    {
+        match self.way(near, down, leg, targets) {
+            Err(cause) => Ok(Err(cause)),
+            Ok(route) => Ok(Ok(Shared::new(alloc, route)?)),
+        }
+    }
+
     // Past these links.
     #[tactic(auto, unfolding(crate::specs::Ends::set_out))]
     fn way_past(
@@ -50,7 +106,11 @@ impl Switch {
             set_out self.now near (packet_with number header ingress down.now) leg targets.now
             ≡ begun_by (packet_with number header ingress down.now) leg targets.now result }
     {
-        match self.database.route(self.number, targets, near, down) {
+        match self
+            .database
+            .database()
+            .route(self.number, targets, near, down)
+        {
             None => Err(self.cause(near, down, &leg, targets)),
             Some(route) => Ok(route),
         }
@@ -100,6 +160,7 @@ impl Switch {
     fn are_isolated(&self, near: u64, down: &DownSet, targets: &[u32]) -> bool
         ensures { result ≡ are_isolated self.now near down.now targets.now }
     {
-        targets.iter().all(|target| self.database.isolated(self.number, *target, near, down))
+        let database = self.database.database();
+        targets.iter().all(|target| database.isolated(self.number, *target, near, down))
     }
 }

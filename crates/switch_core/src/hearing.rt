@@ -198,7 +198,7 @@ impl Switch {
     {
         advert.origin < 64
             && advert.origin != self.number
-            && match self.database.get(advert.origin) {
+            && match self.database.database().get(advert.origin) {
                 Some(held) => advert.is_newer(&held),
                 None => true,
             }

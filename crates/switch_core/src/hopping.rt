@@ -74,7 +74,7 @@ impl Switch {
         ensures end { result ≡ (rerouted_here self.now near t.old).end }
         ensures tunnel { t.new ≡ (rerouted_here self.now near t.old).tunnel }
     {
-        if !t.reroute(&self.database, near) {
+        if !t.reroute(self.database.database(), near) {
             return HopEnd::Stuck(self.cause(near, &t.down, &t.leg, &t.targets));
         }
         match t.next() {

@@ -2,7 +2,7 @@ ghost use Rattle.std.specs.Prelude.{◌≡◌, ◌+◌, ◌-◌, ◌^◌, ◌<�
 ghost use Rattle.switch_core.specs.Life.{crashed_switch, entry_expired, without_memory, near_changed, next_advert, restarted_switch};
 
 use crate::switch::Switch;
-use failover::{Advert, Database};
+use failover::Advert;
 
 impl Switch {
     /// Its usable links are these now: its own advert of them, which it holds, to be told.
@@ -62,7 +62,7 @@ impl Switch {
         self.collected = 0;
         self.tables.clear();
         self.cache.clear();
-        self.database = Database::empty();
+        self.database.clear();
         self.seq = 0;
     }
 }

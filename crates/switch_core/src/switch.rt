@@ -5,6 +5,7 @@ ghost use Rattle.switch_table.specs.Tables.{AreSoundTables};
 ghost use Rattle.switch_core.specs.State.{HasOwnUpTo, IsSwitch, new_switch, call_counted, held_tables, holds_version, serves, stamp_tables};
 
 use crate::kept::KeptTables;
+use crate::ways::Ways;
 use ctrl_msg::SharedTables;
 use failover::{Advert, Database};
 use std::alloc::{AllocError, Global};
@@ -23,7 +24,7 @@ pub struct Switch {
     pub(crate) collected: u32,
     pub(crate) tables: Vec<KeptTables>,
     pub(crate) cache: Cache,
-    pub(crate) database: Database,
+    pub(crate) database: Ways,
     pub(crate) seq: u32,
     pub(crate) handled: u64,
 }
@@ -70,7 +71,7 @@ impl Switch {
             collected: 0,
             tables: list,
             cache: Cache::new(alloc, cache),
-            database: base,
+            database: Ways::new(alloc, base),
             seq: 1,
             handled: 0,
         })
@@ -136,7 +137,7 @@ impl Switch {
         ensures held { result ≡ held_advert self.now.database origin }
         ensures origin { IfSome result (λ advert. advert.origin ≡ origin) }
     {
-        self.database.get(origin)
+        self.database.database().get(origin)
     }
 
     /// The tables of this version, where it has them.

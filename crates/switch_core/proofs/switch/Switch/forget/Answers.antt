@@ -6,5 +6,5 @@ pub invariant_of-self : goal.invariant_of-self
 invariant_of-self c = record {
   number = c.self.invariant.number;
   sound = rw c.clear.ensures.items (λ k d within. absurd (omega arith));
-  own = rw c.empty-self-inside.ensures (own_none c.self.inside.number c.self.inside.boot 0);
+  own = rw c.clear-3.ensures (own_none c.self.inside.number c.self.inside.boot 0);
 }

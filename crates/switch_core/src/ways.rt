@@ -1,0 +1,145 @@
+ghost use Rattle.std.specs.Prelude.{◌≡◌, ◌∷◌, [], All, IfOk, IfSome, Some};
+ghost use Rattle.failover.specs.Exports.{after_hearing, is_news, no_adverts, no_links, route_of};
+ghost use Rattle.switch_core.specs.Ways.{IsWayBy};
+
+use base::Shared;
+use failover::{Advert, Database, DownSet, Route};
+use policy_rules::Targets;
+use std::alloc::{AllocError, Global};
+use std::marker::Model;
+
+/// The most routes that are kept at once.
+const MOST: usize = 64;
+
+/// A route of `from` to one target, where no link was found down.
+#[derive(Drop)]
+pub struct KeptWay {
+    from: u32,
+    target: u32,
+    /// A bit for each switch to which `from` has a usable link.
+    near: u64,
+    route: Shared<Route>,
+}
+
+/// The adverts that a switch holds, and routes that it found by them, so that packets share these.
+/// Contracts see the adverts.
+#[derive(Drop)]
+pub struct Ways {
+    database: Database,
+    kept: Vec<KeptWay>,
+}
+
+impl Model for Ways {
+    ghost use Rattle.std.specs.Prelude.{List, Option, All};
+    ghost use Rattle.failover.specs.declared.advert.Advert.{Advert};
+    ghost use Rattle.switch_core.specs.Ways.{IsWayBy};
+
+    ghost Value = { List (Option Advert) };
+
+    ghost view = { λ w. w.database };
+
+    ghost invariant = { λ w. All (IsWayBy w.database) w.kept.items };
+}
+
+impl Ways {
+    /// These adverts. It takes no memory yet.
+    pub fn new(alloc: Global, database: Database) -> Ways
+        ensures { result ≡ database }
+    {
+        Ways {
+            database,
+            kept: Vec::new(alloc),
+        }
+    }
+
+    /// The adverts.
+    pub fn database(&self) -> &Database
+        ensures { result.now ≡ self.now }
+    {
+        &self.database
+    }
+
+    /// Holds the advert where it is news, as `Database::hear` does.
+    pub fn hear(&mut self, advert: &Advert) -> bool
+        ensures news { result ≡ is_news self.old advert.now }
+        ensures after { self.new ≡ after_hearing self.old advert.now }
+    {
+        self.kept.clear();
+        self.database.hear(advert)
+    }
+
+    /// All adverts are gone.
+    pub fn clear(&mut self)
+        ensures { self.new ≡ no_adverts }
+    {
+        self.kept.clear();
+        self.database = Database::empty();
+    }
+
+    /// A route to the first of the targets, where no link was found down, shared by those who asked
+    /// for it; `None` where none leads there.
+    ///
+    /// # Errors
+    /// Want of memory alone.
+    pub fn to_first(
+        &mut self,
+        alloc: Global,
+        from: u32,
+        targets: &Targets,
+        near: u64,
+    ) -> Result<Option<Shared<Route>>, AllocError>
+        ensures route { IfOk result (λ found. IfSome found (λ route.
+            route_of self.old from targets.now near no_links ≡ Some route)) }
+        ensures same { self.new ≡ self.old }
+    {
+        let target = targets.items()[0];
+        if let Some(route) = self.kept_way(from, target, near) {
+            return Ok(Some(route.clone()?));
+        }
+        self.find_way(alloc, from, target, near)
+    }
+
+    // The route that is kept, if one is.
+    fn kept_way(&self, from: u32, target: u32, near: u64) -> Option<&Shared<Route>>
+        ensures { IfSome result (λ route.
+            route_of self.now from (target ∷ []) near no_links ≡ Some route.now) }
+    {
+        for way in &self.kept {
+            if way.target == target && way.near == near && way.from == from {
+                return Some(&way.route);
+            }
+        }
+        None
+    }
+
+    // A route that wasn't kept, which is kept from now on.
+    #[cold]
+    #[inline(never)]
+    fn find_way(
+        &mut self,
+        alloc: Global,
+        from: u32,
+        target: u32,
+        near: u64,
+    ) -> Result<Option<Shared<Route>>, AllocError>
+        ensures route { IfOk result (λ found. IfSome found (λ route.
+            route_of self.old from (target ∷ []) near no_links ≡ Some route)) }
+        ensures same { self.new ≡ self.old }
+    {
+        let alone = Targets::new(&[target]).unwrap();
+        let Some(route) = self.database.route(from, &alone, near, &DownSet::empty()) else {
+            return Ok(None);
+        };
+        let route = Shared::new(alloc, route)?;
+        if self.kept.len() >= MOST {
+            self.kept.clear();
+        }
+        self.kept.push(KeptWay {
+            from,
+            target,
+            near,
+            route: route.clone()?,
+        })?;
+        Ok(Some(route))
+    }
+}
