@@ -1,6 +1,7 @@
 mod Readings
 mod Made
 mod Lines
+mod Begins
 mod Verdicts
 mod Moves
 mod Runs

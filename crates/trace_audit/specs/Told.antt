@@ -1,7 +1,7 @@
 -- What a line of a printed trace tells, by its first words. A line is cut at each single
 -- blank, so that two blanks make an empty word. A number is decimal, without sign or leading zero.
-use Rattle.std.specs.Prelude.{ℕ, ◌&&◌, ◌||◌, nat_le, if◌then◌else◌, Bool, false, Option, Some, None, option_map, List, [], ◌∷◌, take, drop, codes, bytes_eq}
-use Rattle.std.specs.List.{list_any}
+use Rattle.std.specs.Prelude.{ℕ, ◌≡◌, ◌==◌, ◌&&◌, ◌||◌, nat_le, not, if◌then◌else◌, Bool, false, Option, Some, None, option_map, List, [], ◌∷◌, take, drop, codes, bytes_eq}
+use Rattle.std.specs.List.{list_all, list_any}
 use Rattle.std.specs.Option.{option_map_or}
 use Rattle.std.specs.Borrow.{Bor}
 use Rattle.five_tuple.specs.HeaderNumbers.{header_of}
@@ -33,6 +33,14 @@ words_of line = parts_round 32 line
 abbrev pub words_left : Option (Bor (List ℕ)) → List (List ℕ)
 words_left None = []
 words_left (Some text) = words_of text.now
+
+-- no blank in it
+abbrev pub is_word : List ℕ → Bool
+is_word word = list_all (λ b. not (b == 32)) word
+
+-- the first word is taken, and said is whether it passes
+abbrev pub TakesNext : List (List ℕ) → (List ℕ → Bool) → List (List ℕ) → Bool → Type 0
+TakesNext old passes new said = (next : List ℕ) × (old ≡ next ∷ new) × (said ≡ passes next)
 
 -- of a packet, a file or a version
 abbrev pub number_of_word : List ℕ → Option ℕ

@@ -1,11 +1,11 @@
-ghost use Rattle.std.specs.Prelude.{◌≡◌, ◌==◌, ◌<◌, ◌^◌, IfSome, option_map, bytes_eq};
+ghost use Rattle.std.specs.Prelude.{◌≡◌, ◌∷◌, ◌==◌, ◌<◌, ◌^◌, [], IfSome, option_map, bytes_eq};
 ghost use Rattle.std.specs.List.{list_any};
 ghost use Rattle.five_tuple.specs.Texts.{number_up_to, parts_round};
 ghost use Rattle.update_machine.specs.Machine as machine;
 ghost use Rattle.trace_audit.specs.Seen.{end_seen, told_seen};
 ghost use Rattle.trace_audit.specs.Told.{alone_told, any_told, decided_told, ended_told, entered_told, indented_told, is_row_number, item_told, left_told, number_of_word, packet_row_told, retired_told, row_told, silent_words, stuck_told, submitted_told, told_by, told_of, version_of_word};
 
-use crate::words::{Words, cut};
+use crate::words::{Words, cut_near};
 use five_tuple::{Header, read_fields, read_number};
 use net_file::is_name;
 use steps::{MAX_EVENTS, MAX_NUMBER};
@@ -67,7 +67,7 @@ fn version(word: &[u8]) -> Option<u32>
 fn is_row_number(word: &[u8]) -> bool
     ensures { result ≡ is_row_number (parts_round 58 word.now) }
 {
-    let Some((digits, rest)) = cut(word, b':') else {
+    let Some((digits, rest)) = cut_near(word, b':') else {
         return false;
     };
     if !rest.is_empty() {
@@ -106,15 +106,9 @@ fn read_row<'a>(words: Words<'a>) -> Option<Told<'a>>
 {
     let mut words = words;
     let row = words.next()?;
-    match words.next() {
-        None => Some(Told::Row(None)),
-        Some(kind) => {
-            if kind == b"packet".as_slice() {
-                read_packet_row(row, words)
-            } else {
-                Some(Told::Row(None))
-            }
-        }
+    match words.next_is(b"packet".as_slice()) {
+        Some(true) => read_packet_row(row, words),
+        Some(false) | None => Some(Told::Row(None)),
     }
 }
 
@@ -169,15 +163,11 @@ fn read_decided<'a>(words: Words<'a>) -> Option<Told<'a>>
     let mut words = words;
     let packet = words.next()?;
     let version = words.next()?;
-    let word = words.next()?;
+    let is_rule = words.next_is(b"rule".as_slice())?;
     let rule = words.next()?;
     let action = words.next()?;
-    let how = words.next()?;
-    let _more = words.next()?;
-    if word != b"rule".as_slice() {
-        return None;
-    }
-    if how != b"cache".as_slice() && how != b"authority".as_slice() {
+    let is_how = words.next_is_either(b"authority".as_slice(), b"cache".as_slice())?;
+    if !words.has_more() || !is_rule || !is_how {
         return None;
     }
     Some(Told::Decided {
@@ -316,6 +306,25 @@ fn read_item<'a>(word: &[u8], words: Words<'a>) -> Option<Told<'a>>
     }
 }
 
+// An item, behind its two blanks. Those that each packet has are tried first.
+#[tactic(auto, unfolding(crate::specs::Told::item_told))]
+fn read_known_item<'a>(words: Words<'a>) -> Option<Told<'a>>
+    ensures { option_map told_seen result ≡ indented_told ([] ∷ words.entry) }
+{
+    let mut words = words;
+    if words.take(b"decided".as_slice()) {
+        return read_decided(words);
+    }
+    if words.take(b"entered".as_slice()) {
+        return read_entered(words);
+    }
+    if words.take(b"dropped".as_slice()) {
+        return read_ended(End::Dropped, words);
+    }
+    let word = words.next()?;
+    read_item(word, words)
+}
+
 // An item stands behind two blanks.
 fn read_indented<'a>(words: Words<'a>) -> Option<Told<'a>>
     ensures { option_map told_seen result ≡ indented_told words.entry }
@@ -334,7 +343,18 @@ fn read_indented<'a>(words: Words<'a>) -> Option<Told<'a>>
 pub(crate) fn read_line<'a>(line: &'a [u8]) -> Option<Told<'a>>
     ensures { option_map told_seen result ≡ told_of line.now }
 {
-    let mut words = Words::of(line);
+    match line {
+        [b' ', b' ', item @ ..] => read_known_item(Words::of(item)),
+        [b'r', b'o', b'w', b' ', row @ ..] => read_row(Words::of(row)),
+        _ => read_words(Words::of(line)),
+    }
+}
+
+// What a line tells, by its words.
+fn read_words<'a>(words: Words<'a>) -> Option<Told<'a>>
+    ensures { option_map told_seen result ≡ told_by words.entry }
+{
+    let mut words = words;
     let first = words.next()?;
     if first == b"row".as_slice() {
         read_row(words)

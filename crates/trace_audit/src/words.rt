@@ -1,6 +1,6 @@
-ghost use Rattle.std.specs.Prelude.{◌≡◌, ◌∷◌, ◌==◌, [], IfNone, IfSome, MatchOption, position};
+ghost use Rattle.std.specs.Prelude.{◌≡◌, ◌∷◌, ◌==◌, ◌||◌, [], IfNone, IfSome, IsTrue, List, MatchBool, MatchOption, bytes_eq, position, ℕ};
 ghost use Rattle.five_tuple.specs.Texts.{parts_round};
-ghost use Rattle.trace_audit.specs.Told.{words_of};
+ghost use Rattle.trace_audit.specs.Told.{TakesNext, is_word, words_of};
 
 use memchr::memchr;
 use std::marker::Model;
@@ -22,6 +22,45 @@ pub(crate) fn cut(text: &[u8], byte: u8) -> Option<(&[u8], &[u8])>
     Some((&text[..at], &text[at + 1..]))
 }
 
+// The place of the first such byte, where it is likely to be near.
+#[inline(always)]
+fn near_place_of(text: &[u8], byte: u8) -> Option<usize>
+    ensures { result ≡ position (λ b. b == byte) text.now }
+{
+    text.iter().position(|b| *b == byte)
+}
+
+/// The same as `cut`, where the byte is likely to be near.
+#[inline(always)]
+pub(crate) fn cut_near(text: &[u8], byte: u8) -> Option<(&[u8], &[u8])>
+    ensures { MatchOption result
+        (parts_round byte text.now ≡ text.now ∷ [])
+        (λ r. parts_round byte text.now ≡ r.0.now ∷ parts_round byte r.1.now) }
+{
+    let at = near_place_of(text, byte)?;
+    Some((&text[..at], &text[at + 1..]))
+}
+
+// What stands behind the word and a blank, where the text begins with them.
+#[inline(always)]
+fn behind<'a>(text: &'a [u8], word: &[u8]) -> Option<&'a [u8]>
+    requires { IsTrue (is_word word.now) }
+    ensures { IfSome result (λ rest. words_of text.now ≡ word.now ∷ words_of rest.now) }
+{
+    if text.len() <= word.len() {
+        return None;
+    }
+    for (place, byte) in word.iter().enumerate() {
+        if text[place] != *byte {
+            return None;
+        }
+    }
+    if text[word.len()] != b' ' {
+        return None;
+    }
+    Some(&text[word.len() + 1..])
+}
+
 /// The words of a line that are still to be read. Contracts see them.
 #[derive(Drop)]
 pub(crate) struct Words<'a> {
@@ -40,19 +79,31 @@ impl<'a> Model for Words<'a> {
 
 impl<'a> Words<'a> {
     /// All words of a line.
+    #[inline(always)]
     pub fn of(line: &'a [u8]) -> Words<'a>
         ensures { result ≡ words_of line.now }
     {
         Words { rest: Some(line) }
     }
 
+    /// Whether there is a next word.
+    #[inline(always)]
+    pub fn has_more(&self) -> bool
+        ensures { MatchBool result
+            ((word : List ℕ) × (others : List (List ℕ)) × (self.now ≡ word ∷ others))
+            (self.now ≡ []) }
+    {
+        self.rest.is_some()
+    }
+
     /// Takes the next word, if there is one.
+    #[inline(always)]
     pub fn next(&mut self) -> Option<&'a [u8]>
         ensures some { IfSome result (λ word. self.old ≡ word.now ∷ self.new) }
         ensures none { IfNone result (self.old ≡ []) }
     {
         let rest = self.rest?;
-        match cut(rest, b' ') {
+        match cut_near(rest, b' ') {
             Some((word, rest)) => {
                 self.rest = Some(rest);
                 Some(word)
@@ -62,5 +113,56 @@ impl<'a> Words<'a> {
                 Some(rest)
             }
         }
+    }
+
+    /// Takes the next word where it is this one and words stand behind it, and says whether it is.
+    #[inline(always)]
+    pub fn take(&mut self, word: &[u8]) -> bool
+        requires { IsTrue (is_word word.now) }
+        ensures { MatchBool result (self.old ≡ word.now ∷ self.new) (self.new ≡ self.old) }
+    {
+        let Some(rest) = self.rest else {
+            return false;
+        };
+        match behind(rest, word) {
+            Some(rest) => {
+                self.rest = Some(rest);
+                true
+            }
+            None => false,
+        }
+    }
+
+    /// Takes the next word, if there is one, and says whether it is this one.
+    #[inline(always)]
+    pub fn next_is(&mut self, word: &[u8]) -> Option<bool>
+        requires { IsTrue (is_word word.now) }
+        ensures some { IfSome result (TakesNext self.old (λ next. bytes_eq next word.now) self.new) }
+        ensures none { IfNone result (self.old ≡ []) }
+    {
+        if self.take(word) {
+            return Some(true);
+        }
+        let next = self.next()?;
+        Some(next == word)
+    }
+
+    /// The same of one of two words.
+    #[inline(always)]
+    pub fn next_is_either(&mut self, one: &[u8], other: &[u8]) -> Option<bool>
+        requires one { IsTrue (is_word one.now) }
+        requires other { IsTrue (is_word other.now) }
+        ensures some { IfSome result
+            (TakesNext self.old (λ next. bytes_eq next one.now || bytes_eq next other.now) self.new) }
+        ensures none { IfNone result (self.old ≡ []) }
+    {
+        if self.take(one) {
+            return Some(true);
+        }
+        if self.take(other) {
+            return Some(true);
+        }
+        let next = self.next()?;
+        Some(next == one || next == other)
     }
 }
