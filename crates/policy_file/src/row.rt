@@ -1,4 +1,4 @@
-ghost use Rattle.std.specs.Prelude.{◌≡◌, ◌<◌, ◌+◌, ◌^◌, ◌&&◌, drop, IfOk, bytes_eq};
+ghost use Rattle.std.specs.Prelude.{◌≡◌, ◌<◌, ◌+◌, ◌^◌, ◌&&◌, [], ◌∷◌, drop, IfOk, bytes_eq};
 ghost use Rattle.csv.specs.Records.{fields_of};
 ghost use Rattle.csv_records.specs.Texts.{field_or_empty, is_heading};
 ghost use Rattle.five_tuple.specs.Texts.{number_up_to};
@@ -73,6 +73,19 @@ pub fn read_row(fields: &ByteRecord, from: usize) -> Result<Row, PolicyRefusal>
     if fields.len() < from || fields.len() - from != WIDTH {
         return Err(PolicyRefusal::Width);
     }
+    read_seven(fields, from)
+}
+
+// The row that the seven fields from this place on state.
+fn read_seven(fields: &ByteRecord, from: usize) -> Result<Row, PolicyRefusal>
+    requires { from + 6 < 2 ^ 64 }
+    ensures row { let all = fields_of fields.now in
+        result ≡ row_read (field_or_empty all from ∷ field_or_empty all (from + 1)
+        ∷ field_or_empty all (from + 2) ∷ field_or_empty all (from + 3)
+        ∷ field_or_empty all (from + 4) ∷ field_or_empty all (from + 5)
+        ∷ field_or_empty all (from + 6) ∷ []) }
+    ensures small_port { IfOk result (λ row. HasSmallPort row.action) }
+{
     Ok(Row {
         priority: read_priority(field(fields, from)).ok_or(PolicyRefusal::Priority)?,
         src: read_prefix(field(fields, from + 1)).ok_or(PolicyRefusal::Src)?,

@@ -10,8 +10,7 @@ ghost use Rattle.policy_file.specs.Changes.{change_heading, change_of, policy_fi
 ghost use Rattle.policy_file.specs.Printing.{change_text, edit_fields, fields_line, policy_text, row_fields, rows_text};
 ghost use Rattle.policy_file.specs.Reading.{policy_heading, policy_of, row_read};
 
-use crate::edit::{ADD, OP, REMOVE};
-use crate::row::{ACTION, DPORT, DST, PRIORITY, PROTO, SPORT, SRC};
+use crate::edit::{ADD, REMOVE};
 use five_tuple::{printed_forms_are_plain, printed_forms_are_read_back};
 use policy_rules::{Amendment, Edit, Policy, Row, printed_actions_are_read_back};
 use std::alloc::{AllocError, Global};
@@ -118,11 +117,7 @@ impl Line for Row {
     ghost fields = { row_fields };
 
     fn write_heading(text: &mut String) -> Result<(), AllocError> {
-        writeln!(
-            text,
-            "{PRIORITY},{SRC},{DST},{SPORT},{DPORT},{PROTO},{ACTION}"
-        )?;
-        Ok(())
+        text.push_str("priority,src,dst,sport,dport,proto,action\n")
     }
 
     fn write(&self, text: &mut String) -> Result<(), AllocError> {
@@ -138,11 +133,7 @@ impl Line for Edit {
     ghost fields = { edit_fields };
 
     fn write_heading(text: &mut String) -> Result<(), AllocError> {
-        writeln!(
-            text,
-            "{OP},{PRIORITY},{SRC},{DST},{SPORT},{DPORT},{PROTO},{ACTION}"
-        )?;
-        Ok(())
+        text.push_str("op,priority,src,dst,sport,dport,proto,action\n")
     }
 
     fn write(&self, text: &mut String) -> Result<(), AllocError> {
