@@ -1,4 +1,4 @@
-ghost use Rattle.std.specs.Prelude.{◌≡◌, ◌<◌, ◌^◌, nat_lt, true, IfOk, IfErr, OnOk, vec_len, length, Some};
+ghost use Rattle.std.specs.Prelude.{◌≡◌, ◌<◌, ◌^◌, nat_lt, true, IfOk, IfErr, IsTrue, OnOk, vec_len, length, Some};
 ghost use Rattle.std.specs.Option.{option_map_or};
 ghost use Rattle.five_tuple.specs.SoundFields.{IsPortRange, IsProtocol};
 ghost use Rattle.policy_rules.specs.Exports.{IsFirstMatch, IsHighestMatch, IsPolicy, IsSoundRow, RefusesRows, hit_of, row_matches, scan};
@@ -182,6 +182,11 @@ fn check_rows(alloc: Global, rows: &[Row]) -> Result<(), Failure<SamePriority>>
     ensures policy { OnOk result (IsPolicy rows.now) }
     ensures refused { IfErr result (IfRefused (RefusesRows rows.now)) }
 {
+    // No priority needs to be remembered where each row has a lower one than the row before.
+    let falling = are_falling(rows);
+    if falling {
+        return Ok(());
+    }
     let mut seen: HashSet<u32> = HashSet::new(alloc);
     let mut number = 0u32;
     for row in rows {
@@ -192,6 +197,23 @@ fn check_rows(alloc: Global, rows: &[Row]) -> Result<(), Failure<SamePriority>>
         }
     }
     Ok(())
+}
+
+// Whether the priorities fall from row to row, so that no two rows have one.
+fn are_falling(rows: &[Row]) -> bool
+    requires { length rows.now < 2 ^ 32 }
+    ensures { IsTrue result → IsPolicy rows.now }
+{
+    let mut above = 1u64 << 32;
+    for row in rows {
+        row_is_sound(row);
+        let priority = u64::from(row.priority);
+        if priority >= above {
+            return false;
+        }
+        above = priority;
+    }
+    true
 }
 
 /// Each field of a row is as its type has it, which is known where the field is read: here, once
