@@ -1,5 +1,5 @@
 -- Which halves of a region a word meets and covers, bit by bit.
-use Rattle.std.proofs.Common.{◌≡◌, ◌≢◌, ℕ, zero, suc, ◌+◌, ◌-◌, ◌*◌, ◌%◌, ◌^◌, ◌<◌, ◌≤◌, min, max, Bool, true, false, not, ◌&&◌, ◌||◌, bit_or, bit_xor, bit_and, length, get_or, drop, List, ◌∷◌, refl, sym, ◌∙◌, ap, inl, inr, arith}
+use Rattle.std.proofs.Common.{◌≡◌, ◌≢◌, ℕ, zero, suc, ◌+◌, ◌-◌, ◌*◌, ◌%◌, ◌^◌, ◌<◌, ◌≤◌, min, max, Bool, true, false, not, ◌&&◌, ◌||◌, bit_or, bit_xor, bit_and, length, drop, List, ◌∷◌, refl, sym, ◌∙◌, ap, inl, inr, arith}
 use Rattle.std.specs.Bool.{IsTrue, ◌==◌}
 use Rattle.std.specs.Int.{w128, bit_at, from_bool, trailing_zeros}
 use Rattle.std.proofs.lemmas.Bool.{cases_eq, cases_Bool, both_ways, false_from_ne_true}
@@ -11,8 +11,7 @@ use Rattle.ternary.specs.WordBits.{IsWord}
 use Rattle.ternary.specs.Meets.{is_fixed_of, admits, meets, covers_of, fix_of, free_of}
 use Rattle.ternary.proofs.CallerLemmas.{covers_decides, covers_half, meets_comm, meets_cover, meets_half, without_bit-other, without_bit-same}
 use Rattle.policy_rules.specs.declared.rules.Rule.{Rule}
-use Rattle.policy_rules.proofs.CallerLemmas.{at_item}
-use Rattle.cut_tree.specs.Counts.{IsCounting, IsNarrowIn, HasCounted, count_on_side, expected_count}
+use Rattle.cut_tree.specs.Counts.{IsCounting, IsNarrowIn, HasCounted}
 use Rattle.cut_tree.specs.Cuts.{IsFreeBit, side_of}
 use Rattle.cut_tree.specs.declared.choice.Side.{Side}
 use Rattle.cut_tree.specs.Narrow.{narrow}
@@ -226,59 +225,7 @@ met_step region rule rules bit one left met fit free is_met =
     free (bit_at-lt left bit) is_met (sym (ap from_bool (fit.covers bit one free))) in
     rw (bit_at_and left met bit) (rw still at step)
 
--- ---- a side goes on
-
-same_drop : (rules : List Rule) (m n : ℕ) → m ≡ n → drop m rules ≡ drop n rules
-same_drop rules m n is = ap (λ k. drop k rules) is
-
-four_at : (rules : List Rule) (i : ℕ) (a b c d : Rule) → i + 4 ≤ length rules
-    → a ≡ get_or rules i a → b ≡ get_or rules (i + 1) b → c ≡ get_or rules (i + 2) c
-    → d ≡ get_or rules (i + 3) d
-    → drop i rules ≡ a ∷ b ∷ c ∷ d ∷ drop (i + 4) rules
-four_at rules i a b c d within first second third fourth =
-    at_item (λ (rs : List Rule). rs) rules i a (omega arith) first
-    ∙ ap (λ (rs : List Rule). a ∷ rs)
-    (at_item (λ (rs : List Rule). rs) rules (i + 1) b (omega arith) second)
-    ∙ ap (λ (rs : List Rule). a ∷ b ∷ rs) (same_drop rules (i + 1 + 1) (i + 2) (omega arith)
-    ∙ at_item (λ (rs : List Rule). rs) rules (i + 2) c (omega arith) third)
-    ∙ ap (λ (rs : List Rule). a ∷ b ∷ c ∷ rs) (same_drop rules (i + 2 + 1) (i + 3) (omega arith)
-    ∙ at_item (λ (rs : List Rule). rs) rules (i + 3) d (omega arith) fourth)
-    ∙ ap (λ (rs : List Rule). a ∷ b ∷ c ∷ d ∷ rs)
-    (same_drop rules (i + 3 + 1) (i + 4) (omega arith))
-
-pub counting_one : (before after : Side) (one : Bool) (rules : List Rule) (region : WordValue)
-    (place : ℕ) (rule : Rule) → place < length rules → rule ≡ get_or rules place rule
-    → IsCounting before one rules region place → after.one ≡ before.one
-    → ((bit : ℕ) → count_on_side after bit ≤ count_on_side before bit + 1)
-    → ((bit : ℕ) (rest : List Rule) → IsFreeBit region bit
-    → expected_count after region bit rest ≡ expected_count before region bit (rule ∷ rest))
-    → IsCounting after one rules region (place + 1)
-counting_one before after one rules region place rule within is counting same few step = record {
-  one = same ∙ counting.one;
-  few = λ bit. omega (arith, few bit, counting.few bit);
-  rest = λ bit free. step bit (drop (place + 1) rules) free
-      ∙ sym (at_item (λ rs. expected_count before region bit rs) rules place rule within is)
-      ∙ counting.rest bit free;
-}
-
-pub counting_four : (before after : Side) (one : Bool) (rules : List Rule) (region : WordValue)
-    (place : ℕ) (a b c d : Rule) → place + 4 ≤ length rules → a ≡ get_or rules place a
-    → b ≡ get_or rules (place + 1) b → c ≡ get_or rules (place + 2) c
-    → d ≡ get_or rules (place + 3) d → IsCounting before one rules region place
-    → after.one ≡ before.one → ((bit : ℕ) → count_on_side after bit ≤ count_on_side before bit + 4)
-    → ((bit : ℕ) (rest : List Rule) → IsFreeBit region bit
-    → expected_count after region bit rest
-    ≡ expected_count before region bit (a ∷ b ∷ c ∷ d ∷ rest))
-    → IsCounting after one rules region (place + 4)
-counting_four before after one rules region place a b c d within first second third fourth counting
-    same few step = record {
-      one = same ∙ counting.one;
-      few = λ bit. omega (arith, few bit, counting.few bit);
-      rest = λ bit free. step bit (drop (place + 4) rules) free
-          ∙ sym (ap (λ rs. expected_count before region bit rs)
-          (four_at rules place a b c d within first second third fourth))
-          ∙ counting.rest bit free;
-    }
+-- ---- a side at the end
 
 -- a side that has seen each rule has counted each half
 pub counted_all : (side : Side) (one : Bool) (rules : List Rule) (region : WordValue) (place : ℕ)
