@@ -9,7 +9,7 @@ use Rattle.std.proofs.lemmas.Bool.{both_ways, cases_Bool, cases_lt, cases_eq, eq
 use Rattle.std.proofs.lemmas.Bool.Decides.{nat_tests}
 use Rattle.std.proofs.lemmas.Option.{slice_get-get_or}
 use Rattle.std.proofs.lemmas.List.{take_more}
-use Rattle.std.proofs.lemmas.Nat.{and_shr, xor_shr}
+use Rattle.std.proofs.lemmas.Nat.{and_mod, and_shr, xor_mod, xor_shr}
 use Rattle.std.proofs.lemmas.List.Elements.{All-head, All-push, All-tail, All-take}
 use Rattle.std.proofs.lemmas.List.Sums.{list_all-from_AllPass}
 use Rattle.std.proofs.lemmas.Nat.Bits.{bit_at_and, bit_at_ones, bit_at_or, bit_at_xor, bit_at-lt, bit_at_above, bit_at-pow_other, bit_at-pow_same, same_from_bits}
@@ -436,6 +436,25 @@ pub uppers_differ : (n fixed alone : ℕ)
     → (bit_and n fixed == alone) ≡ false
 uppers_differ n fixed alone other = ne_eqb (bit_and n fixed) alone
     (λ same. other (sym (and_shr n fixed 64) ∙ ap (λ x. x / 2 ^ 64) same))
+
+-- where they are the same, the lower halves tell
+same_test : (a b : ℕ) → a / 2 ^ 64 ≡ b / 2 ^ 64 → (a % 2 ^ 64 == b % 2 ^ 64) ≡ (a == b)
+same_test a b upper = elim (cases_eq a b) [
+  | inl same ↦ eq-eqb _ _ (ap (λ x. x % 2 ^ 64) same) ∙ sym (eq-eqb a b same)
+  | inr other ↦ ne_eqb _ _ (λ lower. other (omega (arith, upper, lower))) ∙ sym (ne_eqb a b other)
+]
+
+pub lower_tells : (h : ℕ) (word : WordValue) (fixed alone : ℕ)
+    → bit_and (differing_bits h word / 2 ^ 64) (fixed / 2 ^ 64) ≡ alone / 2 ^ 64
+    → (bit_and (bit_and (bit_xor (h % 2 ^ 64) (word.value % 2 ^ 64)) (word.mask % 2 ^ 64))
+    (fixed % 2 ^ 64) == alone % 2 ^ 64) ≡ (bit_and (differing_bits h word) fixed == alone)
+lower_tells h word fixed alone upper =
+    let n = differing_bits h word in
+    let differ = and_mod (bit_xor h word.value) word.mask 64
+    ∙ ap (λ x. bit_and x (word.mask % 2 ^ 64)) (xor_mod h word.value 64) in
+    let lower = and_mod n fixed 64 ∙ ap (λ x. bit_and x (fixed % 2 ^ 64)) differ in
+    ap (λ x. x == alone % 2 ^ 64) (sym lower)
+    ∙ same_test (bit_and n fixed) alone (and_shr n fixed 64 ∙ upper)
 
 -- what has open bits alone has no other one
 no_closed : (n open_bits : ℕ) → open_bits < 2 ^ 104 → bit_and n open_bits ≡ n

@@ -1,4 +1,4 @@
-ghost use Rattle.std.specs.Prelude.{ℕ, ◌≡◌, ◌^◌, ◌/◌, ◌<◌, ◌==◌, ◌&&◌, bit_and, not, Some, All, position, IsTrue};
+ghost use Rattle.std.specs.Prelude.{ℕ, ◌≡◌, ◌^◌, ◌/◌, ◌%◌, ◌<◌, ◌==◌, ◌&&◌, bit_and, bit_xor, not, Some, All, position, IsTrue};
 ghost use Rattle.std.specs.Int.{bit_at, trailing_zeros, w128};
 ghost use Rattle.five_tuple.specs.Header.{number_of};
 ghost use Rattle.ternary.specs.Word.{holds};
@@ -15,6 +15,9 @@ use ternary::{Word, covers_laws, exact_laws, free_laws, meet_laws};
 
 /// The mask of all bits of a header's number.
 const ALL_BITS: u128 = (1 << 104) - 1;
+
+/// The least number that has bits in its upper half.
+const HALF: u128 = 1 << 64;
 
 /// The word of a cache rule for a header that the rule at `index` is the first of the partition to
 /// hold.
@@ -87,15 +90,22 @@ fn differs_in(h: u128, word: &Word, fixed: u128, alone: u128) -> bool
     ensures { result ≡ (bit_and (differing_bits h word.now) fixed == alone) }
 {
     upper_differing(h, word) & upper_half(fixed) == upper_half(alone)
-        && differs_so(h, word, fixed, alone)
+        && differs_so(
+            lower_half(h),
+            lower_half(word.value()),
+            lower_half(word.mask()),
+            lower_half(fixed),
+            lower_half(alone),
+        )
 }
 
-// The same by the whole numbers. Where this is inlined the compiler looks at both halves at once.
+// Whether h differs from the value, in the bits of the mask that are fixed, in these alone. Where
+// this is inlined the compiler looks at both halves at once.
 #[inline(never)]
-fn differs_so(h: u128, word: &Word, fixed: u128, alone: u128) -> bool
-    ensures { result ≡ (bit_and (differing_bits h word.now) fixed == alone) }
+fn differs_so(h: u64, value: u64, mask: u64, fixed: u64, alone: u64) -> bool
+    ensures { result ≡ (bit_and (bit_and (bit_xor h value) mask) fixed == alone) }
 {
-    differing(h, word) & fixed == alone
+    (h ^ value) & mask & fixed == alone
 }
 
 // The bits that the word fixes to another value than that of h.
@@ -116,6 +126,12 @@ fn upper_half(n: u128) -> u64
     ensures { result ≡ n / 2 ^ 64 }
 {
     (n >> 64) as u64
+}
+
+fn lower_half(n: u128) -> u64
+    ensures { result ≡ n % 2 ^ 64 }
+{
+    (n % HALF) as u64
 }
 
 // For each rule that differs from the header in free bits alone, the highest of them.
