@@ -7,7 +7,6 @@ ghost use Rattle.travelling.specs.Travelling.{HasPlace, WithOne, placed_at, stan
 ghost use Rattle.update_machine.specs.Exports.{takes_route};
 ghost use Rattle.world_log.specs.Writing.{LogAfter, left_item, packet_standing, set_item, set_flight};
 
-use failover::Route;
 use journal::{Item, Journal, Leaving, Message, SharedMessage, SharedRoute};
 use message_bag::PostBag;
 use policy_rules::{Cause, Leg, Targets};
@@ -49,7 +48,7 @@ impl Log {
         at: Standing,
         leg: Leg,
         targets: Targets,
-        way: Result<Route, Cause>,
+        way: Result<SharedRoute, Cause>,
     ) -> Result<(), AllocError>
         ensures { LogAfter result
             (set_item (standing_kept at) leg
@@ -61,7 +60,6 @@ impl Log {
         match way {
             Err(cause) => self.stuck(alloc, at, cause, leg),
             Ok(route) => {
-                let route = SharedRoute::new(alloc, route)?;
                 let packet = at.packet;
                 let item = takes_route(packet, leg, route.clone()?);
                 let kept = StoredFlight::begin(at, leg, targets, route);

@@ -238,19 +238,20 @@ impl Log {
         alloc: Global,
         at: Standing,
         verdict: Verdict,
-        switch: &Switch,
+        switch: &mut Switch,
         site: Site,
     ) -> Result<(), AllocError>
         requires ingress { at.ingress < 64 }
         requires few { length self.old.bag < 2 ^ 32 - 1 }
-        ensures { LogAfter result
+        ensures log { LogAfter result
             (arrived_items (length self.old.bag + 1) (standing_kept at) at.version at.rule
-            (answer_of switch.now (site_of site.entry) (packet_standing (standing_kept at)) verdict))
+            (answer_of switch.old (site_of site.entry) (packet_standing (standing_kept at)) verdict))
             (arrived_posts (standing_kept at)
-            (answer_of switch.now (site_of site.entry) (packet_standing (standing_kept at)) verdict))
+            (answer_of switch.old (site_of site.entry) (packet_standing (standing_kept at)) verdict))
             at.packet (arrived_flight at.version at.rule
-            (answer_of switch.now (site_of site.entry) (packet_standing (standing_kept at)) verdict))
+            (answer_of switch.old (site_of site.entry) (packet_standing (standing_kept at)) verdict))
             self.old self.new }
+        ensures same { switch.new ≡ switch.old }
     {
         match verdict {
             Verdict::Out(port) => self.end(at.packet, leaves(&at, port)),
@@ -266,7 +267,7 @@ impl Log {
                 self.leave(alloc, at, decision, switch, site)
             }
             Verdict::Seek { leg, targets } => {
-                let way = switch.way(site.near, at.links(), leg, &targets);
+                let way = switch.shared_way(alloc, site.near, at.links(), leg, &targets)?;
                 self.set_out(alloc, at, leg, targets, way)
             }
         }
@@ -308,15 +309,16 @@ impl Log {
         alloc: Global,
         mut at: Standing,
         decision: Decision,
-        switch: &Switch,
+        switch: &mut Switch,
         site: Site,
     ) -> Result<(), AllocError>
-        ensures { LogAfter result
-            (end_item (standing_kept at) decision (next_of switch.now (site_of site.entry)
+        ensures log { LogAfter result
+            (end_item (standing_kept at) decision (next_of switch.old (site_of site.entry)
             (packet_standing (standing_kept at)) decision.action) ∷ [])
-            [] at.packet (decided_flight decision (next_of switch.now (site_of site.entry)
+            [] at.packet (decided_flight decision (next_of switch.old (site_of site.entry)
             (packet_standing (standing_kept at)) decision.action))
             self.old self.new }
+        ensures same { switch.new ≡ switch.old }
     {
         let packet = at.packet;
         at.version = decision.version;
@@ -331,7 +333,7 @@ impl Log {
                     }
                     let leg = Leg::Exit { port };
                     let targets = Targets::new(&[owner]).unwrap();
-                    let way = switch.way(site.near, at.links(), leg, &targets);
+                    let way = switch.shared_way(alloc, site.near, at.links(), leg, &targets)?;
                     self.set_out(alloc, at, leg, targets, way)
                 }
             },

@@ -73,4 +73,4 @@ returns-in_ok-push-in-Some-clause-log c =
     (log_behind c.settle.result
     (item.Entered c.args.packet c.number-number.result c.args.header.now ∷ []) _ [] _
     c.args.packet _ self (record self { journal = c.push.new.self }) c.settle.new.self
-    c.in_ok-push-in-Some.ensures.pushed (sym (append-nil self.bag)) refl c.settle.ensures))
+    c.in_ok-push-in-Some.ensures.pushed (sym (append-nil self.bag)) refl c.settle.ensures.log))

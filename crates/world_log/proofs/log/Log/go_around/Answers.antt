@@ -304,4 +304,4 @@ returns-in_ok-at-in-Arrive-clause-log c =
     (subst (λ bag. P bag c.hop-hop.new.self at.packet) c.reroute-in-Arrive.ensures.unsent
     (settled_log r (length mid.bag + 1) (standing_kept at) at.version at.rule at.packet mid now _ _
     (c.receive-verdict.ensures.answer (around near ports) at.packet (standing_kept at).down)
-    c.settle.ensures))))))
+    c.settle.ensures.log))))))

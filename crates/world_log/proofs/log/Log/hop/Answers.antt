@@ -155,7 +155,7 @@ returns-in_ok-at-in-Some-None-clause-log c =
     (subst (λ w. P w at.packet) on.2
     (settled_log c.settle.result n (standing_kept at) at.version at.rule at.packet c.args.self.now
     c.settle.new.self _ _ (c.receive-verdict.ensures.answer (around near ports) at.packet
-    (standing_kept at).down) c.settle.ensures)))))
+    (standing_kept at).down) c.settle.ensures.log)))))
 
 pub returns-in_ok-at-in-Some-None-clause-counted :
     goal.returns-in_ok-at-in-Some-None-clause-counted
@@ -165,8 +165,8 @@ returns-in_ok-at-in-Some-None-clause-counted c =
     let s = c.args.switch.now in
     let near = c.args.site.near in
     let on = onward before None (c.in-Some-None.is ∙ ap Some c.in-Some-None.field-0-is) in
-    of_kept (λ t. OnOk c.settle.result (c.receive-verdict.new.self ≡ hopped_switch s near t)) _ k
-    (its before) (on_ok_weaker c.settle.result (λ _. c.receive-verdict.ensures.after
+    of_kept (λ t. OnOk c.settle.result (c.settle.new.switch ≡ hopped_switch s near t)) _ k
+    (its before) (on_ok_weaker c.settle.result (λ _. c.settle.ensures.same ∙ c.receive-verdict.ensures.after
     ∙ ap call_counted on.2
     ∙ sym (passed_switch s near c.args.site.ports.now k None on.0 on.1))
-    c.settle.ensures.written)
+    c.settle.ensures.log.written)

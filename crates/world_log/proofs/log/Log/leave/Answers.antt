@@ -15,21 +15,21 @@ use Rattle.world_log.specs.Writing.{LogAfter, packet_standing, set_item, set_fli
 use Rattle.world_log.proofs.Going.{by_action, exits, owned, unowned, way_is}
 use Rattle.world_log.proofs.log.Log.leave.Goals as goal
 
-pub returns-in-Drop : goal.returns-in-Drop
+pub returns-in-Drop-clause-log : goal.returns-in-Drop-clause-log
 unfolding next_of
-returns-in-Drop c =
+returns-in-Drop-clause-log c =
     by_action c.end.result (standing_kept c.args.at) c.args.at.packet c.args.self.now
     c.end.new.self c.args.switch.now (site_of c.args.site) c.args.decision Drop c.in-Drop.is
     c.end.ensures
 
-pub returns-in-None : goal.returns-in-None
-returns-in-None c =
+pub returns-in-None-clause-log : goal.returns-in-None-clause-log
+returns-in-None-clause-log c =
     unowned c.stuck.result (standing_kept c.args.at) c.args.at.packet c.args.self.now
     c.stuck.new.self c.args.switch.now (site_of c.args.site) c.args.decision c.in-Out.port
     c.in-Out.is (sym c.owner.ensures ∙ c.in-None.is) c.stuck.ensures
 
-pub returns-then-owner-number : goal.returns-then-owner-number
-returns-then-owner-number c =
+pub returns-then-owner-number-clause-log : goal.returns-then-owner-number-clause-log
+returns-then-owner-number-clause-log c =
     owned c.end-then-owner-number.result (standing_kept c.args.at) c.args.at.packet
     c.args.self.now c.end-then-owner-number.new.self c.args.switch.now (site_of c.args.site)
     c.args.decision c.in-Out.port c.in-Some.owner true c.in-Out.is (sym c.owner.ensures ∙ c.in-Some.is)
@@ -39,8 +39,8 @@ returns-then-owner-number c =
     None c.args.self.now c.end-then-owner-number.new.self) c.leaves.ensures
     c.end-then-owner-number.ensures)
 
-pub returns-else-owner-number : goal.returns-else-owner-number
-returns-else-owner-number c =
+pub returns-in_ok-way-in-Some-clause-log : goal.returns-in_ok-way-in-Some-clause-log
+returns-in_ok-way-in-Some-clause-log c =
     let at = standing_kept c.args.at in
     let s = c.args.switch.now in
     let site = site_of c.args.site in
@@ -50,8 +50,8 @@ returns-else-owner-number c =
     let targets : c.unwrap-targets.result ≡ to =
     rw c.unwrap-targets.ensures at c.new.ensures.list in
     let is = way_is s site.near at leg c.unwrap-targets.result
-    (unwrap_or (option_copied c.links.result) no_links) c.way-way.result c.links.ensures
-    (c.way-way.ensures at.packet at.header at.ingress) in
+    (unwrap_or (option_copied c.links.result) no_links) c.in_ok-way-in-Some.way
+    c.links.ensures (c.in_ok-way-in-Some.ensures.way at.packet at.header at.ingress) in
     let Q : Result TunnelValue Cause → Type 0 = λ way.
     LogAfter c.set_out.result (set_item at leg way ∷ []) [] c.args.at.packet
     (set_flight decision.version decision.rule way) c.args.self.now c.set_out.new.self in

@@ -1,5 +1,5 @@
 -- What was written of a packet is its switch's answer.
-use Rattle.std.proofs.Common.{◌+◌, ◌∷◌, [], List, None, length, map, subst, sym, ◌∙◌}
+use Rattle.std.proofs.Common.{◌+◌, ◌∷◌, [], List, None, length, map, refl, subst, sym, ◌∙◌}
 use Rattle.std.specs.Option.{option_copied}
 use Rattle.std.specs.Prelude.{Result, unwrap_or}
 use Rattle.failover.specs.Links.{no_links}
@@ -19,8 +19,8 @@ use Rattle.world_log.proofs.Logs.{log_ends, log_failed}
 use Rattle.world_log.proofs.Writing.{both_written, part_first, part_none}
 use Rattle.world_log.proofs.log.Log.settle.Goals as goal
 
-pub returns-in-Out : goal.returns-in-Out
-returns-in-Out c =
+pub returns-in-Out-clause-log : goal.returns-in-Out-clause-log
+returns-in-Out-clause-log c =
     let at = standing_kept c.args.at in
     let P : Verdict → Type 0 = λ verdict.
     let what = answer_of c.args.switch.now (site_of c.args.site) (packet_standing at) verdict in
@@ -32,13 +32,13 @@ returns-in-Out c =
     (subst (λ (i : Item). LogAfter c.end.result (i ∷ []) [] c.args.at.packet None
     c.args.self.now c.end.new.self) c.leaves.ensures c.end.ensures)
 
-pub returns-in_err-push-in-Decided : goal.returns-in_err-push-in-Decided
-returns-in_err-push-in-Decided c =
+pub returns-in_err-push-in-Decided-clause-log : goal.returns-in_err-push-in-Decided-clause-log
+returns-in_err-push-in-Decided-clause-log c =
     log_failed c.from_residual.result _ _ _ _ _ _ c.from_residual.ensures.0
     (part_none _ _ _ c.in_err-push-in-Decided.ensures.unchanged)
 
-pub returns-in_err-send_rule-in-Decided : goal.returns-in_err-send_rule-in-Decided
-returns-in_err-send_rule-in-Decided c =
+pub returns-in_err-send_rule-in-Decided-clause-log : goal.returns-in_err-send_rule-in-Decided-clause-log
+returns-in_err-send_rule-in-Decided-clause-log c =
     let at = standing_kept c.args.at in
     let P : Verdict → Type 0 = λ verdict.
     let what = answer_of c.args.switch.now (site_of c.args.site) (packet_standing at) verdict in
@@ -52,8 +52,8 @@ returns-in_err-send_rule-in-Decided c =
     c.from_residual-in_err-send_rule-in-Decided.ensures.0
     (part_first _ _ _ _ (c.in_err-send_rule-in-Decided.ensures.unwritten ∙ c.in_ok-push-in-Decided.ensures.pushed)))
 
-pub returns-in_ok-send_rule-in-Decided : goal.returns-in_ok-send_rule-in-Decided
-returns-in_ok-send_rule-in-Decided c =
+pub returns-in_ok-send_rule-in-Decided-clause-log : goal.returns-in_ok-send_rule-in-Decided-clause-log
+returns-in_ok-send_rule-in-Decided-clause-log c =
     let at = standing_kept c.args.at in
     let decision = c.in-Decided.decision in
     let message = cache_message at.ingress (cached_by decision c.in-Decided.word) in
@@ -73,10 +73,15 @@ returns-in_ok-send_rule-in-Decided c =
     c.send_rule.new.self c.leave.new.self
     (both_written c.args.self.now.journal _ c.send_rule.new.self.journal (decided ∷ []) sends
     c.in_ok-push-in-Decided.ensures.pushed c.in_ok-send_rule-in-Decided.ensures.written)
-    c.in_ok-send_rule-in-Decided.ensures.posted c.in_ok-send_rule-in-Decided.ensures.travelling c.leave.ensures)
+    c.in_ok-send_rule-in-Decided.ensures.posted c.in_ok-send_rule-in-Decided.ensures.travelling c.leave.ensures.log)
 
-pub returns-in-Seek : goal.returns-in-Seek
-returns-in-Seek c =
+pub returns-in_err-way-in-Seek-clause-log : goal.returns-in_err-way-in-Seek-clause-log
+returns-in_err-way-in-Seek-clause-log c =
+    log_failed c.from_residual-in_err-way-in-Seek.result _ _ _ _ _ _
+    c.from_residual-in_err-way-in-Seek.ensures.0 (part_none _ _ _ refl)
+
+pub returns-in_ok-way-in-Seek-clause-log : goal.returns-in_ok-way-in-Seek-clause-log
+returns-in_ok-way-in-Seek-clause-log c =
     let at = standing_kept c.args.at in
     let site = site_of c.args.site in
     let s = c.args.switch.now in
@@ -89,8 +94,8 @@ returns-in-Seek c =
     (arrived_flight c.args.at.version c.args.at.rule what) c.args.self.now
     c.set_out.new.self in
     let is = way_is s site.near at leg c.in-Seek.targets
-    (unwrap_or (option_copied c.links.result) no_links) c.way-way.result c.links.ensures
-    (c.way-way.ensures at.packet at.header at.ingress) in
+    (unwrap_or (option_copied c.links.result) no_links) c.in_ok-way-in-Seek.way c.links.ensures
+    (c.in_ok-way-in-Seek.ensures.way at.packet at.header at.ingress) in
     let Q : Result TunnelValue Cause → Type 0 = λ way.
     LogAfter c.set_out.result (set_item at leg way ∷ []) [] c.args.at.packet
     (set_flight c.args.at.version c.args.at.rule way) c.args.self.now c.set_out.new.self in
