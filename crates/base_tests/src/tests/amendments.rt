@@ -2,57 +2,57 @@
 ghost use Rattle.std.specs.Prelude.{◌<◌, ◌+◌, ◌^◌, length};
 
 use base::Failure;
-use five_tuple::{Fields, Header, read_prefix};
+use five_tuple::{Fields, Header, Prefix};
 use policy_rules::{
     Action, Amendment, Edit, Hit, Inapplicable, Policy, PolicyFile, PortRange, Proto, Repeated,
     Row, apply,
 };
 use std::alloc::Global;
-use std::test::Fail;
 
 const ANY: PortRange = PortRange {
     low: 0,
     high: u16::MAX,
 };
 
-fn row(priority: u32, src: &str, port: Option<u16>, action: Action) -> Result<Row, Fail> {
-    Ok(Row {
-        priority,
-        src: read_prefix(src.as_bytes()).ok_or("source")?,
-        dst: read_prefix(b"any").ok_or("destination")?,
-        sport: ANY,
-        dport: match port {
-            None => ANY,
-            Some(port) => PortRange {
+// A row on packets to any address, from these and of TCP to this port, where there is one.
+fn row(priority: u32, src: Prefix, port: Option<u16>, action: Action) -> Row {
+    let (dport, proto) = match port {
+        None => (ANY, Proto::Any),
+        Some(port) => (
+            PortRange {
                 low: port,
                 high: port,
             },
-        },
-        proto: if port.is_some() {
-            Proto::Is(6)
-        } else {
-            Proto::Any
-        },
+            Proto::Is(6),
+        ),
+    };
+    Row {
+        priority,
+        src,
+        dst: Prefix::new(0, 0),
+        sport: ANY,
+        dport,
+        proto,
         action,
-    })
+    }
 }
 
-fn drop_row(priority: u32) -> Result<Row, Fail> {
-    row(priority, "any", None, Action::Drop)
+fn drop_row(priority: u32) -> Row {
+    row(priority, Prefix::new(0, 0), None, Action::Drop)
 }
 
-fn web_row() -> Result<Row, Fail> {
-    row(100, "10.0.0.0/8", Some(80), Action::Out(3))
+fn web_row() -> Row {
+    row(100, Prefix::new(0x0a00_0000, 8), Some(80), Action::Out(3))
 }
 
-fn secure_row() -> Result<Row, Fail> {
-    row(90, "10.0.0.0/8", Some(443), Action::Out(4))
+fn secure_row() -> Row {
+    row(90, Prefix::new(0x0a00_0000, 8), Some(443), Action::Out(4))
 }
 
 // The policy of the rows of priority 100 and 50.
-fn policy(alloc: Global) -> Result<Policy, Fail> {
-    let rows = Vec::from_slice(alloc, &[web_row()?, drop_row(50)?])?;
-    Ok(Policy::new(alloc, rows)?)
+fn policy(alloc: Global) -> Option<Policy> {
+    let rows = Vec::from_slice(alloc, &[web_row(), drop_row(50)]).ok()?;
+    Policy::new(alloc, rows).ok()
 }
 
 // The header of a packet from 10.1.1.1 to 9.9.9.9, from port 5000 to this one, of TCP.
@@ -66,94 +66,136 @@ fn header(dport: u16) -> Header {
     })
 }
 
-fn change(
-    alloc: Global,
-    removed: &[u32],
-    added: &[Row],
-) -> Result<Result<Amendment, Failure<Repeated>>, Fail>
+fn change(alloc: Global, removed: &[u32], added: &[Row]) -> Result<Amendment, Failure<Repeated>>
     requires { length removed.now + length added.now < 2 ^ 32 }
 {
     let removed = Vec::from_slice(alloc, removed)?;
     let added = Vec::from_slice(alloc, added)?;
-    Ok(Amendment::new(alloc, removed, added))
+    Amendment::new(alloc, removed, added)
+}
+
+// What the change makes of the policy of two rows.
+fn amended(alloc: Global, change: &Amendment) -> Option<Result<Policy, Failure<Inapplicable>>> {
+    Some(apply(alloc, &policy(alloc)?, change))
+}
+
+// The change that puts the secure row in the place of the web row.
+fn securing(alloc: Global) -> Option<Amendment> {
+    change(alloc, &[100], &[secure_row()]).ok()
+}
+
+fn lists(amendment: &Amendment) -> bool {
+    amendment.removed() == [100].as_slice() && amendment.added() == [secure_row()].as_slice()
+}
+
+fn decides(policy: &Policy) -> bool {
+    policy.rows() == [drop_row(50), secure_row()].as_slice()
+        && policy.scan(&header(443)) == Hit::of(&secure_row())
+        && policy.scan(&header(80)) == Hit::of(&drop_row(50))
+}
+
+// Whether the change is listed and made in the order of its rows, and not twice.
+fn is_made_once(alloc: Global) -> Option<bool> {
+    let change = securing(alloc)?;
+    let policy = amended(alloc, &change)?.ok()?;
+    let again = apply(alloc, &policy, &change).err();
+    let is_absent = again == Some(Failure::Refused(Inapplicable::Absent));
+    Some(is_absent && lists(&change) && decides(&policy))
 }
 
 #[test]
-fn changes_rows_in_their_order(rt: HostRuntime) -> Result<(), Fail> {
-    let alloc = rt.alloc();
-    let amendment = change(alloc, &[100], &[secure_row()?])??;
-    assert_eq!(rt; amendment.removed(), [100].as_slice());
-    assert_eq!(rt; amendment.added(), [secure_row()?].as_slice());
-    let amended = apply(alloc, &policy(alloc)?, &amendment)?;
-    assert_eq!(rt; amended.rows(), [drop_row(50)?, secure_row()?].as_slice());
-    assert!(rt; amended.scan(&header(443)) == Hit::of(&secure_row()?));
-    assert!(rt; amended.scan(&header(80)) == Hit::of(&drop_row(50)?));
-    let again = apply(alloc, &amended, &amendment).err();
-    assert!(rt; again == Some(Failure::Refused(Inapplicable::Absent)));
-    Ok(())
+fn changes_rows_in_their_order(rt: HostRuntime) {
+    assert!(rt; is_made_once(rt.alloc()) == Some(true));
+}
+
+// Whether a row that is removed and added is another one.
+fn is_replaced(alloc: Global) -> Option<bool> {
+    let wide = row(100, Prefix::new(0, 0), None, Action::Out(1));
+    let change = change(alloc, &[100], &[wide]).ok()?;
+    let policy = amended(alloc, &change)?.ok()?;
+    Some(policy.rows() == [drop_row(50), wide].as_slice())
 }
 
 #[test]
-fn replaces_a_row_that_is_removed_and_added(rt: HostRuntime) -> Result<(), Fail> {
-    let alloc = rt.alloc();
-    let wide = row(100, "any", None, Action::Out(1))?;
-    let amended = apply(alloc, &policy(alloc)?, &change(alloc, &[100], &[wide])??)?;
-    assert_eq!(rt; amended.rows(), [drop_row(50)?, wide].as_slice());
-    Ok(())
+fn replaces_a_row_that_is_removed_and_added(rt: HostRuntime) {
+    assert!(rt; is_replaced(rt.alloc()) == Some(true));
+}
+
+// The refusal of a change that removes these rows, and adds one whose priority is taken.
+fn refused(alloc: Global, removed: &[u32]) -> Option<Failure<Inapplicable>>
+    requires { length removed.now < 1000 }
+{
+    let change = change(alloc, removed, &[drop_row(50)]).ok()?;
+    amended(alloc, &change)?.err()
 }
 
 #[test]
-fn refuses_what_is_absent_first(rt: HostRuntime) -> Result<(), Fail> {
-    let alloc = rt.alloc();
-    let taken = change(alloc, &[], &[drop_row(50)?])??;
-    let refused = apply(alloc, &policy(alloc)?, &taken).err();
-    assert!(rt; refused == Some(Failure::Refused(Inapplicable::Taken)));
-    let both = change(alloc, &[7], &[drop_row(50)?])??;
-    let refused = apply(alloc, &policy(alloc)?, &both).err();
-    assert!(rt; refused == Some(Failure::Refused(Inapplicable::Absent)));
-    Ok(())
+fn refuses_what_is_absent_first(rt: HostRuntime) {
+    let taken = refused(rt.alloc(), &[]);
+    assert!(rt; taken == Some(Failure::Refused(Inapplicable::Taken)));
+    let absent = refused(rt.alloc(), &[7]);
+    assert!(rt; absent == Some(Failure::Refused(Inapplicable::Absent)));
 }
 
-#[test]
-fn takes_2000_rows_and_no_more(rt: HostRuntime) -> Result<(), Fail> {
-    let alloc = rt.alloc();
-    let mut edits = Vec::new(alloc);
-    for priority in 1001..3000u32 {
-        edits.push(Edit::Add(drop_row(priority)?))?;
+// The change that adds a row of each priority from this one below 3000.
+fn adding(alloc: Global, least: u32) -> Option<Amendment> {
+    let mut added = Vec::new(alloc);
+    for priority in least..3000u32 {
+        added.push(Edit::Add(drop_row(priority))).ok()?;
     }
-    assert!(rt; edits.len() == 1999);
-    let one_less = Vec::from_slice(alloc, edits.get(1..).ok_or("edits")?)?;
-    let many = apply(alloc, &policy(alloc)?, &Amendment::of_edits(alloc, edits)?);
-    assert!(rt; many.err() == Some(Failure::Refused(Inapplicable::TooManyRows { rows: 2001 })));
-    let most = apply(
-        alloc,
-        &policy(alloc)?,
-        &Amendment::of_edits(alloc, one_less)?,
-    )?;
-    assert_eq!(rt; most.rows().len(), 2000);
-    Ok(())
+    if added.len() > 2000 {
+        return None;
+    }
+    Amendment::of_edits(alloc, added).ok()
+}
+
+// Whether two rows and 1998 of these are a policy, and two and 1999 are too many.
+fn takes_most(alloc: Global) -> Option<bool> {
+    let (most, more) = (adding(alloc, 1002)?, adding(alloc, 1001)?);
+    let policy = amended(alloc, &most)?.ok()?;
+    let refused = amended(alloc, &more)?.err();
+    let too_many = Failure::Refused(Inapplicable::TooManyRows { rows: 2001 });
+    let are_many = more.edits().len() == 1999 && refused == Some(too_many);
+    Some(are_many && policy.rows().len() == 2000)
 }
 
 #[test]
-fn names_the_first_edit_that_repeats_one(rt: HostRuntime) -> Result<(), Fail> {
-    let alloc = rt.alloc();
-    let removed = change(alloc, &[5, 7, 5], &[])?;
-    assert!(rt; removed.err() == Some(Failure::Refused(Repeated { edit: 3 })));
-    let added = change(alloc, &[5], &[drop_row(5)?, drop_row(5)?])?;
-    assert!(rt; added.err() == Some(Failure::Refused(Repeated { edit: 3 })));
-    Ok(())
+fn takes_2000_rows_and_no_more(rt: HostRuntime) {
+    assert!(rt; takes_most(rt.alloc()) == Some(true));
+}
+
+// The edit that repeats one, where a change removes and adds these.
+fn repeated(alloc: Global, removed: &[u32], added: &[Row]) -> Option<Failure<Repeated>>
+    requires { length removed.now + length added.now < 2 ^ 32 }
+{
+    change(alloc, removed, added).err()
 }
 
 #[test]
-fn holds_policies_and_changes(rt: HostRuntime) -> Result<(), Fail> {
-    let alloc = rt.alloc();
-    let mut files = Vec::new(alloc);
-    files.push(PolicyFile::Whole(policy(alloc)?))?;
-    files.push(PolicyFile::Change(change(alloc, &[50], &[])??))?;
-    let edits = match files.get(1).ok_or("change")? {
+fn names_the_first_edit_that_repeats_one(rt: HostRuntime) {
+    let third = Some(Failure::Refused(Repeated { edit: 3 }));
+    assert!(rt; repeated(rt.alloc(), &[5, 7, 5], &[]) == third);
+    assert!(rt; repeated(rt.alloc(), &[5], &[drop_row(5), drop_row(5)]) == third);
+}
+
+fn edit_count(file: &PolicyFile) -> usize {
+    match file {
         PolicyFile::Whole(_) => 0,
         PolicyFile::Change(change) => change.edits().len(),
-    };
-    assert_eq!(rt; edits, 1);
-    Ok(())
+    }
+}
+
+// How many edits the second file has, of a policy and a change.
+fn held(alloc: Global) -> Option<usize> {
+    let mut files = Vec::new(alloc);
+    files.push(PolicyFile::Whole(policy(alloc)?)).ok()?;
+    files
+        .push(PolicyFile::Change(change(alloc, &[50], &[]).ok()?))
+        .ok()?;
+    Some(edit_count(files.get(1)?))
+}
+
+#[test]
+fn holds_policies_and_changes(rt: HostRuntime) {
+    assert!(rt; held(rt.alloc()) == Some(1));
 }

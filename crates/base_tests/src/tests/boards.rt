@@ -6,7 +6,7 @@ ghost use Rattle.std.specs.Option.{is_none};
 use five_tuple::{Fields, Header};
 use flow_export::FlowMeter;
 use meters::{Board, FirstN, FlowRecord, Flows, Leaving, Meter, Recorder, Stay};
-use std::alloc::AllocError;
+use std::alloc::{AllocError, Global};
 use std::test::Fail;
 
 fn has_default(held: &[Leaving]) -> bool
@@ -97,6 +97,34 @@ fn record_from(x: u32, packets: u64) -> FlowRecord
     }
 }
 
+// Lets the meters note these leavings by their ports.
+fn note_all<M: Meter>(board: &mut Board<M>, leavings: &[(u32, Leaving)]) -> Result<(), AllocError> {
+    for (port, leaving) in leavings {
+        board.note(*port, leaving)?;
+    }
+    Ok(())
+}
+
+// The port of the meter of this place, and how often it noted.
+fn told(kept: &[Box<dyn Meter>], place: usize) -> Option<(u32, u64)> {
+    let meter = kept.get(place)?;
+    Some((meter.port(), meter.notes()))
+}
+
+// Whether of the meters of all kinds the recorders of ports 3 and 2 are left after four packets.
+fn leave_in_time(mut board: Board<Box<dyn Meter>>) -> Result<bool, AllocError> {
+    let leavings = [
+        (3, leaving(1, Some(50))),
+        (2, leaving(2, None)),
+        (3, leaving(3, Some(50))),
+        (3, leaving(4, None)),
+    ];
+    note_all(&mut board, &leavings)?;
+    let kept = board.into_meters();
+    let are_two = told(&kept, 0) == Some((3, 3)) && told(&kept, 1) == Some((2, 1));
+    Ok(are_two && kept.len() == 2)
+}
+
 #[test]
 fn each_kind_leaves_at_its_time(rt: HostRuntime) -> Result<(), Fail> {
     let alloc = rt.alloc();
@@ -110,19 +138,39 @@ fn each_kind_leaves_at_its_time(rt: HostRuntime) -> Result<(), Fail> {
     meters.push(Box::new(alloc, Recorder::new(alloc, 5))?)?;
     meters.push(Box::new(alloc, until_default)?)?;
     meters.push(Box::new(alloc, Recorder::new(alloc, 2))?)?;
-
-    let mut board = Board::new(meters, 0b1100);
-    board.note(3, &leaving(1, Some(50)))?;
-    board.note(2, &leaving(2, None))?;
-    board.note(3, &leaving(3, Some(50)))?;
-    board.note(3, &leaving(4, None))?;
-
-    let kept = board.into_meters();
-    let mut told = kept.iter().map(|meter| (meter.port(), meter.notes()));
-    assert_eq!(rt; told.next(), Some((3, 3)));
-    assert_eq!(rt; told.next(), Some((2, 1)));
-    assert_eq!(rt; told.next(), None);
+    assert!(rt; leave_in_time(Board::new(meters, 0b1100)) == Ok(true));
     Ok(())
+}
+
+// Whether the meter of this place has these records.
+fn has_records(
+    kept: &[Box<dyn Meter>],
+    place: usize,
+    records: &[FlowRecord],
+) -> Result<bool, AllocError> {
+    match kept.get(place) {
+        Some(meter) => Ok(meter.records()?.items() == records),
+        None => Ok(false),
+    }
+}
+
+// Whether these are a meter without records and one of three packets, of two headers.
+fn have_counted(kept: &[Box<dyn Meter>]) -> Result<bool, AllocError> {
+    let each = [record_from(1, 2), record_from(2, 1)];
+    let are_counted = has_records(kept, 0, &[])? && has_records(kept, 1, &each)?;
+    Ok(are_counted && kept.len() == 2 && told(kept, 1) == Some((3, 3)))
+}
+
+// Whether the meters count two packets of one header and one of another.
+fn count_by_header(mut board: Board<Box<dyn Meter>>) -> Result<bool, AllocError> {
+    let leavings = [
+        (3, leaving_from(1, 1)),
+        (3, leaving_from(2, 1)),
+        (3, leaving_from(3, 2)),
+    ];
+    note_all(&mut board, &leavings)?;
+    let (kept, gone) = board.finish();
+    Ok(have_counted(&kept)? && gone.items() == [record_from(1, 1)].as_slice())
 }
 
 /// Two packets of one header and one of another: a meter that stays has a record for each header,
@@ -134,40 +182,27 @@ fn flows_are_counted_by_header(rt: HostRuntime) -> Result<(), Fail> {
     meters.push(Box::new(alloc, Recorder::new(alloc, 3))?)?;
     meters.push(Box::new(alloc, FlowMeter::new(alloc, 3, 1))?)?;
     meters.push(Box::new(alloc, FlowMeter::new(alloc, 3, 4096))?)?;
-
-    let mut board = Board::new(meters, 0b1000);
-    board.note(3, &leaving_from(1, 1))?;
-    board.note(3, &leaving_from(2, 1))?;
-    board.note(3, &leaving_from(3, 2))?;
-
-    let (kept, gone) = board.finish();
-    assert_eq!(rt; gone.items(), [record_from(1, 1)].as_slice());
-    assert_eq!(rt; kept.len(), 2);
-    assert!(rt; kept[0].records()?.items().is_empty());
-    assert_eq!(rt;
-        kept[1].records()?.items(),
-        [record_from(1, 2), record_from(2, 1)].as_slice()
-    );
-    assert_eq!(rt; kept[1].notes(), 3);
+    assert!(rt; count_by_header(Board::new(meters, 0b1000)) == Ok(true));
     Ok(())
 }
 
-/// Meters that leave have told their records in the order in which they left, and at one packet in
-/// the order of the board.
-#[test]
-fn records_stay_in_order(rt: HostRuntime) -> Result<(), Fail> {
-    let alloc = rt.alloc();
+// Meters of port 3 that leave at the second header, the first and the second.
+fn three_meters(alloc: Global) -> Result<Vec<FlowMeter>, AllocError> {
     let mut meters = Vec::new(alloc);
     meters.push(FlowMeter::new(alloc, 3, 2))?;
     meters.push(FlowMeter::new(alloc, 3, 1))?;
     meters.push(FlowMeter::new(alloc, 3, 2))?;
+    Ok(meters)
+}
 
+// Whether they have told their records in order once they left.
+fn stay_in_order(meters: Vec<FlowMeter>) -> Result<bool, AllocError> {
     let mut board = Board::new(meters, 0b1000);
-    board.note(3, &leaving_from(1, 1))?;
-    board.note(3, &leaving_from(2, 2))?;
-
+    note_all(
+        &mut board,
+        &[(3, leaving_from(1, 1)), (3, leaving_from(2, 2))],
+    )?;
     let (kept, gone) = board.finish();
-    assert!(rt; kept.is_empty());
     let each = [
         record_from(1, 1),
         record_from(1, 1),
@@ -175,6 +210,14 @@ fn records_stay_in_order(rt: HostRuntime) -> Result<(), Fail> {
         record_from(1, 1),
         record_from(2, 1),
     ];
-    assert_eq!(rt; gone.items(), each.as_slice());
+    Ok(kept.is_empty() && gone.items() == each.as_slice())
+}
+
+/// Meters that leave have told their records in the order in which they left, and at one packet in
+/// the order of the board.
+#[test]
+fn records_stay_in_order(rt: HostRuntime) -> Result<(), Fail> {
+    let meters = three_meters(rt.alloc())?;
+    assert!(rt; stay_in_order(meters) == Ok(true));
     Ok(())
 }

@@ -6,7 +6,6 @@ use policy_file::{
 use policy_rules::{Action, PortRange, Prefix, Proto, Row};
 use std::alloc::{AllocError, Global};
 use std::fmt::Write;
-use std::test::Fail;
 
 fn under_heading(alloc: Global, rows: &str) -> Result<Vec<u8>, AllocError> {
     let text = format!(in alloc; "op,priority,src,dst,sport,dport,proto,action\n{rows}")?;
@@ -47,28 +46,53 @@ fn file(alloc: Global) -> Result<Vec<u8>, AllocError> {
     )
 }
 
-#[test]
-fn reads_what_is_removed_and_added(rt: HostRuntime) -> Result<(), Fail> {
-    let text = file(rt.alloc())?;
-    let change = read_change(rt.alloc(), &text)?;
-    assert!(rt; change.removed() == [100].as_slice());
-    assert!(rt; change.added() == [secure_row()].as_slice());
-    Ok(())
+// Whether the change removes the row of priority 100 and adds the secure one.
+fn is_read(alloc: Global) -> Option<bool> {
+    let text = file(alloc).ok()?;
+    let change = read_change(alloc, &text).ok()?;
+    let removes = change.removed() == [100].as_slice();
+    Some(removes && change.added() == [secure_row()].as_slice())
 }
 
 #[test]
-fn files_are_known_by_their_headings(rt: HostRuntime) -> Result<(), Fail> {
-    let alloc = rt.alloc();
+fn reads_what_is_removed_and_added(rt: HostRuntime) {
+    assert!(rt; is_read(rt.alloc()) == Some(true));
+}
+
+const WHOLE: &[u8] = b"priority,src,dst,sport,dport,proto,action\n5,any,any,any,any,any,drop\n";
+
+// Whether the file of this text is a change, by its heading and as it is read.
+fn is_change_file(alloc: Global, text: &[u8]) -> Option<bool> {
+    let is_change = is_change(alloc, text).ok()?;
+    let is_read = matches!(read_file(alloc, text).ok()?, PolicyFile::Change(_));
+    if is_change == is_read {
+        Some(is_change)
+    } else {
+        None
+    }
+}
+
+// Whether the text has another heading than this reader looks for.
+fn has_other_heading<T: Drop>(outcome: Result<T, PolicyError>) -> bool {
+    refusal(outcome) == Some((1, 0))
+}
+
+// Whether a change and a whole policy are known by their headings, and no reader takes another.
+fn are_known(alloc: Global) -> Result<bool, AllocError> {
     let change = file(alloc)?;
-    let whole = b"priority,src,dst,sport,dport,proto,action\n5,any,any,any,any,any,drop\n";
-    assert!(rt; is_change(alloc, &change)? && !is_change(alloc, whole)?);
-    assert!(rt; matches!(read_file(alloc, &change)?, PolicyFile::Change(_)));
-    assert!(rt; matches!(read_file(alloc, whole)?, PolicyFile::Whole(_)));
-    assert!(rt; refusal(read_policy(alloc, &change)) == Some((1, 0)));
-    assert!(rt; refusal(read_change(alloc, whole)) == Some((1, 0)));
-    assert!(rt; refusal(read_file(alloc, b"op,priority\n")) == Some((1, 0)));
-    assert!(rt; refusal(read_file(alloc, b"")) == Some((1, 0)));
-    Ok(())
+    Ok(
+        is_change_file(alloc, &change) == Some(true)
+            && is_change_file(alloc, WHOLE) == Some(false)
+            && has_other_heading(read_policy(alloc, &change))
+            && has_other_heading(read_change(alloc, WHOLE))
+            && has_other_heading(read_file(alloc, b"op,priority\n"))
+            && has_other_heading(read_file(alloc, b"")),
+    )
+}
+
+#[test]
+fn files_are_known_by_their_headings(rt: HostRuntime) {
+    assert!(rt; are_known(rt.alloc()) == Ok(true));
 }
 
 // Third rows, each with the code of its refusal.
@@ -96,53 +120,72 @@ fn refused(alloc: Global, rows: &str) -> Result<Option<(u32, u32)>, AllocError> 
     Ok(refusal(read_file(alloc, &text)))
 }
 
-#[test]
-fn refuses_with_code_and_row(rt: HostRuntime) -> Result<(), Fail> {
-    let alloc = rt.alloc();
-    for (row, code) in &REFUSED {
-        let rows = format!(in alloc; "remove,7\nadd,7,any,any,any,any,any,drop\n{row}\n")?;
-        assert!(rt;
-            refused(alloc, rows.as_str())? == Some((*code, 3)),
-            "at {row}"
-        );
-    }
-    Ok(())
+// The same of a change with this third row.
+fn refused_third(alloc: Global, row: &str) -> Result<Option<(u32, u32)>, AllocError> {
+    let rows = format!(in alloc; "remove,7\nadd,7,any,any,any,any,any,drop\n{row}\n")?;
+    refused(alloc, rows.as_str())
 }
 
 #[test]
-fn takes_2000_edits_and_no_more(rt: HostRuntime) -> Result<(), Fail> {
-    let mut rows = String::new(rt.alloc());
+fn refuses_with_code_and_row(rt: HostRuntime) {
+    for (row, code) in &REFUSED {
+        let told = refused_third(rt.alloc(), row);
+        assert!(rt; told == Ok(Some((*code, 3))), "at {row}");
+    }
+}
+
+// 2000 edits.
+fn many_edits(alloc: Global) -> Result<String, AllocError> {
+    let mut rows = String::new(alloc);
     for priority in 0..1000u32 {
         writeln!(rows, "remove,{priority}")?;
         writeln!(rows, "add,{priority},any,any,any,any,any,drop")?;
     }
-    let most = under_heading(rt.alloc(), rows.as_str())?;
-    let change = read_change(rt.alloc(), &most)?;
-    assert!(rt; change.edits().len() == 2000);
+    Ok(rows)
+}
+
+// How many edits the change of these rows has.
+fn edit_count(alloc: Global, rows: &str) -> Option<usize> {
+    let text = under_heading(alloc, rows).ok()?;
+    Some(read_change(alloc, &text).ok()?.edits().len())
+}
+
+// Whether 2000 edits are read, and one of another kind behind them is refused for their count.
+fn reads_most(alloc: Global) -> Result<bool, AllocError> {
+    let mut rows = many_edits(alloc)?;
+    let count = edit_count(alloc, rows.as_str());
     rows.push_str("swap\n")?;
-    assert!(rt; refused(rt.alloc(), rows.as_str())? == Some((11, 2001)));
-    Ok(())
+    Ok(count == Some(2000) && refused(alloc, rows.as_str())? == Some((11, 2001)))
 }
 
 #[test]
-fn checks_the_ports_of_added_rows(rt: HostRuntime) -> Result<(), Fail> {
-    let alloc = rt.alloc();
-    let change = read_file(alloc, &file(alloc)?)?;
-    assert!(rt; check_file_ports(&change, 0b1_0000).is_ok());
-    assert!(rt; check_file_ports(&change, 0b0_1111) == Err(NoPort { row: 2 }));
-    Ok(())
+fn takes_2000_edits_and_no_more(rt: HostRuntime) {
+    assert!(rt; reads_most(rt.alloc()) == Ok(true));
+}
+
+// What the check answers on the added row, which names port 4, where there are these ports.
+fn checked(alloc: Global, ports: u64) -> Option<Result<(), NoPort>> {
+    let text = file(alloc).ok()?;
+    let change = read_file(alloc, &text).ok()?;
+    Some(check_file_ports(&change, ports))
 }
 
 #[test]
-fn prints_changes(rt: HostRuntime) -> Result<(), Fail> {
-    let alloc = rt.alloc();
-    let change = read_change(
-        alloc,
-        &under_heading(
-            alloc,
-            "remove,\"100\"\nadd,90,10.1.2.3/8,any,any,443,6,out:4",
-        )?,
-    )?;
-    assert!(rt; write_change(alloc, &change)?.as_slice() == file(alloc)?.as_slice());
-    Ok(())
+fn checks_the_ports_of_added_rows(rt: HostRuntime) {
+    assert!(rt; checked(rt.alloc(), 0b1_0000) == Some(Ok(())));
+    assert!(rt; checked(rt.alloc(), 0b0_1111) == Some(Err(NoPort { row: 2 })));
+}
+
+// Whether the change of these rows is printed as the file.
+fn is_printed(alloc: Global, rows: &str) -> Option<bool> {
+    let text = under_heading(alloc, rows).ok()?;
+    let change = read_change(alloc, &text).ok()?;
+    let printed = write_change(alloc, &change).ok()?;
+    Some(printed.as_slice() == file(alloc).ok()?.as_slice())
+}
+
+#[test]
+fn prints_changes(rt: HostRuntime) {
+    let rows = "remove,\"100\"\nadd,90,10.1.2.3/8,any,any,443,6,out:4";
+    assert!(rt; is_printed(rt.alloc(), rows) == Some(true));
 }

@@ -71,9 +71,9 @@ fn words_are_those_of_the_definition(rt: HostRuntime) -> Result<(), Fail> {
                 proto: 6,
             });
             let place = first_hit(&rules, &header).ok_or("no rule")?;
-            assert_eq!(rt;
-                widen(&header, &Word::any(), &rules, place as u32),
-                plain_widen(&header, &rules, place)
+            assert!(rt;
+                widen(&header, &Word::any(), &rules, place as u32)
+                    == plain_widen(&header, &rules, place)
             );
         }
     }

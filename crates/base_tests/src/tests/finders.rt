@@ -78,15 +78,16 @@ fn regions_are_found_by_two_bits(rt: HostRuntime) -> Result<(), Fail> {
     let alloc = rt.alloc();
     let tables = shared(alloc)?;
     let finder = Finder::build(alloc, tables.clone()?)?;
-    assert_eq!(rt; first_cuts(finder.tree()), Some((71, 103)));
+    assert!(rt; first_cuts(finder.tree()) == Some((71, 103)));
     let cache = Cache::new(alloc, 4);
     for (header, place) in [
         (header(1, 2), 0),
         (header(0x80000001, 2), 1),
         (header(1, 0x80000002), 2),
     ] {
-        assert_eq!(rt; part_of(&finder.lookup(&cache, &header)), Some(place));
-        assert_eq!(rt; part_of(&lookup(&cache, &tables, &header)), Some(place));
+        let by_tree = part_of(&finder.lookup(&cache, &header));
+        let by_scan = part_of(&lookup(&cache, &tables, &header));
+        assert!(rt; by_tree == Some(place) && by_scan == Some(place));
     }
     Ok(())
 }

@@ -4,7 +4,6 @@ ghost use Rattle.net_file.specs.Net.{IsNet};
 
 use net_file::{Net, NetError, is_name, read_net, solo};
 use std::alloc::{AllocError, Global};
-use std::test::Fail;
 
 // The code and the row of the refusal of this text.
 fn refused(alloc: Global, text: &[u8]) -> Option<(u32, u32)> {
@@ -60,58 +59,44 @@ fn reads_each_spelling(rt: HostRuntime) {
     }
 }
 
-// Texts by the row of their refusal, each with its code.
-const REFUSED: [(u32, &[(&str, u32)]); 3] = [
+// Texts, each with the code and the row of its refusal.
+const REFUSED: [(&str, u32, u32); 17] = [
+    ("", 2, 0),
+    ("switch", 1, 0),
+    ("cache = 9223372036854775808", 1, 0),
+    ("leaf_rules = true\nbackups = 4", 3, 0),
+    ("leaf_rules = 0\nbackups = 1.0", 4, 0),
+    ("backups = 4\ncache = \"1\"", 4, 0),
+    ("cache = 65537", 4, 0),
+    ("switch = []", 4, 0),
+    ("switch = 1979-05-27", 3, 0),
+    ("switch = [1]", 3, 1),
+    ("[[switch]]\nports = 1", 2, 1),
+    ("[[switch]]\nname = \"controller\"", 4, 1),
+    ("[[switch]]\nname = \"a\"\nports = [64, true]", 3, 1),
     (
-        0,
-        &[
-            ("", 2),
-            ("switch", 1),
-            ("cache = 9223372036854775808", 1),
-            ("leaf_rules = true\nbackups = 4", 3),
-            ("leaf_rules = 0\nbackups = 1.0", 4),
-            ("backups = 4\ncache = \"1\"", 4),
-            ("cache = 65537", 4),
-            ("switch = []", 4),
-            ("switch = 1979-05-27", 3),
-        ],
-    ),
-    (
+        "[[switch]]\nname = \"a\"\nports = [-1]\nauthority = true",
+        4,
         1,
-        &[
-            ("switch = [1]", 3),
-            ("[[switch]]\nports = 1", 2),
-            ("[[switch]]\nname = \"controller\"", 4),
-            ("[[switch]]\nname = \"a\"\nports = [64, true]", 3),
-            (
-                "[[switch]]\nname = \"a\"\nports = [-1]\nauthority = true",
-                4,
-            ),
-            ("[[switch]]\nname = \"a\"\nports = [1, 1]", 7),
-        ],
+    ),
+    ("[[switch]]\nname = \"a\"\nports = [1, 1]", 7, 1),
+    (
+        "[[switch]]\nname = \"a\"\nports = [1]\n[[switch]]\nname = \"a\"\nports = [1]",
+        6,
+        2,
     ),
     (
+        "[[switch]]\nname = \"a\"\nports = [1]\n[[switch]]\nname = \"b\"\nports = [1]",
+        7,
         2,
-        &[
-            (
-                "[[switch]]\nname = \"a\"\nports = [1]\n[[switch]]\nname = \"a\"\nports = [1]",
-                6,
-            ),
-            (
-                "[[switch]]\nname = \"a\"\nports = [1]\n[[switch]]\nname = \"b\"\nports = [1]",
-                7,
-            ),
-        ],
     ),
 ];
 
 #[test]
 fn refuses_with_code_and_row(rt: HostRuntime) {
-    for (row, texts) in &REFUSED {
-        for (text, code) in *texts {
-            let told = refused(rt.alloc(), text.as_bytes());
-            assert!(rt; told == Some((*code, *row)), "at {text}");
-        }
+    for (text, code, row) in &REFUSED {
+        let told = refused(rt.alloc(), text.as_bytes());
+        assert!(rt; told == Some((*code, *row)), "at {text}");
     }
 }
 
@@ -128,14 +113,18 @@ const REFUSED_LINKS: [(&str, u32); 5] = [
     ("ends = [\"b\", \"a\"]", 9),
 ];
 
+// The code and the row of the refusal of a second link with these keys.
+fn refused_link(alloc: Global, keys: &str) -> Result<Option<(u32, u32)>, AllocError> {
+    let text = format!(in alloc; "{PAIR}{keys}\n")?;
+    Ok(refused(alloc, text.as_bytes()))
+}
+
 #[test]
-fn refuses_links(rt: HostRuntime) -> Result<(), Fail> {
+fn refuses_links(rt: HostRuntime) {
     for (keys, code) in &REFUSED_LINKS {
-        let text = format!(in rt.alloc(); "{PAIR}{keys}\n")?;
-        let told = refused(rt.alloc(), text.as_bytes());
-        assert!(rt; told == Some((*code, 102)), "at {keys}");
+        let told = refused_link(rt.alloc(), keys);
+        assert!(rt; told == Ok(Some((*code, 102))), "at {keys}");
     }
-    Ok(())
 }
 
 #[test]
@@ -160,11 +149,10 @@ fn has_too_many(alloc: Global, head: &str, count: u32) -> Result<bool, AllocErro
 }
 
 #[test]
-fn counts_switches_and_links(rt: HostRuntime) -> Result<(), Fail> {
-    let alloc = rt.alloc();
-    assert!(rt; has_too_many(alloc, "switch = [", 65)?);
-    assert!(rt; has_too_many(alloc, "switch = [{name = \"a\"}]\nlink = [", 257)?);
-    Ok(())
+fn counts_switches_and_links(rt: HostRuntime) {
+    let links = "switch = [{name = \"a\"}]\nlink = [";
+    assert!(rt; has_too_many(rt.alloc(), "switch = [", 65) == Ok(true));
+    assert!(rt; has_too_many(rt.alloc(), links, 257) == Ok(true));
 }
 
 // Three switches in a row, a, c and b.
@@ -177,21 +165,44 @@ fn three(alloc: Global) -> Result<Net, NetError>
     read_net(alloc, text.as_bytes())
 }
 
-// The names of switches 2 and 0 and of one that isn't there.
-fn names(alloc: Global, net: &Net) -> Result<String, AllocError>
+// Whether the switches are known by their names, and 2 and 0 are printed by theirs, and not one that
+// isn't there.
+fn have_names(alloc: Global, net: &Net) -> Result<bool, AllocError>
     requires { IsNet net.now }
 {
     let mut names = String::new(alloc);
     net.push_names(&mut names, &[2, 0, 3])?;
-    Ok(names)
+    Ok(net.number(b"c") == Some(2) && net.number(b"d").is_none() && names.as_str() == " c a ")
+}
+
+fn have_links_and_ports(net: &Net) -> bool
+    requires { IsNet net.now }
+{
+    let ports = net.ports();
+    net.links_of(0) == 4
+        && net.links_of(2) == 3
+        && net.port_mask() == 9223372036854775810
+        && ports.owner(63) == Some(1)
+        && ports.owner(2).is_none()
+}
+
+// Whether a copy knows a name.
+fn is_copied(net: &Net) -> Result<bool, AllocError>
+    requires { IsNet net.now }
+{
+    let copy = net.clone()?;
+    Ok(copy.number(b"b") == Some(1))
+}
+
+// Whether the three answer on their names, links and ports, and a copy does.
+fn answer(alloc: Global) -> Result<bool, NetError> {
+    let net = three(alloc)?;
+    Ok(have_names(alloc, &net)? && have_links_and_ports(&net) && is_copied(&net)?)
 }
 
 #[test]
-fn answers_on_names(rt: HostRuntime) -> Result<(), Fail> {
-    let net = three(rt.alloc())?;
-    assert!(rt; net.number(b"c") == Some(2) && net.number(b"d").is_none());
-    assert!(rt; names(rt.alloc(), &net)?.as_str() == " c a ");
-    Ok(())
+fn three_switches_answer(rt: HostRuntime) {
+    assert!(rt; matches!(answer(rt.alloc()), Ok(true)));
 }
 
 #[test]
@@ -199,32 +210,13 @@ fn knows_names(rt: HostRuntime) {
     assert!(rt; is_name(b"edge0-1") && !is_name(b"controller") && !is_name(b"1a"));
 }
 
-#[test]
-fn answers_on_links(rt: HostRuntime) -> Result<(), Fail> {
-    let net = three(rt.alloc())?;
-    assert!(rt; net.links_of(0) == 4 && net.links_of(2) == 3);
-    Ok(())
+// Whether the network of one switch has its name and all ports.
+fn is_solo(alloc: Global) -> Result<bool, AllocError> {
+    let solo = solo(alloc)?;
+    Ok(solo.number(b"s0") == Some(0) && solo.port_mask() == u64::MAX)
 }
 
 #[test]
-fn answers_on_ports(rt: HostRuntime) -> Result<(), Fail> {
-    let net = three(rt.alloc())?;
-    assert!(rt; net.port_mask() == 9223372036854775810);
-    let ports = net.ports();
-    assert!(rt; ports.owner(63) == Some(1) && ports.owner(2).is_none());
-    Ok(())
-}
-
-#[test]
-fn answers_on_copies(rt: HostRuntime) -> Result<(), Fail> {
-    let copy = three(rt.alloc())?.clone()?;
-    assert!(rt; copy.number(b"b") == Some(1));
-    Ok(())
-}
-
-#[test]
-fn answers_on_one_switch(rt: HostRuntime) -> Result<(), Fail> {
-    let solo = solo(rt.alloc())?;
-    assert!(rt; solo.number(b"s0") == Some(0) && solo.port_mask() == u64::MAX);
-    Ok(())
+fn answers_on_one_switch(rt: HostRuntime) {
+    assert!(rt; is_solo(rt.alloc()) == Ok(true));
 }

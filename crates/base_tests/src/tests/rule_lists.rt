@@ -1,78 +1,87 @@
 //! The rules of policies with known words, and lists of targets.
 ghost use Rattle.std.specs.Prelude.{◌<◌, ◌^◌, length};
 
-use five_tuple::{read_address, read_prefix, read_range};
 use policy_rules::{
-    Action, Fields, Header, Hit, Partition, Policy, Proto, Row, Rule, Rules, Targets, count_words,
-    first_hit, to_rules,
+    Action, Fields, Header, Hit, Partition, Policy, PortRange, Prefix, Proto, Row, Rule, Rules,
+    Targets, count_words, first_hit, to_rules,
 };
-use std::alloc::Global;
-use std::test::Fail;
+use std::alloc::{AllocError, Global};
 use ternary::Word;
 
-fn row(priority: u32, dst: &str, ports: (&str, &str), action: Action) -> Result<Row, Fail> {
-    Ok(Row {
+const ANY: PortRange = PortRange {
+    low: 0,
+    high: u16::MAX,
+};
+
+// A row on packets of TCP to these addresses, with these source and destination ports.
+fn row(priority: u32, dst: Prefix, ports: (PortRange, PortRange), action: Action) -> Row {
+    Row {
         priority,
-        src: read_prefix(b"any").ok_or("source")?,
-        dst: read_prefix(dst.as_bytes()).ok_or("destination")?,
-        sport: read_range(ports.0.as_bytes()).ok_or("source port")?,
-        dport: read_range(ports.1.as_bytes()).ok_or("destination port")?,
+        src: Prefix::new(0, 0),
+        dst,
+        sport: ports.0,
+        dport: ports.1,
         proto: Proto::Is(6),
         action,
-    })
+    }
 }
 
-fn header(dst: &str) -> Result<Header, Fail> {
-    Ok(Header::pack(&Fields {
+fn header(dst: u32) -> Header {
+    Header::pack(&Fields {
         src: 0x0102_0304,
-        dst: read_address(dst.as_bytes()).ok_or("address")?,
+        dst,
         sport: 5000,
         dport: 80,
         proto: 6,
-    }))
+    })
 }
 
-fn policy_of(alloc: Global, rows: &[Row]) -> Result<Policy, Fail>
+fn policy_of(alloc: Global, rows: &[Row]) -> Option<Policy>
     requires { length rows.now < 2 ^ 32 }
 {
-    Ok(Policy::new(alloc, Vec::from_slice(alloc, rows)?)?)
+    let rows = Vec::from_slice(alloc, rows).ok()?;
+    Policy::new(alloc, rows).ok()
 }
 
-fn rules_of(alloc: Global, rows: &[Row]) -> Result<Vec<Rule>, Fail>
+fn rules_of(alloc: Global, rows: &[Row]) -> Option<Vec<Rule>>
     requires { length rows.now < 2 ^ 32 }
 {
-    Ok(to_rules(alloc, &policy_of(alloc, rows)?)?)
+    to_rules(alloc, &policy_of(alloc, rows)?).ok()
 }
 
-fn two_rows() -> Result<[Row; 2], Fail> {
-    Ok([
-        row(100, "10.0.0.0/8", ("any", "any"), Action::Out(2))?,
-        row(200, "10.1.0.0/16", ("any", "80"), Action::Drop)?,
-    ])
+// Of 10.0.0.0/8, to port 2.
+fn wide_row() -> Row {
+    row(100, Prefix::new(0x0a00_0000, 8), (ANY, ANY), Action::Out(2))
 }
 
-fn two_rules(alloc: Global) -> Result<Vec<Rule>, Fail> {
-    rules_of(alloc, &two_rows()?)
+// Of 10.1.0.0/16 and port 80, dropped.
+fn web_row() -> Row {
+    let web = PortRange { low: 80, high: 80 };
+    row(200, Prefix::new(0x0a01_0000, 16), (ANY, web), Action::Drop)
+}
+
+fn two_rules(alloc: Global) -> Option<Vec<Rule>> {
+    rules_of(alloc, &[wide_row(), web_row()])
 }
 
 // A destination, and the rule and the action of its first match.
-const SCANNED: [(&str, Hit); 3] = [
+const SCANNED: [(u32, Hit); 3] = [
     (
-        "10.1.2.3",
+        0x0a01_0203,
         Hit {
             rule: Some(200),
             action: Action::Drop,
         },
     ),
     (
-        "10.2.0.1",
+        0x0a02_0001,
         Hit {
             rule: Some(100),
             action: Action::Out(2),
         },
     ),
     (
-        "11.0.0.1",
+        0x0b00_0001,
         Hit {
             rule: None,
             action: Action::Drop,
@@ -80,83 +89,109 @@ const SCANNED: [(&str, Hit); 3] = [
     ),
 ];
 
-#[test]
-fn scans_for_the_first_match(rt: HostRuntime) -> Result<(), Fail> {
-    let policy = policy_of(rt.alloc(), &two_rows()?)?;
-    for (dst, hit) in &SCANNED {
-        assert_eq!(rt; policy.scan(&header(dst)?), *hit);
+// The place of the first row of the table that isn't so, or how many rows it has.
+fn scanned(alloc: Global) -> Option<usize> {
+    let policy = policy_of(alloc, &[wide_row(), web_row()])?;
+    for (place, (dst, hit)) in SCANNED.iter().enumerate() {
+        if policy.scan(&header(*dst)) != *hit {
+            return Some(place);
+        }
     }
-    Ok(())
+    Some(SCANNED.len())
 }
 
-// The place, the name and the mask of each rule.
-const LISTED: [(usize, Option<u32>, u128); 3] = [
-    (0, Some(200), 0xffff_0000_0000_ffff_ff),
-    (1, Some(100), 0xff00_0000_0000_0000_ff),
-    (2, None, 0),
+#[test]
+fn scans_for_the_first_match(rt: HostRuntime) {
+    assert!(rt; scanned(rt.alloc()) == Some(3));
+}
+
+// The place, the name and the mask of each rule, and a destination that it is the first for.
+const LISTED: [(usize, Option<u32>, u128, u32); 3] = [
+    (0, Some(200), 0xffff_0000_0000_ffff_ff, 0x0a01_0505),
+    (1, Some(100), 0xff00_0000_0000_0000_ff, 0x0a02_0001),
+    (2, None, 0, 0x0b00_0001),
 ];
 
-#[test]
-fn lists_rows_by_falling_priority(rt: HostRuntime) -> Result<(), Fail> {
-    let rules = two_rules(rt.alloc())?;
-    assert!(rt; rules.len() == 3);
-    for (place, name, mask) in &LISTED {
-        let rule = rules.get(*place).ok_or("place")?;
-        let is_so = rule.rank as usize == *place && rule.rule == *name && rule.word.mask() == *mask;
-        assert!(rt; is_so, "{place}");
+// Whether the rule of this place has its rank, this name and this mask.
+fn is_listed(rules: &[Rule], place: usize, name: Option<u32>, mask: u128) -> bool {
+    match rules.get(place) {
+        Some(rule) => {
+            rule.rank as usize == place && rule.rule == name && rule.word.mask() == mask
+        }
+        None => false,
     }
-    Ok(())
 }
 
-const HITS: [(&str, usize); 3] = [("10.1.5.5", 0), ("10.2.0.1", 1), ("11.0.0.1", 2)];
-
-#[test]
-fn hits_the_first_rule(rt: HostRuntime) -> Result<(), Fail> {
-    let rules = two_rules(rt.alloc())?;
-    for (dst, place) in &HITS {
-        assert!(rt; first_hit(&rules, &header(dst)?) == Some(*place), "{dst}");
+// The place of the first row of the table that isn't so, or how many rules there are.
+fn listed(alloc: Global) -> Option<usize> {
+    let rules = two_rules(alloc)?;
+    for (place, name, mask, dst) in &LISTED {
+        let is_first = first_hit(&rules, &header(*dst)) == Some(*place);
+        if !is_first || !is_listed(&rules, *place, *name, *mask) {
+            return Some(*place);
+        }
     }
-    Ok(())
+    Some(rules.len())
 }
 
 #[test]
-fn counts_words(rt: HostRuntime) -> Result<(), Fail> {
-    let alloc = rt.alloc();
-    let ports = ("1-65534", "1-65534");
-    let first = row(1, "any", ports, Action::Drop)?;
-    assert_eq!(rt; rules_of(alloc, &[first])?.len(), 901);
-    Ok(())
+fn lists_rows_by_falling_priority_and_hits_the_first(rt: HostRuntime) {
+    assert!(rt; listed(rt.alloc()) == Some(3));
+}
+
+// How many rules a row of two ranges of 30 blocks makes, beside the default.
+fn rule_count(alloc: Global) -> Option<usize> {
+    let ports = PortRange {
+        low: 1,
+        high: 65534,
+    };
+    let first = row(1, Prefix::new(0, 0), (ports, ports), Action::Drop);
+    Some(rules_of(alloc, &[first])?.len())
 }
 
 #[test]
-fn clones_equal_what_they_copy(rt: HostRuntime) -> Result<(), Fail> {
-    let alloc = rt.alloc();
-    let low = row(100, "10.0.0.0/8", ("any", "any"), Action::Out(2))?;
-    let policy = Policy::new(alloc, Vec::from_slice(alloc, &[low])?)?;
-    assert_eq!(rt; policy.clone()?.rows(), policy.rows());
-    assert_eq!(rt; count_words(&policy), 1);
-    Ok(())
+fn counts_words(rt: HostRuntime) {
+    assert!(rt; rule_count(rt.alloc()) == Some(901));
 }
 
-#[test]
-fn clones_partitions(rt: HostRuntime) -> Result<(), Fail> {
+// Whether a policy of one word is cloned.
+fn is_cloned(alloc: Global) -> Option<bool> {
+    let policy = policy_of(alloc, &[wide_row()])?;
+    let copy = policy.clone().ok()?;
+    Some(copy.rows() == policy.rows() && count_words(&policy) == 1)
+}
+
+// Whether a partition of these rules is cloned.
+fn is_cloned_with(rules: Vec<Rule>) -> Result<bool, AllocError> {
     let partition = Partition {
         number: 0,
         region: Word::any(),
-        rules: Rules::new(two_rules(rt.alloc())?)?,
+        rules: Rules::new(rules)?,
     };
     let copy = partition.clone()?;
-    assert_eq!(rt; copy.rules.items(), partition.rules.items());
-    Ok(())
+    Ok(copy.rules.items() == partition.rules.items())
+}
+
+// Whether a partition of two rows' rules is cloned.
+fn is_partition_cloned(alloc: Global) -> Option<bool> {
+    is_cloned_with(two_rules(alloc)?).ok()
 }
 
 #[test]
-fn holds_targets(rt: HostRuntime) -> Result<(), Fail> {
-    assert!(rt; Targets::new(&[]).is_none());
-    assert!(rt; Targets::new(&[1, 2, 3, 4, 5]).is_none());
-    let one = Targets::new(&[7]).ok_or("one")?;
-    assert_eq!(rt; one.items(), [7].as_slice());
-    let four = Targets::new(&[4, 3, 2, 1]).ok_or("four")?;
-    assert_eq!(rt; four.items(), [4, 3, 2, 1].as_slice());
-    Ok(())
+fn clones_equal_what_they_copy(rt: HostRuntime) {
+    assert!(rt; is_cloned(rt.alloc()) == Some(true));
+    assert!(rt; is_partition_cloned(rt.alloc()) == Some(true));
+}
+
+fn hold(targets: &[u32]) -> bool {
+    match Targets::new(targets) {
+        Some(held) => held.items() == targets,
+        None => false,
+    }
+}
+
+#[test]
+fn holds_targets(rt: HostRuntime) {
+    assert!(rt; Targets::new(&[]).is_none() && Targets::new(&[1, 2, 3, 4, 5]).is_none());
+    assert!(rt; hold(&[7]) && hold(&[4, 3, 2, 1]));
 }

@@ -50,7 +50,7 @@ fn a_tree_finds_what_a_search_finds(rt: HostRuntime) -> Result<(), Fail> {
     assert!(rt; matches!(&tree.root, RuleNode::Cut { .. }));
     for dst in [0x0a000001, 0x0a030201, 0x0a260000, 0x0a270000, 0x0b000000] {
         let header = header(dst);
-        assert_eq!(rt; tree.first(&rules, &header), first_hit(&rules, &header));
+        assert!(rt; tree.first(&rules, &header) == first_hit(&rules, &header));
     }
     Ok(())
 }
@@ -62,6 +62,6 @@ fn few_rules_are_not_cut(rt: HostRuntime) -> Result<(), Fail> {
     let rules = [rule(Word::any(), Action::Drop)];
     let tree = RuleTree::build(alloc, &rules, &Word::any())?;
     assert!(rt; matches!(&tree.root, RuleNode::End { .. }));
-    assert_eq!(rt; tree.first(&rules, &header(1)), Some(0));
+    assert!(rt; tree.first(&rules, &header(1)) == Some(0));
     Ok(())
 }

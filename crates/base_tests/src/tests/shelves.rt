@@ -14,67 +14,87 @@ fn one_file(alloc: Global) -> Result<Vec<(String, Vec<u8>)>, AllocError> {
     Ok(vec![in alloc; (name, content)]?)
 }
 
-// What the shelf answers; nothing more is known of it.
-fn read(shelf: &mut impl Shelf, name: &str, limit: u64) -> Result<Vec<u8>, ShelfError> {
-    shelf.read(name, limit)
+// How the read of this file fails.
+fn failure(shelf: &mut impl Shelf, name: &str, limit: u64) -> Option<ShelfError> {
+    shelf.read(name, limit).err()
 }
 
-// A shelf whose first call fails.
-fn failing_shelf(alloc: Global) -> Result<MemShelf, AllocError> {
-    Ok(MemShelf::new(alloc, one_file(alloc)?, vec![in alloc; 1]?))
+// Whether the file has this content.
+fn gives(shelf: &mut impl Shelf, name: &str, limit: u64, content: &[u8]) -> bool {
+    match shelf.read(name, limit) {
+        Ok(bytes) => bytes.as_slice() == content,
+        Err(_) => false,
+    }
 }
 
-#[test]
-fn reads_files_in_memory(rt: HostRuntime) -> Result<(), Fail> {
-    let mut shelf = failing_shelf(rt.alloc())?;
-    assert!(rt; read(&mut shelf, "policy", 5).err() == Some(ShelfError::Failed));
-    assert!(rt; read(&mut shelf, "policy", 5)?.as_slice() == b"first".as_slice());
-    assert!(rt; read(&mut shelf, "policies", 5).err() == Some(ShelfError::Missing));
-    assert!(rt; read(&mut shelf, "policy", 4).err() == Some(ShelfError::TooLong));
-    Ok(())
-}
-
-#[test]
-fn reads_files_without_faults(rt: HostRuntime) -> Result<(), Fail> {
-    let mut calm = CalmShelf::new(rt.alloc(), one_file(rt.alloc())?);
-    assert!(rt; read(&mut calm, "policy", 5)?.as_slice() == b"first".as_slice());
-    Ok(())
+// Whether a shelf in memory, whose first call fails, gives the one file or says why not.
+fn gives_in_memory(alloc: Global) -> Result<bool, AllocError> {
+    let mut shelf = MemShelf::new(alloc, one_file(alloc)?, vec![in alloc; 1]?);
+    Ok(
+        failure(&mut shelf, "policy", 5) == Some(ShelfError::Failed)
+            && gives(&mut shelf, "policy", 5, b"first")
+            && failure(&mut shelf, "policies", 5) == Some(ShelfError::Missing)
+            && failure(&mut shelf, "policy", 4) == Some(ShelfError::TooLong),
+    )
 }
 
 #[test]
-fn keeps_what_came_before_a_fault(rt: HostRuntime) -> Result<(), Fail> {
-    let alloc = rt.alloc();
+fn reads_files_in_memory(rt: HostRuntime) {
+    assert!(rt; gives_in_memory(rt.alloc()) == Ok(true));
+}
+
+// Whether a shelf without faults gives its file.
+fn gives_in_calm(alloc: Global) -> Result<bool, AllocError> {
+    let mut calm = CalmShelf::new(alloc, one_file(alloc)?);
+    Ok(gives(&mut calm, "policy", 5, b"first"))
+}
+
+#[test]
+fn reads_files_without_faults(rt: HostRuntime) {
+    assert!(rt; gives_in_calm(rt.alloc()) == Ok(true));
+}
+
+// Whether a sink that takes ten bytes at once, and fails at the second write, has the first ten.
+fn keeps_first(alloc: Global) -> Result<bool, AllocError> {
     let mut sink = MemSink::new(alloc, 10, vec![in alloc; 2]?);
     let written = write_whole(&mut sink, b"twenty-five bytes of text");
-    assert_eq!(rt; written.err(), Some(SinkError::Failed));
-    assert_eq!(rt; sink.bytes(), b"twenty-fiv".as_slice());
-    Ok(())
+    let has_failed = written.err() == Some(SinkError::Failed);
+    Ok(has_failed && sink.bytes() == b"twenty-fiv".as_slice())
 }
 
 #[test]
-fn writes_in_pieces(rt: HostRuntime) -> Result<(), Fail> {
-    let bytes = vec![in rt.alloc(); 7u8; 70_000]?;
-    let mut calm = CalmSink::new(rt.alloc());
-    write_whole(&mut calm, &bytes)?;
-    assert!(rt; calm.bytes().len() == 70_000);
-    Ok(())
+fn keeps_what_came_before_a_fault(rt: HostRuntime) {
+    assert!(rt; keeps_first(rt.alloc()) == Ok(true));
+}
+
+// Whether so many bytes are written.
+fn takes(alloc: Global, count: usize) -> Result<bool, AllocError> {
+    let bytes = vec![in alloc; 7u8; count]?;
+    let mut calm = CalmSink::new(alloc);
+    let written = write_whole(&mut calm, &bytes);
+    Ok(written.is_ok() && calm.bytes().len() == count)
 }
 
 #[test]
-fn reads_files_of_the_system(rt: HostRuntime) -> Result<(), Fail> {
+fn writes_in_pieces(rt: HostRuntime) {
+    assert!(rt; takes(rt.alloc(), 70_000) == Ok(true));
+}
+
+#[test]
+fn reads_files_of_the_system(rt: HostRuntime) {
     let mut shelf = DiskShelf::new(rt);
-    assert!(rt; read(&mut shelf, "/no/such/file", 9).err() == Some(ShelfError::Missing));
-    assert!(rt; read(&mut shelf, "/", 9).err() == Some(ShelfError::Failed));
-    assert!(rt; read(&mut shelf, "/dev/zero", 9).err() == Some(ShelfError::TooLong));
-    assert!(rt; read(&mut shelf, "/dev/null", 0)?.is_empty());
-    Ok(())
+    let missing = failure(&mut shelf, "/no/such/file", 9);
+    let failed = failure(&mut shelf, "/", 9);
+    let too_long = failure(&mut shelf, "/dev/zero", 9);
+    assert!(rt; missing == Some(ShelfError::Missing) && failed == Some(ShelfError::Failed));
+    assert!(rt; too_long == Some(ShelfError::TooLong) && gives(&mut shelf, "/dev/null", 0, b""));
 }
 
 #[test]
-fn writes_to_streams(rt: HostRuntime) -> Result<(), Fail> {
-    assert!(rt; StdSink::new(rt.stdout()).write(b"")? == 0);
-    assert!(rt; StdSink::new(rt.stderr()).write(b"")? == 0);
-    Ok(())
+fn writes_to_streams(rt: HostRuntime) {
+    let out = StdSink::new(rt.stdout()).write(b"");
+    let errs = StdSink::new(rt.stderr()).write(b"");
+    assert!(rt; out == Ok(0) && errs == Ok(0));
 }
 
 #[test]
@@ -88,8 +108,7 @@ fn tells_a_full_device(rt: HostRuntime) -> Result<(), Fail> {
 fn tells_a_full_slice(rt: HostRuntime) {
     let mut room = [0; 3];
     let written = write_whole(&mut StdSink::new(room.as_mut_slice()), b"four");
-    assert!(rt; written.err() == Some(SinkError::Failed));
-    assert!(rt; room.as_slice() == b"fou".as_slice());
+    assert!(rt; written.err() == Some(SinkError::Failed) && room.as_slice() == b"fou".as_slice());
 }
 
 // What it takes is held back until the flush, which finds room for three bytes.

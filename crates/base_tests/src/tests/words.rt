@@ -1,50 +1,66 @@
 //! Words of known bits.
-use std::test::Fail;
+use std::alloc::{AllocError, Global};
 use ternary::Word;
+
+// The word of these numbers, or the one without bits where they are none.
+fn word(value: u128, mask: u128) -> Word {
+    match Word::new(value, mask) {
+        Some(word) => word,
+        None => Word::any(),
+    }
+}
 
 #[test]
 fn stray_bits_are_refused(rt: HostRuntime) {
-    assert!(rt; Word::new(1, 0).is_none());
-    assert!(rt; Word::new(0, 1 << 104).is_none());
+    assert!(rt; Word::new(1, 0).is_none() && Word::new(0, 1 << 104).is_none());
+}
+
+// 01** and **01 meet in 0101; 01** and 1*** in nothing.
+fn are_met(high: &Word) -> bool {
+    high.meet(&word(0b0001, 0b0011)) == Some(word(0b0101, 0b1111))
+        && high.meet(&word(0b1000, 0b1000)).is_none()
+}
+
+fn are_covered(high: &Word) -> bool {
+    let both = word(0b0101, 0b1111);
+    high.covers(&both) && !both.covers(high) && high.holds(0b0111) && !high.holds(0b1111)
 }
 
 #[test]
-fn words_meet_and_cover(rt: HostRuntime) -> Result<(), Fail> {
-    // 01** and **01 meet in 0101; 01** and 1*** in nothing.
-    let high = Word::new(0b0100, 0b1100).ok_or("01**")?;
-    let low = Word::new(0b0001, 0b0011).ok_or("**01")?;
-    let both = Word::new(0b0101, 0b1111).ok_or("0101")?;
-    let other = Word::new(0b1000, 0b1000).ok_or("1***")?;
-    assert_eq!(rt; high.meet(&low), Some(both));
-    assert_eq!(rt; high.meet(&other), None);
-    assert!(rt; high.covers(&both));
-    assert!(rt; !both.covers(&high));
-    assert!(rt; high.holds(0b0111));
-    assert!(rt; !high.holds(0b1111));
-    Ok(())
+fn words_meet_and_cover(rt: HostRuntime) {
+    let high = word(0b0100, 0b1100);
+    assert!(rt; are_met(&high) && are_covered(&high));
+}
+
+// Whether both numbers of a word are printed so.
+fn is_printed(alloc: Global, wanted: &str) -> Result<bool, AllocError> {
+    let word = word(0x0a02_0000_0000_0000_06, 0xff02_0000_0000_0000_ff);
+    Ok(word.to_string(alloc)?.as_str() == wanted)
 }
 
 #[test]
-fn prints_both_numbers(rt: HostRuntime) -> Result<(), Fail> {
-    let word = Word::new(0x0a02_0000_0000_0000_06, 0xff02_0000_0000_0000_ff).ok_or("word")?;
-    let text = word.to_string(rt.alloc())?;
+fn prints_both_numbers(rt: HostRuntime) {
     let printed = "000000000a0200000000000006/00000000ff02000000000000ff";
-    assert_eq!(rt; text.as_str(), printed);
-    Ok(())
+    assert!(rt; is_printed(rt.alloc(), printed) == Ok(true));
+}
+
+fn are_fixed_and_freed() -> bool {
+    let any = Word::any();
+    if any.is_fixed(71) {
+        return false;
+    }
+    let low = any.fix(71, false);
+    if low.is_fixed(103) {
+        return false;
+    }
+    let corner = low.fix(103, true);
+    corner.value() == 0x8000_0000_0000_0000_0000_0000_00
+        && corner.mask() == 0x8000_0000_8000_0000_0000_0000_00
+        && corner.free(103) == low
+        && Word::exact(6).free(0).mask() == 0xff_ffff_ffff_ffff_ffff_ffff_fffe
 }
 
 #[test]
 fn bits_are_fixed_and_freed(rt: HostRuntime) {
-    let any = Word::any();
-    assert!(rt; !any.is_fixed(71));
-    let low = any.fix(71, false);
-    assert!(rt; !low.is_fixed(103));
-    let corner = low.fix(103, true);
-    assert_eq!(rt; corner.value(), 0x8000_0000_0000_0000_0000_0000_00);
-    assert_eq!(rt; corner.mask(), 0x8000_0000_8000_0000_0000_0000_00);
-    assert_eq!(rt; corner.free(103), low);
-    assert_eq!(rt;
-        Word::exact(6).free(0).mask(),
-        0xff_ffff_ffff_ffff_ffff_ffff_fffe
-    );
+    assert!(rt; are_fixed_and_freed());
 }
