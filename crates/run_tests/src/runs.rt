@@ -124,3 +124,11 @@ pub fn ended(ran: &Ran, status: u8, out: &str, line: &str) -> bool {
     let (number, written, told) = ran;
     *number == status && written.bytes() == out.as_bytes() && told.bytes() == line.as_bytes()
 }
+
+/// Whether there was memory for the files of a run, and it ended so.
+pub fn ends(told: Result<Ran, AllocError>, status: u8, out: &str, line: &str) -> bool {
+    match told {
+        Ok(ran) => ended(&ran, status, out, line),
+        Err(_) => false,
+    }
+}

@@ -2,7 +2,9 @@
 use base::Failure;
 use journal::{Action, How, Item, Journal};
 use placement::{NoRoom, place};
+use policy_rules::Targets;
 use rebalance::{bound, peak, spread, weights};
+use std::alloc::{AllocError, Global};
 use std::test::Fail;
 
 fn decided(packet: u32, version: u32, how: How) -> Item {
@@ -22,31 +24,54 @@ fn asked(partition: u32) -> How {
     }
 }
 
-// Pushes the item; nothing more is known of the journal.
-fn push(journal: &mut Journal, item: Item) -> Result<(), Fail> {
-    journal.push(item)?;
+// Pushes these decisions, each of a packet, a version and how it was decided; nothing more is known
+// of the journal.
+fn push_decided(journal: &mut Journal, all: &[(u32, u32, How)]) -> Result<(), AllocError> {
+    for (packet, version, how) in all {
+        journal.push(decided(*packet, *version, *how))?;
+    }
     Ok(())
 }
 
-#[test]
-fn authorities_of_the_current_version_weigh(rt: HostRuntime) -> Result<(), Fail> {
-    let alloc = rt.alloc();
+fn push_current(journal: &mut Journal, version: u32) -> Result<(), AllocError> {
+    journal.push(Item::Current { version })
+}
+
+// Whether the three partitions have these weights.
+fn weigh(alloc: Global, journal: &Journal, wanted: &[u64]) -> Result<bool, AllocError> {
+    Ok(weights(alloc, journal, 3)?.as_slice() == wanted)
+}
+
+// Whether partitions weigh what their authorities decided by the current version.
+fn weigh_by_version(alloc: Global) -> Result<bool, AllocError> {
     let mut journal = Journal::new(alloc);
-    push(&mut journal, decided(1, 1, asked(0)))?;
-    push(&mut journal, decided(2, 1, asked(2)))?;
-    push(&mut journal, decided(3, 1, How::Cached { message: 1 }))?;
-    push(&mut journal, decided(4, 1, asked(2)))?;
-    assert_eq!(rt;
-        weights(alloc, &journal, 3)?.as_slice(),
-        [1, 0, 2].as_slice()
-    );
-    push(&mut journal, Item::Current { version: 2 })?;
-    push(&mut journal, decided(5, 2, asked(1)))?;
-    assert_eq!(rt;
-        weights(alloc, &journal, 3)?.as_slice(),
-        [0, 1, 0].as_slice()
-    );
-    Ok(())
+    let first = [
+        (1, 1, asked(0)),
+        (2, 1, asked(2)),
+        (3, 1, How::Cached { message: 1 }),
+        (4, 1, asked(2)),
+    ];
+    push_decided(&mut journal, &first)?;
+    let were = weigh(alloc, &journal, &[1, 0, 2])?;
+    push_current(&mut journal, 2)?;
+    push_decided(&mut journal, &[(5, 2, asked(1))])?;
+    Ok(were && weigh(alloc, &journal, &[0, 1, 0])?)
+}
+
+#[test]
+fn authorities_of_the_current_version_weigh(rt: HostRuntime) {
+    assert!(rt; weigh_by_version(rt.alloc()) == Ok(true));
+}
+
+// Whether each of the partitions is on this switch alone.
+fn are_at(placement: &[Targets], switches: &[u32]) -> bool {
+    for (partition, switch) in switches.iter().enumerate() {
+        match placement.get(partition) {
+            Some(targets) if targets.items() == [*switch].as_slice() => (),
+            _ => return false,
+        }
+    }
+    true
 }
 
 #[test]
@@ -55,18 +80,10 @@ fn a_spread_lowers_the_peak(rt: HostRuntime) -> Result<(), Fail> {
     let alloc = rt.alloc();
     let old = place(alloc, &[1, 1, 1], &[0, 8, 8], 0)?;
     let new = spread(alloc, &[1, 1, 1], &[1, 0, 2], &[0, 8, 8], 0)?;
-    for (partition, switches) in [[1, 2], [2, 2], [1, 1]].iter().enumerate() {
-        let was = old.get(partition).ok_or("partition")?;
-        let now = new.get(partition).ok_or("partition")?;
-        assert_eq!(rt; was.items(), [switches[0]].as_slice());
-        assert_eq!(rt; now.items(), [switches[1]].as_slice());
-    }
-    assert_eq!(rt; peak(&[1, 0, 2], &old), 3);
-    assert_eq!(rt; peak(&[1, 0, 2], &new), 2);
-    assert_eq!(rt; bound(&[1, 0, 2], &[0, 8, 8]), 2);
-    assert_eq!(rt; bound(&[1, 0, 2], &[0]), 0);
-    assert!(rt;
-        spread(alloc, &[3], &[0], &[2], 0).err() == Some(Failure::Refused(NoRoom { partition: 0 }))
-    );
+    assert!(rt; are_at(&old, &[1, 2, 1]) && are_at(&new, &[2, 2, 1]));
+    assert!(rt; peak(&[1, 0, 2], &old) == 3 && peak(&[1, 0, 2], &new) == 2);
+    assert!(rt; bound(&[1, 0, 2], &[0, 8, 8]) == 2 && bound(&[1, 0, 2], &[0]) == 0);
+    let refused = spread(alloc, &[3], &[0], &[2], 0).err();
+    assert!(rt; refused == Some(Failure::Refused(NoRoom { partition: 0 })));
     Ok(())
 }

@@ -1,5 +1,4 @@
 //! The marks of versions, of one switch and of two.
-use std::test::Fail;
 use version_update::{Marks, Phase, Settled, SubmitError};
 
 fn hello(marks: &mut Marks, s: u32, boot: u32) -> Option<Settled> {
@@ -53,61 +52,73 @@ fn has_acked(marks: &Marks, s: u32, version: u32) -> bool {
     s < marks.switches() && version > 0 && version <= marks.count() && marks.has_acked(s, version)
 }
 
+// Whether 7 more versions are added, and no more.
+fn is_filled(marks: &mut Marks) -> bool {
+    for _ in 0..7 {
+        if !is_added(marks) {
+            return false;
+        }
+    }
+    is_refused(marks)
+}
+
+// Whether version 2 is current once it is installed, which makes no room yet.
+fn is_current(marks: &mut Marks) -> Option<bool> {
+    let answer = installed(marks, 0, 1, 2)?;
+    let is_so = answer.current == Some(2) && answer.stamps == 1 && answer.retired.is_none();
+    Some(is_so && is_refused(marks))
+}
+
+// Whether version 1 is retired once the stamp of version 2 is acknowledged, which makes room.
+fn is_retired(marks: &mut Marks) -> Option<bool> {
+    let answer = stamped(marks, 0, 1, 2)?;
+    let is_so = answer.retired == Some(1) && answer.collects == 1;
+    Some(is_so && is_added(marks) && marks.count() == 9 && marks.retired() == 1)
+}
+
 // One switch: 7 more versions, and room for the next one only once a version is retired.
 #[test]
-fn versions_are_live_until_their_stamp_is_acknowledged(rt: HostRuntime) -> Result<(), Fail> {
+fn versions_are_live_until_their_stamp_is_acknowledged(rt: HostRuntime) {
     let mut marks = Marks::begin(1);
-    for _ in 0..7 {
-        assert!(rt; is_added(&mut marks));
-    }
-    assert!(rt; is_refused(&mut marks));
-    let answer = installed(&mut marks, 0, 1, 2).ok_or("installed")?;
-    assert!(rt; answer.current == Some(2) && answer.stamps == 1 && answer.retired.is_none());
-    assert!(rt; is_refused(&mut marks));
-    let answer = stamped(&mut marks, 0, 1, 2).ok_or("stamped")?;
-    assert!(rt; answer.retired == Some(1) && answer.collects == 1);
-    assert!(rt; is_added(&mut marks));
-    assert!(rt; marks.count() == 9 && marks.retired() == 1);
-    Ok(())
+    assert!(rt; is_filled(&mut marks) && is_current(&mut marks) == Some(true));
+    assert!(rt; is_retired(&mut marks) == Some(true));
 }
 
-// Switch 0 boots again, and joins at version 1.
-fn rejoined() -> Option<Marks> {
-    let mut marks = Marks::begin(2);
-    let taken = hello(&mut marks, 0, 2)?.taken;
-    let joins = stands(&marks, 0, Phase::Joining, 2);
-    let is_old = !installed(&mut marks, 0, 1, 1)?.taken;
-    let opens = installed(&mut marks, 0, 2, 1)?.opens == 0b01;
-    if taken && joins && is_old && opens && marks.count() == 1 {
-        Some(marks)
-    } else {
-        None
-    }
+// Whether switch 0 boots again, and joins at version 1.
+fn joins(marks: &mut Marks) -> Option<bool> {
+    let is_taken = hello(marks, 0, 2)?.taken && stands(marks, 0, Phase::Joining, 2);
+    let is_old = !installed(marks, 0, 1, 1)?.taken;
+    let opens = installed(marks, 0, 2, 1)?.opens == 0b01;
+    Some(is_taken && is_old && opens && marks.count() == 1)
 }
 
-// Then version 2 is installed at both.
+// Whether version 2 then is installed at both, and current with the second.
+fn is_installed(marks: &mut Marks) -> Option<bool> {
+    let is_second = is_added(marks) && marks.count() == 2;
+    let is_early = installed(marks, 0, 2, 2)?.current.is_some() || marks.count() != 2;
+    let has_one = has_acked(marks, 0, 2) && !has_acked(marks, 1, 2);
+    let answer = installed(marks, 1, 1, 2)?;
+    let is_both = answer.current == Some(2) && answer.stamps == 0b11;
+    Some(is_second && !is_early && has_one && is_both && marks.current() == 2)
+}
+
 #[test]
-fn a_switch_comes_back(rt: HostRuntime) -> Result<(), Fail> {
-    let mut marks = rejoined().ok_or("joins")?;
-    assert!(rt; is_added(&mut marks) && marks.count() == 2);
-    let answer = installed(&mut marks, 0, 2, 2).ok_or("at switch 0")?;
-    assert!(rt; answer.current.is_none() && marks.count() == 2);
-    assert!(rt; has_acked(&marks, 0, 2) && !has_acked(&marks, 1, 2));
-    let answer = installed(&mut marks, 1, 1, 2).ok_or("at switch 1")?;
-    assert!(rt; answer.current == Some(2) && answer.stamps == 0b11);
-    assert!(rt; marks.current() == 2);
-    Ok(())
+fn a_switch_comes_back(rt: HostRuntime) {
+    let mut marks = Marks::begin(2);
+    assert!(rt; joins(&mut marks) == Some(true) && is_installed(&mut marks) == Some(true));
 }
 
-// Switch 0 joins at version 1 and is gone: version 2 is current without it.
+// Whether switch 0 joins at version 1 and is gone: version 2 is current without it.
+fn goes_on_without(marks: &mut Marks) -> Option<bool> {
+    let is_second = is_added(marks);
+    let is_over = over(marks, 0)?.taken && stands(marks, 0, Phase::Over, 1);
+    let is_live = marks.count() == 2;
+    let answer = installed(marks, 1, 1, 2)?;
+    let is_current = answer.current == Some(2) && answer.stamps == 0b10;
+    Some(is_second && is_over && is_live && is_current)
+}
+
 #[test]
-fn a_switch_is_over(rt: HostRuntime) -> Result<(), Fail> {
-    let mut marks = Marks::begin(2);
-    assert!(rt; is_added(&mut marks));
-    let answer = over(&mut marks, 0).ok_or("over")?;
-    assert!(rt; answer.taken && stands(&marks, 0, Phase::Over, 1));
-    assert!(rt; marks.count() == 2);
-    let answer = installed(&mut marks, 1, 1, 2).ok_or("at switch 1")?;
-    assert!(rt; answer.current == Some(2) && answer.stamps == 0b10);
-    Ok(())
+fn a_switch_is_over(rt: HostRuntime) {
+    assert!(rt; goes_on_without(&mut Marks::begin(2)) == Some(true));
 }

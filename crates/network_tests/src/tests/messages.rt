@@ -80,18 +80,25 @@ fn posted(alloc: Global, bag: &mut PostBag) -> Result<bool, Fail> {
     Ok(hello.body.is_for_controller() && first == 1 && second == 2 && bag.sent() == 2)
 }
 
+// Whether both wait, and the first one alone once the second is delivered.
+fn wait(bag: &mut PostBag) -> Result<bool, Fail> {
+    let are_there = told(bag, 0)?.is_none() && told(bag, 1)? == Some((Some(2), Some(3)));
+    let is_delivered = deliver(bag, 2);
+    let first_waits = bag.next_waiting(0) == Some(1) && bag.next_waiting(2).is_none();
+    Ok(are_there && is_delivered && first_waits)
+}
+
+// Whether the second is delivered again, and the first one is gone once it is forgotten.
+fn go(bag: &mut PostBag) -> Result<bool, Fail> {
+    let is_gone = deliver(bag, 2) && forget(bag, 1) && told(bag, 1)?.is_none();
+    let is_kept = told(bag, 2)? == Some((Some(4), None));
+    Ok(is_gone && is_kept && bag.next_waiting(1).is_none())
+}
+
 #[test]
 fn messages_wait_until_they_are_delivered_or_forgotten(rt: HostRuntime) -> Result<(), Fail> {
     let alloc = rt.alloc();
     let mut bag = PostBag::new(alloc);
-    assert!(rt; posted(alloc, &mut bag)?);
-    assert!(rt; told(&bag, 0)?.is_none());
-    assert!(rt; told(&bag, 1)? == Some((Some(2), Some(3))));
-    assert!(rt; deliver(&mut bag, 2));
-    assert!(rt; bag.next_waiting(0) == Some(1) && bag.next_waiting(2).is_none());
-    assert!(rt; deliver(&mut bag, 2) && forget(&mut bag, 1));
-    assert!(rt; told(&bag, 1)?.is_none());
-    assert!(rt; told(&bag, 2)? == Some((Some(4), None)));
-    assert!(rt; bag.next_waiting(1).is_none());
+    assert!(rt; posted(alloc, &mut bag)? && wait(&mut bag)? && go(&mut bag)?);
     Ok(())
 }

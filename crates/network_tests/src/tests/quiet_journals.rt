@@ -80,17 +80,24 @@ fn is_quiet(alloc: Global, journal: &Journal, net: &Net) -> Result<bool, Fail>
     Ok(quiet(alloc, journal, net)?)
 }
 
+// Whether the network is quiet once the item is pushed.
+fn is_quiet_after(alloc: Global, journal: &mut Journal, net: &Net, item: Item) -> Result<bool, Fail>
+    requires { IsNet net.now }
+{
+    push(journal, item)?;
+    is_quiet(alloc, journal, net)
+}
+
 /// A switch that is down is missed until it is confirmed.
 #[test]
 fn crashes_are_confirmed(rt: HostRuntime) -> Result<(), Fail> {
     let alloc = rt.alloc();
     let net = two_switches(alloc)?;
     let mut journal = Journal::new(alloc);
-    assert!(rt; is_quiet(alloc, &journal, &net)?);
-    push(&mut journal, Item::Down { switch: 1 })?;
-    assert!(rt; !is_quiet(alloc, &journal, &net)?);
-    push(&mut journal, Item::OverNow { switch: 1 })?;
-    assert!(rt; is_quiet(alloc, &journal, &net)?);
+    let was = is_quiet(alloc, &journal, &net)?;
+    let missed = !is_quiet_after(alloc, &mut journal, &net, Item::Down { switch: 1 })?;
+    let over = is_quiet_after(alloc, &mut journal, &net, Item::OverNow { switch: 1 })?;
+    assert!(rt; was && missed && over);
     Ok(())
 }
 
@@ -125,11 +132,10 @@ fn updates_are_answered(rt: HostRuntime) -> Result<(), Fail> {
     let net = one_switch(alloc)?;
     let mut journal = Journal::new(alloc);
     push_update(alloc, &mut journal)?;
-    assert!(rt; !is_quiet(alloc, &journal, &net)?);
-    push(&mut journal, Item::Delivered { number: 2 })?;
-    assert!(rt; is_quiet(alloc, &journal, &net)?);
+    let waits = !is_quiet(alloc, &journal, &net)?;
+    let answered = is_quiet_after(alloc, &mut journal, &net, Item::Delivered { number: 2 })?;
     stamp(alloc, &mut journal, 3, 2, Touched::all())?;
-    assert!(rt; !is_quiet(alloc, &journal, &net)?);
+    assert!(rt; waits && answered && !is_quiet(alloc, &journal, &net)?);
     Ok(())
 }
 
@@ -170,17 +176,24 @@ fn is_quiet_with(
     is_quiet(alloc, &journal, net)
 }
 
+// The numbers of two adverts, the message that was delivered, and whether the network is quiet.
+const REPLACED: [(u32, u32, u32, bool); 6] = [
+    (1, 2, 2, true),
+    (2, 2, 2, true),
+    (2, 1, 2, false),
+    (1, 2, 1, false),
+    (2, 2, 1, false),
+    (2, 1, 1, false),
+];
+
 /// A newer advert, or the same, replaces one that was sent before it, and none that was sent later.
 #[test]
 fn later_adverts_replace(rt: HostRuntime) -> Result<(), Fail> {
-    let alloc = rt.alloc();
-    let net = two_switches(alloc)?;
-    assert!(rt; is_quiet_with(alloc, &net, 1, 2, 2)?);
-    assert!(rt; is_quiet_with(alloc, &net, 2, 2, 2)?);
-    assert!(rt; !is_quiet_with(alloc, &net, 2, 1, 2)?);
-    assert!(rt; !is_quiet_with(alloc, &net, 1, 2, 1)?);
-    assert!(rt; !is_quiet_with(alloc, &net, 2, 2, 1)?);
-    assert!(rt; !is_quiet_with(alloc, &net, 2, 1, 1)?);
+    let net = two_switches(rt.alloc())?;
+    for (first, second, delivered, is_quiet) in &REPLACED {
+        let told = is_quiet_with(rt.alloc(), &net, *first, *second, *delivered)?;
+        assert!(rt; told == *is_quiet);
+    }
     Ok(())
 }
 
@@ -192,10 +205,9 @@ fn other_tables_wait(rt: HostRuntime) -> Result<(), Fail> {
     let mut journal = Journal::new(alloc);
     push(&mut journal, install(alloc, 1, 1)?)?;
     push(&mut journal, install(alloc, 2, 2)?)?;
-    push(&mut journal, Item::Delivered { number: 2 })?;
-    assert!(rt; !is_quiet(alloc, &journal, &net)?);
-    push(&mut journal, Item::Delivered { number: 1 })?;
-    assert!(rt; is_quiet(alloc, &journal, &net)?);
+    let waits = !is_quiet_after(alloc, &mut journal, &net, Item::Delivered { number: 2 })?;
+    let ends = is_quiet_after(alloc, &mut journal, &net, Item::Delivered { number: 1 })?;
+    assert!(rt; waits && ends);
     Ok(())
 }
 
@@ -209,11 +221,10 @@ fn other_stamps_wait(rt: HostRuntime) -> Result<(), Fail> {
     let nothing = Touched::new(Vec::new(alloc)).ok_or("touched")?;
     stamp(alloc, &mut journal, 1, 2, nothing)?;
     stamp(alloc, &mut journal, 2, 2, Touched::all())?;
-    push(&mut journal, Item::Delivered { number: 2 })?;
-    assert!(rt; !is_quiet(alloc, &journal, &net)?);
+    let waits = !is_quiet_after(alloc, &mut journal, &net, Item::Delivered { number: 2 })?;
     stamp(alloc, &mut journal, 3, 3, Touched::all())?;
-    push(&mut journal, Item::Delivered { number: 3 })?;
-    assert!(rt; is_quiet(alloc, &journal, &net)?);
+    let ends = is_quiet_after(alloc, &mut journal, &net, Item::Delivered { number: 3 })?;
+    assert!(rt; waits && ends);
     Ok(())
 }
 
@@ -226,8 +237,8 @@ fn deliveries_stand_behind(rt: HostRuntime) -> Result<(), Fail> {
     push(&mut journal, Item::Delivered { number: 1 })?;
     let hello = Body::Hello { switch: 0, boot: 1 };
     send(alloc, &mut journal, 1, Place::Controller, hello)?;
-    assert!(rt; !is_quiet(alloc, &journal, &net)?);
-    push(&mut journal, Item::Delivered { number: 1 })?;
-    assert!(rt; is_quiet(alloc, &journal, &net)?);
+    let waits = !is_quiet(alloc, &journal, &net)?;
+    let ends = is_quiet_after(alloc, &mut journal, &net, Item::Delivered { number: 1 })?;
+    assert!(rt; waits && ends);
     Ok(())
 }

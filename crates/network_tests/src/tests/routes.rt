@@ -43,11 +43,11 @@ fn held(first: &Advert, second: &Advert) -> Option<Advert> {
 #[test]
 fn holds_newest_adverts(rt: HostRuntime) {
     let first = advert(3, 1, 2, 0b1);
-    assert!(rt; held(&first, &advert(3, 1, 2, 0b10)) == Some(first));
-    assert!(rt; held(&first, &advert(3, 1, 1, 0b10)) == Some(first));
+    let same = held(&first, &advert(3, 1, 2, 0b10));
+    let old = held(&first, &advert(3, 1, 1, 0b10));
     let other = advert(64, 1, 1, 0);
-    assert!(rt; held(&other, &other).is_none());
-    assert!(rt; Database::empty().get(64).is_none());
+    assert!(rt; same == Some(first) && old == Some(first));
+    assert!(rt; held(&other, &other).is_none() && Database::empty().get(64).is_none());
 }
 
 // Whether the link of 2 and 5 alone is in the set.
@@ -58,9 +58,9 @@ fn has_one_link(down: &DownSet) -> bool {
 #[test]
 fn has_added_links(rt: HostRuntime) {
     let mut down = DownSet::empty();
-    assert!(rt; !down.has(5, 2));
+    let had = down.has(5, 2);
     down.add(5, 2);
-    assert!(rt; has_one_link(&down));
+    assert!(rt; !had && has_one_link(&down));
 }
 
 // Switches a to d, numbered 0 to 3, with the links a-b, a-c, b-d and c-d.
@@ -105,11 +105,10 @@ fn routes_round_links_that_are_down(rt: HostRuntime) {
     let a = (0, 0b0110);
     let down = without_b_d();
     let mut base = square();
-    assert!(rt; is_route(&base, a, &[3], &no_links(), &[0, 1, 3]));
-    assert!(rt; is_route(&base, (1, 0b0001), &[3], &down, &[1, 0, 2, 3]));
+    let is_direct = is_route(&base, a, &[3], &no_links(), &[0, 1, 3]);
+    assert!(rt; is_direct && is_route(&base, (1, 0b0001), &[3], &down, &[1, 0, 2, 3]));
     // Only a names c.
-    assert!(rt; base.hear(&advert(2, 1, 2, 0b1000)));
-    assert!(rt; is_route(&base, a, &[3], &down, &[]));
+    assert!(rt; base.hear(&advert(2, 1, 2, 0b1000)) && is_route(&base, a, &[3], &down, &[]));
     assert!(rt; !base.isolated(0, 3, 0b0110, &down));
 }
 
@@ -117,10 +116,10 @@ fn routes_round_links_that_are_down(rt: HostRuntime) {
 fn asks_targets_in_order(rt: HostRuntime) {
     let base = square();
     let a = (0, 0b0110);
-    assert!(rt; is_route(&base, a, &[9, 2, 0], &no_links(), &[0, 2]));
-    assert!(rt; is_route(&base, a, &[0, 2], &no_links(), &[0]));
-    assert!(rt; base.isolated(0, 9, 0b0110, &no_links()));
-    assert!(rt; !base.isolated(0, 0, 0, &no_links()));
+    let down = no_links();
+    let is_second = is_route(&base, a, &[9, 2, 0], &down, &[0, 2]);
+    assert!(rt; is_second && is_route(&base, a, &[0, 2], &down, &[0]));
+    assert!(rt; base.isolated(0, 9, 0b0110, &down) && !base.isolated(0, 0, 0, &down));
 }
 
 // A packet at a, on its way to d by b.
@@ -165,19 +164,26 @@ fn is_on(packet: &Tunnel, route: &[u32], place: u32) -> bool {
     packet.route.items() == route && packet.place == place
 }
 
+// Whether it goes to b, and there finds the link to d down.
+fn finds_b_d_down(packet: &mut Tunnel) -> bool {
+    packet.here() == 0
+        && goes_on(packet) == Some(1)
+        && packet.here() == 1
+        && finds_down(packet) == Some(3)
+        && packet.down.has(3, 1)
+}
+
+// Whether it goes round that link, and keeps its route where it has no links.
+fn goes_round(packet: &mut Tunnel) -> bool {
+    turns(packet, 0b0001)
+        && is_on(packet, &[1, 0, 2, 3], 0)
+        && !turns(packet, 0)
+        && is_on(packet, &[1, 0, 2, 3], 0)
+}
+
 #[test]
 fn goes_round_links_found_down(rt: HostRuntime) -> Result<(), Fail> {
     let mut packet = sets_out().ok_or("a to d")?;
-    assert!(rt; packet.here() == 0);
-    assert!(rt; goes_on(&mut packet) == Some(1));
-    assert!(rt; packet.here() == 1);
-    // At b the link to d is down.
-    assert!(rt; finds_down(&mut packet) == Some(3));
-    assert!(rt; packet.down.has(3, 1));
-    assert!(rt; turns(&mut packet, 0b0001));
-    assert!(rt; is_on(&packet, &[1, 0, 2, 3], 0));
-    // Without links there is no route, and the old one stays.
-    assert!(rt; !turns(&mut packet, 0));
-    assert!(rt; is_on(&packet, &[1, 0, 2, 3], 0));
+    assert!(rt; finds_b_d_down(&mut packet) && goes_round(&mut packet));
     Ok(())
 }

@@ -64,13 +64,15 @@ fn own_partitions(alloc: Global, s: u32) -> Result<(u32, usize, Vec<u32>), Fail>
     Ok((tables.version, tables.parts.items().len(), numbers))
 }
 
+// Whether the tables of three partitions give these to the switch.
+fn owns(alloc: Global, s: u32, own: &[u32]) -> Result<bool, Fail> {
+    let (version, named, numbers) = own_partitions(alloc, s)?;
+    Ok(version == 5 && named == 3 && numbers.as_slice() == own)
+}
+
 #[test]
 fn a_switch_has_its_own_partitions(rt: HostRuntime) -> Result<(), Fail> {
-    let (version, named, own) = own_partitions(rt.alloc(), 0)?;
-    assert!(rt; version == 5 && named == 3);
-    assert!(rt; own.as_slice() == [0, 2].as_slice());
-    let (_, _, other) = own_partitions(rt.alloc(), 1)?;
-    assert!(rt; other.as_slice() == [1].as_slice());
+    assert!(rt; owns(rt.alloc(), 0, &[0, 2])? && owns(rt.alloc(), 1, &[1])?);
     Ok(())
 }
 

@@ -329,51 +329,70 @@ fn verdict(alloc: Global, parts: &[&str], policies: &[&str]) -> Result<Verdict, 
 fn traces_of_a_packet(rt: HostRuntime) -> Result<(), Fail> {
     let alloc = rt.alloc();
     for trace in &GOOD {
-        assert_eq!(rt; verdict(alloc, trace, &[TWO_ROWS])?, Verdict::Yes);
+        assert!(rt; verdict(alloc, trace, &[TWO_ROWS])? == Verdict::Yes);
     }
     for (trace, line) in &BAD {
-        assert_eq!(rt;
-            verdict(alloc, trace, &[TWO_ROWS])?,
-            Verdict::No { line: *line }
-        );
+        assert!(rt; verdict(alloc, trace, &[TWO_ROWS])? == Verdict::No { line: *line });
     }
     Ok(())
+}
+
+const CHANGED: &str = "  submitted file 2 version 2\n";
+
+const CHANGED_ROW: &str = "row 2: packet s0 10.1.1.1 9.9.9.9 5000 443 tcp\n";
+
+/// Traces under the two rows and their change, each with the number of the first bad line.
+const CHANGES: [(&[&str], Option<u32>); 3] = [
+    (
+        &[
+            CHANGED,
+            CHANGED_ROW,
+            ENTERED,
+            "  decided 1 v2 rule 90 out:4 cache \n",
+            "  out 1 port 4\n",
+        ],
+        None,
+    ),
+    // the change's row is gone from the newest version
+    (&[CHANGED, "  submitted file 2 version 3\n"], Some(2)),
+    // a row that is removed decides no more
+    (
+        &[
+            CHANGED,
+            ROW,
+            ENTERED,
+            "  decided 1 v2 rule 100 out:3 cache \n",
+        ],
+        Some(4),
+    ),
+];
+
+fn verdict_of(line: Option<u32>) -> Verdict {
+    match line {
+        Some(line) => Verdict::No { line },
+        None => Verdict::Yes,
+    }
 }
 
 #[test]
 fn traces_of_changes(rt: HostRuntime) -> Result<(), Fail> {
     let alloc = rt.alloc();
-    let files = [TWO_ROWS, CHANGE];
-    let changed = "  submitted file 2 version 2\n";
-    let by_change = "  decided 1 v2 rule 90 out:4 cache \n";
-    let header = "row 2: packet s0 10.1.1.1 9.9.9.9 5000 443 tcp\n";
-    let good = [changed, header, ENTERED, by_change, "  out 1 port 4\n"];
-    assert_eq!(rt; verdict(alloc, &good, &files)?, Verdict::Yes);
-    // its row is gone from the newest version, and there is none before the first
-    let again = [changed, "  submitted file 2 version 3\n"];
-    assert_eq!(rt; verdict(alloc, &again, &files)?, Verdict::No { line: 2 });
-    let first = ["  submitted file 1 version 1\n"];
-    assert_eq!(rt; verdict(alloc, &first, &[CHANGE])?, Verdict::No { line: 1 });
-    // a row that is removed decides no more
-    let removed = [
-        changed,
-        ROW,
-        ENTERED,
-        "  decided 1 v2 rule 100 out:3 cache \n",
-    ];
-    assert_eq!(rt; verdict(alloc, &removed, &files)?, Verdict::No { line: 4 });
+    for (trace, line) in &CHANGES {
+        let told = verdict(alloc, trace, &[TWO_ROWS, CHANGE])?;
+        assert!(rt; told == verdict_of(*line));
+    }
+    // there is no version before the first
+    let first = verdict(alloc, &["  submitted file 1 version 1\n"], &[CHANGE])?;
+    assert!(rt; first == Verdict::No { line: 1 });
     Ok(())
 }
 
 #[test]
 fn traces_of_a_day(rt: HostRuntime) -> Result<(), Fail> {
-    let alloc = rt.alloc();
     let day = [MORNING, SUBMITTED, NOON, RETIRED, EVENING];
-    assert_eq!(rt; verdict(alloc, &day, &[ONE, TWO])?, Verdict::Yes);
     let moved = [MORNING, RETIRED, SUBMITTED, NOON, EVENING];
-    assert_eq!(rt;
-        verdict(alloc, &moved, &[ONE, TWO])?,
-        Verdict::No { line: 82 }
-    );
+    let is_good = verdict(rt.alloc(), &day, &[ONE, TWO])? == Verdict::Yes;
+    let bad = verdict(rt.alloc(), &moved, &[ONE, TWO])?;
+    assert!(rt; is_good && bad == Verdict::No { line: 82 });
     Ok(())
 }

@@ -109,8 +109,7 @@ fn sends_a_rule(rt: &impl Abort, world: &mut World) -> Result<(), Fail>
     take(rt, world, 1, &packet)?;
     take(rt, world, 2, &Step::Hop { packet: 1 })?;
     take(rt, world, 3, &Step::Hop { packet: 1 })?;
-    assert_eq!(rt; world.next_travelling(1), None);
-    assert_eq!(rt; world.next_waiting(1), Some(1));
+    assert!(rt; world.next_travelling(1).is_none() && world.next_waiting(1) == Some(1));
     Ok(())
 }
 
@@ -124,7 +123,7 @@ fn caches_it(rt: &impl Abort, world: &mut World) -> Result<(), Fail>
     take(rt, world, 4, &Step::Deliver { message: 1 })?;
     take(rt, world, 5, &packet)?;
     take(rt, world, 6, &expire)?;
-    assert_eq!(rt; world.next_waiting(1), None);
+    assert!(rt; world.next_waiting(1).is_none());
     Ok(())
 }
 
@@ -135,11 +134,10 @@ fn loses_a_packet(rt: &impl Abort, world: &mut World) -> Result<(), Fail>
 {
     let packet = packet(world);
     take(rt, world, 7, &packet)?;
-    assert_eq!(rt; world.next_travelling(1), Some(3));
-    assert!(rt; world.travels(3));
+    assert!(rt; world.next_travelling(1) == Some(3) && world.travels(3));
     take(rt, world, 8, &Step::Lose { packet: 3 })?;
     take(rt, world, 9, &Step::Forget { message: 1 })?;
-    assert_eq!(rt; world.packets(), 3);
+    assert!(rt; world.packets() == 3);
     Ok(())
 }
 
@@ -151,10 +149,9 @@ fn takes_steps_of_packets_and_messages(rt: HostRuntime) -> Result<(), Fail> {
     sends_a_rule(&rt, &mut world)?;
     caches_it(&rt, &mut world)?;
     loses_a_packet(&rt, &mut world)?;
-    assert_eq!(rt; world.switches().len(), 2);
-    assert_eq!(rt; world.controller().switches(), 2);
-    assert_eq!(rt; world.journal().items().len(), 24);
+    let switches = (world.switches().len(), world.controller().switches());
+    assert!(rt; switches == (2, 2) && world.journal().items().len() == 24);
     let text = text(alloc, &world.into_journal(), &net)?;
-    assert_eq!(rt; text.as_slice(), JOURNAL.as_bytes());
+    assert!(rt; text.as_slice() == JOURNAL.as_bytes());
     Ok(())
 }

@@ -1,5 +1,5 @@
 //! Worked runs of `replay` with changes of policies.
-use crate::runs::{ended, run_over};
+use crate::runs::{Ran, ends, run_over};
 use std::alloc::{AllocError, Global};
 use std::fmt::Write;
 use std::test::Fail;
@@ -97,7 +97,7 @@ const ENDS: [(&[&str], &str, u8, &str, &str); 8] = [
 ];
 
 #[test]
-fn refuses_changes(rt: HostRuntime) -> Result<(), Fail> {
+fn refuses_changes(rt: HostRuntime) {
     for (args, change, status, out, line) in &ENDS {
         let files = [
             ("s.csv", ONCE),
@@ -105,10 +105,9 @@ fn refuses_changes(rt: HostRuntime) -> Result<(), Fail> {
             ("c.csv", *change),
             ("n.toml", NET),
         ];
-        let ran = run_over(rt.alloc(), args, &files)?;
-        assert!(rt; ended(&ran, *status, out, line), "{out}{line}");
+        let ran = run_over(rt.alloc(), args, &files);
+        assert!(rt; ends(ran, *status, out, line), "{out}{line}");
     }
-    Ok(())
 }
 
 /// A change that adds 1,999 rows.
@@ -120,13 +119,22 @@ fn adding(alloc: Global) -> Result<String, AllocError> {
     Ok(text)
 }
 
+/// A replay of this schedule with this change.
+fn changed<'a>(alloc: Global, schedule: &'a str, change: &'a str) -> Result<Ran, AllocError> {
+    let files = [("s.csv", schedule), ("p.csv", POLICY), ("c.csv", change)];
+    run_over(alloc, &["replay", "s.csv", "p.csv", "c.csv"], &files)
+}
+
+/// A replay with one row too many.
+fn overfilled(alloc: Global) -> Result<Ran, AllocError> {
+    let change = adding(alloc)?;
+    changed(alloc, ONCE, change.as_str())
+}
+
 #[test]
-fn leaves_at_most_2000_rows(rt: HostRuntime) -> Result<(), Fail> {
-    let change = adding(rt.alloc())?;
-    let files = [("s.csv", ONCE), ("p.csv", POLICY), ("c.csv", &change)];
-    let ran = run_over(rt.alloc(), &["replay", "s.csv", "p.csv", "c.csv"], &files)?;
-    assert!(rt; ended(&ran, 0, "row 1: update 2\n  refused file 2 code 26\n", ""));
-    Ok(())
+fn leaves_at_most_2000_rows(rt: HostRuntime) {
+    let out = "row 1: update 2\n  refused file 2 code 26\n";
+    assert!(rt; ends(overfilled(rt.alloc()), 0, out, ""));
 }
 
 const UPDATES: &str = "event,arguments\n\
@@ -153,7 +161,7 @@ const VERSIONS: &str = "row 1: update 2\n\
     \x20 sent 4 s0 install boot 1 version 5\n";
 
 #[test]
-fn changes_the_newest_version(rt: HostRuntime) -> Result<(), Fail> {
+fn changes_the_newest_version(rt: HostRuntime) {
     let files = [
         ("s.csv", UPDATES),
         ("p.csv", POLICY),
@@ -161,9 +169,7 @@ fn changes_the_newest_version(rt: HostRuntime) -> Result<(), Fail> {
         ("d.csv", THIRD),
     ];
     let args = ["replay", "s.csv", "p.csv", "c.csv", "d.csv"];
-    let ran = run_over(rt.alloc(), &args, &files)?;
-    assert!(rt; ended(&ran, 0, VERSIONS, ""));
-    Ok(())
+    assert!(rt; ends(run_over(rt.alloc(), &args, &files), 0, VERSIONS, ""));
 }
 
 const CHANGED_TWICE: &str = "event,arguments\n\
@@ -183,12 +189,7 @@ const DECIDED: &[u8] = b"row 4: packet s0 10.1.1.1 9.9.9.9 5000 443 tcp\n\
 
 #[test]
 fn decides_by_what_a_change_made(rt: HostRuntime) -> Result<(), Fail> {
-    let files = [
-        ("s.csv", CHANGED_TWICE),
-        ("p.csv", POLICY),
-        ("c.csv", OTHER),
-    ];
-    let (status, out, _) = run_over(rt.alloc(), &["replay", "s.csv", "p.csv", "c.csv"], &files)?;
+    let (status, out, _) = changed(rt.alloc(), CHANGED_TWICE, OTHER)?;
     let text = out.bytes();
     assert!(rt; status == 0 && text.starts_with(SUBMITTED_ONCE) && text.ends_with(DECIDED));
     Ok(())

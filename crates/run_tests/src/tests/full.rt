@@ -43,14 +43,9 @@ fn told_again(alloc: Global, rows: u32, failing_write: u64) -> Result<Ran, Fail>
 #[test]
 fn tells_all_again(rt: HostRuntime) -> Result<(), Fail> {
     let (status, out, _) = told_again(rt.alloc(), 1, 0)?;
-    assert!(rt; status == 0);
-    assert!(rt;
-        out.bytes().starts_with(b"row 1: resend hub\n  sent 1 controller hello hub boot 1\n")
-    );
-    assert!(rt;
-        out.bytes()
-            .ends_with(b"  sent 4034 hub open boot 1 version 1\n")
-    );
+    let first = b"row 1: resend hub\n  sent 1 controller hello hub boot 1\n";
+    let last = b"  sent 4034 hub open boot 1 version 1\n";
+    assert!(rt; status == 0 && out.bytes().starts_with(first) && out.bytes().ends_with(last));
     Ok(())
 }
 
@@ -66,15 +61,10 @@ fn prints_nothing_of_a_full_play(rt: HostRuntime) -> Result<(), Fail> {
 #[test]
 fn tells_all_again_until_full(rt: HostRuntime) -> Result<(), Fail> {
     let (status, whole, _) = told_again(rt.alloc(), 246, 0)?;
-    assert!(rt; status == 0);
-    assert!(rt;
-        whole
-            .bytes()
-            .ends_with(b"  sent 992364 hub open boot 1 version 1\n")
-    );
+    let last = b"  sent 992364 hub open boot 1 version 1\n";
+    assert!(rt; status == 0 && whole.bytes().ends_with(last));
     let (status, part, errs) = told_again(rt.alloc(), 247, 0)?;
-    assert!(rt; status == 6);
-    assert!(rt; errs.bytes() == b"difane: full row 247\n".as_slice());
-    assert!(rt; part.bytes() == whole.bytes());
+    let is_told = errs.bytes() == b"difane: full row 247\n".as_slice();
+    assert!(rt; status == 6 && is_told && part.bytes() == whole.bytes());
     Ok(())
 }

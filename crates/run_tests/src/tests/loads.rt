@@ -2,6 +2,7 @@
 use crate::runs::{ended, metered, recorded, shelf_of, sink};
 use journal::{How, Item};
 use policy_file::write_policy;
+use policy_rules::Policy;
 use schedule::load_case;
 use std::alloc::{AllocError, Global};
 use std::test::Fail;
@@ -27,18 +28,23 @@ fn entries(alloc: Global, events: &[Event]) -> Result<Vec<u32>, AllocError> {
     Ok(switches)
 }
 
+/// Whether these are the two policies of the case.
+fn are_two(alloc: Global, policies: &[Policy]) -> Result<bool, AllocError> {
+    match policies {
+        [first, second] => Ok(
+            write_policy(alloc, first)?.as_slice() == FIRST
+                && write_policy(alloc, second)?.as_slice() == SECOND,
+        ),
+        _ => Ok(false),
+    }
+}
+
 #[test]
 fn draws_the_case(rt: HostRuntime) -> Result<(), Fail> {
     let alloc = rt.alloc();
     let case = load_case(alloc, 1)?;
-    assert_eq!(rt; case.policies.len(), 2);
-    assert_eq!(rt; write_policy(alloc, &case.policies[0])?.as_slice(), FIRST);
-    assert_eq!(rt; write_policy(alloc, &case.policies[1])?.as_slice(), SECOND);
-    assert_eq!(rt; case.events.len(), 16);
-    assert_eq!(rt;
-        entries(alloc, &case.events)?.as_slice(),
-        [4, 2, 4, 0].as_slice()
-    );
+    assert!(rt; are_two(alloc, &case.policies)? && case.events.len() == 16);
+    assert!(rt; entries(alloc, &case.events)?.as_slice() == [4, 2, 4, 0].as_slice());
     Ok(())
 }
 
@@ -68,10 +74,7 @@ fn plays_the_case(rt: HostRuntime) -> Result<(), Fail> {
     let shelf = shelf_of(alloc, &[])?;
     let (out, errs) = (sink(alloc), sink(alloc));
     let (ran, journal, _) = metered(alloc, &["load", "1"], shelf, out, errs, Vec::new(alloc))?;
-    assert_eq!(rt;
-        unmatched_at(alloc, journal.items(), 1)?.as_slice(),
-        [1, 2, 3, 4].as_slice()
-    );
+    assert!(rt; unmatched_at(alloc, journal.items(), 1)?.as_slice() == [1, 2, 3, 4].as_slice());
     assert!(rt; ended(&ran, 0, SUMMARY, ""));
     Ok(())
 }
@@ -81,8 +84,8 @@ fn plays_the_case(rt: HostRuntime) -> Result<(), Fail> {
 fn prints_the_same_each_time(rt: HostRuntime) -> Result<(), Fail> {
     let once = recorded(rt.alloc(), &["load", "5"], &[])?;
     let again = recorded(rt.alloc(), &["load", "5"], &[])?;
-    assert!(rt; once.1.bytes().starts_with(b"packets 20\n"));
-    assert!(rt; once.1.bytes() == again.1.bytes());
-    assert_eq!(rt; (once.0, again.0), (0, 0));
+    let out = once.1.bytes();
+    assert!(rt; out.starts_with(b"packets 20\n") && out == again.1.bytes());
+    assert!(rt; (once.0, again.0) == (0, 0));
     Ok(())
 }

@@ -2,7 +2,7 @@
 ghost use Rattle.std.specs.Prelude.{[], length, nat_le};
 
 use crate::files::NO_ROW;
-use crate::runs::{ended, metered, recorded, shelf_of, sink};
+use crate::runs::{ended, ends, metered, recorded, shelf_of, sink};
 use difane_cli::FlowMeter;
 use meters::{FirstN, Flows, Leaving, Meter, Recorder, Stay};
 use std::alloc::AllocError;
@@ -70,13 +70,11 @@ impl Meter for Pair {
 
 /// The first packet leaves by port 3, and is the one that its recorder has.
 #[test]
-fn recorders_tell_what_left(rt: HostRuntime) -> Result<(), Fail> {
+fn recorders_tell_what_left(rt: HostRuntime) {
     let alloc = rt.alloc();
     let args = ["replay", "s.csv", "p.csv"];
     let files = [("s.csv", ONE_PACKET), ("p.csv", TWO_ROWS)];
-    let one = recorded(alloc, &args, &files)?;
-    assert!(rt; ended(&one, 0, FIRST_LINES, ""));
-    Ok(())
+    assert!(rt; ends(recorded(alloc, &args, &files), 0, FIRST_LINES, ""));
 }
 
 /// Meters leave at their time, each of its own kind, and those that are gone have no line.
@@ -92,8 +90,7 @@ fn meters_leave_at_their_time(rt: HostRuntime) -> Result<(), Fail> {
     let files = [("s.csv", TWO_PACKETS), ("p.csv", TWO_ROWS)];
     let shelf = shelf_of(alloc, &files)?;
     let (two, _, still) = metered(alloc, &args, shelf, sink(alloc), sink(alloc), meters)?;
-    assert!(rt; ended(&two, 0, TWICE, ""));
-    assert_eq!(rt; still, 1);
+    assert!(rt; still == 1 && ended(&two, 0, TWICE, ""));
     Ok(())
 }
 
@@ -132,8 +129,7 @@ fn flows_are_told(rt: HostRuntime) -> Result<(), Fail> {
         }
         let shelf = shelf_of(alloc, &files)?;
         let (told, _, still) = metered(alloc, &args, shelf, sink(alloc), sink(alloc), meters)?;
-        assert!(rt; ended(&told, 0, text.as_str(), ""));
-        assert_eq!(rt; still, *left);
+        assert!(rt; still == *left && ended(&told, 0, text.as_str(), ""));
     }
     Ok(())
 }
@@ -155,8 +151,7 @@ fn meters_come_back_where_nothing_is_played(rt: HostRuntime) -> Result<(), Fail>
         meters.push(Box::new(alloc, FirstN::new(alloc, 90, 1))?)?;
         let shelf = shelf_of(alloc, &files)?;
         let (ran, _, still) = metered(alloc, args, shelf, sink(alloc), sink(alloc), meters)?;
-        assert_eq!(rt; ran.0, *status);
-        assert_eq!(rt; still, *left);
+        assert!(rt; ran.0 == *status && still == *left);
     }
     Ok(())
 }

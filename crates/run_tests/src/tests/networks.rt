@@ -1,7 +1,6 @@
 //! Runs of `replay` over several switches that are refused.
 use crate::files::{ONE_ROW, PAIR};
-use crate::runs::{ended, run_over};
-use std::test::Fail;
+use crate::runs::{ends, run_over};
 
 const ONE_PACKET: &str = "event,arguments\npacket,a,1.2.3.4,10.2.0.1,5000,80,tcp\n";
 
@@ -43,11 +42,10 @@ const REFUSED: [(&str, &str, &str, &str); 4] = [
 const ARGS: [&str; 5] = ["replay", "--net", "n.toml", "s.csv", "p.csv"];
 
 #[test]
-fn refuses_in_order(rt: HostRuntime) -> Result<(), Fail> {
+fn refuses_in_order(rt: HostRuntime) {
     for (schedule, policy, net, line) in &REFUSED {
         let files = [("s.csv", *schedule), ("p.csv", *policy), ("n.toml", *net)];
-        let ran = run_over(rt.alloc(), &ARGS, &files)?;
-        assert!(rt; ended(&ran, 3, "", line), "{line}");
+        let ran = run_over(rt.alloc(), &ARGS, &files);
+        assert!(rt; ends(ran, 3, "", line), "{line}");
     }
-    Ok(())
 }

@@ -1,9 +1,8 @@
 use crate::files::{NO_ROW, SAME_PRIORITY, WIDE};
-use crate::runs::{Ran, calls, ended, ran};
+use crate::runs::{Ran, calls, ended, ends, ran};
 use difane_cli::{Status, write_status};
 use shelf::{MemShelf, MemSink};
 use std::alloc::{AllocError, Global};
-use std::test::Fail;
 
 const ONE_PACKET: &str = "event,arguments\npacket,s0,10.1.1.1,9.9.9.9,5000,80,tcp\n";
 
@@ -80,17 +79,16 @@ const REPLAYED: [(&str, &str, &str); 5] = [
 ];
 
 #[test]
-fn replays_on_one_switch(rt: HostRuntime) -> Result<(), Fail> {
+fn replays_on_one_switch(rt: HostRuntime) {
     for (schedule, policy, out) in &REPLAYED {
         let case = Case {
             schedule,
             policy,
             ..PLAIN
         };
-        let ran = played(rt.alloc(), &case)?;
-        assert!(rt; ended(&ran, 0, out, ""), "{schedule} {policy}");
+        let ran = played(rt.alloc(), &case);
+        assert!(rt; ends(ran, 0, out, ""), "{schedule} {policy}");
     }
-    Ok(())
 }
 
 const NO_PORT: &str = "priority,src,dst,sport,dport,proto,action\n7,any,any,any,any,any,out:64\n";
@@ -117,7 +115,7 @@ const REFUSED: [(&str, &str, u64, &str); 8] = [
 ];
 
 #[test]
-fn refuses_with_a_cause(rt: HostRuntime) -> Result<(), Fail> {
+fn refuses_with_a_cause(rt: HostRuntime) {
     for (schedule, policy, failing_read, line) in &REFUSED {
         let case = Case {
             schedule,
@@ -125,10 +123,9 @@ fn refuses_with_a_cause(rt: HostRuntime) -> Result<(), Fail> {
             failing_read: *failing_read,
             ..PLAIN
         };
-        let ran = played(rt.alloc(), &case)?;
-        assert!(rt; ended(&ran, 3, "", line), "{line}");
+        let ran = played(rt.alloc(), &case);
+        assert!(rt; ends(ran, 3, "", line), "{line}");
     }
-    Ok(())
 }
 
 /// The read, the write and the write of the line of errors that fails, how many bytes a write takes
@@ -141,7 +138,7 @@ const FAULTS: [(u64, u64, u64, u64, u8, &str, &str); 4] = [
 ];
 
 #[test]
-fn answers_each_fault(rt: HostRuntime) -> Result<(), Fail> {
+fn answers_each_fault(rt: HostRuntime) {
     for (failing_read, failing_write, failing_line, most_written, status, out, line) in &FAULTS {
         let case = Case {
             failing_read: *failing_read,
@@ -150,10 +147,9 @@ fn answers_each_fault(rt: HostRuntime) -> Result<(), Fail> {
             most_written: *most_written,
             ..PLAIN
         };
-        let ran = played(rt.alloc(), &case)?;
-        assert!(rt; ended(&ran, *status, out, line), "{status} {line}");
+        let ran = played(rt.alloc(), &case);
+        assert!(rt; ends(ran, *status, out, line), "{status} {line}");
     }
-    Ok(())
 }
 
 /// A file that isn't there, and arguments off the grammar.
@@ -167,37 +163,34 @@ const ARGS: [(&[&str], u8, &str); 2] = [
 ];
 
 #[test]
-fn answers_wrong_arguments(rt: HostRuntime) -> Result<(), Fail> {
+fn answers_wrong_arguments(rt: HostRuntime) {
     for (args, status, line) in &ARGS {
         let case = Case { args, ..PLAIN };
-        let ran = played(rt.alloc(), &case)?;
-        assert!(rt; ended(&ran, *status, "", line), "{status} {line}");
+        let ran = played(rt.alloc(), &case);
+        assert!(rt; ends(ran, *status, "", line), "{status} {line}");
     }
-    Ok(())
 }
 
 // A policy too long by a byte.
 #[test]
-fn refuses_a_policy_too_long(rt: HostRuntime) -> Result<(), Fail> {
+fn refuses_a_policy_too_long(rt: HostRuntime) {
     let case = Case {
         policy: NO_ROW,
         padding: 16_777_217 - NO_ROW.len(),
         ..PLAIN
     };
-    let ran = played(rt.alloc(), &case)?;
-    assert!(rt; ended(&ran, 3, "", "difane: input p.csv code 20 row 0\n"));
-    Ok(())
+    let ran = played(rt.alloc(), &case);
+    assert!(rt; ends(ran, 3, "", "difane: input p.csv code 20 row 0\n"));
 }
 
 // The status alone: a play that sends so many messages is long.
 #[test]
-fn tells_a_full_play(rt: HostRuntime) -> Result<(), Fail> {
+fn tells_a_full_play(rt: HostRuntime) {
     let status = Status::Full { row: 247 };
     let mut errs = MemSink::new(rt.alloc(), u64::MAX, Vec::new(rt.alloc()));
     write_status(&status, &mut errs);
-    assert_eq!(rt; status.number(), 6);
-    assert_eq!(rt; errs.bytes(), b"difane: full row 247\n".as_slice());
-    Ok(())
+    let is_told = errs.bytes() == b"difane: full row 247\n".as_slice();
+    assert!(rt; status.number() == 6 && is_told);
 }
 
 // Whether the run ended for want of memory, with a part of what it would have written.
@@ -211,10 +204,9 @@ fn stopped(ran: &Ran) -> bool {
 // For runs in which an allocation fails (`rt try --test --fail-alloc N`); the other tests ask for
 // memory enough.
 #[test]
-fn ends_whole_or_for_want_of_memory(rt: HostRuntime) -> Result<(), Fail> {
+fn ends_whole_or_for_want_of_memory(rt: HostRuntime) {
     let Ok(ran) = played(rt.alloc(), &PLAIN) else {
-        return Ok(());
+        return;
     };
     assert!(rt; stopped(&ran) || ended(&ran, 0, MATCHED, ""));
-    Ok(())
 }

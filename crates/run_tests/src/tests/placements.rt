@@ -48,8 +48,7 @@ fn placements_are_proposed(rt: HostRuntime) -> Result<(), Fail> {
         meters.push(Box::new(alloc, Recorder::new(alloc, 1))?)?;
         let shelf = shelf_of(alloc, &files)?;
         let (told, _, still) = metered(alloc, &args, shelf, sink(alloc), sink(alloc), meters)?;
-        assert!(rt; ended(&told, 0, text.as_str(), ""));
-        assert_eq!(rt; still, 1);
+        assert!(rt; still == 1 && ended(&told, 0, text.as_str(), ""));
     }
     Ok(())
 }

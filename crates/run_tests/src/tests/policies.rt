@@ -1,8 +1,7 @@
 //! Worked runs of `replay` with several policies.
 use crate::files::{ONE_ROW, SAME_PRIORITY, WIDE};
-use crate::runs::{Ran, ended, ran, shelf_with_fault, sink};
+use crate::runs::{Ran, ends, ran, shelf_with_fault, sink};
 use std::alloc::{AllocError, Global};
-use std::test::Fail;
 
 const ONE_PACKET: &str = "event,arguments\npacket,s0,10.1.1.1,9.9.9.9,5000,80,tcp\n";
 
@@ -67,12 +66,11 @@ const READ: [(&[&str], u64, u8, &str, &str); 5] = [
 ];
 
 #[test]
-fn reads_policies_in_order(rt: HostRuntime) -> Result<(), Fail> {
+fn reads_policies_in_order(rt: HostRuntime) {
     for (args, failing_read, status, out, line) in &READ {
-        let ran = played(rt.alloc(), args, *failing_read)?;
-        assert!(rt; ended(&ran, *status, out, line), "{line}");
+        let ran = played(rt.alloc(), args, *failing_read);
+        assert!(rt; ends(ran, *status, out, line), "{line}");
     }
-    Ok(())
 }
 
 /// The arguments of a replay with so many policies.
@@ -86,11 +84,14 @@ fn many(alloc: Global, count: u32) -> Result<Vec<&'static str>, AllocError> {
     Ok(args)
 }
 
+/// A replay with so many policies.
+fn played_with(alloc: Global, count: u32) -> Result<Ran, AllocError> {
+    let args = many(alloc, count)?;
+    played(alloc, &args, 0)
+}
+
 #[test]
-fn takes_64_policies(rt: HostRuntime) -> Result<(), Fail> {
-    let most = played(rt.alloc(), &many(rt.alloc(), 64)?, 0)?;
-    assert!(rt; ended(&most, 0, DECIDED, ""));
-    let too_many = played(rt.alloc(), &many(rt.alloc(), 65)?, 0)?;
-    assert!(rt; ended(&too_many, 2, "", "difane: words\n"));
-    Ok(())
+fn takes_64_policies(rt: HostRuntime) {
+    let takes_most = ends(played_with(rt.alloc(), 64), 0, DECIDED, "");
+    assert!(rt; takes_most && ends(played_with(rt.alloc(), 65), 2, "", "difane: words\n"));
 }

@@ -8,54 +8,69 @@ use std::test::*;
 use wire::{Assembler, Frames, encode, split};
 
 // The frames of a message that isn't too long.
-fn frames(alloc: Global, message: &Message) -> Result<Frames, Fail>
+fn frames(alloc: Global, message: &Message) -> Option<Frames>
     requires { HasSpelling message.now }
 {
-    let bytes = encode(alloc, message)?;
+    let Ok(bytes) = encode(alloc, message) else {
+        return None;
+    };
     if bytes.len() > 1 << 20 {
-        return Err(Fail::from("too long"));
+        return None;
     }
-    Ok(split(alloc, message)?)
+    split(alloc, message).ok()
 }
 
-fn frame(frames: &Frames, place: u32) -> Result<&[u8], Fail> {
-    Ok(frames.get(place).ok_or("there is no such frame")?)
+// Whether the message has this frame alone.
+fn is_one(alloc: Global, frame: &[u8]) -> Option<bool> {
+    let frames = frames(alloc, &collect())?;
+    Some(frames.get(0) == Some(frame) && frames.get(1).is_none())
 }
 
 #[test]
-fn one_frame(rt: HostRuntime) -> Result<(), Fail> {
-    let frames = frames(rt.alloc(), &collect())?;
-    let only = frame(&frames, 0)?;
+fn one_frame(rt: HostRuntime) {
     let bytes = [0, 0, 0, 0, 0, 0, 0, 1, 0, 4, 0, 0, 0, 1, 0, 0, 0, 1];
-    assert_eq!(rt; only, bytes.as_slice());
-    assert!(rt; frames.get(1).is_none());
-    Ok(())
+    assert!(rt; is_one(rt.alloc(), &bytes) == Some(true));
 }
 
 // Whether the frame at this place makes the message whole.
-fn completes(assembler: &mut Assembler, frames: &Frames, place: u32) -> Result<bool, Fail> {
-    let answer = assembler.feed(frame(frames, place)?).ok();
-    let answer = answer.ok_or("the frame is refused")?;
-    Ok(match answer {
+fn completes(assembler: &mut Assembler, frames: &Frames, place: u32) -> Option<bool> {
+    let answer = assembler.feed(frames.get(place)?).ok()?;
+    Some(match answer {
         Some(message) => matches!(message.body, Body::Install { boot: 1, .. }),
         None => false,
     })
+}
+
+fn frame_len(frames: &Frames, place: u32) -> Option<usize> {
+    Some(frames.get(place)?.len())
+}
+
+// Whether there are four frames, of these lengths.
+fn have_lengths(frames: &Frames) -> bool {
+    for (place, len) in [(0, 14), (1, 16_384), (2, 16_384), (3, 7256)] {
+        if frame_len(frames, place) != Some(len) {
+            return false;
+        }
+    }
+    frames.get(4).is_none()
+}
+
+// Whether the last of the frames that come in another order, one of them twice, makes it whole.
+fn are_put_together(alloc: Global, frames: &Frames) -> bool {
+    let mut assembler = Assembler::new(alloc);
+    for place in [3, 1, 1, 0] {
+        if completes(&mut assembler, frames, place) != Some(false) {
+            return false;
+        }
+    }
+    completes(&mut assembler, frames, 2) == Some(true)
 }
 
 #[test]
 fn frames_in_another_order(rt: HostRuntime) -> Result<(), Fail> {
     let alloc = rt.alloc();
     // Tables of 40,000 bytes.
-    let frames = frames(alloc, &install(alloc, 1038, 12)?)?;
-    assert_eq!(rt; frame(&frames, 0)?.len(), 14);
-    assert_eq!(rt; frame(&frames, 1)?.len(), 16_384);
-    assert_eq!(rt; frame(&frames, 2)?.len(), 16_384);
-    assert_eq!(rt; frame(&frames, 3)?.len(), 7256);
-    assert!(rt; frames.get(4).is_none());
-    let mut assembler = Assembler::new(alloc);
-    for place in [3, 1, 1, 0] {
-        assert!(rt; !completes(&mut assembler, &frames, place)?);
-    }
-    assert!(rt; completes(&mut assembler, &frames, 2)?);
+    let frames = frames(alloc, &install(alloc, 1038, 12)?).ok_or("frames")?;
+    assert!(rt; have_lengths(&frames) && are_put_together(alloc, &frames));
     Ok(())
 }

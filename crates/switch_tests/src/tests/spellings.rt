@@ -3,7 +3,7 @@ ghost use Rattle.wire.specs.Messages.{HasSpelling};
 
 use crate::tests::messages::{cache_rule, collect, hello, install, stamp};
 use ctrl_msg::{Body, Message, Place};
-use std::alloc::Global;
+use std::alloc::{AllocError, Global};
 use std::test::*;
 use wire::{WireError, decode, encode};
 
@@ -11,40 +11,50 @@ fn is_malformed(alloc: Global, bytes: &[u8]) -> bool {
     matches!(decode(alloc, bytes), Err(WireError::Refused(_)))
 }
 
+fn is_spelled(alloc: Global, message: &Message, spelling: &[u8]) -> Result<bool, AllocError>
+    requires { HasSpelling message.now }
+{
+    Ok(encode(alloc, message)?.as_slice() == spelling)
+}
+
 #[test]
-fn spellings_byte_by_byte(rt: HostRuntime) -> Result<(), Fail> {
+fn spellings_byte_by_byte(rt: HostRuntime) {
     let alloc = rt.alloc();
-    let bytes = encode(alloc, &collect())?;
-    assert_eq!(rt; bytes.as_slice(), [0, 4, 0, 0, 0, 1, 0, 0, 0, 1].as_slice());
-    let bytes = encode(alloc, &hello())?;
-    assert_eq!(rt; bytes.as_slice(), [255, 7, 0, 0, 0, 0, 2].as_slice());
+    let bytes = [0, 4, 0, 0, 0, 1, 0, 0, 0, 1];
+    assert!(rt; is_spelled(alloc, &collect(), &bytes) == Ok(true));
+    assert!(rt; is_spelled(alloc, &hello(), &[255, 7, 0, 0, 0, 0, 2]) == Ok(true));
     assert!(rt; is_malformed(alloc, &[255, 4, 0, 0, 0, 1, 0, 0, 0, 1]));
-    Ok(())
 }
 
 #[test]
 fn stamps_have_their_words(rt: HostRuntime) -> Result<(), Fail> {
     let alloc = rt.alloc();
     for (words, len) in [(0, 11), (1, 43), (16, 523)] {
-        let bytes = encode(alloc, &stamp(alloc, words)?)?;
-        assert_eq!(rt; bytes.len(), len);
+        assert!(rt; encode(alloc, &stamp(alloc, words)?)?.len() == len);
     }
-    assert!(rt; is_malformed(alloc, &[0, 3, 0, 0, 0, 1, 0, 0, 0, 2]));
-    assert!(rt; is_malformed(alloc, &[0, 3, 0, 0, 0, 1, 0, 0, 0, 2, 17]));
+    let short = [0, 3, 0, 0, 0, 1, 0, 0, 0, 2];
+    let many = [0, 3, 0, 0, 0, 1, 0, 0, 0, 2, 17];
+    assert!(rt; is_malformed(alloc, &short) && is_malformed(alloc, &many));
     Ok(())
+}
+
+// Whether the bytes spell the Hello of the switch 0 in its second boot.
+fn is_hello(alloc: Global, bytes: &[u8]) -> bool {
+    match decode(alloc, bytes) {
+        Ok(read) => {
+            read.to == Place::Controller && matches!(read.body, Body::Hello { switch: 0, boot: 2 })
+        }
+        Err(_) => false,
+    }
 }
 
 #[test]
-fn a_spelling_is_read(rt: HostRuntime) -> Result<(), Fail> {
-    let read = decode(rt.alloc(), &[255, 7, 0, 0, 0, 0, 2]).ok();
-    let read = read.ok_or("the bytes are a message")?;
-    assert_eq!(rt; read.to, Place::Controller);
-    assert!(rt; matches!(read.body, Body::Hello { switch: 0, boot: 2 }));
-    Ok(())
+fn a_spelling_is_read(rt: HostRuntime) {
+    assert!(rt; is_hello(rt.alloc(), &[255, 7, 0, 0, 0, 0, 2]));
 }
 
 // Whether the spelling is read, and neither a part of it nor one with a byte more is.
-fn is_read_alone(alloc: Global, message: &Message) -> Result<bool, Fail>
+fn is_read_alone(alloc: Global, message: &Message) -> Result<bool, AllocError>
     requires { HasSpelling message.now }
 {
     let mut bytes = encode(alloc, message)?;
@@ -60,9 +70,8 @@ fn is_read_alone(alloc: Global, message: &Message) -> Result<bool, Fail>
 #[test]
 fn no_part_of_a_spelling_is_one(rt: HostRuntime) -> Result<(), Fail> {
     let alloc = rt.alloc();
-    assert!(rt; is_read_alone(alloc, &collect())?);
-    assert!(rt; is_read_alone(alloc, &cache_rule())?);
-    assert!(rt; is_read_alone(alloc, &stamp(alloc, 2)?)?);
-    assert!(rt; is_read_alone(alloc, &install(alloc, 2, 1)?)?);
+    let (stamp, install) = (stamp(alloc, 2)?, install(alloc, 2, 1)?);
+    let are_fixed = is_read_alone(alloc, &collect())? && is_read_alone(alloc, &cache_rule())?;
+    assert!(rt; are_fixed && is_read_alone(alloc, &stamp)? && is_read_alone(alloc, &install)?);
     Ok(())
 }

@@ -262,9 +262,7 @@ fn an_authority_switch_decides(rt: HostRuntime) -> Result<(), Fail> {
     let packet = seeking(1)?;
     assert!(rt; is_at_end(&packet, &b));
     let arrived = b.arrive(&packet, 0b101, &solo(alloc)?.ports());
-    assert!(rt; is_decided(&arrived, 1));
-    assert_eq!(rt; b.handled(), 1);
-    assert_eq!(rt; b.number(), 1);
+    assert!(rt; is_decided(&arrived, 1) && b.handled() == 1 && b.number() == 1);
     Ok(())
 }
 
@@ -279,26 +277,60 @@ fn setting_out(a: &mut Switch, ports: &Ports) -> Option<Tunnel> {
     }
 }
 
+// The link that the packet finds down at this switch, and where its hop ends.
+fn hop(switch: &mut Switch, packet: &mut Tunnel, near: u64) -> Option<(Option<u32>, HopEnd)> {
+    if !switch.serves() || !is_at(packet, switch) {
+        return None;
+    }
+    let hop = switch.hop(packet, near);
+    Some((hop.found, hop.end))
+}
+
+fn hops_to(switch: &mut Switch, packet: &mut Tunnel, near: u64, end: HopEnd) -> bool {
+    match hop(switch, packet, near) {
+        Some((_, ended)) => ended == end,
+        None => false,
+    }
+}
+
+// Whether a packet that sets out at a moves to b, and arrives there.
+fn goes_on(a: &mut Switch, b: &mut Switch, ports: &Ports) -> Option<bool> {
+    let mut packet = setting_out(a, ports)?;
+    let moves = hops_to(a, &mut packet, 0b010, HopEnd::Move(1)) && packet.here() == 1;
+    Some(moves && hops_to(b, &mut packet, 0b101, HopEnd::Arrive))
+}
+
+// Whether a packet that sets out at a finds the link to b down, and no other way.
+fn is_stuck(a: &mut Switch, ports: &Ports) -> Option<bool> {
+    let mut lost = setting_out(a, ports)?;
+    Some(hop(a, &mut lost, 0) == Some((Some(1), HopEnd::Stuck(Cause::NoRoute))))
+}
+
 #[test]
 fn a_packet_goes_on_or_is_stuck(rt: HostRuntime) -> Result<(), Fail> {
     let alloc = rt.alloc();
     let ports = solo(alloc)?.ports();
     let mut a = Switch::begin(alloc, 0, 4, ingress_tables(alloc, 1)?, chain())?;
-    let mut packet = setting_out(&mut a, &ports).ok_or("to b")?;
-    assert!(rt; a.serves());
-    assert!(rt; is_at(&packet, &a));
-    assert_eq!(rt; a.hop(&mut packet, 0b010).end, HopEnd::Move(1));
-    assert_eq!(rt; packet.here(), 1);
     let mut b = authority(alloc)?;
-    assert!(rt; is_at(&packet, &b));
-    assert_eq!(rt; b.hop(&mut packet, 0b101).end, HopEnd::Arrive);
-    let mut lost = setting_out(&mut a, &ports).ok_or("to b")?;
-    assert!(rt; a.serves());
-    assert!(rt; is_at(&lost, &a));
-    let stuck = a.hop(&mut lost, 0);
-    assert_eq!(rt; stuck.found, Some(1));
-    assert_eq!(rt; stuck.end, HopEnd::Stuck(Cause::NoRoute));
+    assert!(rt; goes_on(&mut a, &mut b, &ports) == Some(true));
+    assert!(rt; is_stuck(&mut a, &ports) == Some(true));
     Ok(())
+}
+
+// Whether b takes version 2 in and rises to it, with a rule of each version for its cache.
+fn rises(alloc: Global, b: &mut Switch) -> Result<bool, Fail> {
+    let takes = takes_in(alloc, b, 1, 2)?;
+    learns(b, 5, 1)?;
+    let rises = rises_to(alloc, b, 2)?;
+    learns(b, 6, 2)?;
+    Ok(takes && rises)
+}
+
+// Whether it then decides by the cached rule of version 2 until that is gone, and by version 2
+// where version 1 is gone.
+fn decides_anew(b: &mut Switch, ports: &Ports) -> Result<bool, Fail> {
+    let is_cached = enters(b, ports, 2, How::Cached { message: 6 }) && b.expire(0) == Some(6);
+    Ok(is_cached && drops_version_one(b)? && arrives_anew(b, ports)?)
 }
 
 #[test]
@@ -306,29 +338,26 @@ fn one_version_follows_another(rt: HostRuntime) -> Result<(), Fail> {
     let alloc = rt.alloc();
     let ports = solo(alloc)?.ports();
     let mut b = authority(alloc)?;
-    assert!(rt; takes_in(alloc, &mut b, 1, 2)?);
-    learns(&mut b, 5, 1)?;
-    assert!(rt; rises_to(alloc, &mut b, 2)?);
-    learns(&mut b, 6, 2)?;
-    assert!(rt; enters(&mut b, &ports, 2, How::Cached { message: 6 }));
-    assert_eq!(rt; b.expire(0), Some(6));
-    assert!(rt; drops_version_one(&mut b)?);
-    assert!(rt; arrives_anew(&mut b, &ports)?);
+    assert!(rt; rises(alloc, &mut b)? && decides_anew(&mut b, &ports)?);
     Ok(())
+}
+
+// Whether b opens in its second boot at version 3, and not of its old boot.
+fn boots_anew(alloc: Global, b: &mut Switch) -> Result<bool, Fail> {
+    let is_old = opens_at(b, 1, 1)?;
+    Ok(!is_old && takes_in(alloc, b, 2, 3)? && opens_at(b, 2, 3)?)
 }
 
 #[test]
 fn a_boot_follows_a_crash(rt: HostRuntime) -> Result<(), Fail> {
     let alloc = rt.alloc();
     let mut b = authority(alloc)?;
-    assert_eq!(rt; b.boot(), 1);
+    let boot = b.boot();
     b.crash();
-    assert!(rt; !b.is_up());
-    assert_eq!(rt; b.restart(), 2);
-    assert!(rt; !opens_at(&mut b, 1, 1)?, "of its old boot");
-    assert!(rt; takes_in(alloc, &mut b, 2, 3)?);
-    assert!(rt; opens_at(&mut b, 2, 3)?);
-    assert!(rt; enters(&mut b, &solo(alloc)?.ports(), 3, by_authority()));
+    let is_down = !b.is_up();
+    assert!(rt; boot == 1 && is_down && b.restart() == 2);
+    let ports = solo(alloc)?.ports();
+    assert!(rt; boots_anew(alloc, &mut b)? && enters(&mut b, &ports, 3, by_authority()));
     Ok(())
 }
 
@@ -341,23 +370,21 @@ const fn advert(origin: u32, seq: u32, up: u64) -> Advert {
     }
 }
 
+// How many messages follow where b hears this advert in a message of this number.
+fn hears(b: &mut Switch, number: u32, advert: Advert) -> Result<usize, Fail> {
+    let heard = b.hear(number, &Body::Advertise { advert }, 0b101)?;
+    Ok(heard.replies.items().len())
+}
+
 #[test]
 fn adverts_of_others_are_sent_on(rt: HostRuntime) -> Result<(), Fail> {
-    let alloc = rt.alloc();
-    let mut b = authority(alloc)?;
+    let mut b = authority(rt.alloc())?;
     let own = b.near_changed(0b001);
-    assert_eq!(rt; own, advert(1, 2, 0b001));
-    let of_itself = Body::Advertise {
-        advert: advert(1, 9, 0b111),
-    };
-    assert!(rt; b.hear(1, &of_itself, 0b101)?.replies.items().is_empty());
-    assert_eq!(rt; b.known(1), Some(own));
-    let news = Body::Advertise {
-        advert: advert(2, 2, 0b010),
-    };
-    let messages = b.hear(2, &news, 0b101)?.replies.into_items();
-    assert_eq!(rt; messages.len(), 2);
-    assert_eq!(rt; b.known(2), Some(advert(2, 2, 0b010)));
-    assert!(rt; b.hear(3, &news, 0b101)?.replies.items().is_empty());
+    let of_itself = hears(&mut b, 1, advert(1, 9, 0b111))?;
+    assert!(rt; own == advert(1, 2, 0b001) && of_itself == 0 && b.known(1) == Some(own));
+    let news = advert(2, 2, 0b010);
+    let first = hears(&mut b, 2, news)?;
+    let is_known = b.known(2) == Some(news);
+    assert!(rt; is_known && first == 2 && hears(&mut b, 3, news)? == 0);
     Ok(())
 }
