@@ -1,8 +1,9 @@
 -- The decimal digits of short numbers, two at a time.
-use Rattle.std.proofs.Common.{ℕ, ◌≡◌, ◌<◌, ◌≤◌, ◌+◌, ◌*◌, ◌/◌, ◌%◌, List, [], ◌∷◌, ◌++◌, length, take, set, get_or, refl, arith, append_assoc, length-set}
+use Rattle.std.proofs.Common.{ℕ, ◌≡◌, ◌<◌, ◌≤◌, ◌+◌, ◌*◌, ◌/◌, ◌%◌, List, [], ◌∷◌, ◌++◌, length, take, set, get_or, refl, arith, ap, ◌∙◌, sym, append_assoc, length-set}
 use Rattle.std.specs.Prelude.{decimal}
 use Rattle.std.proofs.lemmas.Fmt.{decimal_digit, decimal_step}
-use Rattle.std.proofs.lemmas.List.{take_more_set}
+use Rattle.std.proofs.lemmas.List.{take_all, take_more_set}
+use Rattle.lines.specs.Pushes.{line_with}
 use Rattle.lines.specs.declared.digits.TheConstants.{PAIRS}
 use Rattle.lines.proofs.CallerLemmas.{pair_at}
 
@@ -59,3 +60,9 @@ decimal_pairs n from within =
       append_assoc,
       front,
     ) refl
+
+-- a piece for which there was room is held whole
+pub held_whole : (line piece now : List ℕ) → length now ≤ 2048 → now ≡ line ++ piece
+    → now ≡ line_with line piece
+unfolding line_with
+held_whole line piece now within is = sym (take_all 2048 now within) ∙ ap (take 2048) is

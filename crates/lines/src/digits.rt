@@ -21,6 +21,18 @@ fn put_pair(bytes: &mut [u8; 2048], len: usize, pair: u64)
     bytes[len + 1] = one;
 }
 
+/// Puts a number of one digit, and says how many bytes there are then.
+#[inline]
+pub(crate) fn put_digit(bytes: &mut [u8; 2048], len: usize, n: u64) -> usize
+    requires short { n < 10 }
+    requires room { len < 2048 }
+    ensures end { result ≡ len + 1 }
+    ensures held { take result bytes.new ≡ take len bytes.old ++ decimal n }
+{
+    bytes[len] = b'0' + n as u8;
+    len + 1
+}
+
 // Puts a number of one or two digits, and says how many bytes there are then.
 #[inline]
 fn put_first(bytes: &mut [u8; 2048], len: usize, n: u64) -> usize
@@ -30,8 +42,7 @@ fn put_first(bytes: &mut [u8; 2048], len: usize, n: u64) -> usize
     ensures held { take result bytes.new ≡ take len bytes.old ++ decimal n }
 {
     if n < 10 {
-        bytes[len] = b'0' + n as u8;
-        len + 1
+        put_digit(bytes, len, n)
     } else {
         put_pair(bytes, len, n);
         len + 2

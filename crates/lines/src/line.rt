@@ -1,7 +1,7 @@
 ghost use Rattle.std.specs.Prelude.{◌≡◌, ◌≤◌, [], length, decimal};
 ghost use Rattle.lines.specs.Pushes.{line_with};
 
-use crate::digits::put_short;
+use crate::digits::{put_digit, put_short};
 use crate::pieces::put;
 use itoa::Buffer;
 use std::marker::Model;
@@ -69,7 +69,20 @@ impl Line {
     }
 
     /// Adds a number in decimal digits.
+    #[inline]
     pub fn push_number(&mut self, n: u64)
+        ensures { self.new ≡ line_with self.old (decimal n) }
+    {
+        if n < 10 && self.len < LINE_BYTES {
+            self.len = put_digit(&mut self.bytes, self.len, n);
+        } else {
+            self.push_digits(n);
+        }
+    }
+
+    // Adds a number that may have more digits than one, which takes a call.
+    #[inline(never)]
+    fn push_digits(&mut self, n: u64)
         ensures { self.new ≡ line_with self.old (decimal n) }
     {
         if n < 1_000_000 && self.len <= LINE_BYTES - 6 {

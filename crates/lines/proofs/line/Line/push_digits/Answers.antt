@@ -1,0 +1,13 @@
+use Rattle.std.proofs.Common.{take, arith}
+use Rattle.std.specs.Prelude.{decimal}
+use Rattle.std.proofs.lemmas.List.{length-take}
+use Rattle.lines.proofs.ShortNumbers.{held_whole}
+use Rattle.lines.proofs.line.Line.push_digits.Goals as goal
+
+pub returns-then-self : goal.returns-then-self
+returns-then-self c =
+    let end = c.put_short-self-inside.result in
+    let bytes = c.put_short-self-inside.new.bytes in
+    rw (← c.self.view_is)
+    (held_whole (take c.self.inside.len c.self.inside.bytes) (decimal c.args.n) (take end bytes)
+    (omega (arith, length-take end bytes)) c.put_short-self-inside.ensures.held)
