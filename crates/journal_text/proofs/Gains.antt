@@ -1,51 +1,98 @@
 -- What a sink gained by the lines of a journal.
-use Rattle.std.proofs.Common.{ℕ, suc, ◌≡◌, ◌<◌, Option, List, [], ◌∷◌, ◌++◌, length, take, drop, get_or, refl, ap, ◌∙◌, sym, arith, append_assoc, length-append, drop-cons}
+use Rattle.std.proofs.Common.{ℕ, ◌≡◌, ◌+◌, ◌<◌, ◌≤◌, ◌==◌, Bool, true, false, Option, None, Some, List, [], ◌∷◌, ◌++◌, length, take, drop, get_or, refl, ap, subst, ◌∙◌, sym, arith, append-nil, append_assoc, length-append}
 use Rattle.std.proofs.lemmas.Grind.{flat_map-append}
-use Rattle.std.proofs.lemmas.List.{take-append-drop, take-append-le}
+use Rattle.std.proofs.lemmas.List.{take-append-drop, take-append-le, take_all, take_more}
 use Rattle.journal.specs.declared.item.Item.{Item}
+use Rattle.journal_text.specs.Gathered.{IsHeld}
 use Rattle.journal_text.specs.Lines.{item_line, journal_text}
+use Rattle.lines.specs.Pushes.{line_with}
 use Rattle.net_file.specs.declared.net.Net.{Net}
 use Rattle.shelf.specs.Sink.{with_gained, GainedPart}
+use Rattle.shelf.specs.SinkWrites.{IsGathered}
 
 abbrev line_of : Net → Item → List ℕ
 line_of net item = item_line net item ++ 10 ∷ []
 
--- the lines before an item, its own, and the rest
-lines_at : (net : Net) (items : List Item) (i : ℕ) (item : Item) → i < length items
+-- up to an item and with it
+pub lines_more : (net : Net) (items : List Item) (i : ℕ) (item : Item) → i < length items
     → item ≡ get_or items i item
-    → journal_text net (take i items) ++ (line_of net item ++ journal_text net (drop (suc i) items))
-    ≡ journal_text net items
-lines_at net items i item within is =
-    sym (flat_map-append (line_of net) (take i items) (item ∷ drop (suc i) items))
-    ∙ ap (journal_text net)
-    (ap (λ x. take i items ++ x ∷ drop (suc i) items) is
-    ∙ ap (λ ys. take i items ++ ys) (sym (drop-cons items i item within))
-    ∙ take-append-drop i items)
+    → journal_text net (take (i + 1) items) ≡ journal_text net (take i items) ++ line_of net item
+lines_more net items i item within is =
+    ap (journal_text net) (take_more items i item within
+    ∙ ap (λ x. take i items ++ x ∷ []) (sym is))
+    ∙ flat_map-append (line_of net) (take i items) (item ∷ [])
+    ∙ ap (λ line. journal_text net (take i items) ++ line) (append-nil (line_of net item))
 
--- a part of the text up to an item's line is a part of the whole
-pub part_line : (net : Net) (items : List Item) (i : ℕ) (item : Item) → i < length items
-    → item ≡ get_or items i item → (before now : Option (List ℕ))
-    → GainedPart before (journal_text net (take i items) ++ line_of net item) now
+-- a part of the text up to an item is a part of the whole
+pub part_upto : (net : Net) (items : List Item) (i : ℕ) → (before now : Option (List ℕ))
+    → GainedPart before (journal_text net (take i items)) now
     → GainedPart before (journal_text net items) now
-part_line net items i item within is before now part =
-    let front = journal_text net (take i items) ++ line_of net item in
-    let rest = journal_text net (drop (suc i) items) in
+part_upto net items i before now part =
+    let front = journal_text net (take i items) in
+    let rest = journal_text net (drop i items) in
+    let all : front ++ rest ≡ journal_text net items =
+    sym (flat_map-append (line_of net) (take i items) (drop i items))
+    ∙ ap (journal_text net) (take-append-drop i items) in
     let n = part.0 in
     let shorter = part.1 in
-    rw (
-      ← lines_at net items i item within is,
-      ← append_assoc (journal_text net (take i items)) (line_of net item) rest,
-    ) (
+    rw (← all) (
       n,
       omega (arith, shorter, length-append front rest),
       part.2 ∙ ap (with_gained before) (sym (take-append-le n front rest (omega (arith, shorter)))),
     )
 
+nothing_gained : (before : Option (List ℕ)) → before ≡ with_gained before []
+nothing_gained None = refl
+nothing_gained (Some bytes) = ap Some (sym (append-nil bytes))
+
+-- nothing of an empty text is held
+pub held_first : (before : Option (List ℕ)) (waiting line : List ℕ) → waiting ≡ [] → line ≡ []
+    → IsHeld [] before before waiting line
+held_first before waiting line none empty = record {
+  front = [];
+  gathered = record { written = 0; within = omega arith; gained = nothing_gained before; waits = none };
+  whole = sym empty;
+}
+
+-- one more line is held
+pub held_more : (text piece : List ℕ) (before now : Option (List ℕ)) (waiting line : List ℕ)
+    → IsHeld text before now waiting line → IsHeld (text ++ piece) before now waiting (line ++ piece)
+held_more text piece before now waiting line is = record {
+  front = is.front;
+  gathered = is.gathered;
+  whole = ap (λ t. t ++ piece) is.whole ∙ append_assoc is.front line piece;
+}
+
+-- what a line held was gathered, so that it holds nothing
+pub held_nothing : (text : List ℕ) (before now later : Option (List ℕ))
+    (waiting line all piece : List ℕ) → (is : IsHeld text before now waiting line) → piece ≡ line
+    → IsGathered (is.front ++ piece) before later all
+    → IsHeld text before later all []
+held_nothing text before now later waiting line all piece is same gathered = record {
+  front = text;
+  gathered = subst (λ (t : List ℕ). IsGathered t before later all)
+      (ap (λ l. is.front ++ l) same ∙ sym is.whole) gathered;
+  whole = sym (append-nil text);
+}
+
+-- a text that is held whole behind a line
+pub held_whole : (line text : List ℕ) → length line + length text ≤ 2048
+    → line_with line text ≡ line ++ text
+unfolding line_with
+held_whole line text fits = take_all 2048 (line ++ text) (omega (arith, fits, length-append line text))
+
 -- a text that is empty has no lines
-pub no_items : (net : Net) (items : List Item) → journal_text net items ≡ [] → items ≡ []
+no_items : (net : Net) (items : List Item) → journal_text net items ≡ [] → items ≡ []
 no_items net [] none = refl
 no_items net (item ∷ items) none = absurd (some (item_line net item) none)
   where
     some : (line : List ℕ) → (line ++ 10 ∷ []) ++ journal_text net items ≡ [] → ⊥
     some [] e = cc e
     some (c ∷ cs) e = cc e
+
+pub some_items : (net : Net) (items : List Item) (none : Bool) → none ≡ (length items == 0)
+    → none ≡ false → journal_text net items ≡ [] → ⊥
+some_items net items none is not_none nothing =
+    let empty : (length items == 0) ≡ true =
+    ap (λ (list : List Item). length list == 0) (no_items net items nothing) in
+    cc (sym empty ∙ sym is ∙ not_none)

@@ -1,5 +1,5 @@
 -- How long lines are: each part has a bound, and those of parts, one behind another, are added.
-use Rattle.std.proofs.Common.{ℕ, ◌+◌, ◌≤◌, ◌==◌, Bool, true, false, List, [], ◌∷◌, length, arith}
+use Rattle.std.proofs.Common.{ℕ, ◌+◌, ◌≤◌, ◌==◌, Bool, true, false, List, [], ◌∷◌, ◌++◌, length, arith}
 use Rattle.std.specs.Prelude.{Option, codes, filter, if◌then◌else◌, min, max}
 use Rattle.std.specs.List.{range_with_len}
 use Rattle.std.proofs.lemmas.List.Sums.{count_by-le-length, length-filter}
@@ -183,81 +183,86 @@ module _ (laws : NameLaws) (net : Net) (sound : IsNet net) where
   unfolding via_text
   via_within route is = joined_within (all_of (codes " via")) (route_within route is)
 
-  item_within : (item : Item) → IsItemOfType item → IsWithin 2047 (item_line net item)
+  item_within : (item : Item) → IsItemOfType item → IsWithin 1240 (item_line net item)
   item_within (item.Row row step) is =
       widened (joined_within (with_text (numbered_within (all_of (codes "row")) row is.0) (codes ": "))
-      (step_within step is.1)) 2047 (omega arith)
+      (step_within step is.1)) 1240 (omega arith)
   item_within (item.Entered packet switch header) is =
-      widened (at_within (all_of (codes "  entered")) packet switch is) 2047 (omega arith)
+      widened (at_within (all_of (codes "  entered")) packet switch is) 1240 (omega arith)
   item_within (item.Closed packet switch) is =
-      widened (at_within (all_of (codes "  closed")) packet switch is) 2047 (omega arith)
+      widened (at_within (all_of (codes "  closed")) packet switch is) 1240 (omega arith)
   item_within (item.Seeking packet version partition route) is =
       widened (joined_within (joined_within (two_within (all_of (codes "  tunnelled")) (all_of (codes " v"))
       packet version is.0 is.1) (numbered_within (all_of (codes " part")) partition is.2))
-      (via_within route is.3)) 2047 (omega arith)
+      (via_within route is.3)) 1240 (omega arith)
   item_within (item.Exiting packet route) is =
       widened (joined_within (numbered_within (all_of (codes "  exit")) packet is.0) (via_within route
-      is.1)) 2047 (omega arith)
+      is.1)) 1240 (omega arith)
   item_within (item.Hopped packet switch) is =
-      widened (at_within (all_of (codes "  hopped")) packet switch is) 2047 (omega arith)
+      widened (at_within (all_of (codes "  hopped")) packet switch is) 1240 (omega arith)
   item_within (item.FoundDown packet one two) is =
-      widened (pair_within (numbered_within (all_of (codes "  found")) packet is) one two) 2047
+      widened (pair_within (numbered_within (all_of (codes "  found")) packet is) one two) 1240
       (omega arith)
   item_within (item.Rerouted packet route) is =
       widened (joined_within (numbered_within (all_of (codes "  rerouted")) packet is.0) (via_within route
-      is.1)) 2047 (omega arith)
+      is.1)) 1240 (omega arith)
   item_within (item.Decided packet version rule action how) is =
       widened (joined_within (with_text (joined_within (two_within (all_of (codes "  decided")) (all_of (codes
       " v")) packet version is.0 is.1) (ruled_within rule action is.2 is.3)) (codes " "))
-      (how_within how is.4)) 2047 (omega arith)
+      (how_within how is.4)) 1240 (omega arith)
   item_within (item.Left packet port leaving) is =
       widened (two_within (all_of (codes "  out")) (all_of (codes " port ")) packet port is.0 is.1)
-      2047 (omega arith)
+      1240 (omega arith)
   item_within (item.Dropped packet) is =
-      widened (numbered_within (all_of (codes "  dropped")) packet is) 2047 (omega arith)
+      widened (numbered_within (all_of (codes "  dropped")) packet is) 1240 (omega arith)
   item_within (item.Lost packet) is =
-      widened (numbered_within (all_of (codes "  lost")) packet is) 2047 (omega arith)
+      widened (numbered_within (all_of (codes "  lost")) packet is) 1240 (omega arith)
   item_within (item.Stuck packet switch cause leg down) is =
       widened (joined_within (with_text (at_within (all_of (codes "  stuck")) packet switch is) (codes
-      " ")) (cause_within cause)) 2047 (omega arith)
+      " ")) (cause_within cause)) 1240 (omega arith)
   item_within (item.Sent number message) is =
       widened (joined_within (with_text (joined_within (with_text (numbered_within (all_of (codes "  sent"))
       number is.0) (codes " ")) (receiver_within message.to)) (codes " ")) (body_within message.body
-      is.1)) 2047 (omega arith)
+      is.1)) 1240 (omega arith)
   item_within (item.Delivered number) is =
-      widened (numbered_within (all_of (codes "  delivered")) number is) 2047 (omega arith)
+      widened (numbered_within (all_of (codes "  delivered")) number is) 1240 (omega arith)
   item_within (item.Forgotten number) is =
-      widened (numbered_within (all_of (codes "  forgotten")) number is) 2047 (omega arith)
+      widened (numbered_within (all_of (codes "  forgotten")) number is) 1240 (omega arith)
   item_within (item.Expired switch place message) is =
       widened (joined_within (with_text (joined_within (with_text (named_within (all_of (codes "  expired"))
-      switch) (codes " ")) (number place is.0)) (codes " message ")) (number message is.1)) 2047
+      switch) (codes " ")) (number place is.0)) (codes " message ")) (number message is.1)) 1240
       (omega arith)
   item_within (item.Submitted file version) is =
       widened (two_within (all_of (codes "  submitted file")) (all_of (codes " version ")) file
-      version is.0 is.1) 2047 (omega arith)
+      version is.0 is.1) 1240 (omega arith)
   item_within (item.Refused file code) is =
       widened (two_within (all_of (codes "  refused file")) (all_of (codes " code ")) file code is.0
-      is.1) 2047 (omega arith)
+      is.1) 1240 (omega arith)
   item_within (item.Current version) is =
-      widened (numbered_within (all_of (codes "  current")) version is) 2047 (omega arith)
+      widened (numbered_within (all_of (codes "  current")) version is) 1240 (omega arith)
   item_within (item.Retired version) is =
-      widened (numbered_within (all_of (codes "  retired")) version is) 2047 (omega arith)
+      widened (numbered_within (all_of (codes "  retired")) version is) 1240 (omega arith)
   item_within (item.Booted switch boot) is =
       widened (joined_within (with_text (named_within (all_of (codes "  booted")) switch) (codes " "))
-      (number boot is)) 2047 (omega arith)
+      (number boot is)) 1240 (omega arith)
   item_within (item.Opened switch version) is =
       widened (joined_within (with_text (named_within (all_of (codes "  opened")) switch) (codes
-      " version ")) (number version is)) 2047 (omega arith)
+      " version ")) (number version is)) 1240 (omega arith)
   item_within (item.Down switch) is =
-      widened (named_within (all_of (codes "  down")) switch) 2047 (omega arith)
+      widened (named_within (all_of (codes "  down")) switch) 1240 (omega arith)
   item_within (item.OverNow switch) is =
-      widened (named_within (all_of (codes "  over")) switch) 2047 (omega arith)
+      widened (named_within (all_of (codes "  over")) switch) 1240 (omega arith)
   item_within (item.LinkIs one two up) is =
       widened (joined_within (with_text (pair_within (all_of (codes "  link")) one two) (codes " "))
-      (state_within up)) 2047 (omega arith)
-  item_within item.Nothing is = widened (all_of (codes "  nothing")) 2047 (omega arith)
+      (state_within up)) 1240 (omega arith)
+  item_within item.Nothing is = widened (all_of (codes "  nothing")) 1240 (omega arith)
+
+pub line_within : NameLaws → (net : Net) → IsNet net → (item : Item) → IsItemOfType item
+    → IsWithin 1241 (item_line net item ++ 10 ∷ [])
+line_within laws net sound item is =
+    joined_within (item_within laws net sound item is) (all_of (10 ∷ []))
 
 pub lines_within : NameLaws → LinesFit
 lines_within laws net item sound is =
-    let line = joined_within (item_within laws net sound item is) (all_of (10 ∷ [])) in
+    let line = widened (line_within laws net sound item is) 2048 (omega arith) in
     line.size

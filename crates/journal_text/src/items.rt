@@ -1,16 +1,15 @@
-ghost use Rattle.std.specs.Prelude.{◌≡◌, ◌++◌, ◌∷◌, [], IfOk, codes};
+ghost use Rattle.std.specs.Prelude.{◌≡◌, ◌≤◌, ◌++◌, ◌∷◌, [], IfOk, codes, length};
 ghost use Rattle.net_file.specs.Net.{IsNet};
 ghost use Rattle.journal.specs.declared.item.Item.TheVariants as item;
 ghost use Rattle.journal_text.specs.Lines.{cause_text, how_text, item_line, journal_text, with_number, packet_at, two_text, via_text};
 ghost use Rattle.journal_text.specs.Sizes.{IsBodyOfType, IsItemOfType, IsShortRoute};
 ghost use Rattle.lines.specs.Pushes.{line_with};
 
-use crate::laws::lines_fit;
 use crate::messages::{push_body, push_receiver, push_ruled};
 use crate::rows::{push_named, push_named_number, push_numbered, push_pair, push_step};
 use journal::{Action, Cause, How, Item, Journal, SharedMessage, SharedRoute};
 use lines::{Line, push_name, push_names};
-use net_file::Net;
+use net_file::{Net, name_laws};
 use std::alloc::{AllocError, Global};
 use steps::Step;
 
@@ -36,20 +35,20 @@ pub fn lines(alloc: Global, items: &[Item], net: &Net) -> Result<Vec<u8>, AllocE
     let mut text = Vec::new(alloc);
     let mut line = Line::new();
     for item in items {
-        set_line(&mut line, net, item);
+        line.clear();
+        push_line(&mut line, net, item);
         text.extend_from_slice(line.bytes())?;
     }
     Ok(text)
 }
 
-/// Makes the line that of the item, with its line feed.
-#[tactic(auto, using(lines::proofs::CallerLemmas::pushed_append, lines::proofs::CallerLemmas::pushed_whole))]
-pub(crate) fn set_line(line: &mut Line, net: &Net, item: &Item)
-    requires { IsNet net.now }
-    ensures { line.new ≡ item_line net.now item.now ++ 10 ∷ [] }
+/// Adds the line of the item, with its line feed. Behind 800 bytes there is room for each.
+pub(crate) fn push_line(line: &mut Line, net: &Net, item: &Item)
+    requires net { IsNet net.now }
+    requires room { length line.old ≤ 800 }
+    ensures { line.new ≡ line.old ++ (item_line net.now item.now ++ 10 ∷ []) }
 {
-    lines_fit();
-    line.clear();
+    name_laws();
     push_item(line, net, item);
     line.push("\n");
 }

@@ -1,15 +1,20 @@
-ghost use Rattle.std.specs.Prelude.{◌≡◌, []};
+ghost use Rattle.std.specs.Prelude.{◌≡◌, ◌≢◌, ◌≤◌, [], List, Option, ℕ, IsErrOf, IsTrue, OnErr, OnOk, length};
 ghost use Rattle.net_file.specs.Net.{IsNet};
+ghost use Rattle.journal_text.specs.Gathered.{IsHeld};
 ghost use Rattle.journal_text.specs.Lines.{journal_text};
+ghost use Rattle.shelf.specs.Sink.{GainedPart, Rose};
 ghost use Rattle.shelf.specs.SinkWrites.{IsAfterWrite};
 
-use crate::items::set_line;
+use crate::items::push_line;
 use journal::Journal;
 use lines::Line;
 use net_file::Net;
 use shelf::{Block, Sink, SinkError};
 
-/// Writes the text of a journal, as many lines at once as 65,536 bytes hold, and takes no memory of
+/// Behind so many bytes a line has room for that of an item.
+const ROOMY_BYTES: usize = 800;
+
+/// Writes the text of a journal, about 65,536 bytes of whole lines at once, and takes no memory of
 /// its own. An empty text makes no write.
 ///
 /// At an error the sink gained the bytes of the writes before it. A write that takes nothing ends
@@ -23,12 +28,47 @@ pub fn write_text<K: Sink>(journal: &Journal, net: &Net, sink: &mut K) -> Result
     let mut line = Line::new();
     let mut block = Block::new();
     let items = journal.items();
+    if items.is_empty() {
+        return block.finish(sink);
+    }
     for item in items {
-        set_line(&mut line, net, item);
-        match block.push(line.bytes(), sink) {
+        match make_room(&mut line, &mut block, sink) {
             Ok(()) => {}
             Err(error) => return Err(error),
         }
+        push_line(&mut line, net, item);
     }
-    block.finish(sink)
+    match block.push(line.bytes(), sink) {
+        Ok(()) => block.finish(sink),
+        Err(error) => Err(error),
+    }
+}
+
+// Lets the block take the lines that are held, unless there is room for one more behind them.
+fn make_room<K: Sink>(line: &mut Line, block: &mut Block, sink: &mut K) -> Result<(), SinkError>
+    ensures room { OnOk result (length line.new ≤ 800) }
+    ensures held { (text : List ℕ) (before : Option (List ℕ))
+        → IsHeld text before (K.state sink.old).bytes block.old line.old
+        → OnOk result (IsHeld text before (K.state sink.new).bytes block.new line.new) }
+    ensures part { (text : List ℕ) (before : Option (List ℕ))
+        → IsHeld text before (K.state sink.old).bytes block.old line.old
+        → OnErr result (GainedPart before text (K.state sink.new).bytes) }
+    ensures faults { (K.state sink.old).faults ≤ (K.state sink.new).faults }
+    ensures calm { result ≢ Err SinkError.Failed
+        → (K.state sink.new).faults ≡ (K.state sink.old).faults }
+    ensures failed { IsErrOf result SinkError.Failed
+        → Rose (K.state sink.old).faults (K.state sink.new).faults }
+    ensures no_memory { IsErrOf result SinkError.NoMemory → IsTrue K.takes_memory }
+{
+    let held = line.bytes();
+    if held.len() <= ROOMY_BYTES {
+        return Ok(());
+    }
+    match block.push(held, sink) {
+        Ok(()) => {
+            line.clear();
+            Ok(())
+        }
+        Err(error) => Err(error),
+    }
 }

@@ -1,0 +1,18 @@
+use Rattle.std.proofs.Common.{List, ◌∷◌, ◌++◌, [], ℕ, length, ap, ◌∙◌, arith}
+use Rattle.lines.proofs.CallerLemmas.{pushed_append}
+use Rattle.lines.specs.Pushes.{line_with}
+use Rattle.journal_text.specs.Lines.{item_line}
+use Rattle.journal_text.proofs.Gains.{held_whole}
+use Rattle.journal_text.proofs.LineLengths.{line_within}
+use Rattle.journal_text.proofs.items.push_line.Goals as goal
+
+pub returns : goal.returns
+returns c =
+    let net = c.args.net.now in
+    let line = c.args.line.now in
+    let own : List ℕ = item_line net c.args.item.now in
+    let within = line_within c.name_laws.ensures net c.requires.net c.args.item.now
+    c.push_item.ensures.of_type in
+    c.push.ensures ∙ ap (λ l. line_with l (10 ∷ [])) c.push_item.ensures.text
+    ∙ pushed_append line own (10 ∷ [])
+    ∙ held_whole line (own ++ 10 ∷ []) (omega (arith, c.requires.room, within.size))
