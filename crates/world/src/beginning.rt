@@ -1,4 +1,4 @@
-ghost use Rattle.std.specs.Prelude.{◌≡◌, length, map, IfOk};
+ghost use Rattle.std.specs.Prelude.{◌≡◌, [], length, map, IfOk};
 ghost use Rattle.std.specs.List.{range_with_len};
 ghost use Rattle.controller.specs.Exports.{PlanValue, first_controller};
 ghost use Rattle.net_file.specs.Net.{IsNet};
@@ -7,9 +7,24 @@ ghost use Rattle.refinement.specs.Begun.{IsFirstController, switch_begun};
 
 use controller::Controller;
 use failover::Database;
+use journal::Journal;
 use net_file::Net;
 use std::alloc::{AllocError, Global};
 use switch_core::Switch;
+
+/// For how many items a journal has room from the beginning, so that a longer one is seldom moved.
+const FIRST_ITEMS: usize = 16_384;
+
+/// A journal in which nothing happened yet.
+///
+/// # Errors
+/// Want of memory alone.
+pub fn first_journal(alloc: Global) -> Result<Journal, AllocError>
+    ensures { IfOk result (λ journal. journal ≡ []) }
+{
+    let items = Vec::with_capacity(alloc, FIRST_ITEMS)?;
+    Ok(Journal::from_items(items))
+}
 
 /// All switches in their first boot, each with the controller's tables of version 1, shared.
 ///

@@ -15,7 +15,7 @@ ghost use Rattle.world.specs.State.{IsBegun, RefinesJournal, comes_in, setting_a
 ghost use Rattle.travelling.specs.Travelling.{IsNextFrom, flight};
 ghost use Rattle.world_log.specs.Writing.{IsPart};
 
-use crate::beginning::switches_of;
+use crate::beginning::{first_journal, switches_of};
 use crate::error::{Full, StepError};
 use crate::files::{Files, first_policy};
 use crate::parts::Parts;
@@ -80,6 +80,7 @@ impl World {
         let near = near_masks(net);
         let controller = Controller::begin(alloc, net, plan)?;
         let switches = switches_of(alloc, net, &controller, &near)?;
+        let journal = first_journal(alloc)?;
         let parts = Parts {
             files,
             ports: net.ports(),
@@ -87,7 +88,7 @@ impl World {
             near,
             switches,
             log: Log {
-                journal: Journal::new(alloc),
+                journal,
                 travelling: Travelling::new(alloc),
                 bag: PostBag::new(alloc),
             },

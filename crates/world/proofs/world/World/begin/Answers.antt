@@ -53,9 +53,9 @@ invariant_of-result c =
         sound = net_begun net files.net of_net c.requires.net;
         owners = owners_begun net files.net c.ports.result of_net c.ports.ensures;
       };
-      refines = λ able. as_begun net given files c.new-2.result c.new-3.result c.new-4.result
-          switches controller near of_net of_files c.new-2.ensures
-          c.new-3.ensures c.new-4.ensures
+      refines = λ able. as_begun net given files c.in_ok-journal.journal c.new-2.result
+          c.new-3.result switches controller near of_net of_files c.in_ok-journal.ensures
+          c.new-2.ensures c.new-3.ensures
           (begun_refines net given plan switches controller near c.requires.net
           (first_whole given plan.policy (first_is at)) c.requires.sound c.requires.ports
           (planned at)
