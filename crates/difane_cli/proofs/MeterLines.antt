@@ -4,6 +4,7 @@ use Rattle.std.proofs.Common.{ℕ, ◌≡◌, ◌≢◌, Option, Some, None, Res
 use Rattle.std.specs.List.{flat_map}
 use Rattle.journal.specs.declared.item.Item.{Item}
 use Rattle.journal_text.specs.Lines.{journal_text}
+use Rattle.journal_text.proofs.Gains.{nothing_gained}
 use Rattle.meters.specs.Seen.{Seen}
 use Rattle.net_file.specs.declared.net.Net.{Net}
 use Rattle.policy_rules.specs.declared.packet.Leaving.{Leaving}
@@ -32,10 +33,6 @@ lines_of seen [] = refl
 lines_of seen (x ∷ xs) = ap (λ lines. meter_line (seen x) ++ lines) (lines_of seen xs)
 
 -- ---- some bytes
-
-pub gained_nothing : (before : Option (List ℕ)) → before ≡ with_gained before []
-gained_nothing None = refl
-gained_nothing (Some bytes) = ap Some (sym (append-nil bytes))
 
 pub part_last : (before middle now : Option (List ℕ)) (front piece : List ℕ)
     → middle ≡ with_gained before front → GainedPart middle piece now
@@ -82,7 +79,7 @@ pub first_part : (before now : SinkState) (text lines : List ℕ) (takes_memory 
 first_part before now text lines takes_memory why after = record {
   whole = tt;
   part = GainedPart-behind before.bytes before.bytes now.bytes [] text lines
-      (gained_nothing before.bytes) after.part;
+      (nothing_gained before.bytes) after.part;
   faults = after.faults;
   calm = after.calm;
   failed = after.failed;

@@ -41,7 +41,7 @@ part_upto net items i before now part =
       part.2 ∙ ap (with_gained before) (sym (take-append-le n front rest (omega (arith, shorter)))),
     )
 
-nothing_gained : (before : Option (List ℕ)) → before ≡ with_gained before []
+pub nothing_gained : (before : Option (List ℕ)) → before ≡ with_gained before []
 nothing_gained None = refl
 nothing_gained (Some bytes) = ap Some (sym (append-nil bytes))
 
