@@ -55,6 +55,7 @@ pub fn read_auditing<F: Shelf>(
 
 /// Checks the trace, and writes `yes` where each of its lines is good. What comes of it is told for
 /// whatever is known of the files.
+#[inline(never)]
 pub fn check_trace<K: Sink>(alloc: Global, inputs: &AuditInputs, out: &mut K) -> Status
     ensures outcome { (command : AuditCommand) (files : Option Files)
         → IsAuditingOf command (auditing_stated inputs.now)
