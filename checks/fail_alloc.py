@@ -1,11 +1,12 @@
 #!/usr/bin/env python3
 """Lets each allocation of a command fail in turn: `checks/fail_alloc.py BIN [ARG..]`.
 
-Without arguments the commands are a load case, and a replay, its flows, an audit of its journal, a
-compile and a show of the day of a campus, examples/day. The N-th call for memory fails, alone and then with all after it, for N from 1
-to the calls of a run in which none fails. Each run must end with status 0 and the whole output, or
-with status 7 and a part of it from the front, not all; and its line of errors must be that of the
-status, or a part of it. Else this ends with 1. It needs a C compiler and Linux.
+Without arguments the commands are a load case, and a replay, its flows, its rebalance, an audit of
+its journal, a compile and a show of the day of a campus, examples/day. The N-th call for memory
+fails, alone and then with all after it, for N from 1 to the calls of a run in which none fails.
+Each run must end with status 0 and the whole output, or with status 7 and a part of it from the
+front, not all; and its line of errors must be that of the status, or a part of it. Else this ends
+with 1. It needs a C compiler and Linux.
 """
 import os
 import subprocess
@@ -19,6 +20,7 @@ COMMANDS = (
     "replay schedule.csv policy.csv policy2.csv --net net.toml",
     "replay schedule.csv policy.csv policy2.csv --net net.toml --quiet",
     "flows schedule.csv policy.csv policy2.csv --net net.toml",
+    "rebalance schedule.csv policy.csv policy2.csv --net net.toml",
     "audit journal.txt policy.csv policy2.csv",
     "compile policy.csv --net net.toml",
     "show policy.csv b --net net.toml",
