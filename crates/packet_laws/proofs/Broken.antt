@@ -292,7 +292,7 @@ not_hopped_off_its_route cause =
 not_decided_by_a_version_to_come : StrongCause open_net to_come
     (item.Decided 1 2 (Some 100) Drop (Authority 0 0)) → ⊥
 unfolding current_mark
-not_decided_by_a_version_to_come cause = absurd (omega (arith, cause.1.current))
+not_decided_by_a_version_to_come cause = absurd (omega (arith, cause.1.0.current))
 
 -- in the row of a crash that didn't happen
 abbrev uncrashed : List Item

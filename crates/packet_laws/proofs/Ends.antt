@@ -41,7 +41,7 @@ use Rattle.packet_laws.specs.Stages.{stage_of}
 use Rattle.packet_laws.specs.StrongCauses.{SeeksRightly}
 use Rattle.packet_laws.specs.WayCauses.{FindsNoRoute, IsAt, IsAtPort, IsBlockedOn, IsLostHere, LeavesHere, MeetsDown, TakesLeg, WayCause}
 use Rattle.packet_laws.proofs.Here.{IsHere, decision_in, exiting_of, header_in_facts, leg_in, next_in, stands_in, seeking_of, some_same}
-use Rattle.packet_laws.proofs.KeptFacts.{Knows, here_known, port_named, redirected_to, stage_when, undecided_of}
+use Rattle.packet_laws.proofs.KeptFacts.{Knows, here_known, port_named, redirected_to, stage_looked, undecided_of}
 use Rattle.packet_laws.proofs.OpenWays.{Sees, none_leads, open_joined}
 
 pub decision_out : (journal : List Item) (i : ℕ) (decision : Option Decision)
@@ -159,7 +159,7 @@ pub seeks_rightly : (setting : Setting) (before : List Item) (i s : ℕ) (versio
 seeks_rightly setting before i s version partition knows here (inl takes) = record {
   undecided = decision_out before i None
       (undecided_of setting before i s (stage_of before i) knows.kept here
-      (stage_when before i s 0 (inl takes.looked_up)));
+      (stage_looked before i s takes.looked_up));
   not_retired = omega (
     arith,
     sym (mark_in before i),

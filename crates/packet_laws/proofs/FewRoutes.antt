@@ -267,7 +267,7 @@ named_few setting before (item.FoundDown packet one two) i current facts more tr
 named_few setting before (item.Decided packet v rule act by) i current facts more true e few =
     let undecided : (what_is_known before i).decision ≡ None =
     decision_in before i None
-    (subst (λ k. decision_of before k ≡ None) (eqb-true packet i e) facts.further.undecided) in
+    (subst (λ k. decision_of before k ≡ None) (eqb-true packet i e) facts.further.0.undecided) in
     rw e (record {
       seeking = risen more few.seeking;
       leaving = record { undecided = λ is. absurd cc; exited = few.leaving.exited };

@@ -33,7 +33,7 @@ use Rattle.journal.specs.declared.item.Item.TheVariants as item
 use Rattle.update_machine.specs.Caches.{cache_of, lookup_at}
 use Rattle.update_machine.specs.Causes.{HaveCauses}
 use Rattle.update_machine.specs.Marks.{current_mark, retired_mark}
-use Rattle.update_machine.specs.Moves.{AuthorityRule}
+use Rattle.update_machine.specs.Moves.{AuthorityRule, header_at}
 use Rattle.update_machine.specs.Adverts.{route_from}
 use Rattle.update_machine.specs.Packets.{Decision}
 use Rattle.update_machine.specs.Setting.{Setting, IsSetting, NamesOwnPort}
@@ -47,7 +47,7 @@ use Rattle.packet_laws.specs.OnWay.{IsOnLeg, IsOnWay, IsPartitionOf, IsSought, I
 use Rattle.packet_laws.specs.Facts.{PacketFacts, facts_after, what_is_known}
 use Rattle.packet_laws.specs.KeptFacts.{Avoids, IsJudged, IsKept}
 use Rattle.packet_laws.specs.Stages.{Blocked, CameIn, Judged, OnWay, Stage, stage_of}
-use Rattle.packet_laws.specs.WayCauses.{AuthorityDecides, CacheDecides, DecidesBy, IsAt, IsDecided, IsRedirected, MeetsDown, MovesOver, TakesDetour, TakesExit, TakesRoute}
+use Rattle.packet_laws.specs.WayCauses.{AuthorityDecides, CacheDecides, DecidesBy, IsAt, IsDecided, IsLookedUp, IsRedirected, MeetsDown, MovesOver, TakesDetour, TakesExit, TakesRoute}
 use Rattle.packet_laws.proofs.Here.{IsHere, Rules, found_in, here_of, leg_in, next_in, decision_in, rules_of, seeking_of, some_same}
 use Rattle.packet_laws.proofs.Lookups.{FindsTargets, redirect_found}
 use Rattle.packet_laws.proofs.PacketBlocks.{WhenDecided}
@@ -131,11 +131,11 @@ sought_of setting before i s stage kept here (inr moving) v p seeks =
     (kept.on_way here.travelling (inl moving)) here.under.entered seeks).sought
 
 -- where a packet is looked up or arrives
-pub stage_when : (before : List Item) (i s version : ℕ) → WhenDecided before i s version
+pub stage_looked : (before : List Item) (i s : ℕ) → IsLookedUp before i s
     → (stage_of before i ≡ Some CameIn) ⊎ ((stage_of before i ≡ Some OnWay)
     × ((v : ℕ) × (p : ℕ) × ((what_is_known before i).leg ≡ Some (Seek v p))))
-stage_when before i s version (inl (inl came)) = inl came
-stage_when before i s version (inl (inr misses)) =
+stage_looked before i s (inl came) = inl came
+stage_looked before i s (inr misses) =
     inr (
       misses.arrives.moving,
       (
@@ -144,6 +144,11 @@ stage_when before i s version (inl (inr misses)) =
         leg_in before i (Some (Seek misses.version misses.partition)) misses.seeks,
       ),
     )
+
+pub stage_when : (before : List Item) (i s version : ℕ) → WhenDecided before i s version
+    → (stage_of before i ≡ Some CameIn) ⊎ ((stage_of before i ≡ Some OnWay)
+    × ((v : ℕ) × (p : ℕ) × ((what_is_known before i).leg ≡ Some (Seek v p))))
+stage_when before i s version (inl looked) = stage_looked before i s looked.0
 stage_when before i s version (inr reaches) =
     inr (
       reaches.arrives.moving,
@@ -228,7 +233,7 @@ seeking_after setting before i mark version partition route knows takes =
     ∙ takes.leads)) in
     sets_out setting before i s _ (Seek version partition) hosted.1 route here refl way (record {
       undecided = undecided_of setting before i s (stage_of before i) knows.kept here
-          (stage_when before i s 0 (inl takes.takes.looked_up));
+          (stage_looked before i s takes.takes.looked_up);
       sought = record {
         not_retired = omega (arith, here.under.mark, here.stamped.retired, takes.takes.stamp);
         current = omega (arith, here.stamped.current, takes.takes.stamp);
@@ -434,6 +439,28 @@ pub record DecidesRightly (setting : Setting) (before : List Item) (facts : Pack
       ≡ record { rule = rule; action = act }
   pub named : NamesOwnPort setting act
 
+-- a cache answers by an entry that it has, of the version with which its switch stamps
+record HasCached (setting : Setting) (before : List Item) (s : ℕ) (header : Header)
+    (entry : CacheEntry) : Type 0 where
+  there : Contains (cache_of setting before s).entries entry
+  stamp : entry.version ≡ stamp_of before s
+  held : IsTrue (holds entry.word (number_of header))
+
+has_cached : (setting : Setting) (before : List Item) (s : ℕ) (header : Header)
+    (entry : CacheEntry) → lookup_at setting before s header ≡ found.Cached entry
+    → HasCached setting before s header entry
+has_cached setting before s header entry answer =
+    let found : Contains (cache_of setting before s).entries entry
+    × (((entry.version == stamp_of before s) && holds entry.word (number_of header)) ≡ true) =
+    find-there (λ (x : CacheEntry). (x.version == stamp_of before s)
+    && holds x.word (number_of header)) (cache_of setting before s).entries entry
+    (cached_found setting before s header entry answer) in
+    record {
+      there = found.0;
+      stamp = eqb-true entry.version (stamp_of before s) (and_parts _ _ found.1).0;
+      held = (and_parts _ _ found.1).1;
+    }
+
 cache_decides : (setting : Setting) (before : List Item) (i s version : ℕ) (rule : Option ℕ)
     (act : Action) (message : ℕ) → (here : IsHere setting before i s)
     → All (IsRightEntry setting before) (cache_of setting before s).entries
@@ -442,23 +469,17 @@ cache_decides : (setting : Setting) (before : List Item) (i s version : ℕ) (ru
 cache_decides setting before i s version rule act message here right by =
     let entry : CacheEntry = by.entry in
     let header : Header = here.under.header in
-    let first : first_entry (stamp_of before s) (number_of header)
-    (cache_of setting before s).entries ≡ Some entry =
-    cached_found setting before s header entry
+    let cached : HasCached setting before s header entry =
+    has_cached setting before s header entry
     (ap (lookup_at setting before s) (sym here.header) ∙ by.answer) in
-    let there : Contains (cache_of setting before s).entries entry
-    × (((entry.version == stamp_of before s) && holds entry.word (number_of header)) ≡ true) =
-    find-there (λ (x : CacheEntry). (x.version == stamp_of before s)
-    && holds x.word (number_of header)) (cache_of setting before s).entries entry first in
     let own : IsRightEntry setting before entry =
     All-contains (IsRightEntry setting before) (cache_of setting before s).entries entry right
-    there.0 in
-    let stamp : entry.version ≡ stamp_of before s =
-    eqb-true entry.version (stamp_of before s) (and_parts _ _ there.1).0 in
+    cached.there in
+    let stamp : entry.version ≡ stamp_of before s = cached.stamp in
     let match : scan (policy_at setting before version) header
     ≡ record { rule = rule; action = act } =
     ap (λ v. scan (policy_at setting before v) header) by.of_version
-    ∙ own.decides header here.under.sound (and_parts _ _ there.1).1
+    ∙ own.decides header here.under.sound cached.held
     ∙ ap (λ r. record { rule = r; action = entry.action }) (sym by.by_rule)
     ∙ ap (λ a. record { rule = rule; action = a }) (sym by.says) in
     record {
@@ -518,7 +539,11 @@ pub decided_now : (setting : Setting) (before : List Item) (i s version : ℕ) (
     → IsDecidedNow setting before i s version rule act here.under.header
 decided_now setting before i s version rule act (how.Cached message) knows here right decides =
     record {
-      when = inl decides.looked_up;
+      when = inl (
+        decides.looked_up,
+        decides.of_version
+            ∙ (has_cached setting before s (header_at before i) decides.entry decides.answer).stamp,
+      );
       rightly = cache_decides setting before i s version rule act message here right decides;
     }
 decided_now setting before i s version rule act (how.Authority home partition) knows here right

@@ -35,7 +35,7 @@ use Rattle.control_laws.proofs.Grown.{last_more, serving_more}
 use Rattle.control_laws.proofs.Facts.{own}
 use Rattle.packet_laws.specs.Stages.{Stage, Blocked, CameIn, Judged, OnWay, stage_of, gives_stage}
 use Rattle.packet_laws.specs.Rest.{AreResting, IsServed}
-use Rattle.packet_laws.specs.WayCauses.{Arrives, AuthorityFinds, IsAt, IsLookedUp, IsOfRow, ReachesAuthority, TakesLeg, WayCause}
+use Rattle.packet_laws.specs.WayCauses.{Arrives, AuthorityFinds, IsAt, IsLookedUp, IsLookedUpBy, IsOfRow, ReachesAuthority, TakesLeg, WayCause}
 use Rattle.packet_laws.proofs.FirstLinks.{first_usable}
 
 abbrev pub Ways : Setting → List Item → List Item → Type 0
@@ -283,7 +283,8 @@ cache_ways setting journal i s found here finds = by_apart (is_at s (ingress_of 
 
 -- the packet is looked up or arrives where its rule is found
 abbrev pub WhenDecided : List Item → ℕ → ℕ → ℕ → Type 0
-WhenDecided journal i s version = IsLookedUp journal i s ⊎ ReachesAuthority journal i s version
+WhenDecided journal i s version =
+    IsLookedUpBy journal i s version ⊎ ReachesAuthority journal i s version
 
 pub authority_ways : (setting : Setting) (journal : List Item) (i s version : ℕ)
     (o : Option AuthorityRule) → IsAt journal i s → WhenDecided journal i s version
@@ -365,7 +366,7 @@ found_ways setting journal i s (found.Cached entry) at looked answer =
     refl)
 found_ways setting journal i s (found.Authority partition place) at looked answer =
     authority_ways setting journal i s (stamp_of journal s)
-    (authority_rule setting journal (stamp_of journal s) partition place) at (inl looked)
+    (authority_rule setting journal (stamp_of journal s) partition place) at (inl (looked, refl))
     (λ rule is. (
       rule_version setting journal (stamp_of journal s) partition place rule is,
       record {

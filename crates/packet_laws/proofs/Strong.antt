@@ -15,6 +15,7 @@ use Rattle.update_machine.specs.Moves.{route_for}
 use Rattle.update_machine.specs.Ways.{found_down, targets_of}
 use Rattle.update_machine.specs.Setting.{Setting, IsSetting}
 use Rattle.update_machine.specs.Versions.{holds_version, stamp_of}
+use Rattle.update_machine.specs.Packets.{standing}
 use Rattle.update_machine.specs.Travels.{leg_of}
 use Rattle.update_machine.proofs.CallerLemmas.{known_link_laws}
 use Rattle.control_laws.specs.ItemCauses.{HasItemCause}
@@ -24,12 +25,13 @@ use Rattle.packet_laws.specs.OnWay.{IsOnLeg}
 use Rattle.packet_laws.specs.Facts.{PacketFacts, what_is_known}
 use Rattle.packet_laws.specs.KeptFacts.{AllKept}
 use Rattle.packet_laws.specs.Stages.{stage_of}
-use Rattle.packet_laws.specs.StrongCauses.{FindsLinkDown, FurtherCause, IsLeastRoute, IsOnRightLeg, IsStuckOnLeg, RaisesVersion, SeeksRightly, StrongCause}
-use Rattle.packet_laws.specs.WayCauses.{FindsNoRoute, IsAt, IsBlockedOn, IsDecided, IsLookedUp, MeetsDown, TakesLeg, TakesRoute, WayCause}
+use Rattle.packet_laws.specs.StrongCauses.{FindsLinkDown, FurtherCause, IsLeastRoute, IsOnRightLeg, IsStuckOnLeg, RaisesOnLeg, RaisesUnheld, RaisesVersion, SeeksRightly, StrongCause}
+use Rattle.packet_laws.specs.WayCauses.{FindsNoRoute, IsAt, IsBlockedOn, IsDecided, IsLookedUp, IsRedirected, MeetsDown, TakesLeg, WayCause}
 use Rattle.packet_laws.proofs.AllKept.{Before, kept_before, known_before, knows}
 use Rattle.packet_laws.proofs.Ends.{decision_out, leaves_rightly, mark_in, meets_link, seeks_rightly, stands_known, stuck_rightly}
 use Rattle.packet_laws.proofs.Here.{IsHere, here_of, leg_in, seeking_of, some_same}
 use Rattle.packet_laws.proofs.KeptFacts.{IsDecidedNow, Knows, decided_now, stage_when, undecided_of}
+use Rattle.packet_laws.proofs.PacketBlocks.{WhenDecided}
 use Rattle.packet_laws.proofs.Rests.{IsWayItem, Past}
 use Rattle.packet_laws.proofs.Routes.{route_way}
 
@@ -45,63 +47,17 @@ finds_link setting before i one two knows_it meets = record {
   linked = meets_link setting before i one two knows_it meets;
 }
 
-stuck_on_leg : (setting : Setting) (before : List Item) (i s : ℕ) (cause : Cause) (leg : Leg)
-    (down : List ℕ) → Knows setting before i (stage_of before i)
-    → FindsNoRoute setting before i s cause leg down
-    → IsStuckOnLeg setting before i s cause leg down
-stuck_on_leg setting before i s cause leg down knows_it finds = record {
-  stuck = stuck_rightly setting before i s cause leg down knows_it finds;
-  found = finds.found;
-  no_route = rw finds.found finds.none;
-  why = rw finds.found finds.why;
-  rightly = by_leg leg finds.on;
-}
-  where
-    here : IsHere setting before i s
-    here = here_of setting before i s (stage_of before i) knows_it.is knows_it.have knows_it.kept
-        finds.at
-
-    by_leg : (leg : Leg) → TakesLeg setting before i s leg ⊎ IsBlockedOn before i leg
-        → IsOnRightLeg before i leg
-    by_leg (Seek version partition) on =
-        seeks_rightly setting before i s version partition knows_it here on
-    by_leg (Exit port) on = tt
-
-decided_rightly : (setting : Setting) (before : List Item) (i version : ℕ) (rule : Option ℕ)
-    (act : Action) (by : How) → Before setting before → IsDecided setting before i version rule act by
-    → SeeksRightly before i version
-decided_rightly setting before i version rule act by known way =
-    let knows_it : Knows setting before i (stage_of before i) = knows setting before i known in
-    let s : ℕ = way.switch in
-    let here : IsHere setting before i s =
-    here_of setting before i s (stage_of before i) known.is knows_it.have knows_it.kept way.at in
-    let now : IsDecidedNow setting before i s version rule act here.under.header =
-    decided_now setting before i s version rule act by knows_it here (known.kept.cached s) way.by in
-    record {
-      undecided = decision_out before i None
-          (undecided_of setting before i s (stage_of before i) knows_it.kept here
-          (stage_when before i s version now.when));
-      not_retired = subst (λ m. m < version) (mark_in before i) now.rightly.not_retired;
-      current = now.rightly.current;
-    }
-
 -- a version that isn't held is below the stamp
-raises_version : (setting : Setting) (before : List Item) (i version partition : ℕ)
-    (route : List ℕ) → Knows setting before i (stage_of before i)
-    → TakesRoute setting before i (Seek version partition) route
-    → RaisesVersion before i version
-raises_version setting before i version partition route knows_it takes earlier part seeks =
-    by_lookup takes.takes.looked_up
+below_stamp : (setting : Setting) (before : List Item) (i s earlier part : ℕ)
+    → Knows setting before i (stage_of before i) → IsAt before i s → IsLookedUp before i s
+    → leg_of before i ≡ Some (Seek earlier part) → earlier < stamp_of before s
+below_stamp setting before i s earlier part knows_it at looked seeks = by_lookup looked
   where
     facts : PacketFacts
     facts = what_is_known before i
 
-    s : ℕ
-    s = takes.switch
-
     here : IsHere setting before i s
-    here = here_of setting before i s (stage_of before i) knows_it.is knows_it.have knows_it.kept
-        takes.at
+    here = here_of setting before i s (stage_of before i) knows_it.is knows_it.have knows_it.kept at
 
     there : s < length setting.net.switches
     there = subst (λ x. x < length setting.net.switches) (sym here.at) here.under.now
@@ -110,11 +66,11 @@ raises_version setting before i version partition route knows_it takes earlier p
     sought = leg_in before i (Some (Seek earlier part)) seeks
 
     by_held : IsTrue (holds_version before s earlier) ⊎ (earlier < stamp_of before s)
-        → IsFalse (holds_version before s earlier) → earlier < version
+        → IsFalse (holds_version before s earlier) → earlier < stamp_of before s
     by_held (inl held) missing = absurd cc
-    by_held (inr below) missing = omega (arith, below, takes.takes.stamp)
+    by_held (inr below) missing = below
 
-    by_lookup : IsLookedUp before i s → earlier < version
+    by_lookup : IsLookedUp before i s → earlier < stamp_of before s
     by_lookup (inl came) =
         let none : facts.leg ≡ None = (knows_it.kept.came_in here.travelling came).1 in
         let clash : None ≡ Some (Seek earlier part) = sym none ∙ sought in
@@ -129,9 +85,96 @@ raises_version setting before i version partition route knows_it takes earlier p
         misses.seeks seeks in
         let version_same : misses.version ≡ earlier = cc in
         by_held
-        ((serving_hold setting before knows_it.have s there takes.at.serving).held earlier
-        on.current)
+        ((serving_hold setting before knows_it.have s there at.serving).held earlier on.current)
         (subst (λ v. IsFalse (holds_version before s v)) version_same misses.missing)
+
+raises_version : (setting : Setting) (before : List Item) (i s version partition : ℕ)
+    → Knows setting before i (stage_of before i) → IsAt before i s
+    → IsRedirected setting before i s version partition → RaisesVersion before i version
+raises_version setting before i s version partition knows_it at takes earlier part seeks =
+    omega (
+      arith,
+      below_stamp setting before i s earlier part knows_it at takes.looked_up seeks,
+      takes.stamp,
+    )
+
+-- a version that is decided by, and isn't the one that is sought, is the stamp
+raises_unheld : (setting : Setting) (before : List Item) (i s version : ℕ)
+    → Knows setting before i (stage_of before i) → IsAt before i s
+    → WhenDecided before i s version → RaisesUnheld before i version
+raises_unheld setting before i s version knows_it at when earlier part switch seeks stands missing =
+    by_when when
+  where
+    by_when : WhenDecided before i s version → earlier < version
+    by_when (inl looked) = omega (
+      arith,
+      below_stamp setting before i s earlier part knows_it at looked.0 seeks,
+      looked.1,
+    )
+    by_when (inr reaches) =
+        let same : Seek version reaches.partition ≡ Seek earlier part =
+        some_same (leg_of before i) (Seek version reaches.partition) (Seek earlier part)
+        reaches.seeks seeks in
+        let version_same : version ≡ earlier = cc in
+        let switch_same : s ≡ switch =
+        some_same (standing before i) s switch
+        (stands_known setting before i s knows_it at) stands in
+        let held : IsTrue (holds_version before switch earlier) =
+        subst (λ v. IsTrue (holds_version before switch v)) version_same
+        (subst (λ x. IsTrue (holds_version before x version)) switch_same reaches.held) in
+        absurd cc
+
+raises_on_leg : (setting : Setting) (before : List Item) (i s : ℕ) (leg : Leg)
+    → Knows setting before i (stage_of before i) → IsAt before i s
+    → TakesLeg setting before i s leg ⊎ IsBlockedOn before i leg → RaisesOnLeg before i leg
+raises_on_leg setting before i s (Exit port) knows_it at on = tt
+raises_on_leg setting before i s (Seek version partition) knows_it at (inl takes) =
+    λ apart. raises_version setting before i s version partition knows_it at takes
+raises_on_leg setting before i s (Seek version partition) knows_it at (inr blocked) =
+    λ apart. absurd (apart blocked.blocked)
+
+stuck_on_leg : (setting : Setting) (before : List Item) (i s : ℕ) (cause : Cause) (leg : Leg)
+    (down : List ℕ) → Knows setting before i (stage_of before i)
+    → FindsNoRoute setting before i s cause leg down
+    → IsStuckOnLeg setting before i s cause leg down
+stuck_on_leg setting before i s cause leg down knows_it finds = record {
+  stuck = stuck_rightly setting before i s cause leg down knows_it finds;
+  found = finds.found;
+  no_route = rw finds.found finds.none;
+  why = rw finds.found finds.why;
+  rightly = by_leg leg finds.on;
+  raises = raises_on_leg setting before i s leg knows_it finds.at finds.on;
+}
+  where
+    here : IsHere setting before i s
+    here = here_of setting before i s (stage_of before i) knows_it.is knows_it.have knows_it.kept
+        finds.at
+
+    by_leg : (leg : Leg) → TakesLeg setting before i s leg ⊎ IsBlockedOn before i leg
+        → IsOnRightLeg before i leg
+    by_leg (Seek version partition) on =
+        seeks_rightly setting before i s version partition knows_it here on
+    by_leg (Exit port) on = tt
+
+decided_rightly : (setting : Setting) (before : List Item) (i version : ℕ) (rule : Option ℕ)
+    (act : Action) (by : How) → Before setting before → IsDecided setting before i version rule act by
+    → SeeksRightly before i version × RaisesUnheld before i version
+decided_rightly setting before i version rule act by known way =
+    let knows_it : Knows setting before i (stage_of before i) = knows setting before i known in
+    let s : ℕ = way.switch in
+    let here : IsHere setting before i s =
+    here_of setting before i s (stage_of before i) known.is knows_it.have knows_it.kept way.at in
+    let now : IsDecidedNow setting before i s version rule act here.under.header =
+    decided_now setting before i s version rule act by knows_it here (known.kept.cached s) way.by in (
+      record {
+        undecided = decision_out before i None
+            (undecided_of setting before i s (stage_of before i) knows_it.kept here
+            (stage_when before i s version now.when));
+        not_retired = subst (λ m. m < version) (mark_in before i) now.rightly.not_retired;
+        current = now.rightly.current;
+      },
+      raises_unheld setting before i s version knows_it way.at now.when,
+    )
 
 least_route : (setting : Setting) (before : List Item) (i s : ℕ) (leg : Leg) (route : List ℕ)
     → Knows setting before i (stage_of before i) → IsAt before i s
@@ -153,8 +196,8 @@ further : (setting : Setting) (before : List Item) (next : Item) → Before sett
 further setting before (item.Submitted file version) known cause way = cause
 further setting before (item.Retired version) known cause way = cause
 further setting before (item.Seeking packet version partition route) known cause way = (
-  raises_version setting before packet version partition route (knows setting before packet known)
-      way,
+  raises_version setting before packet way.switch version partition
+      (knows setting before packet known) way.at way.takes,
   least_route setting before packet way.switch (Seek version partition) route
       (knows setting before packet known) way.at way.leads,
 )

@@ -1,7 +1,7 @@
 -- Causes as strong as a reader may ask. With them a run whose rows are the schedule's keeps the
 -- promise: each packet is decided by one whole version that wasn't retired as it came in, or was
 -- lost by a row, or was stuck where no route was known.
-use Rattle.std.specs.Prelude.{⊤, ℕ, ◌≡◌, ◌<◌, ◌≤◌, Some, None, List}
+use Rattle.std.specs.Prelude.{⊤, ℕ, ◌≡◌, ◌≢◌, ◌<◌, ◌≤◌, Some, None, List, IsFalse}
 use Rattle.failover.specs.Paths.{IsRoute}
 use Rattle.policy_rules.specs.declared.packet.Cause.{Cause}
 use Rattle.policy_rules.specs.declared.packet.Leg.{Leg}
@@ -17,11 +17,13 @@ use Rattle.update_machine.specs.Moves.{cause_at}
 use Rattle.update_machine.specs.Packets.{decision_of, standing}
 use Rattle.update_machine.specs.Setting.{Setting}
 use Rattle.update_machine.specs.Travels.{leg_of}
+use Rattle.update_machine.specs.Versions.{holds_version}
 use Rattle.update_machine.specs.Ways.{found_down, targets_of}
 use Rattle.update_machine.specs.ExactCauses.{FindsNextDown, FindsNoPath, SeeksOwn}
 use Rattle.control_laws.specs.ItemCauses.{RetiresRightly, SubmitsRightly}
 use Rattle.packet_laws.specs.Facts.{entry_mark}
 use Rattle.packet_laws.specs.KeptFacts.{Avoids}
+use Rattle.packet_laws.specs.Stages.{Blocked, stage_of}
 use Rattle.packet_laws.specs.WayCauses.{WayCause}
 
 -- a link of the network, from where the packet stands to the next switch of its route, which its
@@ -42,6 +44,24 @@ abbrev pub IsOnRightLeg : List Item → ℕ → Leg → Type 0
 IsOnRightLeg before packet (Seek version partition) = SeeksRightly before packet version
 IsOnRightLeg before packet (Exit port) = ⊤
 
+-- a lookup on the way raises the version that the packet seeks
+abbrev pub RaisesVersion : List Item → ℕ → ℕ → Type 0
+RaisesVersion before packet version = (earlier partition : ℕ)
+    → leg_of before packet ≡ Some (Seek earlier partition) → earlier < version
+
+-- so too where the switch by which it is decided doesn't hold the version that it seeks
+abbrev pub RaisesUnheld : List Item → ℕ → ℕ → Type 0
+RaisesUnheld before packet version = (earlier partition switch : ℕ)
+    → leg_of before packet ≡ Some (Seek earlier partition)
+    → standing before packet ≡ Some switch → IsFalse (holds_version before switch earlier)
+    → earlier < version
+
+-- and where it is stuck on a leg that it was about to take, since no link was found down on it
+abbrev pub RaisesOnLeg : List Item → ℕ → Leg → Type 0
+RaisesOnLeg before packet (Seek version partition) =
+    (stage_of before packet ≢ Some Blocked) → RaisesVersion before packet version
+RaisesOnLeg before packet (Exit port) = ⊤
+
 -- the packet is stuck with the links that it found down, and by the one cause: its switch finds no
 -- route
 pub record IsStuckOnLeg (setting : Setting) (before : List Item) (packet switch : ℕ)
@@ -51,11 +71,7 @@ pub record IsStuckOnLeg (setting : Setting) (before : List Item) (packet switch 
   pub no_route : route_from setting before switch (targets_of setting before leg) down ≡ None
   pub why : cause ≡ cause_at setting before switch down leg
   pub rightly : IsOnRightLeg before packet leg
-
--- a lookup on the way raises the version that the packet seeks
-abbrev pub RaisesVersion : List Item → ℕ → ℕ → Type 0
-RaisesVersion before packet version = (earlier partition : ℕ)
-    → leg_of before packet ≡ Some (Seek earlier partition) → earlier < version
+  pub raises : RaisesOnLeg before packet leg
 
 -- a route uses no link that the packet found down
 abbrev pub AvoidsFound : List Item → ℕ → List ℕ → Type 0
@@ -101,7 +117,7 @@ FurtherCause setting before (item.Rerouted packet route) =
 FurtherCause setting before (item.FoundDown packet one two) =
     FindsLinkDown setting before packet one two
 FurtherCause setting before (item.Decided packet version rule action how) =
-    SeeksRightly before packet version
+    SeeksRightly before packet version × RaisesUnheld before packet version
 FurtherCause setting before (item.Left packet port leaving) =
     LeavesRightly setting before packet port leaving
 FurtherCause setting before (item.Stuck packet switch cause leg down) =

@@ -74,6 +74,11 @@ abbrev pub IsLookedUp : List Item → ℕ → ℕ → Type 0
 IsLookedUp before packet switch =
     (stage_of before packet ≡ Some CameIn) ⊎ Misses before packet switch
 
+-- under this version, with which the switch stamps
+abbrev pub IsLookedUpBy : List Item → ℕ → ℕ → ℕ → Type 0
+IsLookedUpBy before packet switch version =
+    IsLookedUp before packet switch × (version ≡ stamp_of before switch)
+
 -- ---- legs
 
 -- the lookup, under the switch's stamp, sends it to the targets of the partition
@@ -197,7 +202,8 @@ pub record AuthorityDecides (setting : Setting) (before : List Item) (packet swi
     (rule : Option ℕ) (action : Action) (partition : ℕ) : Type 0 where
   pub found : AuthorityRule
   pub finds : AuthorityFinds setting before packet switch version found
-  pub when : IsLookedUp before packet switch ⊎ ReachesAuthority before packet switch version
+  pub when : IsLookedUpBy before packet switch version
+      ⊎ ReachesAuthority before packet switch version
   pub by_rule : rule ≡ found.rule.rule
   pub says : action ≡ found.rule.action
   pub of_part : partition ≡ found.part.number
