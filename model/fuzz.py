@@ -1,23 +1,33 @@
 #!/usr/bin/env python3
-"""Plays random schedules by the program and by `model/slow_replay.py`, and compares the outputs.
+"""Plays random schedules by the program and by the slow model, and compares what both print.
 
-usage: model/fuzz.py BIN COUNT [START]
+usage: model/fuzz.py BIN COUNT [START] [--jobs N]
 
 BIN is the program (`rt run` leaves it in crates/difane/out/difane). Each seed from START on (0
 where it isn't given) makes a network of two to five switches, a policy, two more policies or
-changes, and a schedule of 10 to 60 rows of all kinds. Each difference is told by its seed and its
-first line; it stops at ten. At last it prints how many outputs were alike, and how many cases both
-refused, since the first policy had no plan. It ends with 1 where there was a difference.
+changes, and a schedule of 10 to 60 rows of all kinds. Of each case these are compared: the journal
+of `replay` with the answer of `--quiet`, the records of `flows`, the placement of `rebalance`, and
+the answers of `audit` to that journal and to three damaged ones. Each difference is told by its
+seed, its command and its first line; it stops at ten. At last it prints how many cases were alike,
+and how many both refused, since the first policy had no plan. It ends with 1 where there was a
+difference.
 """
+import argparse
 import random
 import subprocess
 import sys
 import tempfile
+import tomllib
+from multiprocessing import Pool
 from pathlib import Path
 
-MODEL = Path(__file__).resolve().parent / "slow_replay.py"
+import rebalance
+import slow_audit
+import slow_replay
+
 POLICIES = 3
-ARGS = ["s.csv", *(f"p{file}.csv" for file in range(1, POLICIES + 1)), "--net", "n.toml", "--quiet"]
+FILES = [f"p{file}.csv" for file in range(1, POLICIES + 1)]
+PLAYED = ["s.csv", *FILES, "--net", "n.toml"]
 PREFIXES = ["any", "10.0.0.0/8", "10.1.0.0/16", "10.1.2.0/24", "10.1.2.3"]
 ADDRESSES = ["10.1.2.3", "10.1.2.4", "10.1.9.9", "10.7.7.7", "8.8.8.8"]
 # Of a hundred rows. Few are lost, forgotten or expired, so that most packets come to an end.
@@ -132,46 +142,107 @@ def write_case(seed, folder, kinds, change_share=0.0):
         Path(folder, name).write_text("".join(line + "\n" for line in lines))
 
 
-def run(command, folder):
-    """The status, the lines, and what was told of errors."""
-    done = subprocess.run([*command, *ARGS], cwd=folder, capture_output=True, text=True)
-    return done.returncode, done.stdout.splitlines(), done.stderr.strip()
+def damaged(rng, text):
+    """The text with one line changed, moved, repeated or taken out, or cut somewhere."""
+    lines = text.splitlines(keepends=True)
+    at, other = rng.randrange(len(lines)), rng.randrange(len(lines))
+    way = rng.randrange(6)
+    if way == 0:
+        words = lines[at].split(" ")
+        words[rng.randrange(len(words))] = rng.choice(rng.choice(lines).split())
+        lines[at] = " ".join(words).rstrip("\n") + "\n"
+    elif way == 1:
+        lines.insert(other, lines.pop(at))
+    elif way == 2:
+        lines.insert(other, lines[at])
+    elif way == 3:
+        del lines[at]
+    elif way == 4:
+        digits = [k for k, letter in enumerate(lines[at]) if letter.isdigit()]
+        place = rng.choice(digits or [0])
+        lines[at] = lines[at][:place] + str(rng.randrange(10)) + lines[at][place + 1 :]
+    else:
+        lines[at] = lines[at][: rng.randrange(len(lines[at]))]
+        del lines[at + rng.randrange(2) * len(lines) + 1 :]
+    return "".join(lines)
 
 
-def tell(seed, model, program):
-    """The first line that differs, with the statuses."""
-    pairs = enumerate(zip(model[1], program[1]))
-    shorter = min(len(model[1]), len(program[1]))
-    at = next((k for k, (want, got) in pairs if want != got), shorter)
-    print(f"seed {seed}, line {at + 1}")
-    for name, (status, lines, errors) in (("model", model), ("program", program)):
-        print(f"  {name}: status {status}, {lines[at : at + 1]} {errors[-150:]}")
+def asked(binary, folder, *arguments):
+    """The status, what was printed, and what was told of errors."""
+    done = subprocess.run([binary, *arguments], cwd=folder, capture_output=True, text=True)
+    return done.returncode, done.stdout, done.stderr
 
 
-def play(binary, seed):
-    """What came of a case: "alike", "refused" or "different"."""
+def told(lines):
+    return 0, "".join(line + "\n" for line in lines), ""
+
+
+def answers(folder):
+    """What the model says of a case: by command its arguments, and how the program has to end."""
+    net = tomllib.loads(Path(folder, "n.toml").read_text())
+    world = slow_replay.played(net, Path(folder, "s.csv"), [Path(folder, name) for name in FILES])
+    journal = [*world.journal.lines, *world.journal.meter_lines()]
+    yield ["replay", *PLAYED, "--quiet"], told([*journal, f"quiet {'yes' if world.is_quiet() else 'no'}"])
+    yield ["flows", *PLAYED], told(world.journal.flow_lines())
+    yield ["rebalance", *PLAYED], (0, rebalance.text_of(net, world), "")
+
+
+def audits(rng, folder, text):
+    """Likewise of the text of a journal, and of damaged ones."""
+    for name, trace in enumerate([text, *(damaged(rng, text) for _ in range(3))]):
+        Path(folder, f"t{name}").write_text(trace)
+        line = slow_audit.answer(Path(folder, f"t{name}"), *(Path(folder, file) for file in FILES))
+        expected = (1, "", line + "\n") if line else (0, "yes\n", "")
+        yield ["audit", f"t{name}", *FILES], expected
+
+
+def compared(binary, folder, seed, arguments, expected):
+    """Nothing where the program says it too, and else the first line that differs."""
+    found = asked(binary, folder, *arguments)
+    if found == expected:
+        return []
+    want, got = (one[1].splitlines() for one in (expected, found))
+    at = next((k for k, both in enumerate(zip(want, got)) if both[0] != both[1]), min(len(want), len(got)))
+    return [
+        f"seed {seed}, {arguments[0]}, line {at + 1}",
+        f"  model: status {expected[0]}, {want[at : at + 1]} {expected[2][-150:]}",
+        f"  program: status {found[0]}, {got[at : at + 1]} {found[2][-150:]}",
+    ]
+
+
+def play(case):
+    """What came of a case: "alike", "refused" or "different", with what differs."""
+    binary, seed = case
     with tempfile.TemporaryDirectory() as folder:
         write_case(seed, folder, KINDS, change_share=0.5)
-        model = run([sys.executable, str(MODEL)], folder)
-        program = run([binary, "replay"], folder)
-    if model[0] == program[0] == NO_PLAN:
-        return "refused"
-    if model[:2] == program[:2] and model[0] == 0:
-        return "alike"
-    tell(seed, model, program)
-    return "different"
+        try:
+            answered = [*answers(folder)]
+        except SystemExit as end:
+            status = asked(binary, folder, "replay", *PLAYED)[0]
+            alike = status == end.code == NO_PLAN
+            return ("refused", []) if alike else ("different", [f"seed {seed}: status {status}"])
+        text = answered[0][1][1]
+        answered += audits(random.Random(seed), folder, text)
+        lines = [line for pair in answered for line in compared(binary, folder, seed, *pair)]
+    return ("different" if lines else "alike"), lines
 
 
 def main():
-    if len(sys.argv) not in (3, 4):
-        sys.exit(__doc__)
-    binary = str(Path(sys.argv[1]).resolve())
-    count, start = int(sys.argv[2]), int(sys.argv[3]) if len(sys.argv) == 4 else 0
+    parser = argparse.ArgumentParser(usage=__doc__)
+    parser.add_argument("binary")
+    parser.add_argument("count", type=int)
+    parser.add_argument("start", type=int, nargs="?", default=0)
+    parser.add_argument("--jobs", type=int, default=1)
+    args = parser.parse_args()
+    binary = str(Path(args.binary).resolve())
+    cases = [(binary, seed) for seed in range(args.start, args.start + args.count)]
     ends = []
-    for seed in range(start, start + count):
-        ends.append(play(binary, seed))
-        if ends.count("different") == MOST_DIFFERENCES:
-            break
+    with Pool(args.jobs) as pool:
+        for end, lines in pool.imap(play, cases, chunksize=4):
+            ends.append(end)
+            print("".join(line + "\n" for line in lines), end="", flush=True)
+            if ends.count("different") == MOST_DIFFERENCES:
+                break
     print(", ".join(f"{ends.count(end)} {end}" for end in ("alike", "refused", "different")))
     sys.exit("different" in ends)
 

@@ -50,6 +50,23 @@ def spread(sizes, weights, rooms, backups):
     return [placed[part] for part in range(len(sizes))]
 
 
+def text_of(net, world):
+    """What is printed of the world behind a play."""
+    version = world.controller.current
+    plan = world.plans[version]
+    weights = weights_of(world.journal.lines, version, len(plan.parts))
+    rooms = [row.get("authority", 0) for row in net["switch"]]
+    sizes = [len(rules) for _, rules in plan.parts]
+    new = spread(sizes, weights, rooms, net.get("backups", 0))
+    if new is None or peak(weights, new) >= peak(weights, plan.targets):
+        new = plan.targets
+    names = [row["name"] for row in net["switch"]]
+    return (
+        f"peak {peak(weights, plan.targets)} {peak(weights, new)}\nbound {bound(weights, rooms)}\n"
+        + plan_model.text_by(names, plan.words, plan.parts, new, None)
+    )
+
+
 def main():
     args, net = sys.argv[1:], slow_replay.SOLO
     if "--net" in args:
@@ -60,18 +77,7 @@ def main():
     if len(args) < 2:
         sys.exit(__doc__)
     world = slow_replay.played(net, args[0], args[1:])
-    version = world.controller.current
-    plan = world.plans[version]
-    weights = weights_of(world.journal.lines, version, len(plan.parts))
-    rooms = [row.get("authority", 0) for row in net["switch"]]
-    sizes = [len(rules) for _, rules in plan.parts]
-    new = spread(sizes, weights, rooms, net.get("backups", 0))
-    if new is None or peak(weights, new) >= peak(weights, plan.targets):
-        new = plan.targets
-    print("peak", peak(weights, plan.targets), peak(weights, new))
-    print("bound", bound(weights, rooms))
-    names = [row["name"] for row in net["switch"]]
-    sys.stdout.write(plan_model.text_by(names, plan.words, plan.parts, new, None))
+    sys.stdout.write(text_of(net, world))
 
 
 if __name__ == "__main__":
