@@ -1,0 +1,38 @@
+-- Moves of the machine with one packet: it is decided, and ends.
+use Rattle.std.proofs.Common.{ℕ, ◌≡◌, ◌<◌, Some, None, List, refl}
+use Rattle.five_tuple.specs.declared.header.Header.{Header}
+use Rattle.policy_rules.specs.Policy.{IsFirstMatch}
+use Rattle.policy_rules.specs.declared.policy.Hit.{Hit}
+use Rattle.policy_rules.specs.declared.policy.Row.{Row}
+use Rattle.update_machine.specs.Machine.{Decides, End, Ends, Machine, MayEnd, Packet, submitted_policy, with_packet}
+
+-- a packet that came in under this mark
+abbrev pub comer : Header → ℕ → Packet
+comer header mark =
+    record { header = header; entry_mark = mark; decision = None; end = None }
+
+-- and was decided so
+abbrev pub decided : Header → ℕ → Hit → Packet
+decided header mark hit = record (comer header mark) { decision = Some hit }
+
+pub decides : (old : Machine) (header : Header) (mark version : ℕ) (policy : List Row) (hit : Hit)
+    → old.packets 1 ≡ Some (comer header mark) → mark < version
+    → submitted_policy old version ≡ Some policy → IsFirstMatch policy header hit
+    → Decides old 1 version hit (with_packet old 1 (decided header mark hit))
+decides old header mark version policy hit entered above submitted first = record {
+  packet = comer header mark;
+  policy = policy;
+  entered = entered;
+  undecided = refl;
+  not_ended = refl;
+  not_retired = above;
+  submitted = submitted;
+  first_match = first;
+  after = refl;
+}
+
+pub ends : (old : Machine) (packet : Packet) (end : End) → old.packets 1 ≡ Some packet
+    → packet.end ≡ None → MayEnd packet end
+    → Ends old 1 end (with_packet old 1 (record packet { end = Some end }))
+ends old packet end entered going may =
+    record { packet = packet; entered = entered; not_ended = going; may = may; after = refl }

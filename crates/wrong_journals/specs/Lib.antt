@@ -1,0 +1,4 @@
+pub mod Office
+pub mod Judged
+pub mod Wrong
+pub mod Right
