@@ -1,16 +1,15 @@
 -- The causes of the journals' items.
-use Rattle.std.proofs.Common.{ℕ, ◌≡◌, ap, ◌⊎◌, false, true, Some, List, [], ◌∷◌, refl, sym, subst, inl, inr, arith}
+use Rattle.std.proofs.Common.{ℕ, ◌≡◌, ap, Some, List, [], ◌∷◌, refl, sym, subst, inl, inr, arith}
 use Rattle.std.specs.Prelude.{⊤, All, IsTrue, take}
 use Rattle.std.proofs.lemmas.Bool.Decides.{nat_tests}
 use Rattle.std.proofs.lemmas.List.Elements.{All-from_recursion, All-head}
 use Rattle.std.proofs.lemmas.Option.{same_Some}
 use Rattle.policy_rules.specs.declared.policy.Action.TheVariants.{Out}
 use Rattle.journal.specs.declared.item.Item.{Item}
-use Rattle.steps.specs.declared.step.Step.TheVariants as step
 use Rattle.update_machine.specs.Causes.{HasCause, HaveCauses, IsLostRightly, Leads, is_open, present_step}
 use Rattle.update_machine.specs.Links.{claim_of, is_link_up, message_of, serves}
 use Rattle.update_machine.specs.Packets.{Decision, decision_of, header_in, standing}
-use Rattle.wrong_journals.specs.Office.{allowed, office}
+use Rattle.wrong_journals.specs.Office.{office}
 use Rattle.wrong_journals.specs.Right.{decided_rightly, dropped_rightly, left_rightly, lost_rightly, stuck_rightly, updated_rightly}
 use Rattle.wrong_journals.specs.Wrong.{another_row, decided_twice, dropped_undecided, entered_unasked, half_and_half, lost_by_nothing, other_port, retired_version, stuck_beside_a_way, unknown_version}
 
@@ -116,7 +115,7 @@ other_port_has_no_cause causes =
     let own : Decision = record { version = 1; rule = Some 100; action = Out 2 } in
     let told : Decision = record { version = 1; rule = Some 100; action = Out 1 } in
     let same : Out 2 ≡ Out 1 =
-        ap (λ (d : Decision). d.action) (same_Some own told causes.1.1.1.0.decided) in
+    ap (λ (d : Decision). d.action) (same_Some own told causes.1.1.1.0.decided) in
     cc
 
 -- no row, and no crash

@@ -1,7 +1,7 @@
 -- The machine behind items that it took, as a function of them; and so the move that it makes by an
 -- item in the midst of a run.
-use Rattle.std.proofs.Common.{ℕ, ◌≡◌, ◌+◌, ap, sym, subst, ◌∙◌, refl, Option, Some, None, List, [], ◌∷◌, ◌++◌}
-use Rattle.std.specs.Prelude.{length, option_to_list}
+use Rattle.std.proofs.Common.{ℕ, ◌≡◌, ap, sym, subst, ◌∙◌, refl, Option, Some, None, List, [], ◌∷◌, ◌++◌}
+use Rattle.std.specs.Prelude.{⊤, length, option_to_list}
 use Rattle.std.specs.Result.{result_ok}
 use Rattle.policy_rules.specs.declared.policy.Row.{Row}
 use Rattle.journal.specs.declared.item.Item.{Item}
@@ -93,3 +93,26 @@ pub move_at : (setting : Setting) (before : List Item) (item : Item) (after : Li
     → Move setting (behind_items setting (first_machine setting) before) item
 move_at setting before item after run =
     move_within setting (first_machine setting) before item after run.0 run.1
+
+-- the machine may take these items in turn, each to the machine behind it
+abbrev pub MayTake : Setting → Machine → List Item → Type 0
+MayTake setting old [] = ⊤
+MayTake setting old (item ∷ items) =
+    Takes setting old item (behind_item setting old item)
+    × MayTake setting (behind_item setting old item) items
+
+pub runs_by : (setting : Setting) (old : Machine) (items : List Item) → MayTake setting old items
+    → Runs setting old items (behind_items setting old items)
+runs_by setting old [] may = refl
+runs_by setting old (item ∷ items) may = (
+  behind_item setting old item,
+  may.0,
+  runs_by setting (behind_item setting old item) items may.1,
+)
+
+pub is_run_by : (setting : Setting) (journal : List Item)
+    → MayTake setting (first_machine setting) journal → IsRun setting journal
+is_run_by setting journal may = (
+  behind_items setting (first_machine setting) journal,
+  runs_by setting (first_machine setting) journal may,
+)

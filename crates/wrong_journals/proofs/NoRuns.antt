@@ -1,6 +1,5 @@
 -- Journals that are no runs of the machine.
 use Rattle.std.proofs.Common.{ℕ, ◌≡◌, ◌<◌, ◌∙◌, sym, subst, refl, Some, None, List, [], ◌∷◌, arith}
-use Rattle.std.specs.Prelude.{option_map}
 use Rattle.std.proofs.lemmas.Option.{none-some, same_Some}
 use Rattle.five_tuple.specs.declared.header.Header.{Header}
 use Rattle.policy_rules.specs.Policy.{IsFirstMatch}
@@ -17,7 +16,7 @@ use Rattle.wrong_journals.specs.Office.{allowed, denied, first_policy, office, s
 use Rattle.wrong_journals.specs.Wrong.{another_row, decided_twice, dropped_undecided, half_and_half, other_port, retired_version, unknown_version}
 use Rattle.wrong_journals.proofs.FirstMatches.{by_100, no_first_of_denied, no_second_of_allowed}
 use Rattle.wrong_journals.proofs.Following.{move_at}
-use Rattle.wrong_journals.proofs.Moves.{comer, decided}
+use Rattle.wrong_journals.proofs.Moves.{comer, let_out}
 
 -- ---- what a decision and an end say of a packet that is known
 
@@ -99,7 +98,7 @@ decided_by_first =
 pub decided_twice_is_no_run : IsRun office decided_twice → ⊥
 decided_twice_is_no_run run =
     none-some (by_100 (Out 2))
-    (sym (undecided _ 1 2 (by_100 Drop) _ (decided allowed 0 (by_100 (Out 2)))
+    (sym (undecided _ 1 2 (by_100 Drop) _ let_out
     (move_at office decided_by_first (gets 2 Drop) [] run).1 refl))
 
 pub half_and_half_is_no_run : IsRun office half_and_half → ⊥
@@ -111,7 +110,7 @@ half_and_half_is_no_run run =
 pub other_port_is_no_run : IsRun office other_port → ⊥
 other_port_is_no_run run =
     let may : Some (Out 2) ≡ Some (Out 1) =
-    may_end _ 1 (LeftBy 1) _ (decided allowed 0 (by_100 (Out 2)))
+    may_end _ 1 (LeftBy 1) _ let_out
     (move_at office
     (item.Row 1 (step.Packet 0 allowed) ∷ item.Entered 1 0 allowed ∷ gets 1 (Out 2) ∷ [])
     (item.Left 1 1 (record { packet = 1; header = allowed; version = 1; rule = Some 100 }))

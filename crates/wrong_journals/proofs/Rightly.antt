@@ -1,6 +1,5 @@
 -- The right journals.
-use Rattle.wrong_journals.specs.Judged.{IsRight}
-use Rattle.wrong_journals.specs.Right.{let_out, one_cut_off, one_lost}
+use Rattle.wrong_journals.specs.Right.{IsRight, let_out, one_cut_off, one_lost}
 use Rattle.wrong_journals.specs.Right as right
 use Rattle.wrong_journals.specs.Wrong.{one_denied, one_updated}
 use Rattle.wrong_journals.proofs.Causes.{decided_rightly_has_causes, dropped_rightly_has_causes, left_rightly_has_causes, lost_rightly_has_causes, stuck_rightly_has_causes, updated_rightly_has_causes}

@@ -1,4 +1,3 @@
 pub mod Office
-pub mod Judged
 pub mod Wrong
 pub mod Right

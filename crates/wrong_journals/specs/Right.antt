@@ -1,5 +1,5 @@
--- Right journals beside the wrong ones.
-use Rattle.std.specs.Prelude.{false, Some, List, [], ◌∷◌}
+-- Right journals: each wrong one is the beginning of one of these, but for one item.
+use Rattle.std.specs.Prelude.{false, Some, None, List, [], ◌∷◌}
 use Rattle.failover.specs.Links.{no_links}
 use Rattle.policy_rules.specs.declared.packet.Cause.TheVariants.{NoRoute}
 use Rattle.policy_rules.specs.declared.packet.How.TheVariants.{Authority}
@@ -10,7 +10,21 @@ use Rattle.journal.specs.declared.item.Item.TheVariants as item
 use Rattle.steps.specs.declared.step.Event.{Event}
 use Rattle.steps.specs.declared.step.Event.TheVariants.{One}
 use Rattle.steps.specs.declared.step.Step.TheVariants.{Hop, LinkDown, Lose, Packet, Update}
-use Rattle.wrong_journals.specs.Office.{allowed, denied}
+use Rattle.update_machine.specs.Causes.{HasCause, HaveCauses}
+use Rattle.update_machine.specs.Machine.{IsRun}
+use Rattle.packet_laws.specs.Entries.{AreEntered, rows_played}
+use Rattle.wrong_journals.specs.Office.{allowed, denied, office}
+
+-- ---- what the headline says
+
+-- the journal is a run of the machine, its ends have their causes, and its rows and entries are
+-- those of these events, all of which were played
+pub record IsRight (events : List Event) (journal : List Item) : Type 0 where
+  pub run : IsRun office journal
+  pub causes : HaveCauses (HasCause office) [] journal
+  pub entered : AreEntered (rows_played None events) journal
+
+-- ---- the journals
 
 -- the packet that row 200 drops is dropped by it
 abbrev pub dropped_rightly : List Item

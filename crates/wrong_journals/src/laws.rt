@@ -3,9 +3,8 @@ ghost use Rattle.std.specs.Prelude.{[], None};
 ghost use Rattle.update_machine.specs.Causes.{HasCause, HaveCauses};
 ghost use Rattle.update_machine.specs.Machine.{IsRun};
 ghost use Rattle.packet_laws.specs.Entries.{AreEntered, rows_played};
-ghost use Rattle.wrong_journals.specs.Judged.{IsRight};
 ghost use Rattle.wrong_journals.specs.Office.{office};
-ghost use Rattle.wrong_journals.specs.Right.{decided_rightly, dropped_rightly, left_rightly, let_out, lost_rightly, one_cut_off, one_lost, stuck_rightly, updated_rightly};
+ghost use Rattle.wrong_journals.specs.Right.{IsRight, decided_rightly, dropped_rightly, left_rightly, let_out, lost_rightly, one_cut_off, one_lost, stuck_rightly, updated_rightly};
 ghost use Rattle.wrong_journals.specs.Wrong.{another_row, decided_twice, dropped_undecided, entered_unasked, half_and_half, lost_by_nothing, one_allowed, one_denied, one_updated, other_port, retired_version, stuck_beside_a_way, unknown_version};
 
 /// A packet is decided by the first match alone, and by no other row that matches it.
