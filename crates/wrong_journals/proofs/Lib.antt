@@ -6,3 +6,4 @@ pub mod Entries
 pub mod Causes
 pub mod Runs
 pub mod Rightly
+pub mod Printed

@@ -1,5 +1,6 @@
 -- A network of two switches with two policies, on which small journals are judged.
-use Rattle.std.specs.Prelude.{ℕ, List, [], ◌∷◌, codes}
+use Rattle.std.specs.Prelude.{ℕ, List, [], ◌∷◌, ◌++◌, codes}
+use Rattle.std.specs.List.{flat_map}
 use Rattle.five_tuple.specs.Header.{AddressBlock}
 use Rattle.five_tuple.specs.HeaderNumbers.{header_of}
 use Rattle.five_tuple.specs.declared.header.Header.{Header}
@@ -69,3 +70,7 @@ allowed = header_to 167903233
 -- to 10.1.5.5, which it drops
 abbrev pub denied : Header
 denied = header_to 167838981
+
+-- these lines, each with its line feed
+abbrev pub text_of : List (List ℕ) → List ℕ
+text_of lines = flat_map (λ line. line ++ 10 ∷ []) lines
