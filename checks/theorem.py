@@ -11,7 +11,8 @@ are reached; where a file of the first tier has a definition that this tier does
 doesn't say at its head that it is of this tier (MARK), or another file does; where the page's table
 of the types declared in src/ isn't exactly of those that the first tier speaks of; where a number
 of the page is another than is counted; or where this page or docs/TRUST.md says "`name` of
-`crate/File.antt`" and no such definition stands there. With `--write` it writes the numbers. With
+`crate/File.antt`" and no such definition stands there; or where the lines of a wrong journal are
+others there than in its law. With `--write` it writes the numbers. With
 `--list` it prints each file with its lines, how many of them are reached, and what isn't.
 """
 import re
@@ -22,6 +23,7 @@ HOME = Path(__file__).resolve().parent.parent
 PAGE = HOME / "docs/THEOREM.md"
 TRUST = HOME / "docs/TRUST.md"
 TOP = HOME / "crates/difane_cli/src/top_call.rt"
+WRONG = HOME / "crates/wrong_journals/src/laws.rt"
 # Where the second tier begins, each with what it is about; with its crate where it shares its name.
 STOPS = {
     "IsPlay": "the exact journal",
@@ -288,6 +290,15 @@ def mistyped(by_source, page):
     return sorted(wanted ^ {line for line in page.splitlines() if line.startswith("| `crates/")})
 
 
+def misprinted(page):
+    """The laws of wrong journals whose lines the page has otherwise, or not at all."""
+    rows = re.findall(r"^\| (.*?) \|.*\| `(\w+_is_refused)` \|$", page, re.M)
+    told = {law: re.findall(r"`([^`]*)`", cell) for cell, law in rows}
+    laws = re.findall(r"^pub fn (\w+_is_refused)(.*?)^\{\}", WRONG.read_text(), re.M | re.S)
+    printed = {law: re.findall(r'codes " *([^"]*)"', clauses) for law, clauses in laws}
+    return sorted(law for law in {*told, *printed} if told.get(law) != printed.get(law))
+
+
 def listed(specs, by_file):
     for path in sorted(by_file):
         module = specs.modules[path]
@@ -331,6 +342,7 @@ def main():
     told += [f"what held on the way: {name}" for name in misnamed(third, three)]
     told += [f"first tier: {name}" for name in [*needless(specs, first), *mismarked(first)]]
     told += [*mistyped(types, page), *misstated(specs, page), *misstated(specs, TRUST.read_text())]
+    told += [f"wrong journals: {law}" for law in misprinted(page)]
     for line in told:
         print(line)
     sys.exit(bool(wrong or told))

@@ -1,0 +1,139 @@
+-- The causes of the journals' items.
+use Rattle.std.proofs.Common.{ℕ, ◌≡◌, ap, Some, List, [], ◌∷◌, refl, sym, subst, inl, inr, arith}
+use Rattle.std.specs.Prelude.{⊤, All, IsTrue, take}
+use Rattle.std.proofs.lemmas.Bool.Decides.{nat_tests}
+use Rattle.std.proofs.lemmas.List.Elements.{All-from_recursion, All-head}
+use Rattle.std.proofs.lemmas.Option.{same_Some}
+use Rattle.policy_rules.specs.declared.policy.Action.TheVariants.{Out}
+use Rattle.journal.specs.declared.item.Item.{Item}
+use Rattle.update_machine.specs.Causes.{HasCause, HaveCauses, IsLostRightly, Leads, is_open, present_step}
+use Rattle.update_machine.specs.Links.{claim_of, is_link_up, message_of, serves}
+use Rattle.update_machine.specs.Packets.{Decision, decision_of, header_in, standing}
+use Rattle.wrong_journals.specs.Office.{office}
+use Rattle.wrong_journals.specs.Right.{decided_rightly, dropped_rightly, left_rightly, lost_rightly, stuck_rightly, updated_rightly}
+use Rattle.wrong_journals.specs.Wrong.{another_row, decided_twice, dropped_undecided, entered_unasked, half_and_half, lost_by_nothing, other_port, retired_version, stuck_beside_a_way, unknown_version}
+
+-- an item that needs no cause, and those behind it
+free : {causes : Type 0} → causes → ⊤ × causes
+free behind = (tt, behind)
+
+-- ---- journals whose items have their causes
+
+pub another_row_has_causes : HaveCauses (HasCause office) [] another_row
+another_row_has_causes = free (free (free tt))
+
+pub unknown_version_has_causes : HaveCauses (HasCause office) [] unknown_version
+unknown_version_has_causes = free (free (free tt))
+
+pub dropped_undecided_has_causes : HaveCauses (HasCause office) [] dropped_undecided
+dropped_undecided_has_causes = free (free (free tt))
+
+pub entered_unasked_has_causes : HaveCauses (HasCause office) [] entered_unasked
+entered_unasked_has_causes = free tt
+
+pub dropped_rightly_has_causes : HaveCauses (HasCause office) [] dropped_rightly
+dropped_rightly_has_causes = free (free (free (free tt)))
+
+-- the submitted version has its row
+pub retired_version_has_causes : HaveCauses (HasCause office) [] retired_version
+unfolding present_step
+retired_version_has_causes = free (refl, free (free (free (free tt))))
+
+pub decided_twice_has_causes : HaveCauses (HasCause office) [] decided_twice
+unfolding present_step
+decided_twice_has_causes = free (refl, free (free (free (free tt))))
+
+pub half_and_half_has_causes : HaveCauses (HasCause office) [] half_and_half
+unfolding present_step
+half_and_half_has_causes = free (refl, free (free (free tt)))
+
+pub updated_rightly_has_causes : HaveCauses (HasCause office) [] updated_rightly
+unfolding present_step
+updated_rightly_has_causes = free (refl, free (free (free (free (free tt)))))
+
+pub decided_rightly_has_causes : HaveCauses (HasCause office) [] decided_rightly
+unfolding present_step
+decided_rightly_has_causes = free (refl, free (free (free tt)))
+
+-- the packet leaves at b
+pub left_rightly_has_causes : HaveCauses (HasCause office) [] left_rightly
+unfolding standing header_in decision_of
+left_rightly_has_causes =
+    free (free (free (free (free (free (
+      record {
+        switch = 1;
+        stands = refl;
+        has_port = refl;
+        number = refl;
+        header = refl;
+        decided = refl;
+      },
+      tt,
+    ))))))
+
+-- the packet is lost by its row
+pub lost_rightly_has_causes : HaveCauses (HasCause office) [] lost_rightly
+unfolding present_step
+lost_rightly_has_causes = free (free (free (inl refl, tt)))
+
+-- no link is left to the packet
+abbrev cut_off : List Item
+cut_off = take 5 stuck_rightly
+
+no_way : (path : List ℕ) → Leads (is_open office cut_off 1 0) 0 path 1 → ⊥
+unfolding serves is_link_up
+no_way [] leads = let same : ◌≡◌ {A = ℕ} 0 1 = leads in cc
+no_way (next ∷ path) leads =
+    let first : IsTrue (is_open office cut_off 1 0 0 next) = leads.0 in
+    grind (arith, nat_tests, first)
+
+pub stuck_rightly_has_causes : HaveCauses (HasCause office) [] stuck_rightly
+unfolding standing serves present_step decision_of
+stuck_rightly_has_causes =
+    free (
+      inl refl,
+      free (free (free (
+        record {
+          stands = refl;
+          serving = refl;
+          targets = 1 ∷ [];
+          own_leg = (_, refl, refl, refl);
+          no_path = All-from_recursion
+              (λ (target : ℕ). (path : List ℕ) → ¬ Leads (is_open office cut_off 1 0) 0 path target)
+              (1 ∷ []) (no_way, tt);
+        },
+        tt,
+      ))),
+    )
+
+-- ---- journals of which an item has none
+
+-- by a port that isn't the decision's
+pub other_port_has_no_cause : HaveCauses (HasCause office) [] other_port → ⊥
+unfolding decision_of
+other_port_has_no_cause causes =
+    let own : Decision = record { version = 1; rule = Some 100; action = Out 2 } in
+    let told : Decision = record { version = 1; rule = Some 100; action = Out 1 } in
+    let same : Out 2 ≡ Out 1 =
+    ap (λ (d : Decision). d.action) (same_Some own told causes.1.1.1.0.decided) in
+    cc
+
+-- no row, and no crash
+not_lost : IsLostRightly (take 2 lost_by_nothing) 1 → ⊥
+unfolding present_step
+not_lost (inl row) = cc
+not_lost (inr crash) = let crashes = crash.crashes in cc
+
+pub lost_by_nothing_has_no_cause : HaveCauses (HasCause office) [] lost_by_nothing → ⊥
+lost_by_nothing_has_no_cause causes = not_lost causes.1.1.0
+
+-- the link from a leads to b
+pub stuck_beside_a_way_has_no_cause : HaveCauses (HasCause office) [] stuck_beside_a_way → ⊥
+unfolding serves is_link_up claim_of message_of
+stuck_beside_a_way_has_no_cause causes =
+    let stuck = causes.1.1.1.0 in
+    let no_way_to : ℕ → Type 0 = λ target. (path : List ℕ)
+    → ¬ Leads (is_open office (take 3 stuck_beside_a_way) 1 0) 0 path target in
+    All-head no_way_to 1 []
+    (subst (λ (targets : List ℕ). All no_way_to targets) (sym stuck.own_leg.3) stuck.no_path)
+    (1 ∷ []) (refl, refl)

@@ -1,0 +1,3 @@
+pub mod Office
+pub mod Wrong
+pub mod Right

@@ -1,0 +1,76 @@
+-- A network of two switches with two policies, on which small journals are judged.
+use Rattle.std.specs.Prelude.{ℕ, List, [], ◌∷◌, ◌++◌, codes}
+use Rattle.std.specs.List.{flat_map}
+use Rattle.five_tuple.specs.Header.{AddressBlock}
+use Rattle.five_tuple.specs.HeaderNumbers.{header_of}
+use Rattle.five_tuple.specs.declared.header.Header.{Header}
+use Rattle.five_tuple.specs.declared.matching.Proto.TheVariants.{Any}
+use Rattle.net_file.specs.declared.net.Net.{Net}
+use Rattle.policy_rules.specs.declared.file.PolicyFile.TheVariants.{Whole}
+use Rattle.policy_rules.specs.declared.policy.Action.{Action}
+use Rattle.policy_rules.specs.declared.policy.Action.TheVariants.{Drop, Out}
+use Rattle.policy_rules.specs.declared.policy.Row.{Row}
+use Rattle.update_machine.specs.Setting.{Setting, setting_of}
+
+-- the switch a has the port 1, and room for 100 rules; b has the port 2; a link joins them
+abbrev pub two_switches : Net
+two_switches = record {
+  switches = record { name = codes "a"; ports = 2; room = 100 }
+      ∷ record { name = codes "b"; ports = 4; room = 0 } ∷ [];
+  links = record { one = 0; two = 1 } ∷ [];
+  leaf_rules = 64;
+  backups = 0;
+  cache = 256;
+}
+
+-- a row for all packets to these addresses
+abbrev pub row_for : ℕ → AddressBlock → Action → Row
+row_for priority addresses action = record {
+  priority = priority;
+  src = record { address = 0; len = 0 };
+  dst = addresses;
+  sport = record { low = 0; high = 65535 };
+  dport = record { low = 0; high = 65535 };
+  proto = Any;
+  action = action;
+}
+
+abbrev pub everywhere : AddressBlock
+everywhere = record { address = 0; len = 0 }
+
+-- 10.1.0.0/16
+abbrev pub server_room : AddressBlock
+server_room = record { address = 167837696; len = 16 }
+
+-- `200,any,10.1.0.0/16,any,any,any,drop` and `100,any,any,any,any,any,out:2`
+abbrev pub first_policy : List Row
+first_policy = row_for 200 server_room Drop ∷ row_for 100 everywhere (Out 2) ∷ []
+
+-- `100,any,any,any,any,any,drop`
+abbrev pub second_policy : List Row
+second_policy = row_for 100 everywhere Drop ∷ []
+
+abbrev pub office : Setting
+office = setting_of two_switches (Whole first_policy ∷ Whole second_policy ∷ [])
+
+-- from 1.2.3.4 to this address, by TCP from port 5000 to port 80
+abbrev pub header_to : ℕ → Header
+header_to address = header_of (record {
+  src = 16909060;
+  dst = address;
+  sport = 5000;
+  dport = 80;
+  proto = 6;
+})
+
+-- to 10.2.0.1, which the first policy lets out by port 2
+abbrev pub allowed : Header
+allowed = header_to 167903233
+
+-- to 10.1.5.5, which it drops
+abbrev pub denied : Header
+denied = header_to 167838981
+
+-- these lines, each with its line feed
+abbrev pub text_of : List (List ℕ) → List ℕ
+text_of lines = flat_map (λ line. line ++ 10 ∷ []) lines

@@ -1,0 +1,20 @@
+//! Ten small wrong journals, and what refuses each.
+//!
+//! An operator would mind each of them: a packet is decided by the wrong row, or lost by nothing.
+//! Each is wrong in one item, and one fact of the headline refuses it: that the journal is a run of
+//! the machine, that ends have their causes, or that rows and entries are the schedule's. The other
+//! two hold of it, except where a packet leaves by another port than that of its decision: there a
+//! second fact refuses it too. Of the right journals beside them all three hold.
+//!
+//! No code: each function stands for the law that it ensures. They are computed from the
+//! definitions of the first tier, on a network of two switches with two policies.
+#![tactic(auto)]
+
+mod laws;
+
+pub use laws::{
+    another_row_is_refused, decided_twice_is_refused, dropped_undecided_is_refused,
+    entered_unasked_is_refused, half_and_half_is_refused, lost_by_nothing_is_refused,
+    other_port_is_refused, retired_version_is_refused, right_journals_hold,
+    stuck_beside_a_way_is_refused, unknown_version_is_refused,
+};
