@@ -1,0 +1,4 @@
+mod Passing
+mod Walking
+mod Following
+mod Forwarding
