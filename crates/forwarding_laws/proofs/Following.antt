@@ -7,8 +7,7 @@ use Rattle.std.proofs.lemmas.List.Elements.{Contains-append_left, Contains-push}
 use Rattle.base.specs.Masks.{has}
 use Rattle.five_tuple.specs.declared.header.Header.{Header}
 use Rattle.net_file.specs.Net.{IsNet}
-use Rattle.policy_rules.specs.Hosted.{is_in}
-use Rattle.switch_table.specs.Tables.{Hosted}
+use Rattle.policy_rules.specs.Hosted.{Hosted, is_in}
 use Rattle.policy_rules.specs.declared.packet.Cause.{Cause}
 use Rattle.policy_rules.specs.declared.packet.Leaving.{Leaving}
 use Rattle.policy_rules.specs.declared.packet.Leg.{Leg}
@@ -30,12 +29,9 @@ use Rattle.update_machine.specs.Versions.{plan_at, version_count}
 use Rattle.update_machine.specs.Ways.{targets_of}
 use Rattle.update_machine.specs.Folds.{last_given}
 use Rattle.update_machine.proofs.CallerLemmas.{folded_append, last_given_append}
-use Rattle.control_laws.proofs.Facts.{AreKept, Behind, Both}
+use Rattle.convergence_laws.proofs.CallerLemmas.{AreKept, Behind, Both, StaysSo, moves, reach_more, stays_on}
 use Rattle.convergence_laws.specs.Converged.{AreUnusable, HasConverged, Reaches}
 use Rattle.convergence_laws.specs.Updated.{IsUpdated}
-use Rattle.convergence_laws.proofs.KnownLinks.{reach_more}
-use Rattle.convergence_laws.proofs.Plain.{moves}
-use Rattle.convergence_laws.proofs.Stuck.{StaysSo, stays_on}
 use Rattle.packet_laws.specs.Facts.{changes_mark, entry_mark}
 use Rattle.packet_laws.specs.KeptFacts.{AllKept}
 use Rattle.packet_laws.specs.StrongCauses.{FurtherCause, SeeksRightly, StrongCause}
@@ -44,6 +40,7 @@ use Rattle.packet_laws.proofs.AllKept.{Before, known_before, knows}
 use Rattle.packet_laws.proofs.Ends.{stands_known}
 use Rattle.packet_laws.proofs.Here.{IsHere, some_same}
 use Rattle.packet_laws.proofs.KeptFacts.{here_known}
+use Rattle.packet_laws.proofs.PacketBlocks.{standing_more, travels_more}
 use Rattle.packet_laws.proofs.Rests.{IsWayItem, Past}
 use Rattle.packet_laws.proofs.Served.{packet_more}
 use Rattle.forwarding_laws.specs.Forwards.{EndsBy, FindsNoTarget, IsStuckApart}
@@ -52,21 +49,13 @@ use Rattle.forwarding_laws.proofs.Walking.{apart_from}
 
 -- ---- what one more item tells of it
 
-pub header_more : (before : List Item) (next : Item) (i : ℕ)
-    → header_in (before ++ next ∷ []) i ≡ option_or (gives_header i next) (header_in before i)
-unfolding header_in
-header_more before next i = last_given_append (gives_header i) before (next ∷ [])
-
-pub standing_more : (before : List Item) (next : Item) (i : ℕ)
-    → standing (before ++ next ∷ []) i ≡ option_or (gives_standing i next) (standing before i)
-unfolding standing
-standing_more before next i = last_given_append (gives_standing i) before (next ∷ [])
-
-pub decision_more : (before : List Item) (next : Item) (i : ℕ)
-    → decision_of (before ++ next ∷ []) i
-    ≡ option_or (gives_decision i next) (decision_of before i)
+-- an item that doesn't decide it
+pub undecided_by : (before : List Item) (next : Item) (i : ℕ) → gives_decision i next ≡ None
+    → decision_of (before ++ next ∷ []) i ≡ decision_of before i
 unfolding decision_of
-decision_more before next i = last_given_append (gives_decision i) before (next ∷ [])
+undecided_by before next i decides =
+    last_given_append (gives_decision i) before (next ∷ [])
+    ∙ ap (λ o. option_or o (last_given (gives_decision i) before)) decides
 
 pub step_more : (before : List Item) (next : Item)
     → present_step (before ++ next ∷ []) ≡ option_or (gives_step next) (present_step before)
@@ -77,17 +66,6 @@ pub mark_more : (before : List Item) (next : Item) (i : ℕ)
     → entry_mark (before ++ next ∷ []) i ≡ changes_mark i before (entry_mark before i) next
 unfolding entry_mark
 mark_more before next i = folded_append (changes_mark i) 0 before (next ∷ [])
-
-or_else : (o p : Option Bool) → unwrap_or (option_or o p) false ≡ unwrap_or o (unwrap_or p false)
-or_else None p = refl
-or_else (Some b) p = refl
-
-pub travels_more : (before : List Item) (next : Item) (i : ℕ)
-    → travels (before ++ next ∷ []) i ≡ unwrap_or (gives_travelling i next) (travels before i)
-unfolding travels
-travels_more before next i =
-    ap (λ o. unwrap_or o false) (last_given_append (gives_travelling i) before (next ∷ []))
-    ∙ or_else (gives_travelling i next) (last_given (gives_travelling i) before)
 
 -- ---- what holds of it
 
@@ -134,7 +112,8 @@ module _ (setting : Setting) (journal : List Item) (s i : ℕ) (header : Header)
     (before : List Item) (follows : Follows setting journal s i header before) where
   header_on : (next : Item) → WayCause setting before next
       → header_in (before ++ next ∷ []) i ≡ Some header
-  header_on next way = header_more before next i ∙ by next way
+  unfolding header_in
+  header_on next way = last_given_append (gives_header i) before (next ∷ []) ∙ by next way
     where
       by : (next : Item) → WayCause setting before next
           → option_or (gives_header i next) (header_in before i) ≡ Some header
@@ -212,8 +191,9 @@ module _ (setting : Setting) (journal : List Item) (s i : ℕ) (header : Header)
   version_on : IsUpdated setting journal → (next : Item) → FurtherCause setting before next
       → (decision : Decision) → decision_of (before ++ next ∷ []) i ≡ Some decision
       → decision.version ≡ version_count journal
+  unfolding decision_of
   version_on updated next further decision decided =
-      by next further (sym (decision_more before next i) ∙ decided)
+      by next further (sym (last_given_append (gives_decision i) before (next ∷ [])) ∙ decided)
     where
       by : (next : Item) → FurtherCause setting before next
           → option_or (gives_decision i next) (decision_of before i) ≡ Some decision
@@ -297,7 +277,7 @@ module _ (setting : Setting) (journal : List Item) (s i : ℕ) (header : Header)
   pass_on next travelling decides =
       fate_on next
       (travels_more before next i ∙ ap (λ o. unwrap_or o (travels before i)) travelling)
-      (decision_more before next i ∙ ap (λ o. option_or o (decision_of before i)) decides)
+      (undecided_by before next i decides)
 
   -- the packet doesn't travel behind an item that ends it, which decides nothing
   ended_by : (next : Item) → gives_travelling i next ≡ Some false → gives_decision i next ≡ None
@@ -305,7 +285,7 @@ module _ (setting : Setting) (journal : List Item) (s i : ℕ) (header : Header)
       × (decision_of (before ++ next ∷ []) i ≡ decision_of before i)
   ended_by next ends decides = (
     travels_more before next i ∙ ap (λ o. unwrap_or o (travels before i)) ends,
-    decision_more before next i ∙ ap (λ o. option_or o (decision_of before i)) decides,
+    undecided_by before next i decides,
   )
 
   own : (i == i) ≡ true

@@ -3,6 +3,7 @@
 use Rattle.std.proofs.Common.{ℕ, ◌≡◌, ◌+◌, ◌-◌, ◌<◌, ◌≤◌, ◌==◌, ◌∙◌, Bool, true, false, cond, Option, Some, None, List, [], ◌∷◌, ◌++◌, All, Contains, length, refl, ap, sym, subst, append_assoc, take, arith, inl, inr, ◌⊎◌}
 use Rattle.std.specs.Prelude.{IsTrue, find, option_map}
 use Rattle.std.specs.List.{range_with_len}
+use Rattle.std.specs.Option.{option_or}
 use Rattle.std.proofs.lemmas.Bool.{eq-eqb}
 use Rattle.std.proofs.lemmas.List.Elements.{All-cons, All-contains, All-nil}
 use Rattle.std.proofs.lemmas.List.FromFn.{get_or-range_with_len, length-range_with_len}
@@ -21,25 +22,21 @@ use Rattle.steps.specs.declared.step.Step.TheVariants.{Hop, Packet}
 use Rattle.update_machine.specs.Answers.{AreAll, StepOfRow, after_steps, next_hop}
 use Rattle.update_machine.specs.Boots.{is_up}
 use Rattle.update_machine.specs.Causes.{HaveCauses}
-use Rattle.update_machine.specs.Folds.{count_of}
+use Rattle.update_machine.specs.Folds.{count_of, last_given}
 use Rattle.update_machine.specs.Links.{serves}
 use Rattle.update_machine.specs.Moves.{items_then, lookup_items}
-use Rattle.update_machine.specs.Packets.{Decision, decision_of, is_packet, next_packet}
+use Rattle.update_machine.specs.Packets.{Decision, decision_of, gives_header, header_in, is_packet, next_packet}
 use Rattle.update_machine.specs.Pieces.{packet_items, piece}
 use Rattle.update_machine.specs.Quiet.{IsQuiet}
 use Rattle.update_machine.specs.Setting.{IsSetting, Setting}
 use Rattle.update_machine.specs.SwitchNumbers.{switches_of}
 use Rattle.update_machine.specs.Travels.{next_travelling, packets_in, travels}
 use Rattle.update_machine.specs.Versions.{policy_at, version_count}
-use Rattle.update_machine.proofs.CallerLemmas.{count_of_append, switch_keeps}
-use Rattle.control_laws.specs.Always.{HoldsAtEnds}
-use Rattle.control_laws.proofs.Facts.{Behind, Both, fact_on, have_both}
-use Rattle.control_laws.proofs.Reached.{NamesOwn}
+use Rattle.update_machine.proofs.CallerLemmas.{count_of_append, last_given_append, switch_keeps}
+use Rattle.convergence_laws.specs.Exports.{HoldsAtEnds}
+use Rattle.convergence_laws.proofs.CallerLemmas.{Behind, Both, NamesOwn, fact_on, have_both, have_rest, moves, stays_itself, stays_on}
 use Rattle.convergence_laws.specs.Converged.{HasConverged}
 use Rattle.convergence_laws.specs.Updated.{IsUpdated}
-use Rattle.convergence_laws.proofs.Plain.{moves}
-use Rattle.convergence_laws.proofs.Stamps.{have_rest}
-use Rattle.convergence_laws.proofs.Stuck.{stays_itself, stays_on}
 use Rattle.packet_laws.specs.Amended.{hit_in}
 use Rattle.packet_laws.specs.Between.{HoldsBetween, steps_played}
 use Rattle.packet_laws.specs.Facts.{what_is_known}
@@ -51,11 +48,12 @@ use Rattle.packet_laws.proofs.Amended.{IsRightly, all_right}
 use Rattle.packet_laws.proofs.Ends.{decision_out}
 use Rattle.packet_laws.proofs.Here.{found_in}
 use Rattle.packet_laws.proofs.Reached.{between}
-use Rattle.packet_laws.proofs.Rests.{IsSettled, IsWayItem, Past, piece_settled}
+use Rattle.packet_laws.proofs.PacketBlocks.{standing_more, travels_more}
+use Rattle.packet_laws.proofs.Rests.{IsSettled, IsWayItem, Past, numbered, piece_settled, ways_of_all}
 use Rattle.packet_laws.proofs.Served.{packet_more}
 use Rattle.packet_laws.proofs.Strong.{strongly_caused}
 use Rattle.forwarding_laws.specs.Forwards.{FindsNoTarget, IsForwarded, QuietForwards}
-use Rattle.forwarding_laws.proofs.Following.{Fate, Follows, IsEnded, IsFollowed, decision_more, follows_on, header_more, mark_more, standing_more, step_more, travels_more}
+use Rattle.forwarding_laws.proofs.Following.{Fate, Follows, IsEnded, IsFollowed, follows_on, mark_more, step_more, undecided_by}
 use Rattle.forwarding_laws.proofs.Passing.{MarksStay, Passes, hop_passes, marks_stay, packet_passes}
 
 -- ---- items of a settled journal
@@ -109,9 +107,12 @@ none_travels now i none above below =
     (find_none (travels now) (packets_in now) (unmapped (find (travels now) (packets_in now)) none))
     (in_range 1 (count_of is_packet now) i above (omega (arith, below)))
 
-first_number : (journal : List Item) → 1 ≤ next_packet journal
-unfolding next_packet
-first_number journal = omega arith
+header_by : (before : List Item) (next : Item) (i : ℕ) (header : Header)
+    → gives_header i next ≡ Some header → header_in (before ++ next ∷ []) i ≡ Some header
+unfolding header_in
+header_by before next i header gives =
+    last_given_append (gives_header i) before (next ∷ [])
+    ∙ ap (λ o. option_or o (last_given (gives_header i) before)) gives
 
 number_more : (before : List Item) (i s : ℕ) (header : Header)
     → next_packet (before ++ item.Entered i s header ∷ []) ≡ next_packet before + 1
@@ -175,7 +176,7 @@ module _ (setting : Setting) (journal : List Item) (row s : ℕ) (header : Heade
             let is_packet_row : Packet s header ≡ step = cc in
             subst (λ x. IsTrue (moves x)) is_packet_row refl;
         number = omega (arith, packet_more journal coming, number_more here i s header);
-        entered = header_more here entering i ∙ rw own refl;
+        entered = header_by here entering i header (rw own refl);
         mark = mark_more here entering i ∙ rw own marks_here.retired;
         at = λ t stands.
             let same : Some s ≡ Some t =
@@ -185,7 +186,8 @@ module _ (setting : Setting) (journal : List Item) (row s : ℕ) (header : Heade
         version = λ decision decided.
             let none : decision_of journal i ≡ None = decision_out journal i None new.decision in
             let same : None ≡ Some decision =
-            sym (decision_more here entering i ∙ decision_more journal coming i ∙ none) ∙ decided in
+            sym (undecided_by here entering i refl ∙ undecided_by journal coming i refl ∙ none)
+            ∙ decided in
             absurd cc;
         fate = inl (travels_more here entering i ∙ rw own refl);
       }
@@ -271,10 +273,9 @@ drained setting journal s i header later before (first ∷ hops) is converged up
 -- ---- its end
 
 ended_so : (setting : Setting) (journal : List Item) (s i : ℕ) (header : Header)
-    (after : List Item) → IsSetting setting → 1 ≤ i
-    → IsDrained setting journal s i header after
+    (after : List Item) → IsSetting setting → IsDrained setting journal s i header after
     → IsForwarded setting journal after i s header ⊎ FindsNoTarget setting journal after i s header
-ended_so setting journal s i header after is above drained = by drained.follows.fate
+ended_so setting journal s i header after is drained = by drained.follows.fate
   where
     forwarded : IsEnded setting journal s i after → IsForwarded setting journal after i s header
     forwarded ended =
@@ -308,53 +309,17 @@ ended_so setting journal s i header after is above drained = by drained.follows.
         → IsForwarded setting journal after i s header
         ⊎ FindsNoTarget setting journal after i s header
     by (inl on) =
-        let off : travels after i ≡ false =
-        none_travels after i drained.none above drained.follows.number in
+        let own = numbered setting after (ways_of_all setting [] after drained.settled.causes) i on in
+        let off : travels after i ≡ false = none_travels after i drained.none own.0 own.1 in
         absurd cc
     by (inr ended) = elim ended.how [ inl decided ↦ inl (forwarded decided) | inr finds ↦ inr finds ]
 
-forwards : (setting : Setting) (journal : List Item) → IsSetting setting
+pub forwards : (setting : Setting) (journal : List Item) → IsSetting setting
     → IsSettled setting journal → HasConverged setting journal → IsUpdated setting journal
     → QuietForwards setting journal
 forwards setting journal is settled converged updated row later s header hops there sound up all =
     let entered : List Item = journal ++ piece setting journal row (Packet s header) in
     ended_so setting journal s (next_packet journal) header (after_steps setting entered hops) is
-    (first_number journal)
     (drained setting journal s (next_packet journal) header later entered hops is converged updated
     all (piece_settled setting journal row (Packet s header) is (there, sound) settled)
     (followed_in setting journal row s header is converged updated settled there sound up))
-
--- ---- the law
-
-abbrev Converges : Setting → List Item → Type 0
-Converges setting journal =
-    IsNet setting.net → IsQuiet setting journal → HasConverged setting journal
-
-abbrev Updates : Setting → List Item → Type 0
-Updates setting journal = IsQuiet setting journal → IsUpdated setting journal
-
-settled_between : HoldsBetween (λ setting journal. IsSetting setting → IsSettled setting journal)
-settled_between = between IsSettled (λ setting journal is settled. settled)
-
-pub quiet_forwards : HoldsAtEnds Converges → HoldsAtEnds Updates
-    → HoldsBetween (λ setting journal.
-    IsSetting setting → IsQuiet setting journal → QuietForwards setting journal)
-quiet_forwards converge update = record {
-  reached = λ setting journal at is quiet. forwards setting journal is
-      (settled_between.reached setting journal at is)
-      (subst (Converges setting) (sym at.written) (converge.stepped setting at.steps) is.net quiet)
-      (subst (Updates setting) (sym at.written) (update.stepped setting at.steps) quiet);
-  answered = λ setting events journal own answers is quiet. forwards setting journal is
-      (settled_between.answered setting events journal own answers is)
-      (converge.answered setting events journal answers is.net quiet)
-      (update.answered setting events journal answers quiet);
-  so_far = λ setting events journal own answers is quiet. forwards setting journal is
-      (settled_between.so_far setting events journal own answers is)
-      (converge.so_far setting events journal answers is.net quiet)
-      (update.so_far setting events journal answers quiet);
-  played = λ setting events journal full own play n is quiet.
-      let steps : List StepOfRow = take n (steps_played setting events journal full play) in
-      forwards setting (after_steps setting [] steps) is
-      (settled_between.played setting events journal full own play n is)
-      (converge.stepped setting steps is.net quiet) (update.stepped setting steps quiet);
-}

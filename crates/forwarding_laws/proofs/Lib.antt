@@ -2,3 +2,4 @@ mod Passing
 mod Walking
 mod Following
 mod Forwarding
+mod Resting

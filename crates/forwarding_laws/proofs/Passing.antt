@@ -1,8 +1,6 @@
 -- What the steps of packets write once a packet came in: no switch, link, policy or mark changes.
 use Rattle.std.proofs.Common.{ℕ, ◌≡◌, List, [], ◌∷◌, refl, ◌∙◌}
 use Rattle.std.specs.Prelude.{⊤, IsFalse, IsTrue}
-use Rattle.ctrl_msg.specs.declared.message.Body.{Body}
-use Rattle.ctrl_msg.specs.declared.message.Place.{Place}
 use Rattle.five_tuple.specs.declared.header.Header.{Header}
 use Rattle.journal.specs.declared.item.Item.{Item}
 use Rattle.journal.specs.declared.item.Item.TheVariants as item
@@ -15,10 +13,7 @@ use Rattle.update_machine.specs.Pieces.{piece}
 use Rattle.update_machine.specs.Setting.{Setting}
 use Rattle.update_machine.specs.Versions.{plan_at, policy_at, version_count}
 use Rattle.update_machine.proofs.CallerLemmas.{controller_keeps, policies_keep}
-use Rattle.control_laws.proofs.Facts.{AreKept, Both, have_both, have_weaker, piece_has}
-use Rattle.control_laws.proofs.Traffic.{IsWork, hop_work, packet_works, rule_cases}
-use Rattle.convergence_laws.proofs.Plain.{moves}
-use Rattle.convergence_laws.proofs.Walks.{Walks}
+use Rattle.convergence_laws.proofs.CallerLemmas.{AreKept, Both, IsWork, Walks, have_both, have_weaker, hop_work, moves, packet_works, piece_has, rule_cases}
 use Rattle.packet_laws.proofs.Others.{IsNoRow}
 use Rattle.packet_laws.proofs.Rests.{no_rows}
 
@@ -78,7 +73,7 @@ passes_walks setting before _ passes = tt
 passes_controller : (setting : Setting) (before : List Item) (next : Item)
     → Passes setting before next → IsFalse (concerns_controller before next)
 passes_controller setting before (item.Sent number message) passes =
-    rule_cases before (λ (to : Place) (body : Body). IsFalse (is_opening body))
+    rule_cases before (λ to body. IsFalse (is_opening body))
     (λ s version word rule action there ingress. refl) message.to message.body passes
 passes_controller setting before (item.Delivered number) passes = absurd passes
 passes_controller setting before (item.OverNow s) passes = absurd passes

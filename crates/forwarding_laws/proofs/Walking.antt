@@ -6,9 +6,7 @@ use Rattle.net_file.specs.Net.{IsNet}
 use Rattle.journal.specs.declared.item.Item.{Item}
 use Rattle.update_machine.specs.Setting.{Setting}
 use Rattle.convergence_laws.specs.Converged.{LeadsOver, Reaches}
-use Rattle.convergence_laws.proofs.Changed.{ends_there}
-use Rattle.convergence_laws.proofs.Converged.{small_of}
-use Rattle.convergence_laws.proofs.Near.{near_both}
+use Rattle.convergence_laws.proofs.CallerLemmas.{ends_there, near_both, small_of}
 
 turn_round : (setting : Setting) (journal : List Item) → IsNet setting.net → (there at target : ℕ)
     (rest : List ℕ) → LeadsOver setting journal there at rest

@@ -1,9 +1,9 @@
-//! What becomes of a packet that comes in while the network is quiet: a law over journals of any
-//! steps, by the laws of quiet networks and those of packets on their way.
+//! What a quiet network has come to, and what becomes of a packet that comes in then: laws over
+//! journals of any steps, by those of quiet networks and of packets on their way.
 //!
-//! No code: the function stands for the law that it ensures.
+//! No code: each function stands for the law that it ensures.
 #![tactic(auto)]
 
 mod laws;
 
-pub use laws::quiet_networks_forward;
+pub use laws::{quiet_networks_forward, quiet_networks_have_come_to_rest};
