@@ -1,6 +1,6 @@
 -- A packet that comes in behind a quiet journal is followed over its step and the hops of a drain,
 -- and has ended then.
-use Rattle.std.proofs.Common.{ℕ, ◌≡◌, ◌+◌, ◌-◌, ◌<◌, ◌≤◌, ◌==◌, ◌∙◌, Bool, true, false, cond, Option, Some, None, List, [], ◌∷◌, ◌++◌, All, Contains, length, refl, ap, sym, subst, append_assoc, take, arith, inl, inr, ◌⊎◌}
+use Rattle.std.proofs.Common.{ℕ, ◌≡◌, ◌+◌, ◌-◌, ◌<◌, ◌≤◌, ◌==◌, ◌∙◌, Bool, true, false, cond, Option, Some, None, List, [], ◌∷◌, ◌++◌, All, Contains, length, refl, ap, sym, subst, append_assoc, arith, inl, inr, ◌⊎◌}
 use Rattle.std.specs.Prelude.{IsTrue, find, option_map}
 use Rattle.std.specs.List.{range_with_len}
 use Rattle.std.specs.Option.{option_or}
@@ -9,7 +9,6 @@ use Rattle.std.proofs.lemmas.List.Elements.{All-cons, All-contains, All-nil}
 use Rattle.std.proofs.lemmas.List.FromFn.{get_or-range_with_len, length-range_with_len}
 use Rattle.five_tuple.specs.Header.{IsHeader}
 use Rattle.five_tuple.specs.declared.header.Header.{Header}
-use Rattle.net_file.specs.Net.{IsNet}
 use Rattle.policy_rules.specs.Policy.{IsFirstMatch}
 use Rattle.policy_rules.specs.Scan.{scan}
 use Rattle.policy_rules.specs.declared.policy.Row.{Row}
@@ -27,18 +26,15 @@ use Rattle.update_machine.specs.Links.{serves}
 use Rattle.update_machine.specs.Moves.{items_then, lookup_items}
 use Rattle.update_machine.specs.Packets.{Decision, decision_of, gives_header, header_in, is_packet, next_packet}
 use Rattle.update_machine.specs.Pieces.{packet_items, piece}
-use Rattle.update_machine.specs.Quiet.{IsQuiet}
 use Rattle.update_machine.specs.Setting.{IsSetting, Setting}
 use Rattle.update_machine.specs.SwitchNumbers.{switches_of}
 use Rattle.update_machine.specs.Travels.{next_travelling, packets_in, travels}
 use Rattle.update_machine.specs.Versions.{policy_at, version_count}
 use Rattle.update_machine.proofs.CallerLemmas.{count_of_append, last_given_append, switch_keeps}
-use Rattle.convergence_laws.specs.Exports.{HoldsAtEnds}
 use Rattle.convergence_laws.proofs.CallerLemmas.{Behind, Both, NamesOwn, fact_on, have_both, have_rest, moves, stays_itself, stays_on}
 use Rattle.convergence_laws.specs.Converged.{HasConverged}
 use Rattle.convergence_laws.specs.Updated.{IsUpdated}
 use Rattle.packet_laws.specs.Amended.{hit_in}
-use Rattle.packet_laws.specs.Between.{HoldsBetween, steps_played}
 use Rattle.packet_laws.specs.Facts.{what_is_known}
 use Rattle.packet_laws.specs.KeptFacts.{AllKept}
 use Rattle.packet_laws.specs.OnWay.{IsUnknown}
@@ -47,7 +43,6 @@ use Rattle.packet_laws.proofs.AllKept.{all_kept, kept_before}
 use Rattle.packet_laws.proofs.Amended.{IsRightly, all_right}
 use Rattle.packet_laws.proofs.Ends.{decision_out}
 use Rattle.packet_laws.proofs.Here.{found_in}
-use Rattle.packet_laws.proofs.Reached.{between}
 use Rattle.packet_laws.proofs.PacketBlocks.{standing_more, travels_more}
 use Rattle.packet_laws.proofs.Rests.{IsSettled, IsWayItem, Past, numbered, piece_settled, ways_of_all}
 use Rattle.packet_laws.proofs.Served.{packet_more}
