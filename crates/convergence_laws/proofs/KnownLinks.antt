@@ -57,7 +57,7 @@ mask_known setting journal s z small holds = by_place (cases_eq z s) holds
 
 -- ---- known links
 
-reach_more : (setting : Setting) (journal : List Item) (from at next : ℕ)
+pub reach_more : (setting : Setting) (journal : List Item) (from at next : ℕ)
     → Reaches setting journal from at → IsTrue (has (near setting journal at) next)
     → Reaches setting journal from next
 reach_more setting journal from at next reaches linked = record {

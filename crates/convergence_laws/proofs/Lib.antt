@@ -20,3 +20,4 @@ pub mod Walks
 pub mod Stuck
 pub mod Told
 mod Trials
+pub mod CallerLemmas

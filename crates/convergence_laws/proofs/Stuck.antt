@@ -7,6 +7,7 @@ use Rattle.failover.specs.Links.{has_link, no_links, with_link}
 use Rattle.failover.proofs.LinkSets.{has_link-none}
 use Rattle.base.specs.Masks.{has}
 use Rattle.base.proofs.CallerLemmas.{has-or, has-pow_other, has-zero}
+use Rattle.net_file.specs.Net.{IsNet}
 use Rattle.policy_rules.specs.declared.packet.Cause.{Cause}
 use Rattle.policy_rules.specs.declared.packet.Leg.{Leg}
 use Rattle.policy_rules.specs.declared.packet.Leg.TheVariants.{Seek, Exit}
@@ -116,10 +117,10 @@ more_links down x y a b is = by_row (cases_eq (min a b) low)
         inl (subst (λ mask. IsTrue (has mask (max a b)))
         (get_or-set_other down low (min a b) row 0 apart) is)
 
-unusable_more : (setting : Setting) (journal : List Item) → AreQuiet setting journal
+unusable_more : (setting : Setting) (journal : List Item) → IsNet setting.net
     → (down : List ℕ) (x y : ℕ) → AreUnusable setting journal down
     → IsFalse (has (near setting journal x) y) → AreUnusable setting journal (with_link down x y)
-unusable_more setting journal are down x y unusable none a b linked =
+unusable_more setting journal net down x y unusable none a b linked =
     by_link (has_link (with_link down x y) a b) refl
   where
     same_ends : (min a b ≡ min x y) × (max a b ≡ max x y)
@@ -143,7 +144,7 @@ unusable_more setting journal are down x y unusable none a b linked =
         clashes (subst (λ k. IsTrue (has (near setting journal x) k)) ends.0
         (subst (λ k. IsTrue (has (near setting journal k) a)) ends.1
         (near_both setting journal a b
-        (small_of setting are.net a (ends_there setting journal a b are.net linked).one) linked)))
+        (small_of setting net a (ends_there setting journal a b net linked).one) linked)))
 
     by_link : (c : Bool) → has_link (with_link down x y) a b ≡ c
         → IsFalse (has_link (with_link down x y) a b)
@@ -155,12 +156,12 @@ unusable_more setting journal are down x y unusable none a b linked =
 
 -- ---- what stays as it was within the step
 
-record StaysSo (setting : Setting) (journal now : List Item) (i : ℕ) : Type 0 where
-  links : (s : ℕ) → near setting now s ≡ near setting journal s
-  routes : (s : ℕ) (targets down : List ℕ)
+pub record StaysSo (setting : Setting) (journal now : List Item) (i : ℕ) : Type 0 where
+  pub links : (s : ℕ) → near setting now s ≡ near setting journal s
+  pub routes : (s : ℕ) (targets down : List ℕ)
       → route_from setting now s targets down ≡ route_from setting journal s targets down
-  targets : (leg : Leg) → targets_of setting now leg ≡ targets_of setting journal leg
-  found : AreUnusable setting journal (found_down now i)
+  pub targets : (leg : Leg) → targets_of setting now leg ≡ targets_of setting journal leg
+  pub found : AreUnusable setting journal (found_down now i)
 
 -- the switch is up in its boot as before, and heard what it had heard
 record IsSame (before after : List Item) (s : ℕ) : Type 0 where
@@ -210,25 +211,25 @@ found_more : (before : List Item) (next : Item) (i : ℕ)
 unfolding found_down
 found_more before next i = folded_append (changes_found i) no_links before (next ∷ [])
 
-found_on : (setting : Setting) (journal : List Item) → AreQuiet setting journal
+found_on : (setting : Setting) (journal : List Item) → IsNet setting.net
     → (before : List Item) (next : Item) (i : ℕ) → Walks setting before next
     → StaysSo setting journal before i
     → AreUnusable setting journal (found_down (before ++ next ∷ []) i)
-found_on setting journal are before (item.FoundDown p x y) i walks stays =
+found_on setting journal net before (item.FoundDown p x y) i walks stays =
     subst (AreUnusable setting journal) (sym (found_more before (item.FoundDown p x y) i))
     (by_test (p == i))
   where
     by_test : (b : Bool) → AreUnusable setting journal
         (if b then with_link (found_down before i) x y else found_down before i)
-    by_test true = unusable_more setting journal are (found_down before i) x y stays.found
+    by_test true = unusable_more setting journal net (found_down before i) x y stays.found
         (ap (λ mask. has mask y) (sym (stays.links x)) ∙ walks)
     by_test false = stays.found
-found_on setting journal are before next i walks stays =
+found_on setting journal net before next i walks stays =
     subst (AreUnusable setting journal) (sym (found_more before next i)) stays.found
 
-stays_on : (setting : Setting) (journal : List Item) → AreQuiet setting journal → (i : ℕ)
+pub stays_on : (setting : Setting) (journal : List Item) → IsNet setting.net → (i : ℕ)
     → AreKept (Walks setting) (λ now. StaysSo setting journal now i)
-stays_on setting journal are i before next walks stays =
+stays_on setting journal net i before next walks stays =
     let links = links_keep setting before (next ∷ []) (walks_links setting before next walks, tt) in
     let plans = policies_keep before (next ∷ []) (walks_policies setting before next walks, tt) in
     record {
@@ -238,7 +239,7 @@ stays_on setting journal are i before next walks stays =
           links targets down
           ∙ stays.routes s targets down;
       targets = λ leg. by_leg leg (λ v. plans.plan setting v) ∙ stays.targets leg;
-      found = found_on setting journal are before next i walks stays;
+      found = found_on setting journal net before next i walks stays;
     }
   where
     by_leg : (leg : Leg)
@@ -246,6 +247,16 @@ stays_on setting journal are i before next walks stays =
         → targets_of setting (before ++ next ∷ []) leg ≡ targets_of setting before leg
     by_leg (Seek version partition) same = ap (λ plan. targets_in plan partition) (same version)
     by_leg (Exit port) same = refl
+
+pub stays_itself : (setting : Setting) (journal : List Item) (i : ℕ)
+    → found_down journal i ≡ no_links → StaysSo setting journal journal i
+stays_itself setting journal i none = record {
+  links = λ t. refl;
+  routes = λ t targets found. refl;
+  targets = λ leg. refl;
+  found = λ one other linked.
+      ap (λ links. has_link links one other) none ∙ has_link-none one other;
+}
 
 -- ---- steps
 
@@ -258,14 +269,9 @@ walk_apart setting journal are items front rest i s cause leg down walk is none 
     let whole : Walk setting journal (front ++ item.Stuck i s cause leg down ∷ rest) =
     subst (Walk setting journal) is walk in
     let stays : StaysSo setting journal (journal ++ front) i =
-    fact_on (Walks setting) (λ now. StaysSo setting journal now i) (stays_on setting journal are i)
-    journal front (have_front (Walks setting) journal front _ whole) (record {
-      links = λ t. refl;
-      routes = λ t targets found. refl;
-      targets = λ of. refl;
-      found = λ one other linked.
-          ap (λ links. has_link links one other) none ∙ has_link-none one other;
-    }) in
+    fact_on (Walks setting) (λ now. StaysSo setting journal now i)
+    (stays_on setting journal are.net i) journal front
+    (have_front (Walks setting) journal front _ whole) (stays_itself setting journal i none) in
     let knows : KnowsNoRoute setting (journal ++ front) i s leg down =
     (have_rest (Walks setting) journal front _ whole).0 in
     (quiet_converged setting journal are).stuck s (targets_of setting journal leg) down there

@@ -65,7 +65,7 @@ pub judged : AnswerLaws → (command : Command) (files : Option Files) (inputs :
     → IsVerdict (asks_quiet inputs.report) inputs.setting journal full given
 judged laws command files inputs journal full net given answer own asked decides =
     verdict laws.quiet (asks_quiet inputs.report) inputs.setting inputs.events journal full given
-    answer.sound.setting.net answer.play asked (decides inputs.setting own)
+    answer.sound.setting answer.sound.events answer.play asked (decides inputs.setting own)
 
 -- memory ran out before an answer was given, and nothing was written
 pub unjudged : (command : Command) (files : Option Files) (takes_memory : Bool) (inputs : Inputs)

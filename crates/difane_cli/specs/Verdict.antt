@@ -2,9 +2,7 @@
 -- and what all switches came to where it is.
 use Rattle.std.specs.Prelude.{⊤, ℕ, ◌≡◌, ◌↔◌, Bool, true, false, Option, Some, None, is_some, IsTrue, List}
 use Rattle.journal.specs.declared.item.Item.{Item}
-use Rattle.convergence_laws.specs.Converged.{HasConverged}
-use Rattle.convergence_laws.specs.Stuck.{GetStuckApart}
-use Rattle.convergence_laws.specs.Updated.{IsUpdated}
+use Rattle.forwarding_laws.specs.ToRest.{HasComeToRest}
 use Rattle.update_machine.specs.Quiet.{IsQuiet}
 use Rattle.update_machine.specs.Setting.{Setting}
 use Rattle.command_line.specs.declared.report.Report.{Report}
@@ -24,15 +22,6 @@ is_asked quiet (Some row) = false
 abbrev pub IsWhetherQuiet : Setting → List Item → Option Bool → Type 0
 IsWhetherQuiet setting journal None = ⊤
 IsWhetherQuiet setting journal (Some answer) = IsTrue answer ↔ IsQuiet setting journal
-
--- the network is quiet: so the switches know the links that can be used, a step makes a packet that
--- had found no link down stuck only where no target is reached, and the switches that are up stamp
--- with the newest version
-pub record HasComeToRest (setting : Setting) (journal : List Item) : Type 0 where
-  pub quiet : IsQuiet setting journal
-  pub converged : HasConverged setting journal
-  pub apart : GetStuckApart setting journal
-  pub updated : IsUpdated setting journal
 
 -- what an answer says of the network
 abbrev pub Says : Setting → List Item → Option Bool → Type 0

@@ -16,10 +16,8 @@ use crate::meter_lines::write_meters;
 use crate::status::{Ended, Status};
 use crate::verdict::{asks_quiet, judge, write_answer};
 use command_line::Report;
-use convergence_laws::{
-    packets_get_stuck_apart, quiet_networks_are_updated, quiet_networks_have_converged,
-};
 use flow_export::flow_laws;
+use forwarding_laws::quiet_networks_have_come_to_rest;
 use journal::Journal;
 use journal_reports::{summarize, summary_text};
 use journal_text::write_text;
@@ -90,9 +88,7 @@ pub fn answer_laws()
     ensures { AnswerLaws }
 {
     packet_rows_are_entered();
-    quiet_networks_have_converged();
-    packets_get_stuck_apart();
-    quiet_networks_are_updated();
+    quiet_networks_have_come_to_rest();
     texts_are_good();
     flow_laws();
 }

@@ -27,6 +27,7 @@ pub mod Ends
 pub mod EndsCaused
 pub mod Arriving
 pub mod Runs
+pub mod Amended
 mod CauseTrials
 mod Broken
 mod ArrivingRows

@@ -14,6 +14,7 @@ use Rattle.control_laws.specs.Heard.{AcksHold, InstallsArePlanned}
 use Rattle.control_laws.specs.Serving.{ServingHold}
 use Rattle.control_laws.specs.Planned.{TablesArePlanned}
 use Rattle.control_laws.specs.Touched.{StampsSayTouched}
+use Rattle.packet_laws.specs.Amended.{ChangesLeaveOthers}
 use Rattle.packet_laws.specs.Travelling.{RulesAreRight}
 use Rattle.packet_laws.specs.Untouched.{UntouchedStay}
 use Rattle.packet_laws.specs.Whole.{KeepVersionsWhole}
@@ -53,12 +54,14 @@ pub record Laws : Type 0 where
   pub touched : HoldsAlways (λ setting journal. StampsSayTouched setting journal)
   pub rules : OfReached RulesAreRight
   pub untouched : OfReached UntouchedStay
+  pub alike : OfReached ChangesLeaveOthers
 
 module _ (laws : Laws) (setting : Setting) (journal : List Item) where
   -- each item has its cause, and most of it follows
   whole : HaveCauses (HasItemCause setting) [] journal → RulesAreRight setting journal
-      → UntouchedStay setting journal → KeepVersionsWhole setting journal
-  whole causes rules untouched = record {
+      → UntouchedStay setting journal → ChangesLeaveOthers setting journal
+      → KeepVersionsWhole setting journal
+  whole causes rules untouched alike = record {
     causes = causes;
     boots = laws.boots.caused setting journal causes;
     serving = laws.serving.caused setting journal causes;
@@ -73,6 +76,7 @@ module _ (laws : Laws) (setting : Setting) (journal : List Item) where
     touched = laws.touched.caused setting journal causes;
     rules = rules;
     untouched = untouched;
+    alike = alike;
   }
 
 pub together : Laws → OfReached KeepVersionsWhole
@@ -82,17 +86,21 @@ together laws =
     record {
       reached = λ setting journal at is. whole laws setting journal
           (causes.reached setting journal at) (laws.rules.reached setting journal at is)
-          (laws.untouched.reached setting journal at is);
+          (laws.untouched.reached setting journal at is)
+          (laws.alike.reached setting journal at is);
       within = λ setting journal rest at is. whole laws setting journal
           (causes.within setting journal rest at)
           (laws.rules.within setting journal rest at is)
-          (laws.untouched.within setting journal rest at is);
+          (laws.untouched.within setting journal rest at is)
+          (laws.alike.within setting journal rest at is);
       answered = λ setting events journal own answers is. whole laws setting journal
           (causes.answered setting events journal own answers)
           (laws.rules.answered setting events journal own answers is)
-          (laws.untouched.answered setting events journal own answers is);
+          (laws.untouched.answered setting events journal own answers is)
+          (laws.alike.answered setting events journal own answers is);
       begun = λ setting events journal own begins is. whole laws setting journal
           (causes.begun setting events journal own begins)
           (laws.rules.begun setting events journal own begins is)
-          (laws.untouched.begun setting events journal own begins is);
+          (laws.untouched.begun setting events journal own begins is)
+          (laws.alike.begun setting events journal own begins is);
     }

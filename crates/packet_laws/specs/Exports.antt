@@ -1,4 +1,5 @@
 -- The definitions by which the laws of this crate speak, passed on from the files that define them.
+pub use Rattle.packet_laws.specs.Amended.{ChangesLeaveOthers}
 pub use Rattle.packet_laws.specs.Arriving.{PacketsArrive}
 pub use Rattle.packet_laws.specs.Between.{HoldsBetween}
 pub use Rattle.packet_laws.specs.Drains.{drain_left}

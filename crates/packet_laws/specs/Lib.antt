@@ -8,6 +8,7 @@ pub mod Between
 pub mod KeptFacts
 pub mod Travelling
 pub mod Untouched
+pub mod Amended
 pub mod StrongCauses
 pub mod Arriving
 pub mod Hops

@@ -12,6 +12,7 @@ use Rattle.control_laws.specs.Heard.{AcksHold, InstallsArePlanned}
 use Rattle.control_laws.specs.Serving.{ServingHold}
 use Rattle.control_laws.specs.Planned.{TablesArePlanned}
 use Rattle.control_laws.specs.Touched.{StampsSayTouched}
+use Rattle.packet_laws.specs.Amended.{ChangesLeaveOthers}
 use Rattle.packet_laws.specs.Travelling.{RulesAreRight}
 use Rattle.packet_laws.specs.Untouched.{UntouchedStay}
 
@@ -44,3 +45,5 @@ pub record KeepVersionsWhole (setting : Setting) (journal : List Item) : Type 0 
   pub rules : RulesAreRight setting journal
   -- and an amendment takes from a cache none that it doesn't touch
   pub untouched : UntouchedStay setting journal
+  -- a header that an amendment doesn't touch is decided alike by the versions before and behind it
+  pub alike : ChangesLeaveOthers setting journal

@@ -4,13 +4,14 @@ ghost use Rattle.steps.specs.Steps.{IsEvent};
 ghost use Rattle.steps.specs.declared.step.Step.TheVariants.{Deliver, Hop};
 ghost use Rattle.update_machine.specs.Exports.{Answers, AreAll, AreSome, Event, HasCause, HasPlay, HaveCauses, IsPlay, IsReached, IsRun, IsSetting, Item, Setting, StepOfRow, current_mark, most_versions, next_delivery, next_hop, next_packet, next_travelling, next_waiting, piece};
 ghost use Rattle.control_laws.specs.Always.{HoldsReached};
-ghost use Rattle.packet_laws.specs.Exports.{AllKept, AreEntered, AreResting, GoesOrStops, HoldsBetween, KeepVersionsWhole, PacketsArrive, PacketsTravel, RulesAreRight, UntouchedStay, StrongCause, WayCause, detour_count, drain_left, exit_count, finding_count, hops_on_route, hops_taken, most_hops, most_routes, most_switches, routes_taken, rows_played, search_count, step_rows};
+ghost use Rattle.packet_laws.specs.Exports.{AllKept, AreEntered, AreResting, ChangesLeaveOthers, GoesOrStops, HoldsBetween, KeepVersionsWhole, PacketsArrive, PacketsTravel, RulesAreRight, UntouchedStay, StrongCause, WayCause, detour_count, drain_left, exit_count, finding_count, hops_on_route, hops_taken, most_hops, most_routes, most_switches, routes_taken, rows_played, search_count, step_rows};
 
 use control_laws::{
     acknowledgements_hold, boots_are_known, installs_are_planned, items_have_causes,
     marks_are_bounded, members_acknowledged, serving_is_known, serving_switches_hold,
     stamps_are_acked_first, stamps_say_what_is_touched, switches_open_once, tables_are_planned,
 };
+use policy_rules::amendment_laws;
 
 /// Each item of packets, and each cache rule that is sent, has its cause in the journal before it,
 /// for steps of all kinds.
@@ -56,6 +57,16 @@ pub fn cache_rules_are_right()
 pub fn untouched_rules_stay()
     ensures { HoldsReached (λ setting journal. IsSetting setting → UntouchedStay setting journal) }
 {}
+
+/// An amendment changes only what it touches: a header that no row which it removes, and none which
+/// it adds, matches has one and the same first match under the version before and the new one; and
+/// each packet with this header that either of them decided got that.
+pub fn changes_leave_other_headers()
+    ensures { HoldsReached (λ setting journal.
+        IsSetting setting → ChangesLeaveOthers setting journal) }
+{
+    amendment_laws();
+}
 
 /// The ends of packets, the links that they found down, the changes of switches and links, and the
 /// versions that are submitted have their causes.
@@ -163,7 +174,7 @@ pub fn answered_rows_are_entered()
 
 /// At each moment, within a step too, what is known of boots, versions and marks is right, each
 /// switch holds what it stamps with, each cache rule says what its version says, and an amendment
-/// takes none from a cache that it doesn't touch.
+/// takes none from a cache that it doesn't touch, and changes no decision of another header.
 pub fn items_keep_versions_whole()
     ensures { HoldsReached (λ setting journal.
         IsSetting setting → KeepVersionsWhole setting journal) }
@@ -182,4 +193,5 @@ pub fn items_keep_versions_whole()
     stamps_say_what_is_touched();
     cache_rules_are_right();
     untouched_rules_stay();
+    changes_leave_other_headers();
 }

@@ -14,9 +14,9 @@ mod way_laws;
 
 pub use laws::{
     answered_rows_are_entered, answers_are_runs, cache_rules_are_right, causes_are_strong,
-    deliveries_rise, drains_end, ends_have_causes, flushes_end, items_keep_packets,
-    items_keep_versions_whole, packet_items_have_causes, packet_rows_are_entered, packets_arrive,
-    packets_rest, packets_take_few_hops, packets_take_few_routes, packets_travel, plays_exist,
-    untouched_rules_stay,
+    changes_leave_other_headers, deliveries_rise, drains_end, ends_have_causes, flushes_end,
+    items_keep_packets, items_keep_versions_whole, packet_items_have_causes,
+    packet_rows_are_entered, packets_arrive, packets_rest, packets_take_few_hops,
+    packets_take_few_routes, packets_travel, plays_exist, untouched_rules_stay,
 };
 pub use way_laws::{journals_hold_so_far, plays_held_on_the_way, steps_are_kept};

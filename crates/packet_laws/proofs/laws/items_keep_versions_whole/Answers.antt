@@ -17,4 +17,5 @@ returns c = together (record {
   touched = c.stamps_say_what_is_touched.ensures;
   rules = c.cache_rules_are_right.ensures;
   untouched = c.untouched_rules_stay.ensures;
+  alike = c.changes_leave_other_headers.ensures;
 })

@@ -1,0 +1,5 @@
+mod Passing
+mod Walking
+mod Following
+mod Forwarding
+mod Resting

@@ -1,0 +1,34 @@
+-- Ways over links that can be used lead back, and what isn't reached from their end isn't reached
+-- from their beginning.
+use Rattle.std.proofs.Common.{ℕ, List, [], ◌∷◌, All, subst}
+use Rattle.std.proofs.lemmas.List.Elements.{All-weaker}
+use Rattle.net_file.specs.Net.{IsNet}
+use Rattle.journal.specs.declared.item.Item.{Item}
+use Rattle.update_machine.specs.Setting.{Setting}
+use Rattle.convergence_laws.specs.Converged.{LeadsOver, Reaches}
+use Rattle.convergence_laws.proofs.CallerLemmas.{ends_there, near_both, small_of}
+
+turn_round : (setting : Setting) (journal : List Item) → IsNet setting.net → (there at target : ℕ)
+    (rest : List ℕ) → LeadsOver setting journal there at rest
+    → Reaches setting journal at target → Reaches setting journal there target
+turn_round setting journal net there at target [] leads reaches =
+    subst (λ x. Reaches setting journal x target) leads reaches
+turn_round setting journal net there at target (next ∷ rest) leads reaches =
+    turn_round setting journal net there next target rest leads.1 (record {
+      rest = at ∷ reaches.rest;
+      leads = (
+        near_both setting journal at next
+            (small_of setting net at (ends_there setting journal at next net leads.0).one) leads.0,
+        reaches.leads,
+      );
+    })
+
+pub apart_from : (setting : Setting) (journal : List Item) → IsNet setting.net → (from at : ℕ)
+    (targets : List ℕ) → Reaches setting journal from at
+    → All (λ target. Reaches setting journal at target → ⊥) targets
+    → All (λ target. Reaches setting journal from target → ⊥) targets
+apart_from setting journal net from at targets reaches apart =
+    All-weaker (λ target. Reaches setting journal at target → ⊥)
+    (λ target. Reaches setting journal from target → ⊥)
+    (λ target none there. none
+    (turn_round setting journal net at from target reaches.rest reaches.leads there)) targets apart

@@ -1,0 +1,94 @@
+-- A network forwards: a packet that comes in, and is drained, is decided by the newest version and
+-- is dropped or leaves by its port, or it is stuck where no links lead on. Packets are those of Yu,
+-- Rexford, Freedman and Wang, "Scalable Flow-Based Networking with DIFANE", SIGCOMM 2010; that they
+-- fare so is our own notion.
+use Rattle.std.specs.Prelude.{ℕ, ◌≡◌, ◌⊎◌, ◌++◌, Option, Some, None, List, All, Contains, IsTrue, find, option_map}
+use Rattle.five_tuple.specs.Header.{IsHeader}
+use Rattle.five_tuple.specs.declared.header.Header.{Header}
+use Rattle.net_file.specs.Joins.{owner_of}
+use Rattle.policy_rules.specs.Hosted.{is_in}
+use Rattle.policy_rules.specs.Policy.{IsFirstMatch}
+use Rattle.policy_rules.specs.declared.packet.Cause.{Cause}
+use Rattle.policy_rules.specs.declared.packet.Leaving.{Leaving}
+use Rattle.policy_rules.specs.declared.packet.Leg.{Leg}
+use Rattle.policy_rules.specs.declared.packet.Leg.TheVariants.{Seek, Exit}
+use Rattle.policy_rules.specs.declared.policy.Action.{Action}
+use Rattle.policy_rules.specs.declared.policy.Action.TheVariants as action
+use Rattle.journal.specs.declared.item.Item.{Item}
+use Rattle.journal.specs.declared.item.Item.TheVariants as item
+use Rattle.steps.specs.Steps.{HasSwitch}
+use Rattle.steps.specs.declared.step.Step.TheVariants.{Packet}
+use Rattle.update_machine.specs.Answers.{AreAll, StepOfRow, after_steps, next_hop}
+use Rattle.update_machine.specs.Boots.{is_up}
+use Rattle.update_machine.specs.Packets.{decision_of, next_packet}
+use Rattle.update_machine.specs.Pieces.{piece}
+use Rattle.update_machine.specs.Setting.{Setting}
+use Rattle.update_machine.specs.Versions.{plan_at, policy_at, version_count}
+use Rattle.update_machine.specs.Ways.{targets_of}
+use Rattle.convergence_laws.specs.Converged.{Reaches}
+
+-- the packet got, by the newest version of `before`, the first match of this header, with this
+-- action
+pub record IsDecidedByNewest (setting : Setting) (before after : List Item) (packet : ℕ)
+    (header : Header) (act : Action) : Type 0 where
+  pub rule : Option ℕ
+  pub decided : decision_of after packet
+      ≡ Some (record { version = version_count before; rule = rule; action = act })
+  pub first_match : IsFirstMatch (policy_at setting before (version_count before)) header
+      (record { rule = rule; action = act })
+
+-- the packet is stuck on this leg, and links that could be used led from where it came in to none
+-- of the targets
+pub record IsStuckApart (setting : Setting) (before after : List Item) (packet ingress : ℕ)
+    (leg : Leg) : Type 0 where
+  pub switch : ℕ
+  pub cause : Cause
+  pub down : List ℕ
+  pub stuck : Contains after (item.Stuck packet switch cause leg down)
+  pub apart : All (λ target. ¬ Reaches setting before ingress target)
+      (targets_of setting before leg)
+
+-- the packet leaves by the port, to whose switch such links led from where it came in
+pub record LeavesThere (setting : Setting) (before after : List Item) (packet ingress port : ℕ)
+    : Type 0 where
+  pub leaving : Leaving
+  pub left : Contains after (item.Left packet port leaving)
+  pub home : ℕ
+  pub has_port : owner_of setting.net.switches port ≡ Some home
+  pub reached : Reaches setting before ingress home
+
+-- a packet with this action is dropped; or it leaves by its port, or is stuck on its way there
+abbrev pub EndsBy : Setting → List Item → List Item → ℕ → ℕ → Action → Type 0
+EndsBy setting before after packet ingress action.Drop = Contains after (item.Dropped packet)
+EndsBy setting before after packet ingress (action.Out port) =
+    LeavesThere setting before after packet ingress port
+    ⊎ IsStuckApart setting before after packet ingress (Exit port)
+
+pub record IsForwarded (setting : Setting) (before after : List Item) (packet ingress : ℕ)
+    (header : Header) : Type 0 where
+  pub act : Action
+  pub decided : IsDecidedByNewest setting before after packet header act
+  pub ends : EndsBy setting before after packet ingress act
+
+-- undecided, the packet is stuck on its way to the partition of the newest version's plan whose
+-- region holds its header
+pub record FindsNoTarget (setting : Setting) (before after : List Item) (packet ingress : ℕ)
+    (header : Header) : Type 0 where
+  pub undecided : decision_of after packet ≡ None
+  pub partition : ℕ
+  pub own : option_map (λ hosted. hosted.0.number)
+      (find (λ hosted. is_in header hosted.0) (plan_at setting before (version_count before)))
+      ≡ Some partition
+  pub stuck : IsStuckApart setting before after packet ingress
+      (Seek (version_count before) partition)
+
+-- so it is of each packet that comes in behind the journal at a switch that is up, once all hops
+-- that a drain takes then are taken
+abbrev pub QuietForwards : Setting → List Item → Type 0
+QuietForwards setting before = (row later ingress : ℕ) (header : Header) (hops : List StepOfRow)
+    → HasSwitch setting.net ingress → IsHeader header → IsTrue (is_up before ingress)
+    → (let entered = before ++ piece setting before row (Packet ingress header) in
+    AreAll setting next_hop later entered hops
+    → (let after = after_steps setting entered hops in
+    IsForwarded setting before after (next_packet before) ingress header
+    ⊎ FindsNoTarget setting before after (next_packet before) ingress header))

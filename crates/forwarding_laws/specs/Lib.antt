@@ -1,0 +1,3 @@
+pub mod Forwards
+pub mod ToRest
+pub mod Exports

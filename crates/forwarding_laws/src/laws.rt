@@ -1,0 +1,31 @@
+//! The laws.
+ghost use Rattle.update_machine.specs.Exports.{IsQuiet, IsSetting};
+ghost use Rattle.packet_laws.specs.Exports.{HoldsBetween};
+ghost use Rattle.forwarding_laws.specs.Exports.{HasComeToRest, QuietForwards};
+
+use convergence_laws::{
+    packets_get_stuck_apart, quiet_networks_are_updated, quiet_networks_have_converged,
+};
+
+/// A quiet network forwards: a packet that comes in at a switch that is up, and is drained with no
+/// other event between, is decided by the newest version, and is dropped or leaves by its port;
+/// unless no target of its partition, or not the switch of its port, is reached over links that can
+/// be used, and then it is stuck.
+pub fn quiet_networks_forward()
+    ensures { HoldsBetween (λ setting journal.
+        IsSetting setting → IsQuiet setting journal → QuietForwards setting journal) }
+{
+    quiet_networks_have_converged();
+    quiet_networks_are_updated();
+}
+
+/// So a quiet network has come to rest: it has converged and is updated, and it forwards.
+pub fn quiet_networks_have_come_to_rest()
+    ensures { HoldsBetween (λ setting journal.
+        IsSetting setting → IsQuiet setting journal → HasComeToRest setting journal) }
+{
+    quiet_networks_have_converged();
+    packets_get_stuck_apart();
+    quiet_networks_are_updated();
+    quiet_networks_forward();
+}
