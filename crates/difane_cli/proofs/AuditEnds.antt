@@ -1,32 +1,83 @@
 -- What a trace whose lines are all good leaves of the output.
 use Rattle.std.specs.Prelude.{⊤}
 use Rattle.std.specs.Option.{ForSome}
-use Rattle.std.proofs.Common.{ℕ, ◌≡◌, Bool, inr, refl, subst, Option, Some, None, Result, Ok, Err, List, []}
+use Rattle.std.proofs.Common.{ℕ, ◌≡◌, ◌≤◌, ◌+◌, ◌==◌, Bool, inr, refl, subst, sym, Option, Some, None, Result, Ok, Err, List, [], ◌∷◌, arith, length}
+use Rattle.std.proofs.lemmas.List.Splits.{length-slice_split}
+use Rattle.std.proofs.lemmas.List.Sums.{count_by-le-length}
+use Rattle.five_tuple.specs.Texts.{parts_round}
 use Rattle.policy_rules.specs.declared.file.PolicyFile.{PolicyFile}
 use Rattle.shelf.specs.Shelf.{Files}
 use Rattle.shelf.specs.Sink.{GainedPart, SinkState}
 use Rattle.shelf.specs.SinkWrites.{IsAfterWrite}
 use Rattle.shelf.specs.declared.output.SinkError.{SinkError}
 use Rattle.shelf.specs.declared.output.SinkError.TheVariants as sink
-use Rattle.trace_audit.specs.Reading.{lines_of}
+use Rattle.trace_audit.specs.Decided.{AreJustified}
+use Rattle.trace_audit.specs.Reading.{lines_of, lines_of_parts, open_line}
+use Rattle.trace_audit.specs.Run.{AreRun}
+use Rattle.trace_audit.specs.Verdicts.{IsFirstBad, IsVerdict}
 use Rattle.trace_audit.specs.declared.trace.Verdict.{Verdict}
-use Rattle.trace_audit.specs.declared.trace.Verdict.TheVariants.{Yes}
+use Rattle.trace_audit.specs.declared.trace.Verdict.TheVariants.{Yes, No}
 use Rattle.command_line.specs.Commands.{AuditCommand}
 use Rattle.command_line.specs.Commands as asked
 use Rattle.difane_cli.specs.Audits.{AuditOutcome, Audited, IsAuditingOf, IsJudged, yes_line}
+use Rattle.difane_cli.specs.Codes.{most_trace_bytes}
 use Rattle.difane_cli.specs.Ending.{status_after}
 use Rattle.difane_cli.specs.Inputs.{known_task}
 use Rattle.difane_cli.specs.Tasks.{Audit, Auditing}
 use Rattle.difane_cli.specs.Writes.{Wrote}
 
+-- ---- how many lines there are
+
+few_open : (rest : List ℕ) → length (open_line rest) ≤ 1
+few_open [] = omega arith
+few_open (byte ∷ bytes) = omega arith
+
+few_parts : (parts : List (List ℕ)) → length (lines_of_parts parts) ≤ length parts
+few_parts [] = omega arith
+few_parts (rest ∷ []) = omega (arith, few_open rest)
+few_parts (text ∷ next ∷ parts) = omega (arith, few_parts (next ∷ parts))
+
+-- at most one behind the last line feed
+few_lines : (trace : List ℕ) → length (lines_of trace) ≤ length trace + 1
+unfolding lines_of
+few_lines trace =
+    let feeds = length-slice_split (λ (b : ℕ). b == 10) trace in
+    omega (
+      arith,
+      few_parts (parts_round 10 trace),
+      feeds,
+      count_by-le-length (λ (b : ℕ). b == 10) trace,
+    )
+
+-- so in a trace that isn't too long no number of a line stands still
+own_number : (files : List PolicyFile) (trace : List ℕ) (line : ℕ)
+    → length trace ≤ most_trace_bytes → IsVerdict files (lines_of trace) (No line)
+    → IsFirstBad files (lines_of trace) line
+own_number files trace line short is =
+    let first = is.1 in
+    let same : is.0 ≡ line = omega (arith, is.2, first.there, few_lines trace, short) in
+    subst (IsFirstBad files (lines_of trace)) same first
+
+-- ---- verdicts
+
 -- a verdict on what was read is one on what the inputs are
 pub verdict_on : (trace owned : List ℕ) (files own : List PolicyFile) (found verdict : Verdict)
-    → IsJudged files (lines_of trace) found → trace ≡ owned → files ≡ own → found ≡ verdict
-    → IsJudged own (lines_of owned) verdict
-verdict_on trace owned files own found verdict is same all told =
+    → length owned ≤ most_trace_bytes → IsVerdict files (lines_of trace) found
+    → (found ≡ Yes → AreRun files (lines_of trace))
+    → (found ≡ Yes → AreJustified files (lines_of trace))
+    → trace ≡ owned → files ≡ own → found ≡ verdict → IsJudged own (lines_of owned) verdict
+verdict_on trace owned files own found verdict short is run justified same all told =
+    let few : length trace ≤ most_trace_bytes =
+    subst (λ (bytes : List ℕ). length bytes ≤ most_trace_bytes) (sym same) short in
     subst (λ (given : Verdict). IsJudged own (lines_of owned) given) told
     (subst (λ (bytes : List ℕ). IsJudged own (lines_of bytes) found) same
-    (subst (λ (given : List PolicyFile). IsJudged given (lines_of trace) found) all is))
+    (subst (λ (given : List PolicyFile). IsJudged given (lines_of trace) found) all (record {
+      good = λ yes. subst (IsVerdict files (lines_of trace)) yes is;
+      bad = λ line no. own_number files trace line few
+          (subst (IsVerdict files (lines_of trace)) no is);
+      run = run;
+      justified = justified;
+    })))
 
 module _ (command : AuditCommand) (files : Option Files) (auditing : Auditing)
     (own : IsAuditingOf command auditing)

@@ -1,5 +1,5 @@
 -- What became of an audit, by its status; and that what a replay prints is a good trace.
-use Rattle.std.specs.Prelude.{⊤, ℕ, ◌≡◌, ◌≤◌, ◌⊎◌, All, Option, Some, Ok, List, [], codes, length}
+use Rattle.std.specs.Prelude.{⊤, ℕ, ◌≡◌, ◌≤◌, ◌⊎◌, All, IsSome, Option, Some, Ok, List, [], codes, length}
 use Rattle.std.specs.Option.{ForSome}
 use Rattle.journal.specs.declared.item.Item.{Item}
 use Rattle.policy_file.specs.Changes.{file_length}
@@ -10,13 +10,15 @@ use Rattle.shelf.specs.Sink.{GainedPart, SinkState}
 use Rattle.trace_audit.specs.Decided.{AreJustified}
 use Rattle.trace_audit.specs.Reading.{AreGood, Line, lines_of}
 use Rattle.trace_audit.specs.Run.{AreRun}
-use Rattle.trace_audit.specs.Verdicts.{IsVerdict}
+use Rattle.trace_audit.specs.Verdicts.{IsFirstBad}
 use Rattle.trace_audit.specs.declared.trace.Verdict.{Verdict}
 use Rattle.trace_audit.specs.declared.trace.Verdict.TheVariants.{Yes, No}
+use Rattle.world.specs.Files.{first_policy}
 use Rattle.command_line.specs.Commands.{AuditCommand}
 use Rattle.command_line.specs.Commands as asked
 use Rattle.command_line.specs.declared.report.Report.{Report}
 use Rattle.command_line.specs.declared.report.Report.TheVariants as report
+use Rattle.difane_cli.specs.Codes.{most_trace_bytes}
 use Rattle.difane_cli.specs.Inputs.{known_task}
 use Rattle.difane_cli.specs.Tasks.{Audit, Auditing, Inputs}
 use Rattle.difane_cli.specs.Writes.{Unplayed, Wrote}
@@ -27,17 +29,22 @@ use Rattle.difane_cli.specs.declared.status.Status.TheVariants as status
 abbrev pub yes_line : List ℕ
 yes_line = codes "yes\n"
 
--- a file for each name, each with what its type has, and at most 2,000 rows
+-- a file for each name, each with what its type has, and at most 2,000 rows; the first has a policy;
+-- and the trace isn't too long
 pub record IsAuditingOf (command : AuditCommand) (auditing : Auditing) : Type 0 where
   pub many : length auditing.files ≡ length command.policies
+  pub first : IsSome (first_policy auditing.files)
   pub sound : All IsPolicyFile auditing.files
   pub few : All (λ file. file_length file ≤ 2000) auditing.files
+  pub short : length auditing.trace ≤ most_trace_bytes
 
--- this is the verdict on the lines; and where it is Yes, the moves that they tell are a run of the
--- machine, and each packet that they print as dropped or as out by a port got one decision before,
--- the first match for its header under one version that was not retired as it entered
+-- the verdict is Yes only where each line is good, and else No with the number of the first that
+-- isn't; and where it is Yes, the moves that they tell are a run of the machine, and each packet
+-- that they print as dropped or as out by a port got one decision before, the first match for its
+-- header under one version that was not retired as it entered
 pub record IsJudged (files : List PolicyFile) (lines : List Line) (verdict : Verdict) : Type 0 where
-  pub holds : IsVerdict files lines verdict
+  pub good : verdict ≡ Yes → AreGood files lines
+  pub bad : (number : ℕ) → verdict ≡ No number → IsFirstBad files lines number
   pub run : verdict ≡ Yes → AreRun files lines
   pub justified : verdict ≡ Yes → AreJustified files lines
 

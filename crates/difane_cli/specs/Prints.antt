@@ -1,11 +1,12 @@
 -- What became of a command that prints a plan or tables, by its status; and what writing a text
 -- leaves of the output.
-use Rattle.std.specs.Prelude.{ℕ, ◌≡◌, ◌⊎◌, Option, Some, None, is_some, IsTrue, Ok, List, [], ⊤, ◌≢◌, Bool, Result, Err, IsErrOf, OnErr, OnOk, ◌≤◌}
+use Rattle.std.specs.Prelude.{ℕ, ◌≡◌, ◌⊎◌, All, Option, Some, None, is_some, IsTrue, Ok, List, [], ⊤, ◌≢◌, Bool, Result, Err, IsErrOf, OnErr, OnOk, ◌≤◌, length}
 use Rattle.std.specs.Option.{ForSome}
-use Rattle.net_file.specs.Owners.{switch_number}
+use Rattle.net_file.specs.Owners.{port_mask, switch_number}
 use Rattle.net_file.specs.declared.net.Net.{Net}
 use Rattle.partition.specs.Plan.{IsPlan, plan_of}
 use Rattle.five_tuple.specs.declared.header.Header.{Header}
+use Rattle.policy_file.specs.Ports.{names_port_of}
 use Rattle.policy_rules.specs.Policy.{IsFirstMatch, IsPolicy}
 use Rattle.policy_rules.specs.Scan.{scan}
 use Rattle.show_text.specs.Text.{compile_text, table_text}
@@ -30,13 +31,16 @@ IsSwitchOf None net switch = switch ≡ None
 IsSwitchOf (Some name) net switch =
     (switch ≡ switch_number net.switches name) × IsTrue (is_some switch)
 
--- a policy, its plan on the network that a command names, and the switch that it names; the plan's
--- partitions are the leaves of the tree that is defined for the policy's rules, and their targets a
--- placement; and at every switch it leads each header to what a scan of the policy finds, which is
--- the first match
+-- a policy of at most 2,000 rows, its plan on the network that a command names, whose ports alone
+-- the rows name, and the switch that it names; the plan's partitions are the leaves of the tree that
+-- is defined for the policy's rules, and their targets a placement; and at every switch it leads
+-- each header to what a scan of the policy finds, which is the first match
 pub record IsPrintingOf (command : PrintCommand) (printing : Printing) : Type 0 where
   pub policy : IsPolicy printing.policy
+  pub few : length printing.policy ≤ 2000
   pub net : IsNetOf command.net printing.net
+  pub ports : All (λ row. IsTrue (names_port_of (port_mask printing.net.switches) row.action))
+      printing.policy
   pub switch : IsSwitchOf command.switch printing.net printing.switch
   pub plan : plan_of printing.policy printing.net ≡ Ok printing.hosted
   pub parts : IsPlan printing.policy printing.net printing.hosted

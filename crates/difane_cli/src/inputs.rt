@@ -64,6 +64,7 @@ pub fn read_within<F: Shelf>(
         (λ bytes. bytes.items) (F.state shelf.old) (F.state shelf.new) result }
     ensures shelf { IsAfterReads 1 (F.state shelf.old) (F.state shelf.new) }
     ensures calm { IsCalmRead (F.state shelf.old) (F.state shelf.new) result }
+    ensures within { IfOk result (λ bytes. length bytes.items ≤ most) }
 {
     match shelf.read(name, most) {
         Ok(bytes) => Ok(bytes),

@@ -9,20 +9,16 @@ pub returns-in-Ok-No-clause-outcome : goal.returns-in-Ok-No-clause-outcome
 returns-in-Ok-No-clause-outcome g c = λ command files own accepted.
     let found : c.in-Ok-No.field-0 ≡ No c.in-Ok-No.line = search rules in
     audited command files (auditing_stated c.args.inputs.now) own accepted (No c.in-Ok-No.line) _
-    (verdict_on _ _ _ _ _ (No c.in-Ok-No.line) (record {
-      holds = c.in-Ok-No.ensures.verdict;
-      run = c.in-Ok-No.ensures.run;
-      justified = c.in-Ok-No.ensures.justified;
-    }) c.deref.ensures.value c.deref-2.ensures.value found) refl
+    (verdict_on _ _ _ _ _ (No c.in-Ok-No.line) own.short c.in-Ok-No.ensures.verdict
+    c.in-Ok-No.ensures.run c.in-Ok-No.ensures.justified c.deref.ensures.value
+    c.deref-2.ensures.value found) refl
 
 pub returns-in-Ok-Yes-clause-outcome : goal.returns-in-Ok-Yes-clause-outcome
 returns-in-Ok-Yes-clause-outcome g c = λ command files own accepted.
     let found : c.in-Ok-Yes.field-0 ≡ Yes = search rules in
-    let judged = verdict_on _ _ _ _ _ Yes (record {
-      holds = c.in-Ok-Yes.ensures.verdict;
-      run = c.in-Ok-Yes.ensures.run;
-      justified = c.in-Ok-Yes.ensures.justified;
-    }) c.deref.ensures.value c.deref-2.ensures.value found in
+    let judged = verdict_on _ _ _ _ _ Yes own.short c.in-Ok-Yes.ensures.verdict
+    c.in-Ok-Yes.ensures.run c.in-Ok-Yes.ensures.justified c.deref.ensures.value
+    c.deref-2.ensures.value found in
     rw c.after.ensures (yes_told command files (auditing_stated c.args.inputs.now) own accepted
     g.K.Sink.takes_memory (g.K.Sink.state c.args.out.now) (g.K.Sink.state c.write_whole.new.sink)
     c.write_whole.result judged c.write_whole.ensures.after)

@@ -35,8 +35,10 @@ returns-clause-read g c =
 pub returns-clause-asked : goal.returns-clause-asked
 returns-clause-asked g c = record {
   many = c.in_ok-files.ensures.many ∙ as_many _ _ c.deref-names.ensures.value;
+  first = c.in_ok-files.ensures.first;
   sound = c.in_ok-files.ensures.sound;
   few = c.in_ok-files.ensures.few;
+  short = c.in_ok-trace.ensures.within;
 }
 
 pub returns-in_err-files-clause-calm : goal.returns-in_err-files-clause-calm
