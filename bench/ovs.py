@@ -8,7 +8,8 @@ of `bench/replay.py` with 100 and 2,000 rows, whose prefixes have two lengths, a
 of `bench/plans.py` with 1,000 rows, whose prefixes have all. What `BIN show` says of the one switch
 becomes flows as `examples/openvswitch` makes them, in an Open vSwitch in user space with a dummy
 datapath. Both get the same packets, each of which a random row's blocks hold. Prints a line a
-figure: for each policy microseconds a packet, and packets a second, the least of three runs.
+figure: for each policy microseconds of the processor a packet, and packets a second, the least of
+three runs.
 
 - *trace, a process each*: `ovs-appctl ofproto/trace`. *bare* is `ovs-appctl version`, which asks
   nothing: the difference is the trace, with its text.
@@ -26,12 +27,14 @@ It needs Open vSwitch's tools (Debian's package openvswitch-switch). What isn't 
 """
 import os
 import re
+import resource
 import subprocess
 import sys
 import tempfile
 import time
 from pathlib import Path
 from random import Random
+from statistics import median
 
 from plans import HEADER, dotted, scattered
 
@@ -95,21 +98,31 @@ class Bridge(daemon.OpenVSwitch):
         names = "packets received", "miss with success upcall", "processing cycles"
         return [int(re.search(rf"  {name}: (\d+)", told)[1]) for name in names]
 
-    def send(self, packets):
-        """The cycles of a packet through the datapath, and how many had no cached flow."""
+    def pass_through(self, batch):
+        """How many packets of a batch had no cached flow, and the cycles of each packet."""
         before = self.counted()
-        for start in range(0, len(packets), BATCH):
-            batch = packets[start : start + BATCH]
-            self.ask("netdev-dummy/receive", "in", *batch)
-            self.await_received(before[0] + start + len(batch))
-        _, missed, cycles = (new - old for new, old in zip(self.counted(), before))
-        return cycles / len(packets), missed
-
-    def await_received(self, count):
+        self.ask("netdev-dummy/receive", "in", *batch)
         until = time.monotonic() + PATIENCE
-        while self.counted()[0] < count:
+        while True:
+            received, missed, cycles = (new - old for new, old in zip(self.counted(), before))
+            if received == len(batch):
+                return missed, cycles / received
             if time.monotonic() > until:
                 raise daemon.Failed("a packet didn't reach the datapath")
+
+    def send(self, packets):
+        """How many packets had no cached flow, and the cycles of each: the median of batches, since
+        the thread may have to wait for its processor in some."""
+        starts = range(0, len(packets), BATCH)
+        told = [self.pass_through(packets[start : start + BATCH]) for start in starts]
+        return sum(missed for missed, _ in told), median(cycles for _, cycles in told)
+
+    def spent(self):
+        """Seconds of the processor of the thread that answers, and of processes that ended."""
+        own = self.started[-1].pid
+        nanoseconds = Path(f"/proc/{own}/task/{own}/schedstat").read_text().split()[0]
+        ended = resource.getrusage(resource.RUSAGE_CHILDREN)
+        return int(nanoseconds) / 1e9 + ended.ru_utime + ended.ru_stime
 
     def hertz(self):
         """The cycles of a second."""
@@ -121,40 +134,41 @@ class Bridge(daemon.OpenVSwitch):
         return int(cycles[1]) / float(seconds[1])
 
 
-def least(action):
-    """The least microseconds of some runs of what answers seconds."""
-    return min(action() for _ in range(RUNS)) * 1e6
+def asked(bridge, action, values):
+    """Microseconds of the processor for an action, over these values: the least of some runs."""
+    def once():
+        before = bridge.spent()
+        for value in values:
+            action(value)
+        return (bridge.spent() - before) / len(values)
+
+    return min(once() for _ in range(RUNS)) * 1e6
 
 
-def timed(action, values):
-    """The seconds of a call, over these values."""
-    begun = time.monotonic()
-    for value in values:
-        action(value)
-    return (time.monotonic() - begun) / len(values)
-
-
-def traces(bridge, asked):
-    """Microseconds of traces, and of a question that asks nothing."""
+def traces(bridge, packets):
+    """The figures of traces, and of a question that asks nothing."""
     control = f"--target={bridge.folder}/ovs-vswitchd.ctl"
 
     def appctl(words):
         subprocess.run(["ovs-appctl", control, *words], stdout=subprocess.DEVNULL, check=True)
 
-    words = [["ofproto/trace", "br0", f"in_port=in,{text}"] for text in asked]
+    def ask(words):
+        bridge.ask(*words)
+
+    words = [["ofproto/trace", "br0", f"in_port=in,{text}"] for text in packets]
     bare = [["version"]] * len(words)
-    yield "trace, a process each", least(lambda: timed(appctl, words))
-    yield "trace, a process each, bare", least(lambda: timed(appctl, bare))
-    yield "trace, one connection", least(lambda: timed(lambda own: bridge.ask(*own), words))
-    yield "trace, one connection, bare", least(lambda: timed(lambda own: bridge.ask(*own), bare))
+    yield "trace, a process each", asked(bridge, appctl, words)
+    yield "trace, a process each, bare", asked(bridge, appctl, bare)
+    yield "trace, one connection", asked(bridge, ask, words)
+    yield "trace, one connection, bare", asked(bridge, ask, bare)
 
 
 def sent(bridge, packets):
     """Seconds of a packet that no cached flow is for, and then of one that some is for."""
     bridge.ask("revalidator/purge")
     rate = bridge.hertz()
-    uncached, missed = bridge.send(packets)
-    cached, later = bridge.send(packets)
+    missed, uncached = bridge.send(packets)
+    later, cached = bridge.send(packets)
     # Here and there one cached flow is for two packets.
     if missed < 0.99 * len(packets) or later:
         sys.exit(f"{missed} and {later} of {len(packets)} packets had no cached flow")
