@@ -1,11 +1,11 @@
 -- What a ring keeps where its entries go over to a version, and none is of it or a later one.
-use Rattle.std.proofs.Common.{ℕ, ◌≡◌, ◌∙◌, ◌+◌, ◌-◌, ◌<◌, ◌≤◌, Bool, true, false, cond, leb, eqb, not, ◌&&◌, ◌||◌, Option, Some, None, IfSome, option_map, List, [], ◌∷◌, ◌++◌, append-nil, find, length, length-append, map, filter_map, take, drop, take-append-drop, refl, ap, sym, subst, arith, All}
-use Rattle.std.specs.List.{AllByRecursion, IsDistinct, cons_option, list_any, position_or_len}
+use Rattle.std.proofs.Common.{ℕ, ◌≡◌, ◌∙◌, ◌+◌, ◌-◌, ◌<◌, ◌≤◌, Bool, true, false, cond, leb, eqb, not, ◌&&◌, ◌||◌, Option, Some, None, IfSome, option_map, List, [], ◌∷◌, ◌++◌, append-nil, find, length, length-append, map, filter_map, take, drop, take-append-drop, refl, ap, slice_get, sym, subst, arith, All}
+use Rattle.std.specs.List.{AllByRecursion, IsDistinct, cons_option, list_all, list_any, position_or_len}
 use Rattle.std.specs.Map.{keys_of}
 use Rattle.std.specs.Map.Calls.{RetainsPairs}
 use Rattle.std.proofs.lemmas.Bool.{and_from, and_parts, eq-eqb, eqb-true, false_from_ne_true, le-leb, leb-true}
 use Rattle.std.proofs.lemmas.List.Elements.{All-drop, All-head, All-tail, All-weaker, filter_map-append}
-use Rattle.std.proofs.lemmas.Option.{same_Some}
+use Rattle.std.proofs.lemmas.Option.{none-some, same_Some}
 use Rattle.ternary.specs.Meets.{meets, word_eq}
 use Rattle.ternary.specs.Word.{WordValue}
 use Rattle.switch_table.specs.Cache.{HaveDistinctKeys, same_key}
@@ -140,15 +140,20 @@ equal_keys_itself key =
     (and_from (eqb key.word.value key.word.value) (eqb key.word.mask key.word.mask)
     (eq-eqb _ _ refl) (eq-eqb _ _ refl))
 
+words_same : (a b : WordValue) → word_eq a b ≡ true → a ≡ b
+words_same a b is =
+    let parts = and_parts (eqb a.value b.value) (eqb a.mask b.mask) is in
+    let values = eqb-true a.value b.value parts.0 in
+    let masks = eqb-true a.mask b.mask parts.1 in
+    λ i. record { value = values i; mask = masks i }
+
 equal_keys_same : (a b : CacheKey) → equal_keys a b ≡ true → a ≡ b
 unfolding equal_keys
 equal_keys_same a b is =
     let parts = and_parts (eqb a.number b.number) (word_eq a.word b.word) is in
-    let words = and_parts (eqb a.word.value b.word.value) (eqb a.word.mask b.word.mask) parts.1 in
     let numbers = eqb-true a.number b.number parts.0 in
-    let values = eqb-true a.word.value b.word.value words.0 in
-    let masks = eqb-true a.word.mask b.word.mask words.1 in
-    λ i. record { number = numbers i; word = record { value = values i; mask = masks i } }
+    let words = words_same a.word b.word parts.1 in
+    λ i. record { number = numbers i; word = words i }
 
 -- a key that is apart from a later one
 apart_from : (a b : CacheKey) → equal_keys a b ≡ false → equal_keys b a ≡ false
@@ -232,6 +237,31 @@ over_one version one entry some =
     by_case : (b : Bool) → b ≡ (b || false)
     by_case true = refl
     by_case false = refl
+
+-- words that all are one
+all_one : (one : WordValue) (words : List WordValue)
+    → list_all (λ word. word_eq word one) words ≡ true → (word : WordValue)
+    → meets_any (one ∷ words) word ≡ meets_any (one ∷ []) word
+all_one one [] same word = refl
+all_one one (x ∷ words) same word =
+    let parts = and_parts (word_eq x one) (list_all (λ other. word_eq other one) words) same in
+    by_case (meets word one) (meets word x) (meets_any words word)
+    (ap (meets word) (words_same x one parts.0)) (all_one one words parts.1 word)
+  where
+    by_case : (a b more : Bool) → b ≡ a → (a || more) ≡ (a || false)
+        → (a || (b || more)) ≡ (a || false)
+    by_case true b more _ _ = refl
+    by_case false true more is _ = absurd (cc is)
+    by_case false false more _ rest = rest
+
+pub all_first : (one : WordValue) (words : List WordValue) → Some one ≡ slice_get words 0
+    → list_all (λ word. word_eq word one) words ≡ true
+    → (word : WordValue) → meets_any words word ≡ meets_any (one ∷ []) word
+all_first one [] first same word = absurd (none-some one (sym first))
+all_first one (x ∷ words) first same word =
+    let parts = and_parts (word_eq x one) (list_all (λ other. word_eq other one) words) same in
+    ap (λ w. meets word w || meets_any words word) (words_same x one parts.0)
+    ∙ all_one one words parts.1 word
 
 -- ---- where no entry is of the version or a later one
 

@@ -1,11 +1,12 @@
-ghost use Rattle.std.specs.Prelude.{◌≡◌, ◌<◌, ◌≤◌, ◌^◌, [], ◌∷◌, ◌++◌, ◌==◌, ◌&&◌, not, length, drop, remove, map, filter, filter_map, find, nat_le, slice_get, IsFalse, IfOk, OnOk, OnErr};
-ghost use Rattle.std.specs.List.{IsDistinct, list_any, position_or_len};
+ghost use Rattle.std.specs.Prelude.{◌≡◌, ◌<◌, ◌≤◌, ◌^◌, [], ◌∷◌, ◌++◌, ◌==◌, ◌&&◌, not, length, drop, remove, map, filter, filter_map, find, nat_le, slice_get, IsFalse, IfSome, IfOk, OnOk, OnErr};
+ghost use Rattle.std.specs.List.{IsDistinct, list_all, list_any, position_or_len};
 ghost use Rattle.std.specs.Map.{keys_of};
 ghost use Rattle.std.specs.Option.{option_copied};
 ghost use Rattle.switch_table.specs.Cache.{same_key, HaveDistinctKeys};
-ghost use Rattle.switch_table.specs.Carried.{carried_entry};
+ghost use Rattle.switch_table.specs.Carried.{carried_entry, meets_any};
 ghost use Rattle.switch_table.specs.Queue.{IsRing, entry_over, equal_keys, over, pair_of, pair_over, ring_entries};
-ghost use Rattle.ternary.specs.Meets.{meets};
+ghost use Rattle.ternary.specs.Meets.{meets, word_eq};
+ghost use Rattle.ternary.specs.Word.{WordValue};
 
 use crate::cache::CacheEntry;
 use crate::items::CacheItems;
@@ -303,8 +304,8 @@ fn keep_over(ring: &mut IndexMap<CacheKey, CacheEntry>, version: u32, touched: &
     requires { 0 < version }
     ensures { ring.new.entries ≡ filter_map (pair_over version touched.now) ring.old.entries }
 {
-    if let [one] = touched {
-        keep_apart(ring, version, *one);
+    if let Some(one) = only_word(touched) {
+        keep_apart(ring, version, one);
     } else {
         ring.retain(|_, entry| {
             let goes = goes_over(entry, version, touched);
@@ -314,7 +315,27 @@ fn keep_over(ring: &mut IndexMap<CacheKey, CacheEntry>, version: u32, touched: &
     }
 }
 
-// The same for one word, as most changes have: in a loop of its own, which holds it in registers.
+// The word that all of these are, where there are any. A change of a row's action alone gives its
+// word twice.
+fn only_word(touched: &[Word]) -> Option<Word>
+    ensures { IfSome result (λ one. (word : WordValue) →
+        meets_any touched.now word ≡ meets_any (one ∷ []) word) }
+{
+    let one = touched.first()?;
+    if are_all(touched, one) {
+        Some(*one)
+    } else {
+        None
+    }
+}
+
+fn are_all(words: &[Word], one: &Word) -> bool
+    ensures { result ≡ list_all (λ word. word_eq word one.now) words.now }
+{
+    words.iter().all(|word| word == one)
+}
+
+// The same for one word, in a loop of its own, which holds it in registers.
 #[inline(never)]
 fn keep_apart(ring: &mut IndexMap<CacheKey, CacheEntry>, version: u32, touched: Word)
     requires { 0 < version }
