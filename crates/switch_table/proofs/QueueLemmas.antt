@@ -1,6 +1,6 @@
 -- Cache entries in a ring: where they stand after a push, a replacement, a removal and a filter,
 -- and that no two have one key.
-use Rattle.std.proofs.Common.{ℕ, suc, ◌≡◌, ◌∙◌, ◌+◌, ◌-◌, ◌<◌, ◌≤◌, ◌^◌, Bool, true, false, cond, Option, Some, None, leb, ◌&&◌, ◌||◌, eqb, is_some, List, [], ◌∷◌, ◌++◌, length, length-append, length-drop, length-set, append-nil, append_assoc, map, filter, remove, take, drop, set, slice_get, get_or, get_or-drop, get_or-take, option_map, take-append-drop, take_all, refl, ap, sym, subst, arith, All}
+use Rattle.std.proofs.Common.{ℕ, suc, ◌≡◌, ◌∙◌, ◌+◌, ◌-◌, ◌<◌, ◌≤◌, ◌^◌, Bool, true, false, cond, Option, Some, None, leb, ◌&&◌, ◌||◌, eqb, is_some, List, [], ◌∷◌, ◌++◌, length, length-append, length-drop, length-set, append-nil, append_assoc, map, filter, max, remove, take, drop, set, slice_get, get_or, get_or-drop, get_or-take, option_map, take-append-drop, take_all, refl, ap, sym, subst, arith, All}
 use Rattle.std.specs.List.{list_any, swap_remove}
 use Rattle.std.specs.Map.{lookup}
 use Rattle.std.specs.Option.{IfSome}
@@ -11,7 +11,7 @@ use Rattle.std.proofs.Math.Seq.{drop-append_seam, get_or-append_right, get_or-ap
 use Rattle.std.proofs.lemmas.Bool.{and_parts, and_from, eqb-true, eq-eqb, false≢true, false_from_ne_true}
 use Rattle.std.proofs.lemmas.List.{length-map, at_drop_more, drop-map, drop-set-lt, drop_all, get_or_append_left, get_or_default, length-take-le, map-append, set-append_left, take-map}
 use Rattle.std.proofs.lemmas.List.Edits.{length-remove, remove-append_left, remove-append_right}
-use Rattle.std.proofs.lemmas.List.Elements.{All-append, All-cons, All-drop, All-filter, All-head, All-set, All-tail, All-take, filter-append}
+use Rattle.std.proofs.lemmas.List.Elements.{All-append, All-cons, All-drop, All-filter, All-head, All-set, All-tail, All-take, All-weaker, filter-append}
 use Rattle.std.proofs.lemmas.List.Folds.{list_any-append, list_any-from_Any}
 use Rattle.std.proofs.lemmas.List.Kept.{AllPairs-filter}
 use Rattle.std.proofs.lemmas.List.Quantifiers.{all_pairs_push, all_pairs_remove}
@@ -19,7 +19,7 @@ use Rattle.std.proofs.Math.Bool.{or_comm}
 use Rattle.base.proofs.ListLemmas.{none_from_not_some}
 use Rattle.ternary.specs.Meets.{word_eq}
 use Rattle.switch_table.specs.Cache.{HaveDistinctKeys, same_key}
-use Rattle.switch_table.specs.Queue.{IsRing, Pair, equal_keys, key_of, pair_of, pairs_from, ring_entries, rotated_list}
+use Rattle.switch_table.specs.Queue.{AreUpTo, IsQueue, IsRing, Pair, equal_keys, key_of, pair_of, pairs_from, ring_entries, rotated_list}
 use Rattle.switch_table.specs.declared.cache.CacheEntry.{CacheEntry}
 use Rattle.switch_table.specs.declared.key.CacheKey.{CacheKey}
 
@@ -48,7 +48,7 @@ same_key_from a b versions words =
     (eq-eqb a.word.value b.word.value (ap (λ w. w.value) words))
     (eq-eqb a.word.mask b.word.mask (ap (λ w. w.mask) words)))
 
-eqb-shift : (a b shift : ℕ) → eqb a b ≡ eqb (a + shift) (b + shift)
+pub eqb-shift : (a b shift : ℕ) → eqb a b ≡ eqb (a + shift) (b + shift)
 eqb-shift a b shift = by_case (eqb a b) refl
   where
     by_case : (same : Bool) → eqb a b ≡ same → same ≡ eqb (a + shift) (b + shift)
@@ -503,10 +503,10 @@ ring_replaced shift first place pairs more new d entry entries is at are absent 
     rw (put, ← are) (ring_replace shift first place pairs entry is at
     (ap (list_any (same_key entry)) are ∙ absent))
 
-All-remove : (shift : ℕ) (pairs : List Pair) (k : ℕ) → All (IsOwn shift) pairs →
-    All (IsOwn shift) (remove pairs k)
-All-remove shift pairs k own = All-append (IsOwn shift) (take k pairs) (drop (suc k) pairs)
-    (All-take (IsOwn shift) k pairs own) (All-drop (IsOwn shift) (suc k) pairs own)
+pub All-remove : {X : Type 0} (P : X → Type 0) (xs : List X) (k : ℕ) → All P xs →
+    All P (remove xs k)
+All-remove P xs k all = All-append P (take k xs) (drop (suc k) xs) (All-take P k xs all)
+    (All-drop P (suc k) xs all)
 
 -- the entry at a place goes, which stands behind the first in the map or before it
 pub ring_remove_later : (shift first place len : ℕ) (pairs : List Pair) → IsRing shift first pairs →
@@ -516,7 +516,7 @@ ring_remove_later shift first place len pairs is same here =
     let within = is.within in
     ring_of shift first (remove pairs (first + place)) _ is.fits
     (omega (arith, length-remove pairs (first + place) (omega arith)))
-    (All-remove shift pairs (first + place) is.own)
+    (All-remove (IsOwn shift) pairs (first + place) is.own)
     (ap (map entry_of) (turned_remove_later first place pairs within (omega arith))
     ∙ map-remove entry_of (rotated_list first pairs) place)
     (all_pairs_remove (λ a b. same_key a b ≡ false) (ring_entries first pairs) place
@@ -531,7 +531,7 @@ ring_remove_earlier shift first place len pairs is same here past =
     let at = place - (len - first) in
     ring_of shift (first - 1) (remove pairs at) _ is.fits
     (omega (arith, length-remove pairs at (omega arith)))
-    (All-remove shift pairs at is.own)
+    (All-remove (IsOwn shift) pairs at is.own)
     (ap (map entry_of) (turned_remove_earlier first place len pairs within same here past)
     ∙ map-remove entry_of (rotated_list first pairs) place)
     (all_pairs_remove (λ a b. same_key a b ≡ false) (ring_entries first pairs) place
@@ -579,3 +579,22 @@ ring_kept shift version first next pairs new front entries is are values counted
     ∙ ap (λ es. length (filter (λ (entry : CacheEntry). leb version entry.version) es)) values
     ∙ length-kept version (take first pairs) in
     rw (number, kept, ← are) (ring_keep shift version first pairs is)
+
+-- ---- no entry is of a later version
+
+pub queue_of : (shift newest first : ℕ) (pairs : List Pair) (entries : List CacheEntry) →
+    IsRingOf shift first pairs entries → AreUpTo newest entries → IsQueue shift newest first pairs
+queue_of shift newest first pairs entries is up_to = record {
+  ring = is.ring;
+  up_to = subst (AreUpTo newest) (sym is.entries_are) up_to;
+}
+
+-- and so of what comes last
+pub up_to_pushed : (newest next : ℕ) (entries : List CacheEntry) (entry : CacheEntry) →
+    AreUpTo newest entries → next ≡ max newest entry.version →
+    AreUpTo next (entries ++ entry ∷ [])
+up_to_pushed newest next entries entry up_to is =
+    let IsUpTo = λ (e : CacheEntry). e.version ≤ next in
+    All-append IsUpTo entries (entry ∷ [])
+    (All-weaker (λ e. e.version ≤ newest) IsUpTo (λ e le. omega (arith, le, is)) entries up_to)
+    (All-cons IsUpTo entry [] (omega (arith, is)) (λ k d within. absurd (omega arith)))

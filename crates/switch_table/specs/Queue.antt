@@ -53,3 +53,12 @@ pub record IsRing (shift first : ℕ) (pairs : List Pair) : Type 0 where
   pub within : first ≤ length pairs
   pub own : All (λ pair. pair.0 ≡ key_of shift pair.1) pairs
   pub distinct : HaveDistinctKeys (ring_entries first pairs)
+
+-- no entry is of a later version than this one
+abbrev pub AreUpTo : ℕ → List CacheEntry → Type 0
+AreUpTo newest entries = All (λ entry. entry.version ≤ newest) entries
+
+-- it is a ring of entries of no later version
+pub record IsQueue (shift newest first : ℕ) (pairs : List Pair) : Type 0 where
+  pub ring : IsRing shift first pairs
+  pub up_to : AreUpTo newest (ring_entries first pairs)

@@ -1,13 +1,17 @@
-ghost use Rattle.std.specs.Prelude.{◌≡◌, ◌<◌, ◌≤◌, ◌^◌, [], ◌∷◌, ◌++◌, length, drop, remove, map, filter, filter_map, nat_le, slice_get, IsFalse, IfOk, OnOk, OnErr};
-ghost use Rattle.std.specs.List.{list_any};
+ghost use Rattle.std.specs.Prelude.{◌≡◌, ◌<◌, ◌≤◌, ◌^◌, [], ◌∷◌, ◌++◌, ◌==◌, ◌&&◌, not, length, drop, remove, map, filter, filter_map, find, nat_le, slice_get, IsFalse, IfSome, IfOk, OnOk, OnErr};
+ghost use Rattle.std.specs.List.{IsDistinct, list_all, list_any, position_or_len};
+ghost use Rattle.std.specs.Map.{keys_of};
+ghost use Rattle.std.specs.Option.{option_copied};
 ghost use Rattle.switch_table.specs.Cache.{same_key, HaveDistinctKeys};
-ghost use Rattle.switch_table.specs.Carried.{carried_entry};
-ghost use Rattle.switch_table.specs.Queue.{entry_over, over, pair_of, pair_over, ring_entries};
+ghost use Rattle.switch_table.specs.Carried.{carried_entry, meets_any};
+ghost use Rattle.switch_table.specs.Queue.{IsRing, entry_over, equal_keys, over, pair_of, pair_over, ring_entries};
+ghost use Rattle.ternary.specs.Meets.{meets, word_eq};
+ghost use Rattle.ternary.specs.Word.{WordValue};
 
 use crate::cache::CacheEntry;
 use crate::items::CacheItems;
 use crate::key::CacheKey;
-use crate::touched::{Touched, meets_any};
+use crate::touched::{Touched, meets, meets_any};
 use indexmap::IndexMap;
 use std::alloc::{AllocError, Global};
 use std::marker::Model;
@@ -20,12 +24,14 @@ use ternary::Word;
 /// entry that comes for the first one takes its place, and no other entry moves.
 ///
 /// The key of an entry has its version and the shift. So where entries go over to the next version,
-/// the shift falls by one, and their keys stay.
+/// the shift falls by one, and their keys stay. No entry is of a later version than `newest`, so
+/// that a carry need not look at all of them to know that none is of its version.
 #[derive(Drop)]
 pub struct EntryQueue {
     ring: IndexMap<CacheKey, CacheEntry>,
     first: usize,
     shift: u64,
+    newest: u32,
 }
 
 // The shift of a queue at first.
@@ -34,13 +40,13 @@ const MOST_SHIFT: u64 = 1 << 32;
 impl Model for EntryQueue {
     ghost use Rattle.std.specs.Prelude.{List};
     ghost use Rattle.switch_table.specs.declared.cache.CacheEntry.{CacheEntry};
-    ghost use Rattle.switch_table.specs.Queue.{IsRing, ring_entries};
+    ghost use Rattle.switch_table.specs.Queue.{IsQueue, ring_entries};
 
     ghost Value = { List CacheEntry };
 
     ghost view = { λ q. ring_entries q.first q.ring.entries };
 
-    ghost invariant = { λ q. IsRing q.shift q.first q.ring.entries };
+    ghost invariant = { λ q. IsQueue q.shift q.newest q.first q.ring.entries };
 }
 
 impl EntryQueue {
@@ -51,6 +57,7 @@ impl EntryQueue {
             ring: IndexMap::new(alloc),
             first: 0,
             shift: MOST_SHIFT,
+            newest: 0,
         }
     }
 
@@ -76,6 +83,7 @@ impl EntryQueue {
             self.ring.insert(entry.key(self.shift), *entry)?;
         }
         self.first = self.ring.len();
+        self.newest = self.newest.max(entry.version);
         Ok(())
     }
 
@@ -107,6 +115,7 @@ impl EntryQueue {
         self.ring.insert(entry.key(self.shift), *entry)?;
         self.first = first + 1;
         self.ring.swap_remove_index(first);
+        self.newest = self.newest.max(entry.version);
         Ok(())
     }
 
@@ -139,7 +148,7 @@ impl EntryQueue {
         self.ring.retain(|_, entry| version <= entry.version);
     }
 
-    /// Carries the entries to this version. Where none is of this version or a later one, those
+    /// Carries the entries to this version. Where none was of this version or a later one, those
     /// that go over keep their keys; otherwise a new ring is made of what is left, and then takes
     /// the place of the old one.
     pub fn carry(&mut self, version: u32, touched: &Touched) -> Result<(), AllocError>
@@ -147,14 +156,16 @@ impl EntryQueue {
             (self.new ≡ filter_map (carried_entry version touched.now self.old) self.old) }
         ensures err { OnErr result (self.new ≡ self.old) }
     {
-        if self.shift > 0 && count_from(self.ring.as_slice().values().as_slice(), version) == 0 {
-            self.first = take_over(&mut self.ring, self.first, version, touched);
+        if self.shift > 0 && self.newest < version {
+            self.first = take_over(&mut self.ring, self.shift, self.first, version, touched);
             self.shift -= 1;
+            self.newest = version;
             return Ok(());
         }
         let ring = self.carried(version, touched, self.shift)?;
         self.first = ring.len();
         self.ring = ring;
+        self.newest = self.newest.max(version);
         Ok(())
     }
 
@@ -237,14 +248,17 @@ fn count_from(entries: &[CacheEntry], version: u32) -> usize
 }
 
 // Takes the entries over to this version that go over to it, and the others out, where none is of
-// this version or a later one. Answers where the first one then stands.
+// this version or a later one. Answers where the first one then stands: its key stays, so it is
+// found by that, and none is counted.
 fn take_over(
     ring: &mut IndexMap<CacheKey, CacheEntry>,
+    shift: u64,
     first: usize,
     version: u32,
     touched: &Touched,
 ) -> usize
-    requires { first ≤ length ring.old.entries }
+    requires ring { IsRing shift first ring.old.entries }
+    requires later { 0 < version }
     ensures pairs { ring.new.entries
         ≡ filter_map (pair_over version touched.now) ring.old.entries }
     ensures within { result ≤ length ring.new.entries }
@@ -252,28 +266,94 @@ fn take_over(
         ≡ filter_map (entry_over version touched.now) (ring_entries first ring.old.entries) }
 {
     let words = touched.words();
-    let place = if first < ring.len() { first } else { 0 };
-    let (front, _) = ring.as_slice().split_at(place);
-    let before = count_over(front.values().as_slice(), version, words);
+    let (_, back) = ring.as_slice().split_at(first);
+    let head = first_over(back.values().as_slice(), version, words).copied();
+    keep_over(ring, version, words);
+    match head {
+        Some(entry) => place_of(ring, entry.key(shift)),
+        None => ring.len(),
+    }
+}
+
+// The first of the entries that goes over to this version.
+fn first_over<'a>(
+    entries: &'a [CacheEntry],
+    version: u32,
+    touched: &[Word],
+) -> Option<&'a CacheEntry>
+    ensures { option_copied result ≡ find (over version touched.now) entries.now }
+{
+    entries
+        .iter()
+        .find(|entry| goes_over(entry, version, touched))
+}
+
+// Where the key stands, or the number of keys where it doesn't.
+fn place_of(ring: &IndexMap<CacheKey, CacheEntry>, key: CacheKey) -> usize
+    ensures place { result ≡ position_or_len (equal_keys key) (keys_of ring.now.entries) }
+    ensures distinct { IsDistinct equal_keys (keys_of ring.now.entries) }
+{
+    match ring.get_index_of(&key) {
+        Some(place) => place,
+        None => ring.len(),
+    }
+}
+
+// Changes the version of those that go over, and takes the others out.
+fn keep_over(ring: &mut IndexMap<CacheKey, CacheEntry>, version: u32, touched: &[Word])
+    requires { 0 < version }
+    ensures { ring.new.entries ≡ filter_map (pair_over version touched.now) ring.old.entries }
+{
+    if let Some(one) = only_word(touched) {
+        keep_apart(ring, version, one);
+    } else {
+        ring.retain(|_, entry| {
+            let goes = goes_over(entry, version, touched);
+            entry.version = version;
+            goes
+        });
+    }
+}
+
+// The word that all of these are, where there are any. A change of a row's action alone gives its
+// word twice.
+fn only_word(touched: &[Word]) -> Option<Word>
+    ensures { IfSome result (λ one. (word : WordValue) →
+        meets_any touched.now word ≡ meets_any (one ∷ []) word) }
+{
+    let one = touched.first()?;
+    if are_all(touched, one) {
+        Some(*one)
+    } else {
+        None
+    }
+}
+
+fn are_all(words: &[Word], one: &Word) -> bool
+    ensures { result ≡ list_all (λ word. word_eq word one.now) words.now }
+{
+    words.iter().all(|word| word == one)
+}
+
+// The same for one word, in a loop of its own, which holds it in registers.
+#[inline(never)]
+fn keep_apart(ring: &mut IndexMap<CacheKey, CacheEntry>, version: u32, touched: Word)
+    requires { 0 < version }
+    ensures { ring.new.entries ≡ filter_map (pair_over version (touched ∷ [])) ring.old.entries }
+{
+    let before = version - 1;
     ring.retain(|_, entry| {
-        let goes = goes_over(entry, version, words);
+        let goes = is_apart(entry, before, &touched);
         entry.version = version;
         goes
     });
-    if before > 0 { before } else { ring.len() }
 }
 
-// How many of the entries go over to this version.
-fn count_over(entries: &[CacheEntry], version: u32, touched: &[Word]) -> usize
-    ensures { result ≡ length (filter (over version touched.now) entries.now) }
+// Whether the entry is of this version, and its word doesn't meet this one.
+fn is_apart(entry: &CacheEntry, version: u32, touched: &Word) -> bool
+    ensures { result ≡ ((entry.now.version == version) && not (meets entry.now.word touched.now)) }
 {
-    let mut count = 0;
-    for entry in entries {
-        if goes_over(entry, version, touched) {
-            count += 1;
-        }
-    }
-    count
+    entry.version == version && !meets(&entry.word, touched)
 }
 
 // Whether the entry is of the version before this one, and its word meets none of these.

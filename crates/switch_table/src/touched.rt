@@ -86,7 +86,7 @@ pub(crate) fn meets_any(touched: &[Word], word: &Word) -> bool
 
 // Whether a header is in both words.
 #[tactic(auto, using(ternary::proofs::CallerLemmas::meet_is_some))]
-fn meets(a: &Word, b: &Word) -> bool
+pub(crate) fn meets(a: &Word, b: &Word) -> bool
     ensures { result ≡ meets a.now b.now }
 {
     a.meet(b).is_some()

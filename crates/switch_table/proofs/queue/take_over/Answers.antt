@@ -1,56 +1,51 @@
-use Rattle.std.proofs.Common.{◌≡◌, ◌∙◌, ap, filter, filter_map, length, map, refl, take, arith, rules}
-use Rattle.switch_table.specs.Carried.{under}
-use Rattle.switch_table.specs.Queue.{over, pair_over}
-use Rattle.switch_table.proofs.OverLemmas.{BeginsAt, IsBeginOf, begins_home, over_begins, over_home, retained_changed}
+use Rattle.std.proofs.Common.{ℕ, ◌≡◌, ◌∙◌, ap, Option, Some, None, drop, filter_map, find, map}
+use Rattle.std.specs.List.{IsDistinct, position_or_len}
+use Rattle.std.specs.Map.{keys_of}
+use Rattle.std.specs.Option.{option_copied}
+use Rattle.switch_table.specs.Queue.{equal_keys, over, pair_over}
+use Rattle.switch_table.specs.declared.cache.CacheEntry.{CacheEntry}
+use Rattle.switch_table.proofs.OverLemmas.{IsBeginOf, IsPlaceOf, place_over}
 use Rattle.switch_table.proofs.QueueLemmas.{entry_of}
 use Rattle.switch_table.proofs.queue.take_over.Goals as goal
-use Rattle.switch_table.proofs.queue.take_over.Goals.{After-retain, then-first-len, else-first-len}
+use Rattle.switch_table.proofs.queue.take_over.Goals.{After-keep_over}
 
-begins : (c : After-retain) → BeginsAt c.if-first-len.place c.args.first c.args.ring.now.entries
-begins c = elim c.if-first-len.branch [
-  | then-first-len w ↦ rw w.place-is refl
-  | else-first-len w ↦ rw w.place-is (begins_home c.args.first c.args.ring.now.entries c.requires
-      (omega (arith, w.if-first-len.false, c.len.ensures.len)))
-]
-
-made : (c : After-retain) → c.retain.new.self.entries
-    ≡ filter_map (pair_over c.args.version c.args.touched.now) c.args.ring.now.entries
-made c = retained_changed _ (over c.args.version c.args.touched.now) (under c.args.version) _
-    (λ k v b w g called. (search rules, search rules, search rules)) _ _ c.retain.ensures.filtered
-
-front : (c : After-retain) → IsBeginOf c.count_over-before.result c.args.first c.args.version
-    c.args.touched.now c.args.ring.now.entries c.retain.new.self.entries
-front c =
+begins : (c : After-keep_over) (place : ℕ) (head : Option CacheEntry)
+    → head ≡ option_copied c.first_over.result
+    → IsDistinct equal_keys (keys_of c.keep_over.new.ring.entries)
+    → IsPlaceOf c.args.shift place c.keep_over.new.ring.entries head
+    → IsBeginOf place c.args.first c.args.version c.args.touched.now c.args.ring.now.entries
+    c.keep_over.new.ring.entries
+begins c place head is distinct at =
     let version = c.args.version in
-    let values : c.as_slice-2.result.now
-    ≡ map entry_of (take c.if-first-len.place c.args.ring.now.entries) =
+    let first = c.args.first in
+    let values : c.as_slice-2.result.now ≡ map entry_of (drop first c.args.ring.now.entries) =
     c.as_slice-2.ensures ∙ c.values.ensures.rest ∙ ap (map entry_of)
-    (c.split_at-front.ensures.front ∙ ap (take c.if-first-len.place) c.as_slice.ensures.entries) in
-    over_begins version c.args.first c.if-first-len.place c.count_over-before.result
-    c.args.touched.now c.args.ring.now.entries c.retain.new.self.entries c.as_slice-2.result.now
-    (begins c) values
-    (c.count_over-before.ensures
-    ∙ ap (λ words. length (filter (over version words) c.as_slice-2.result.now))
-    c.words-words.ensures.words) (made c)
+    (c.split_at-back.ensures.back ∙ ap (drop first) c.as_slice.ensures.entries) in
+    let words = c.words-words.ensures.words in
+    place_over c.args.shift version first place c.args.touched.now c.args.ring.now.entries
+    c.keep_over.new.ring.entries head c.requires.ring
+    (is ∙ c.first_over.ensures ∙ (λ i. find (over version (words i)) (values i)))
+    (c.keep_over.ensures ∙ ap
+    (λ ws. filter_map (pair_over version ws) c.args.ring.now.entries) words) distinct at
 
-pub returns-then-before-gt0-clause-pairs : goal.returns-then-before-gt0-clause-pairs
-returns-then-before-gt0-clause-pairs c =
-    made (goal.at.returns-then-before-gt0-clause-pairs c).After-retain
+pub returns-in-Some-clause-within : goal.returns-in-Some-clause-within
+returns-in-Some-clause-within c =
+    (begins (goal.at.returns-in-Some-clause-within c).After-keep_over c.place_of.result
+    (Some c.in-Some.entry) c.in-Some.ensures c.place_of.ensures.distinct
+    (c.place_of.ensures.place ∙ ap
+    (λ key. position_or_len (equal_keys key) (keys_of c.keep_over.new.ring.entries))
+    c.key.ensures)).within
 
-pub returns-then-before-gt0-clause-within : goal.returns-then-before-gt0-clause-within
-returns-then-before-gt0-clause-within c =
-    (front (goal.at.returns-then-before-gt0-clause-within c).After-retain).within
+pub returns-in-Some-clause-entries : goal.returns-in-Some-clause-entries
+returns-in-Some-clause-entries c =
+    (begins (goal.at.returns-in-Some-clause-entries c).After-keep_over c.place_of.result
+    (Some c.in-Some.entry) c.in-Some.ensures c.place_of.ensures.distinct
+    (c.place_of.ensures.place ∙ ap
+    (λ key. position_or_len (equal_keys key) (keys_of c.keep_over.new.ring.entries))
+    c.key.ensures)).entries_are
 
-pub returns-then-before-gt0-clause-entries : goal.returns-then-before-gt0-clause-entries
-returns-then-before-gt0-clause-entries c =
-    (front (goal.at.returns-then-before-gt0-clause-entries c).After-retain).entries_are
-
-pub returns-else-before-gt0-clause-pairs : goal.returns-else-before-gt0-clause-pairs
-returns-else-before-gt0-clause-pairs c =
-    made (goal.at.returns-else-before-gt0-clause-pairs c).After-retain
-
-pub returns-else-before-gt0-clause-entries : goal.returns-else-before-gt0-clause-entries
-returns-else-before-gt0-clause-entries c =
-    over_home c.len-else-before-gt0.result c.count_over-before.result c.retain.new.self.entries
-    (omega (arith, c.if-before-gt0.false)) c.len-else-before-gt0.ensures.len
-    ∙ (front (goal.at.returns-else-before-gt0-clause-entries c).After-retain).entries_are
+pub returns-in-None-clause-entries : goal.returns-in-None-clause-entries
+unfolding equal_keys
+returns-in-None-clause-entries c =
+    (begins (goal.at.returns-in-None-clause-entries c).After-keep_over c.len.result None
+    c.in-None.ensures c.len.ensures.unique c.len.ensures.len).entries_are

@@ -14,5 +14,5 @@ returns c =
     let there : c.contains_key.result ≡ is_some (lookup (equal_keys c.key.result) pairs) =
     c.contains_key.ensures in
     there ∙ ap (λ k. is_some (lookup (equal_keys k) pairs)) c.key.ensures
-    ∙ ring_has c.self.inside.shift c.self.inside.first pairs entry c.self.invariant
+    ∙ ring_has c.self.inside.shift c.self.inside.first pairs entry c.self.invariant.ring
     ∙ ap (list_any (same_key entry)) c.self.view_is

@@ -1,8 +1,9 @@
-use Rattle.std.proofs.Common.{◌≡◌, ◌∙◌, leb, filter, map, take, ap, rules}
+use Rattle.std.proofs.Common.{◌≡◌, ◌∙◌, ◌≤◌, leb, filter, map, take, ap, subst, rules}
+use Rattle.std.proofs.lemmas.List.Elements.{All-filter}
 use Rattle.indexmap.proofs.CallerLemmas.{filter-RetainsPairs}
-use Rattle.switch_table.specs.Queue.{Pair, pairs_from}
+use Rattle.switch_table.specs.Queue.{AreUpTo, Pair, pairs_from}
 use Rattle.switch_table.specs.declared.cache.CacheEntry.{CacheEntry}
-use Rattle.switch_table.proofs.QueueLemmas.{IsRingOf, entry_of, ring_kept}
+use Rattle.switch_table.proofs.QueueLemmas.{IsRingOf, entry_of, queue_of, ring_kept}
 use Rattle.switch_table.proofs.queue.EntryQueue.keep_from.Goals as goal
 use Rattle.switch_table.proofs.queue.EntryQueue.keep_from.Goals.{After-retain}
 
@@ -21,11 +22,16 @@ stays c =
     (λ k v b w g called. (search rules, search rules, search rules)) _ _
     c.retain.ensures.filtered in
     ring_kept c.self.inside.shift version first c.count_from-self-inside.result pairs
-    c.retain.new.self.entries c.as_slice-2.result.now c.args.self.now c.self.invariant c.self.view_is front
+    c.retain.new.self.entries c.as_slice-2.result.now c.args.self.now c.self.invariant.ring c.self.view_is front
     c.count_from-self-inside.ensures kept
 
 pub invariant_of-self : goal.invariant_of-self
-invariant_of-self c = (stays c).ring
+invariant_of-self c =
+    let newest = c.self.inside.newest in
+    queue_of _ _ _ _ _ (stays c)
+    (All-filter (λ (entry : CacheEntry). leb c.args.version entry.version)
+    (λ (entry : CacheEntry). entry.version ≤ newest) c.args.self.now
+    (subst (AreUpTo newest) c.self.view_is c.self.invariant.up_to))
 
 pub returns : goal.returns
 returns c = (stays c).entries_are

@@ -1,7 +1,7 @@
-use Rattle.std.proofs.Common.{◌∙◌, ◌∷◌, [], ◌++◌, ap, length, map, subst, sym, arith}
+use Rattle.std.proofs.Common.{◌≡◌, ◌∙◌, max, ◌∷◌, [], ◌++◌, ap, length, map, subst, sym, arith}
 use Rattle.indexmap.specs.IndexMap.{insert_entry}
-use Rattle.switch_table.specs.Queue.{equal_keys, pair_of}
-use Rattle.switch_table.proofs.QueueLemmas.{IsRingOf, ring_put, ring_straight}
+use Rattle.switch_table.specs.Queue.{AreUpTo, equal_keys, pair_of}
+use Rattle.switch_table.proofs.QueueLemmas.{IsRingOf, queue_of, ring_put, ring_straight, up_to_pushed}
 use Rattle.switch_table.proofs.queue.EntryQueue.push.Goals as goal
 use Rattle.switch_table.proofs.queue.EntryQueue.push.Goals.{After-self-1, then-self-len+in_ok-ring+in_ok-insert, else-self-len+in_ok-insert-2}
 
@@ -18,7 +18,7 @@ pushed c =
       | then-self-len+in_ok-ring+in_ok-insert w ↦
           let shift = c.self.inside.shift in
           let pairs = map (pair_of shift) entries in
-          let is = ring_straight shift entries c.self.invariant.fits
+          let is = ring_straight shift entries c.self.invariant.ring.fits
           w.in_ok-ring.ensures.distinct in
           subst (λ n. IsRingOf n last new (entries ++ entry ∷ []))
           (sym (ap (λ s. s.shift) w.self-inside-is))
@@ -32,13 +32,24 @@ pushed c =
           (sym (ap (λ s. s.shift) w.self-inside-is))
           (ring_put c.self.inside.shift c.self.inside.first last c.self.inside.ring.entries
           w.insert-else-self-len.new.self.entries new w.key-else-self-len.result entry entries
-          c.self.invariant c.self.view_is (omega (arith, w.if-self-len.false, c.len.ensures.len))
+          c.self.invariant.ring c.self.view_is (omega (arith, w.if-self-len.false, c.len.ensures.len))
           c.requires w.key-else-self-len.ensures w.in_ok-insert-2.ensures.entries
           (ap (λ s. s.ring.entries) w.self-inside-is) len)
     ]
 
+newest_is : (c : After-self-1) → c.if-self-len.self-inside.newest ≡ c.self.inside.newest
+newest_is c =
+    elim c.if-self-len.branch [
+      | then-self-len+in_ok-ring+in_ok-insert w ↦ ap (λ s. s.newest) w.self-inside-is
+      | else-self-len+in_ok-insert-2 w ↦ ap (λ s. s.newest) w.self-inside-is
+    ]
+
 pub invariant_of-self-2 : goal.invariant_of-self-2
-invariant_of-self-2 c = (pushed c).ring
+invariant_of-self-2 c =
+    queue_of _ _ _ _ _ (pushed (goal.at.invariant_of-self-2 c).After-self-1) (up_to_pushed c.self.inside.newest _ c.args.self.now
+    c.args.entry.now (subst (AreUpTo c.self.inside.newest) c.self.view_is c.self.invariant.up_to)
+    (c.max-self-inside.ensures ∙ ap (λ n. max n c.args.entry.now.version)
+    (newest_is (goal.at.invariant_of-self-2 c).After-self-1)))
 
 pub returns-clause-ok : goal.returns-clause-ok
-returns-clause-ok c = (pushed c).entries_are
+returns-clause-ok c = (pushed (goal.at.returns-clause-ok c).After-self-1).entries_are
