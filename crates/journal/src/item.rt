@@ -1,7 +1,8 @@
+use crate::packed_leaving::PackedLeaving;
 use crate::shared::{SharedLinks, SharedMessage, SharedRoute};
 use base::Items;
 use five_tuple::Header;
-use policy_rules::{Action, Cause, How, Leaving, Leg};
+use policy_rules::{Action, Cause, How, Leg};
 use steps::Step;
 
 /// One record of a journal.
@@ -67,7 +68,7 @@ pub enum Item {
     Left {
         packet: u32,
         port: u32,
-        leaving: Leaving,
+        leaving: PackedLeaving,
     },
     /// The packet ended by its action `Drop`.
     Dropped {
@@ -155,6 +156,6 @@ pub enum Item {
 pub type Journal = Items<Item>;
 
 /// The most bytes of an item.
-pub const ITEM_SIZE: usize = 48;
+pub const ITEM_SIZE: usize = 40;
 
 const _: () = prove!(size_of::<Item>() <= ITEM_SIZE);

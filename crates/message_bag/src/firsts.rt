@@ -3,6 +3,13 @@ ghost use Rattle.std.specs.Prelude.{◌≡◌, ◌≤◌, ◌++◌, ◌∷◌, �
 use std::alloc::{AllocError, Global};
 use std::marker::Model;
 
+/// For how many bytes there is room from the first frame on, so that they are seldom moved: what
+/// was moved away would lie empty. The system gives such memory where it is written.
+const FIRST_BYTES: usize = 4_194_304;
+
+/// For how many frames.
+const FIRST_SPANS: usize = 131_072;
+
 /// Where the bytes of a first frame lie, and under which number the frames behind it are kept, if
 /// there are any.
 #[derive(Clone, Copy, Debug, Drop)]
@@ -57,6 +64,7 @@ impl Firsts {
         ensures pushed { OnOk result (self.new ≡ self.old ++ (frame.now, tables) ∷ []) }
         ensures unchanged { OnErr result (self.new ≡ self.old) }
     {
+        make_room(&mut self.bytes, &mut self.spans)?;
         let start = self.bytes.len();
         self.bytes.extend_from_slice(frame)?;
         self.spans.push(Span {
@@ -81,4 +89,16 @@ impl Firsts {
             }
         }
     }
+}
+
+// Before the first frame there is room for many.
+fn make_room(bytes: &mut Vec<u8>, spans: &mut Vec<Span>) -> Result<(), AllocError>
+    ensures bytes { bytes.new.items ≡ bytes.old.items }
+    ensures spans { spans.new.items ≡ spans.old.items }
+{
+    if spans.is_empty() {
+        bytes.reserve(FIRST_BYTES)?;
+        spans.reserve(FIRST_SPANS)?;
+    }
+    Ok(())
 }

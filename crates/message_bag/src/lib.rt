@@ -33,6 +33,7 @@ mod post_bag;
 mod reading;
 mod same;
 mod tables;
+mod told;
 
 pub use bag::Bag;
 pub use deliveries::{Deliveries, Status};

@@ -4,6 +4,8 @@ ghost use Rattle.message_bag.specs.Feeding.{HasShortSpelling};
 
 use crate::bag::Bag;
 use crate::deliveries::Deliveries;
+use crate::told::Told;
+use base::Shared;
 use ctrl_msg::Message;
 use std::alloc::{AllocError, Global};
 use std::marker::Model;
@@ -15,6 +17,8 @@ use std::marker::Model;
 pub struct PostBag {
     frames: Bag,
     deliveries: Deliveries,
+    // Adverts that were shared.
+    told: Told,
 }
 
 impl Model for PostBag {
@@ -37,6 +41,7 @@ impl PostBag {
         PostBag {
             frames: Bag::new(alloc),
             deliveries: Deliveries::new(alloc),
+            told: Told::new(alloc),
         }
     }
 
@@ -59,6 +64,28 @@ impl PostBag {
                 Err(error)
             }
         }
+    }
+
+    /// Posts a message as `post` does, and answers the message too, to be shared. An advert that says
+    /// what the last one of its switch to its receiver said is shared with that one.
+    ///
+    /// # Errors
+    /// Want of memory alone; nothing changes then.
+    pub fn post_shared(
+        &mut self,
+        alloc: Global,
+        message: Message,
+    ) -> Result<(u32, Shared<Message>), AllocError>
+        requires spelling { HasShortSpelling message }
+        requires few { length self.old < 2 ^ 32 - 1 }
+        ensures number { IfOk result (λ both. both.0 ≡ length self.old + 1) }
+        ensures message { IfOk result (λ both. both.1 ≡ message) }
+        ensures posted { OnOk result (self.new ≡ self.old ++ new_post message ∷ []) }
+        ensures unchanged { OnErr result (self.new ≡ self.old) }
+    {
+        let shared = self.told.share(alloc, message)?;
+        let number = self.post(shared.get())?;
+        Ok((number, shared))
     }
 
     /// How many messages were posted.

@@ -17,7 +17,7 @@ pub fn note_left<M: Meter>(board: &mut Board<M>, items: &[Item]) -> Result<(), A
 {
     for item in items {
         if let Item::Left { port, leaving, .. } = item {
-            board.note(*port, leaving)?;
+            board.note(*port, &leaving.leaving())?;
         }
     }
     Ok(())

@@ -15,6 +15,7 @@
 //! ```
 #![tactic(auto)]
 
+mod held_flight;
 mod standing;
 mod stored_flight;
 mod switch_index;

@@ -27,7 +27,7 @@ pub struct StoredFlight {
     rule: Option<u32>,
 }
 
-const _: () = prove!(size_of::<Option<StoredFlight>>() <= 128);
+const _: () = prove!(size_of::<StoredFlight>() <= 104);
 
 impl Model for StoredFlight {
     ghost use Rattle.tunnel.specs.Tunnel.{IsOnRoute};

@@ -7,7 +7,7 @@ ghost use Rattle.std.specs.Prelude.{◌≡◌, ◌+◌, ◌*◌, ◌/◌, ◌<�
 ghost use Rattle.travelling.specs.SwitchIndex.{AreOfBlocks, IsLeastMarked, IsNextInBlock, IsNextMarked, flipped_if, has_marks, is_marked};
 ghost use Rattle.travelling.specs.Travelling.{stands_at};
 
-use crate::stored_flight::StoredFlight;
+use crate::held_flight::HeldFlight;
 use base::only_if;
 use std::alloc::{AllocError, Global};
 use std::marker::Model;
@@ -59,15 +59,15 @@ impl SwitchIndex {
     }
 
     /// Where the slot's packet stands it is marked if it wasn't, and not marked if it was.
-    pub fn mark_slot(&mut self, number: usize, slot: &Option<StoredFlight>)
+    pub fn mark_slot(&mut self, number: usize, slot: &Option<HeldFlight>)
         requires { number + 64 ≤ length self.old }
         ensures room { length self.new ≡ length self.old }
         ensures marks { (i s : ℕ) → s < 64 → is_marked self.new i s
             ≡ flipped_if (i == number && stands_at s slot.now) (is_marked self.old i s) }
         ensures below { (s : ℕ) → 64 ≤ s → stands_at s slot.now ≡ false }
     {
-        if let Some(kept) = slot {
-            self.flip(number, kept.here());
+        if let Some(held) = slot {
+            self.flip(number, held.get().here());
         }
     }
 

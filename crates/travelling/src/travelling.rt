@@ -1,16 +1,17 @@
 //! The packets on their way: a table by their numbers, which grows as the journal does.
 //!
-//! A slot has at most 128 bytes, and a packet takes it when it first travels: slots are pushed, so
-//! n packets take O(n) in all. The packet's route is that of the journal's item, and a hop writes
-//! the place on it alone, so a hop takes no memory. The first number moves on over the slots of
-//! packets that ended, so that a drain behind each of n packets passes each slot once, O(n) in all.
-//! Packets are marked where they stand, so that a search for those at a switch looks at no other
-//! packet's slot.
+//! A slot has at most 16 bytes, and a packet takes it when it first travels: slots are pushed, so
+//! n packets take O(n) in all. What is known of a packet lies on the heap, and is given back where
+//! the packet travels no more. Its route is that of the journal's item, and a hop writes the place
+//! on it alone, so a hop takes no memory. The first number moves on over the slots of packets that
+//! ended, so that a drain behind each of n packets passes each slot once, O(n) in all. Packets are
+//! marked where they stand, so that a search for those at a switch looks at no other packet's slot.
 //! No slot is given back before the end, as in a journal.
 ghost use Rattle.std.specs.Prelude.{◌≡◌, ◌+◌, ◌<◌, ◌≤◌, ℕ, max, [], Some, None, is_some, option_map, length, slice_set, IsSome, OnOk};
 ghost use Rattle.std.specs.Option.{IsSomeAnd, option_copied};
 ghost use Rattle.travelling.specs.Travelling.{AreMarked, HasPlace, IsNextAt, IsNextFrom, StandBelow, WithOne, placed_at, flight};
 
+use crate::held_flight::HeldFlight;
 use crate::stored_flight::StoredFlight;
 use crate::switch_index::SwitchIndex;
 use std::alloc::{AllocError, Global};
@@ -20,7 +21,7 @@ use std::marker::Model;
 /// travels.
 #[derive(Drop)]
 pub struct Travelling {
-    slots: Vec<Option<StoredFlight>>,
+    slots: Vec<Option<HeldFlight>>,
     // No packet below it travels.
     first: usize,
     // Where packets stand.
@@ -61,7 +62,7 @@ impl Travelling {
         ensures { option_copied result ≡ flight self.now packet }
     {
         match self.slots.get(packet as usize) {
-            Some(Some(kept)) => Some(kept),
+            Some(Some(held)) => Some(held.get()),
             _ => None,
         }
     }
@@ -74,6 +75,7 @@ impl Travelling {
         ensures { OnOk result (WithOne self.old packet (Some kept) self.new) }
     {
         let number = packet as usize;
+        let held = HeldFlight::new(*self.slots.allocator(), kept)?;
         let first = if self.first < self.slots.len() {
             self.first.min(number)
         } else {
@@ -81,7 +83,7 @@ impl Travelling {
         };
         self.by_switch.make_bits(number)?;
         make_room(&mut self.slots, number)?;
-        set_slot(&mut self.slots, &mut self.by_switch, number, Some(kept));
+        set_slot(&mut self.slots, &mut self.by_switch, number, Some(held));
         self.first = first;
         Ok(())
     }
@@ -137,7 +139,7 @@ impl Travelling {
 
 // There is a slot of this number. Each new one is pushed, so that n of them take O(n) in all.
 #[tactic(auto, using(crate::proofs::Tables::pushed_same))]
-fn make_room(slots: &mut Vec<Option<StoredFlight>>, number: usize) -> Result<(), AllocError>
+fn make_room(slots: &mut Vec<Option<HeldFlight>>, number: usize) -> Result<(), AllocError>
     ensures room { OnOk result (number < length slots.new.items) }
     ensures few { length slots.new.items ≤ max (length slots.old.items) (number + 1) }
     ensures same { (i : ℕ) → flight slots.new.items i ≡ flight slots.old.items i }
@@ -150,7 +152,7 @@ fn make_room(slots: &mut Vec<Option<StoredFlight>>, number: usize) -> Result<(),
 
 // The least number at or above `from` of a slot that holds a packet; where there is none, one of no
 // slot.
-fn first_held(slots: &[Option<StoredFlight>], from: usize) -> usize
+fn first_held(slots: &[Option<HeldFlight>], from: usize) -> usize
     ensures from { from ≤ result }
     ensures empty { (i : ℕ) → from ≤ i → i < result → flight slots.now i ≡ None }
     ensures held { result < length slots.now → IsSome (flight slots.now result) }
@@ -164,10 +166,10 @@ fn first_held(slots: &[Option<StoredFlight>], from: usize) -> usize
 
 // The slot holds this from now on, and its packet is marked where it stands.
 fn set_slot(
-    slots: &mut Vec<Option<StoredFlight>>,
+    slots: &mut Vec<Option<HeldFlight>>,
     by_switch: &mut SwitchIndex,
     number: usize,
-    slot: Option<StoredFlight>,
+    slot: Option<HeldFlight>,
 )
     requires within { number < length slots.old.items }
     requires room { number + 64 ≤ length by_switch.old }
@@ -185,7 +187,7 @@ fn set_slot(
 
 // The packet of the slot stands at this place of its route, and is marked there.
 fn move_slot(
-    slots: &mut Vec<Option<StoredFlight>>,
+    slots: &mut Vec<Option<HeldFlight>>,
     by_switch: &mut SwitchIndex,
     number: usize,
     place: u32,
@@ -201,8 +203,8 @@ fn move_slot(
     ensures below { StandBelow slots.new.items }
 {
     by_switch.mark_slot(number, &slots[number]);
-    if let Some(kept) = &mut slots[number] {
-        kept.move_to(place);
+    if let Some(held) = &mut slots[number] {
+        held.move_to(place);
     }
     by_switch.mark_slot(number, &slots[number]);
 }

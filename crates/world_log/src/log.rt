@@ -7,7 +7,7 @@ ghost use Rattle.travelling.specs.Travelling.{HasPlace, WithOne, placed_at, stan
 ghost use Rattle.update_machine.specs.Exports.{takes_route};
 ghost use Rattle.world_log.specs.Writing.{LogAfter, left_item, packet_standing, set_item, set_flight};
 
-use journal::{Item, Journal, Leaving, Message, SharedMessage, SharedRoute};
+use journal::{Item, Journal, Leaving, Message, PackedLeaving, SharedRoute};
 use message_bag::PostBag;
 use policy_rules::{Cause, Leg, Targets};
 use std::alloc::{AllocError, Global};
@@ -35,8 +35,7 @@ impl Log {
         ensures unwritten { OnErr result (self.new.journal ≡ self.old.journal) }
         ensures travelling { self.new.travelling ≡ self.old.travelling }
     {
-        let number = self.bag.post(&message)?;
-        let message = SharedMessage::new(alloc, message)?;
+        let (number, message) = self.bag.post_shared(alloc, message)?;
         self.journal.push(Item::Sent { number, message })
     }
 
@@ -121,15 +120,16 @@ impl Log {
 pub fn leaves(at: &Standing, port: u32) -> Item
     ensures { result ≡ left_item (standing_kept at.now) at.now.version at.now.rule port }
 {
+    let leaving = Leaving {
+        packet: at.packet,
+        header: at.header,
+        version: at.version,
+        rule: at.rule,
+    };
     Item::Left {
         packet: at.packet,
         port,
-        leaving: Leaving {
-            packet: at.packet,
-            header: at.header,
-            version: at.version,
-            rule: at.rule,
-        },
+        leaving: PackedLeaving::new(&leaving),
     }
 }
 

@@ -5,8 +5,8 @@ ghost use Rattle.net_file.specs.Net.{IsNet};
 use failover::{Advert, Database, DownSet, Route};
 use five_tuple::{Fields, Header};
 use journal::{
-    Action, Body, Cause, How, Item, Journal, Leaving, Leg, Message, Place, SharedLinks,
-    SharedMessage, SharedRoute,
+    Action, Body, Cause, How, Item, Journal, Leaving, Leg, Message, PackedLeaving, Place,
+    SharedLinks, SharedMessage, SharedRoute,
 };
 use journal_text::text;
 use net_file::{Net, read_net};
@@ -83,7 +83,7 @@ fn left() -> Item {
     Item::Left {
         packet: 1,
         port: 2,
-        leaving,
+        leaving: PackedLeaving::new(&leaving),
     }
 }
 

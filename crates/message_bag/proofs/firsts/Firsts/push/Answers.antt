@@ -1,7 +1,8 @@
-use Rattle.std.proofs.Common.{◌≡◌, ◌++◌, ◌∷◌, [], List, map, ap, ◌∙◌, arith}
+use Rattle.std.proofs.Common.{◌≡◌, ◌++◌, ◌∷◌, [], List, length, map, refl, ap, ◌∙◌, arith}
 use Rattle.std.proofs.lemmas.Grind.{common_steps}
 use Rattle.wire.proofs.Holding.{on_err}
 use Rattle.message_bag.specs.KeptFrames.{First, first_in}
+use Rattle.message_bag.specs.declared.firsts.Span.{Span}
 use Rattle.message_bag.proofs.Spans.{all_stay, pushed}
 use Rattle.message_bag.proofs.firsts.Firsts.push.Goals as goal
 
@@ -19,7 +20,10 @@ pub returns-clause-pushed : goal.returns-clause-pushed
 returns-clause-pushed c =
     let bytes = c.self.inside.bytes.items in
     let spans = c.self.inside.spans.items in
+    let span : Span = record { start = c.len-start.result; len = length c.args.frame.now; tables = c.args.tables } in
     let grown : c.extend_from_slice.new.self.items ≡ bytes ++ c.args.frame.now = grind (arith, common_steps) in
-    pushed bytes c.args.frame.now c.extend_from_slice.new.self.items spans c.push.new.self.items _ c.self.invariant
-    grown c.in_ok-push.ensures.items (omega arith) (omega arith)
+    let longer : c.push.new.self.items ≡ spans ++ span ∷ [] =
+    c.in_ok-push.ensures.items ∙ ap (λ (all : List Span). all ++ span ∷ []) c.make_room.ensures.spans in
+    pushed bytes c.args.frame.now c.extend_from_slice.new.self.items spans c.push.new.self.items span c.self.invariant
+    grown longer (omega (arith, ap length c.make_room.ensures.bytes)) refl
     ∙ ap (λ (firsts : List First). firsts ++ (c.args.frame.now, c.args.tables) ∷ []) c.self.view_is

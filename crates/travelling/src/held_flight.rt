@@ -1,0 +1,51 @@
+//! Packets that lie on the heap, so that the slot of one that ended takes few bytes.
+ghost use Rattle.std.specs.Prelude.{◌≡◌, IfOk};
+ghost use Rattle.travelling.specs.Travelling.{HasPlace, placed_at};
+
+use crate::stored_flight::StoredFlight;
+use std::alloc::{AllocError, Global};
+use std::marker::Model;
+
+/// What the table keeps of a packet on its way, on the heap. Contracts see the packet in flight.
+#[derive(Drop)]
+pub struct HeldFlight {
+    kept: Box<StoredFlight>,
+}
+
+const _: () = prove!(size_of::<Option<HeldFlight>>() <= 16);
+
+impl Model for HeldFlight {
+    ghost use Rattle.travelling.specs.Travelling.{Flight};
+
+    ghost Value = { Flight };
+
+    ghost view = { λ held. held.kept.value };
+}
+
+impl HeldFlight {
+    /// What is kept of the packet, on the heap.
+    ///
+    /// # Errors
+    /// Want of memory alone.
+    pub fn new(alloc: Global, kept: StoredFlight) -> Result<HeldFlight, AllocError>
+        ensures { IfOk result (λ held. held ≡ kept) }
+    {
+        let kept = Box::new(alloc, kept)?;
+        Ok(HeldFlight { kept })
+    }
+
+    /// What is kept of the packet.
+    pub fn get(&self) -> &StoredFlight
+        ensures { result.now ≡ self.now }
+    {
+        &self.kept
+    }
+
+    /// It stands at this place of its route. It takes no memory.
+    pub fn move_to(&mut self, place: u32)
+        requires { HasPlace place self.old }
+        ensures { self.new ≡ placed_at place self.old }
+    {
+        self.kept.move_to(place);
+    }
+}
