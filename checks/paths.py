@@ -10,7 +10,7 @@ import sys
 from crates import height, uses, walks
 
 TOP = "difane_cli"
-LONGEST_CHAIN = 14
+LONGEST_CHAIN = 15
 MOST_PATHS = 25_000
 
 
