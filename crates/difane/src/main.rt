@@ -1,11 +1,9 @@
 //! `difane`: replays a schedule of packets against an access-control policy.
 //!
-//! This file only joins the proved top call to the system: files, standard output and standard
-//! error. At each port, from 0 to 63, a meter notes the packets that leave: one that counts flows
-//! where the first argument is `flows`, and else a recorder.
+//! This file only joins the proved call to the system: files, standard output and standard error.
 #![tactic(auto)]
 
-use difane_cli::{FlowMeter, Meter, Recorder, Status, run, write_status};
+use difane_cli::{Status, run_metered, write_status};
 use shelf::{DiskShelf, StdSink};
 use std::alloc::AllocError;
 use std::io::ErrorKind;
@@ -22,37 +20,17 @@ fn read_args<R: Env + AllocGlobal>(rt: &R) -> io::Result<Vec<String>> {
     Ok(args)
 }
 
-/// With so many different headers a meter of `flows` leaves.
-const MOST_HEADERS: u32 = 4096;
-
-/// Whether the first argument asks for records of flows.
-fn asks_flows(args: &[String]) -> bool {
-    match args.first() {
-        Some(word) => word.as_str() == "flows",
-        None => false,
-    }
-}
-
-/// Does what the arguments ask, with a meter for each port, and says how it ended. Where there is
-/// no memory for the meters, it prints nothing.
+/// Does what the arguments ask, and says how it ended. Where there is no memory for the meters, it
+/// prints nothing.
 fn run_with(rt: HostRuntime, args: &Vec<String>) -> Result<Status, AllocError> {
     let alloc = rt.alloc();
-    let counts_flows = asks_flows(args);
-    let mut meters: Vec<Box<dyn Meter>> = Vec::new(alloc);
-    for port in 0..64 {
-        if counts_flows {
-            meters.push(Box::new(alloc, FlowMeter::new(alloc, port, MOST_HEADERS))?)?;
-        } else {
-            meters.push(Box::new(alloc, Recorder::new(alloc, port))?)?;
-        }
-    }
     let mut errs = StdSink::new(rt.stderr());
     let mut out = StdSink::new(rt.stdout());
     let mut shelf = DiskShelf::new(rt);
-    let finished = run(alloc, args, &mut shelf, &mut out, &mut errs, meters);
+    let ending = run_metered(alloc, args, &mut shelf, &mut out, &mut errs)?;
     // The process ends here: the system takes the journal's memory back at once.
-    mem::forget(finished.journal);
-    Ok(finished.status)
+    mem::forget(ending.journal);
+    Ok(ending.status)
 }
 
 fn main(rt: HostRuntime) -> ExitCode {

@@ -16,3 +16,6 @@ mod Verdicts
 mod Worked
 mod Reports
 mod Proposals
+mod AsksFlows
+mod EachPort
+mod MeteredFlows

@@ -16,3 +16,5 @@ pub mod Proposals
 pub mod Proposed
 pub mod Exports
 pub mod FlowLines
+pub mod NewMeters
+pub mod Metered

@@ -23,6 +23,7 @@ mod flow_lines;
 mod inputs;
 mod laws;
 mod load;
+mod metered;
 mod meter_lines;
 mod networks;
 mod playing;
@@ -36,6 +37,7 @@ mod verdict;
 
 pub use flow_export::FlowMeter;
 pub use laws::one_switch_laws;
+pub use metered::{Ending, run_metered};
 pub use meters::{Meter, Recorder};
 pub use status::{Ended, FileName, Finished, Refusal, Status, Stop, write_status};
 pub use top_call::run;

@@ -5,7 +5,7 @@
 //! `examples` at the top of the repository leads there.
 #![tactic(auto)]
 
-use difane_cli::{FlowMeter, Meter, Recorder, run};
+use difane_cli::run_metered;
 use shelf::{DiskShelf, MemSink, Shelf, ShelfError, StdSink, write_whole};
 use std::alloc::{AllocError, Global};
 use std::process::ExitCode;
@@ -21,30 +21,13 @@ struct Answer {
     errs: MemSink,
 }
 
-/// Whether the first argument asks for records of flows.
-fn asks_flows(args: &[String]) -> bool {
-    match args.first() {
-        Some(word) => word.as_str() == "flows",
-        None => false,
-    }
-}
-
-/// What the program answers, with a meter for each port as its `main` has them for these arguments.
+/// What the program answers.
 fn ask<F: Shelf>(alloc: Global, shelf: &mut F, args: &Vec<String>) -> Result<Answer, AllocError> {
-    let counts_flows = asks_flows(args);
-    let mut meters: Vec<Box<dyn Meter>> = Vec::new(alloc);
-    for port in 0..64 {
-        if counts_flows {
-            meters.push(Box::new(alloc, FlowMeter::new(alloc, port, 4096))?)?;
-        } else {
-            meters.push(Box::new(alloc, Recorder::new(alloc, port))?)?;
-        }
-    }
     let mut out = MemSink::new(alloc, u64::MAX, Vec::new(alloc));
     let mut errs = MemSink::new(alloc, u64::MAX, Vec::new(alloc));
-    let finished = run(alloc, args, shelf, &mut out, &mut errs, meters);
+    let ending = run_metered(alloc, args, shelf, &mut out, &mut errs)?;
     Ok(Answer {
-        status: finished.status.number(),
+        status: ending.status.number(),
         out,
         errs,
     })

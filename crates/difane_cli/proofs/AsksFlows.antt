@@ -1,0 +1,46 @@
+-- What is asked for by arguments that begin with `flows`.
+use Rattle.std.specs.Prelude.{⊤, codes, option_and_then}
+use Rattle.std.proofs.Common.{ℕ, ◌≡◌, Bool, true, false, cond, Option, Some, None, List, [], ◌∷◌, length, refl, subst, sym}
+use Rattle.std.proofs.lemmas.Slice.Eq.{bytes_eq-Decides}
+use Rattle.command_line.specs.Commands.{Command, Replay}
+use Rattle.command_line.specs.Grammar.{Line, command_by, command_of, line_of, may_be_policies, play_from}
+use Rattle.command_line.specs.declared.report.Report.TheVariants as report
+use Rattle.difane_cli.specs.NewMeters.{asks_flows}
+
+-- a command that there is tells flows
+abbrev pub TellsIfAny : Option Command → Type 0
+TellsIfAny None = ⊤
+TellsIfAny (Some (Replay args)) = args.report ≡ report.Flows
+TellsIfAny (Some _) = ⊥
+
+play_tells : (line : Line) (names : List (List ℕ))
+    → TellsIfAny (play_from report.Flows line names)
+play_tells line [] = tt
+play_tells line (schedule ∷ policies) = go (may_be_policies (length policies))
+  where
+    go : (b : Bool) → TellsIfAny (cond b (Some (Replay (record {
+      schedule = schedule;
+      policies = policies;
+      net = line.net;
+      report = report.Flows;
+    }))) None)
+    go true = refl
+    go false = tt
+
+line_tells : (found : Option Line)
+    → TellsIfAny (option_and_then (command_by (codes "flows")) found)
+line_tells None = tt
+line_tells (Some line) = go line.quiet
+  where
+    go : (quiet : Bool)
+        → TellsIfAny (cond quiet None (play_from report.Flows line line.names))
+    go true = tt
+    go false = play_tells line line.names
+
+pub flows_tell : (texts : List (List ℕ)) → asks_flows texts ≡ true
+    → TellsIfAny (command_of texts)
+flows_tell [] asks = tt
+flows_tell (name ∷ args) asks =
+    let is : name ≡ codes "flows" = (bytes_eq-Decides name (codes "flows")).0 asks in
+    subst (λ word. TellsIfAny (option_and_then (command_by word) (line_of args))) (sym is)
+    (line_tells (line_of args))

@@ -1,0 +1,40 @@
+-- What becomes of a call that begins with a new meter at each port.
+use Rattle.std.specs.Prelude.{ℕ, ◌≡◌, Bool, true, Option, Some, None, List}
+use Rattle.command_line.specs.Commands.{Command}
+use Rattle.command_line.specs.Grammar.{command_of}
+use Rattle.difane_cli.specs.FlowLines.{AreCounted, flow_text, gone_by}
+use Rattle.difane_cli.specs.Run.{IsAnswer, Outcome}
+use Rattle.difane_cli.specs.Tasks.{Inputs}
+use Rattle.difane_cli.specs.Writes.{Wrote}
+use Rattle.difane_cli.specs.declared.status.Status.{Status}
+use Rattle.journal.specs.declared.item.Item.{Item}
+use Rattle.meters.specs.Seen.{Seen}
+use Rattle.net_file.specs.declared.net.Net.{Net}
+use Rattle.difane_cli.specs.NewMeters.{asks_flows, new_meters}
+use Rattle.replay.specs.Leavings.{kept_by}
+use Rattle.shelf.specs.Shelf.{Files}
+use Rattle.shelf.specs.Sink.{SinkState}
+
+-- what comes of the command that the arguments are, with these meters
+abbrev pub MeteredOutcome : (texts : List (List ℕ)) → Option Files → (takes_memory : Bool) → Status
+    → List Item → (before now : SinkState) → Type 0
+MeteredOutcome texts files takes_memory status journal before now =
+    (given : List Seen) × Outcome (command_of texts) files takes_memory status journal
+    (new_meters (asks_flows texts)) given before now
+
+-- the output gained the lines of the flow records of the new meters that left while the packets of
+-- this journal left the network, and then of those that stayed. Each record of one that stayed
+-- counts all packets that left by its port with its header, and where none left, each record does
+pub record WritesCounts (net : Net) (journal : List Item) (before now : SinkState) : Type 0 where
+  pub written : Wrote (flow_text (gone_by net journal (new_meters true))
+      (kept_by net journal (new_meters true))) before now
+  pub counted : AreCounted net journal (new_meters true) (kept_by net journal (new_meters true))
+
+-- the arguments are a command, and the journal is that of its play; and so are the flows
+pub record TellsFlows (texts : List (List ℕ)) (files : Option Files) (journal : List Item)
+    (before now : SinkState) : Type 0 where
+  pub command : Command
+  pub asked : command_of texts ≡ Some command
+  pub inputs : Inputs
+  pub played : IsAnswer command files inputs journal None
+  pub flows : WritesCounts inputs.setting.net journal before now

@@ -1,0 +1,34 @@
+-- The meters with which the program begins: a new one at each port.
+use Rattle.std.specs.Prelude.{ℕ, Bool, true, false, List, [], ◌∷◌, bytes_eq, codes, length, map, nat_le}
+use Rattle.std.specs.List.{range_with_len}
+use Rattle.flow_export.specs.Flows.{flows, headers_of}
+use Rattle.meters.specs.Seen.{Seen}
+
+-- the first argument is the word `flows`
+abbrev pub asks_flows : List (List ℕ) → Bool
+asks_flows [] = false
+asks_flows (word ∷ more) = bytes_eq word (codes "flows")
+
+-- with so many different headers a flow meter of the program leaves
+abbrev pub most_headers : ℕ
+most_headers = 4096
+
+-- a meter of this port that holds nothing: one that counts flows, or one that stays for good and
+-- has no flow records
+abbrev pub new_meter : (counts_flows : Bool) → ℕ → Seen
+new_meter true port = record {
+  port = port;
+  held = [];
+  is_ended = λ held. nat_le most_headers (length (headers_of held));
+  recorded = flows port;
+}
+new_meter false port = record {
+  port = port;
+  held = [];
+  is_ended = λ held. false;
+  recorded = λ held. [];
+}
+
+-- one at each port that a network may have
+abbrev pub new_meters : (counts_flows : Bool) → List Seen
+new_meters counts_flows = map (new_meter counts_flows) (range_with_len 0 64)

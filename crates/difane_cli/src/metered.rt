@@ -1,0 +1,133 @@
+//! The top call, with a new meter at each port.
+ghost use Rattle.std.specs.Prelude.{◌≡◌, ◌≢◌, ◌≤◌, ◌⊎◌, ◌↔◌, ℕ, IfOk, IsTrue, None, Ok, OnErr};
+ghost use Rattle.std.specs.List.{AllZip, range_with_len};
+ghost use Rattle.std.specs.Option.{ForSome};
+ghost use Rattle.shelf.specs.Sink.{Rose};
+ghost use Rattle.shelf.specs.Shelf.{IsAfterReads};
+ghost use Rattle.command_line.specs.Grammar.{command_of};
+ghost use Rattle.command_line.specs.Commands.{argument_texts};
+ghost use Rattle.difane_cli.specs.Exports.{Accounts, IsAccepted, MayFollowFault, NeedsReadFault, RanOut, WritesLine, known_task, most_reads, status_line};
+ghost use Rattle.difane_cli.specs.declared.status.Status.TheVariants as status;
+ghost use Rattle.difane_cli.specs.Metered.{MeteredOutcome, TellsFlows};
+ghost use Rattle.difane_cli.specs.NewMeters.{asks_flows, new_meter};
+
+use crate::status::Status;
+use crate::top_call::run;
+use flow_export::FlowMeter;
+use journal::Journal;
+use meters::{Meter, Recorder};
+use shelf::{Shelf, Sink};
+use std::alloc::{AllocError, Global};
+
+/// How a call ended, and the journal of its play.
+#[derive(Drop)]
+pub struct Ending {
+    pub status: Status,
+    pub journal: Journal,
+}
+
+/// With so many different headers a meter of `flows` leaves.
+const MOST_HEADERS: u32 = 4096;
+
+/// Whether the first argument asks for records of flows.
+fn asks_flows(words: &Vec<String>) -> bool
+    ensures { result ≡ asks_flows (argument_texts words.now) }
+{
+    match words.first() {
+        Some(word) => word.as_str() == "flows",
+        None => false,
+    }
+}
+
+/// What `make` makes for each port, in order.
+fn at_each_port<M: Drop, F: Fn(u32) -> Result<M, AllocError>>(
+    alloc: Global,
+    make: F,
+) -> Result<Vec<M>, AllocError>
+    requires { F.IsAlwaysCallable make }
+    ensures { IfOk result (λ all.
+        AllZip (λ port one. F.post make port (Ok one)) (range_with_len 0 64) all.items) }
+{
+    let mut all = Vec::new(alloc);
+    for port in 0..64 {
+        all.push(make(port)?)?;
+    }
+    Ok(all)
+}
+
+/// Does what the arguments ask, as `run` does it, with a new meter at each port from 0 to 63: one
+/// that counts flows where the first argument is `flows`, and else a recorder.
+///
+/// # Errors
+/// Where there is no memory for the meters, nothing is read or written.
+pub fn run_metered<F: Shelf, K: Sink, E: Sink>(
+    alloc: Global,
+    words: &Vec<String>,
+    shelf: &mut F,
+    out: &mut K,
+    errs: &mut E,
+) -> Result<Ending, AllocError>
+    // Where `flows` ends well, it wrote the records of the packets that left in the journal, and
+    // their counts are right: of each meter that stayed, and where none left, all of them.
+    ensures flows { IfOk result (λ ending. IsTrue (asks_flows (argument_texts words.now))
+        → ending.status ≡ status.Ok
+        → TellsFlows (argument_texts words.now) (F.state shelf.old).files ending.journal
+        (K.state out.old) (K.state out.new)) }
+
+    // All else is as `run` says it of these meters.
+    ensures outcome { IfOk result (λ ending.
+        MeteredOutcome (argument_texts words.now) (F.state shelf.old).files K.takes_memory
+        ending.status ending.journal (K.state out.old) (K.state out.new)) }
+    ensures words { IfOk result (λ ending. (ending.status ≡ status.Words)
+        ↔ (command_of (argument_texts words.now) ≡ None)) }
+    ensures accounts { IfOk result (λ ending. ForSome
+        (known_task (F.state shelf.old).files (command_of (argument_texts words.now)))
+        (λ read. Accounts read ending.status)) }
+    ensures read_fault { IfOk result (λ ending.
+        NeedsReadFault (F.state shelf.old).files ending.status
+        → Rose (F.state shelf.old).faults (F.state shelf.new).faults) }
+    ensures write_fault { IfOk result (λ ending. ending.status ≡ status.WriteFault
+        → Rose (K.state out.old).faults (K.state out.new).faults) }
+    ensures no_read_fault { IfOk result (λ ending.
+        ¬ MayFollowFault (F.state shelf.old).files ending.status
+        → (F.state shelf.new).faults ≡ (F.state shelf.old).faults) }
+    ensures no_write_fault { IfOk result (λ ending. ending.status ≢ status.WriteFault
+        → (K.state out.new).faults ≡ (K.state out.old).faults) }
+    ensures no_memory { IfOk result (λ ending. ending.status ≡ status.NoMemory
+        → RanOut (command_of (argument_texts words.now)) K.takes_memory ending.journal
+        (K.state out.old) (K.state out.new)) }
+    ensures complete { IfOk result (λ ending. IsAccepted
+        (known_task (F.state shelf.old).files (command_of (argument_texts words.now)))
+        → Rose (F.state shelf.old).faults (F.state shelf.new).faults
+        ⊎ Rose (K.state out.old).faults (K.state out.new).faults
+        ⊎ (ending.status ≡ status.Ok) ⊎ ((row : ℕ) × (ending.status ≡ status.Full row))
+        ⊎ ((line : ℕ) × (ending.status ≡ status.No line))
+        ⊎ (ending.status ≡ status.NoMemory)) }
+    ensures line { IfOk result (λ ending. WritesLine (status_line ending.status) E.takes_memory
+        (E.state errs.old) (E.state errs.new)) }
+    ensures silent { IfOk result (λ ending. ending.status ≡ status.Ok → errs.new ≡ errs.old) }
+    ensures shelf { IfOk result (λ ending. IsAfterReads
+        (most_reads (F.state shelf.old).files (command_of (argument_texts words.now)))
+        (F.state shelf.old) (F.state shelf.new)) }
+    ensures untouched { OnErr result
+        ((shelf.new ≡ shelf.old) × (out.new ≡ out.old) × (errs.new ≡ errs.old)) }
+{
+    let counts_flows = asks_flows(words);
+    let meters: Vec<Box<dyn Meter>> = at_each_port(
+        alloc,
+        |port: u32| -> Result<Box<dyn Meter>, AllocError>
+            ensures { IfOk result (λ one. seen one ≡ new_meter counts_flows port) }
+        {
+            if counts_flows {
+                Ok(Box::new(alloc, FlowMeter::new(alloc, port, MOST_HEADERS))?)
+            } else {
+                Ok(Box::new(alloc, Recorder::new(alloc, port))?)
+            }
+        },
+    )?;
+    let finished = run(alloc, words, shelf, out, errs, meters);
+    Ok(Ending {
+        status: finished.status,
+        journal: finished.journal,
+    })
+}
