@@ -62,6 +62,8 @@ STOPS = {
     "counts_text": "load cases",
     "IsAccepted": "refusals",
     "Accounts": "refusals",
+    "NamesOneOf": "refusals",
+    "names_in": "refusals",
     "RanOut": "want of memory",
     "GivesBack": "meters",
     "NeedsReadFault": "faults",

@@ -6,6 +6,7 @@ mod CalmReads
 mod Gains
 mod GoodTraces
 mod MeterLines
+mod Named
 mod OneSwitch
 mod Plays
 mod FlowTexts

@@ -1,5 +1,5 @@
 -- Which status a command ends with, and what brings one about.
-use Rattle.std.specs.Prelude.{⊤, ℕ, ◌≡◌, ◌≢◌, ◌≤◌, ◌⊎◌, Bool, Option, Some, None, Result, Ok, Err, IsOk, IsTrue, List, []}
+use Rattle.std.specs.Prelude.{⊤, ℕ, ◌≡◌, ◌≢◌, ◌≤◌, ◌⊎◌, Bool, Option, Some, None, Result, Ok, Err, IsOk, IsTrue, List, [], ◌∷◌, ◌++◌, option_to_list}
 use Rattle.std.specs.Option.{ForSome}
 use Rattle.journal.specs.declared.item.Item.{Item}
 use Rattle.shelf.specs.Shelf.{Files, ShelfState}
@@ -9,6 +9,7 @@ use Rattle.command_line.specs.Commands.{Command}
 use Rattle.command_line.specs.Commands as asked
 use Rattle.command_line.specs.declared.report.Report.TheVariants as report
 use Rattle.difane_cli.specs.Codes.{missing_file, too_long}
+use Rattle.difane_cli.specs.Inputs.{load_name}
 use Rattle.difane_cli.specs.Run.{WantsMemory}
 use Rattle.difane_cli.specs.declared.status.Refusal.{Refusal}
 use Rattle.difane_cli.specs.declared.status.Status.{Status}
@@ -101,6 +102,33 @@ abbrev pub IsCalmRead : {V : Type 0} → (old new : ShelfState) → Result V Sto
 IsCalmRead old new (Ok value) = new.faults ≡ old.faults
 IsCalmRead old new (Err stop) =
     ¬ MayFollowFault old.files (status_of stop) → new.faults ≡ old.faults
+
+-- ---- which names a refusal may name
+
+-- the names that the arguments have: of the network, of files, and of the switch; a load case has
+-- one of its own
+abbrev pub names_in : Option Command → List (List ℕ)
+names_in None = []
+names_in (Some (asked.Replay args)) = option_to_list args.net ++ args.schedule ∷ args.policies
+names_in (Some (asked.Print args)) =
+    option_to_list args.net ++ args.policy ∷ option_to_list args.switch
+names_in (Some (asked.Load n)) = load_name ∷ []
+names_in (Some (asked.Audit args)) = args.trace ∷ args.policies
+
+abbrev pub IsOneOf : List (List ℕ) → List ℕ → Type 0
+IsOneOf [] file = ⊥
+IsOneOf (name ∷ names) file = (file ≡ name) ⊎ IsOneOf names file
+
+-- a refusal is of one of these; and that of a file that is absent, or too long, is of no row
+abbrev pub NamesOneOf : List (List ℕ) → Status → Type 0
+NamesOneOf names (status.Input file code row) = IsOneOf names file
+    × ((code ≡ missing_file) ⊎ (code ≡ too_long) → row ≡ 0)
+NamesOneOf names _ = ⊤
+
+-- the same of a reading that stops
+abbrev pub StopsAt : {V : Type 0} → List (List ℕ) → Result V Stop → Type 0
+StopsAt names (Ok value) = ⊤
+StopsAt names (Err stop) = NamesOneOf names (status_of stop)
 
 -- ---- what is wanted, and what is given back
 

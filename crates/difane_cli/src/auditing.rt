@@ -2,7 +2,7 @@
 ghost use Rattle.std.specs.Prelude.{◌≡◌, ◌⊎◌, [], Ok, Option, Some, IfOk, IsTrue, length};
 ghost use Rattle.std.specs.Option.{ForSome};
 ghost use Rattle.shelf.specs.Shelf.{Files, IsAfterReads};
-ghost use Rattle.difane_cli.specs.Exports.{Audit, AuditOutcome, EndsRead, EndsWork, IsAuditingOf, IsCalmRead, auditing_of, auditing_stated, known_task, most_reads};
+ghost use Rattle.difane_cli.specs.Exports.{Audit, AuditOutcome, EndsRead, EndsWork, IsAuditingOf, IsCalmRead, StopsAt, auditing_of, auditing_stated, known_task, most_reads, names_in};
 ghost use Rattle.difane_cli.specs.declared.status.Status.TheVariants as status;
 ghost use Rattle.command_line.specs.Named.{MayBePolicies, audit_named};
 ghost use Rattle.command_line.specs.Commands as grammar;
@@ -44,6 +44,7 @@ pub fn read_auditing<F: Shelf>(
         (most_reads (F.state shelf.old).files (Some (grammar.Audit (audit_named args.now))))
         (F.state shelf.old) (F.state shelf.new) }
     ensures calm { IsCalmRead (F.state shelf.old) (F.state shelf.new) result }
+    ensures stops { StopsAt (names_in (Some (grammar.Audit (audit_named args.now)))) result }
     ensures asked { IfOk result (λ inputs.
         IsAuditingOf (audit_named args.now) (auditing_stated inputs)) }
 {

@@ -1,5 +1,5 @@
 //! The files of a command, read and checked one after another.
-ghost use Rattle.std.specs.Prelude.{◌≡◌, ◌<◌, ◌≤◌, All, IsSome, IsTrue, IfOk, IfErr, Ok, Some, length, true};
+ghost use Rattle.std.specs.Prelude.{◌≡◌, ◌<◌, ◌≤◌, All, IsSome, IsTrue, IfOk, IfErr, Ok, Some, [], ◌∷◌, length, true};
 ghost use Rattle.net_file.specs.Net.{IsNet};
 ghost use Rattle.policy_file.specs.Ports.{names_port_of};
 ghost use Rattle.policy_rules.specs.Exports.{GivesOnly, IsPolicy, IsPolicyFile};
@@ -7,7 +7,7 @@ ghost use Rattle.schedule.specs.Reading.{AreSoundEvents};
 ghost use Rattle.shelf.specs.Shelf.{IsAfterReads};
 ghost use Rattle.policy_file.specs.Changes.{file_length};
 ghost use Rattle.world.specs.Files.{first_policy, own_policy};
-ghost use Rattle.difane_cli.specs.Exports.{AreReadyToPlay, EndsRead, IsCalmRead, IsReplayOf, RefusesInput, StopsCheck, content_of, content_within, file_reads, inputs_of, inputs_stated, most_reads, read_file, read_files, read_policy, read_schedule, schedule_in};
+ghost use Rattle.difane_cli.specs.Exports.{AreReadyToPlay, EndsRead, IsCalmRead, IsReplayOf, RefusesInput, StopsAt, StopsCheck, content_of, content_within, file_reads, inputs_of, inputs_stated, most_reads, names_in, read_file, read_files, read_policy, read_schedule, schedule_in};
 ghost use Rattle.command_line.specs.Named.{HasPolicies, names_seen, replay_named};
 ghost use Rattle.command_line.specs.Commands.{Replay};
 
@@ -48,6 +48,7 @@ pub fn read_bytes<F: Shelf>(alloc: Global, shelf: &mut F, name: &str) -> Result<
         (λ bytes. bytes.items) (F.state shelf.old) (F.state shelf.new) result }
     ensures shelf { IsAfterReads 1 (F.state shelf.old) (F.state shelf.new) }
     ensures calm { IsCalmRead (F.state shelf.old) (F.state shelf.new) result }
+    ensures stops { StopsAt (name.now ∷ []) result }
 {
     read_within(alloc, shelf, name, MAX_BYTES)
 }
@@ -64,6 +65,7 @@ pub fn read_within<F: Shelf>(
         (λ bytes. bytes.items) (F.state shelf.old) (F.state shelf.new) result }
     ensures shelf { IsAfterReads 1 (F.state shelf.old) (F.state shelf.new) }
     ensures calm { IsCalmRead (F.state shelf.old) (F.state shelf.new) result }
+    ensures stops { StopsAt (name.now ∷ []) result }
     ensures within { IfOk result (λ bytes. length bytes.items ≤ most) }
 {
     match shelf.read(name, most) {
@@ -111,6 +113,7 @@ fn read_schedule<F: Shelf>(
         (F.state shelf.old) (F.state shelf.new) result }
     ensures shelf { IsAfterReads 1 (F.state shelf.old) (F.state shelf.new) }
     ensures calm { IsCalmRead (F.state shelf.old) (F.state shelf.new) result }
+    ensures stops { StopsAt (name.now ∷ []) result }
     ensures sound { IfOk result (λ events. AreSoundEvents net.now policies events.items) }
 {
     let bytes = read_bytes(alloc, shelf, name)?;
@@ -128,6 +131,7 @@ pub fn read_policy<F: Shelf>(
         (λ policy. policy) (F.state shelf.old) (F.state shelf.new) result }
     ensures shelf { IsAfterReads 1 (F.state shelf.old) (F.state shelf.new) }
     ensures calm { IsCalmRead (F.state shelf.old) (F.state shelf.new) result }
+    ensures stops { StopsAt (name.now ∷ []) result }
     ensures own_ports { IfOk result (All (λ row. IsTrue (names_port_of ports row.action))) }
     ensures sound { IfOk result IsPolicy }
     ensures few { IfOk result (λ policy. length policy ≤ 2000) }
@@ -150,6 +154,7 @@ fn read_file<F: Shelf>(
         (F.state shelf.old) (F.state shelf.new) result }
     ensures shelf { IsAfterReads 1 (F.state shelf.old) (F.state shelf.new) }
     ensures calm { IsCalmRead (F.state shelf.old) (F.state shelf.new) result }
+    ensures stops { StopsAt (name.now ∷ []) result }
     ensures own_ports { IfOk result (GivesOnly (λ row. IsTrue (names_port_of ports row.action))) }
     ensures sound { IfOk result IsPolicyFile }
     ensures few { IfOk result (λ file. file_length file ≤ 2000) }
@@ -178,6 +183,7 @@ pub fn read_files<F: Shelf>(
         (file_reads true ports (F.state shelf.old).files (names_seen names.now))
         (F.state shelf.old) (F.state shelf.new) }
     ensures calm { IsCalmRead (F.state shelf.old) (F.state shelf.new) result }
+    ensures stops { StopsAt (names_seen names.now) result }
     ensures many { IfOk result (λ read. length read.items ≡ length names.now) }
     ensures first { IfOk result (λ read. IsSome (first_policy read.items)) }
     ensures own_ports { IfOk result (λ read.
@@ -218,6 +224,7 @@ pub fn read_inputs<F: Shelf>(
         (most_reads (F.state shelf.old).files (Some (Replay (replay_named args.now))))
         (F.state shelf.old) (F.state shelf.new) }
     ensures calm { IsCalmRead (F.state shelf.old) (F.state shelf.new) result }
+    ensures stops { StopsAt (names_in (Some (Replay (replay_named args.now)))) result }
     ensures ready { IfOk result AreReadyToPlay }
     ensures asked { IfOk result (λ inputs.
         IsReplayOf (replay_named args.now) (inputs_stated inputs)) }

@@ -1,9 +1,9 @@
 //! Networks as a command takes them: of a file or of one switch, and the switches on them.
-ghost use Rattle.std.specs.Prelude.{◌≡◌, IfOk, IfErr, Ok};
+ghost use Rattle.std.specs.Prelude.{◌≡◌, IfOk, IfErr, Ok, option_to_list};
 ghost use Rattle.net_file.specs.Net.{IsNet};
 ghost use Rattle.shelf.specs.Shelf.{IsAfterReads};
 ghost use Rattle.command_line.specs.Named.{net_named};
-ghost use Rattle.difane_cli.specs.Exports.{EndsRead, IsCalmRead, IsNetOf, IsSwitchOf, StopsCheck, net_reads, net_stated, read_net, switch_on};
+ghost use Rattle.difane_cli.specs.Exports.{EndsRead, IsCalmRead, IsNetOf, IsSwitchOf, StopsAt, StopsCheck, net_reads, net_stated, read_net, switch_on};
 
 use crate::inputs::{read_bytes, refused};
 use crate::policies::NO_SWITCH;
@@ -44,6 +44,7 @@ pub fn take_network<F: Shelf>(alloc: Global, shelf: &mut F, name: Option<&str>) 
     ensures shelf { IsAfterReads (net_reads (net_named name.entry))
         (F.state shelf.old) (F.state shelf.new) }
     ensures calm { IsCalmRead (F.state shelf.old) (F.state shelf.new) result }
+    ensures stops { StopsAt (option_to_list (net_named name.entry)) result }
     ensures sound { IfOk result IsNet }
     ensures named { IfOk result (IsNetOf (net_named name.entry)) }
 {
@@ -61,6 +62,7 @@ pub fn find_switch(alloc: Global, net: &Net, name: Option<&str>) -> Result<Optio
     requires { IsNet net.now }
     ensures value { IfOk result (λ switch. switch_on net.now (net_named name.entry) ≡ Ok switch) }
     ensures stopped { IfErr result (StopsCheck (switch_on net.now (net_named name.entry))) }
+    ensures stops { StopsAt (option_to_list (net_named name.entry)) result }
     ensures named { IfOk result (IsSwitchOf (net_named name.entry) net.now) }
 {
     let Some(name) = name else {

@@ -1,5 +1,5 @@
 //! Policies and changes as a command takes them: read from bytes, and checked against the network.
-ghost use Rattle.std.specs.Prelude.{◌≡◌, ◌≤◌, All, List, IfOk, IfErr, IsOk, IsSome, IsTrue, Ok, OnOk, length, map};
+ghost use Rattle.std.specs.Prelude.{◌≡◌, ◌≤◌, All, List, IfOk, IfErr, IsOk, IsSome, IsTrue, Ok, OnOk, [], ◌∷◌, length, map};
 ghost use Rattle.policy_file.specs.Changes.{file_length, policy_file_of};
 ghost use Rattle.policy_file.specs.Reading.{policy_code, policy_of};
 ghost use Rattle.policy_file.specs.Ports.{names_port_of};
@@ -8,7 +8,7 @@ ghost use Rattle.policy_rules.specs.declared.file.PolicyFile.TheVariants.{Whole}
 ghost use Rattle.policy_rules.specs.declared.policy.Row.{Row};
 ghost use Rattle.controller.specs.Leads.{LeadEveryHeader};
 ghost use Rattle.controller.specs.Plan.{RefusesPlan};
-ghost use Rattle.difane_cli.specs.Ending.{StopsCheck};
+ghost use Rattle.difane_cli.specs.Ending.{StopsAt, StopsCheck};
 ghost use Rattle.difane_cli.specs.Inputs.{file_stated, first_plan, first_stated, plan_on, policy_stated, read_from};
 ghost use Rattle.net_file.specs.Exports.{IsNet, port_mask};
 ghost use Rattle.net_file.specs.declared.net.Net.{Net};
@@ -176,6 +176,7 @@ pub fn plan_policy(alloc: Global, name: &str, policy: &Policy, net: &Net) -> Res
     ensures leads { IfOk result (λ plan. LeadEveryHeader policy.now plan.hosted) }
     ensures policy { IfOk result (λ plan. plan.policy ≡ policy.now) }
     ensures stopped { IfErr result (StopsCheck (plan_on name.now net.now policy.now)) }
+    ensures stops { StopsAt (name.now ∷ []) result }
 {
     match compile(alloc, policy, net) {
         Ok(plan) => Ok(plan),

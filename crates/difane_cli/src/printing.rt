@@ -4,7 +4,7 @@ ghost use Rattle.std.specs.Option.{ForSome};
 ghost use Rattle.net_file.specs.Net.{IsNet};
 ghost use Rattle.shelf.specs.Sink.{Rose};
 ghost use Rattle.shelf.specs.Shelf.{Files, IsAfterReads};
-ghost use Rattle.difane_cli.specs.Exports.{EndsRead, IsCalmRead, IsPrintingOf, Print, PrintOutcome, known_task, most_reads, printing_of, printing_stated, printing_text, status_after};
+ghost use Rattle.difane_cli.specs.Exports.{EndsRead, IsCalmRead, IsPrintingOf, Print, PrintOutcome, StopsAt, known_task, most_reads, names_in, printing_of, printing_stated, printing_text, status_after};
 ghost use Rattle.command_line.specs.Named.{print_named};
 ghost use Rattle.command_line.specs.Commands as grammar;
 ghost use Rattle.command_line.specs.Commands.{PrintCommand};
@@ -43,6 +43,7 @@ pub fn read_printing<F: Shelf>(
         (most_reads (F.state shelf.old).files (Some (grammar.Print (print_named args.now))))
         (F.state shelf.old) (F.state shelf.new) }
     ensures calm { IsCalmRead (F.state shelf.old) (F.state shelf.new) result }
+    ensures stops { StopsAt (names_in (Some (grammar.Print (print_named args.now)))) result }
     ensures sound { IfOk result (λ inputs. IsNet inputs.net) }
     ensures planned { IfOk result (λ inputs.
         IsPrintingOf (print_named args.now) (printing_stated inputs)) }

@@ -2,7 +2,7 @@
 ghost use Rattle.std.specs.Prelude.{◌≡◌, Ok, Option, Some, IfOk, Result, [], map};
 ghost use Rattle.std.specs.Option.{ForSome};
 ghost use Rattle.shelf.specs.Shelf.{Files, IsAfterReads};
-ghost use Rattle.difane_cli.specs.Exports.{Accounts, EndsRead, IsCalmRead, EndsWork, IsReadyTask, IsTaskOf, Outcome, GivesBack, RanOut, Task as Stated, known_task, most_reads, task_stated};
+ghost use Rattle.difane_cli.specs.Exports.{Accounts, EndsRead, IsCalmRead, EndsWork, IsReadyTask, IsTaskOf, Outcome, GivesBack, RanOut, StopsAt, Task as Stated, known_task, most_reads, names_in, task_stated};
 ghost use Rattle.difane_cli.specs.declared.status.Refusal.{Refusal};
 ghost use Rattle.command_line.specs.Named.{NamesPolicies, command_named};
 ghost use Rattle.command_line.specs.Commands as grammar;
@@ -44,6 +44,7 @@ pub fn read_task<F: Shelf>(
         (most_reads (F.state shelf.old).files (Some (command_named command.now)))
         (F.state shelf.old) (F.state shelf.new) }
     ensures calm { IsCalmRead (F.state shelf.old) (F.state shelf.new) result }
+    ensures stops { StopsAt (names_in (Some (command_named command.now))) result }
     ensures ready { IfOk result IsReadyTask }
     ensures asked { IfOk result (λ task.
         IsTaskOf (command_named command.now) (task_stated task)) }

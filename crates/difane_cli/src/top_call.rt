@@ -3,7 +3,7 @@ ghost use Rattle.std.specs.Prelude.{◌≡◌, ◌≢◌, ◌≤◌, ◌⊎◌, 
 ghost use Rattle.std.specs.Option.{ForSome};
 ghost use Rattle.shelf.specs.Sink.{Rose};
 ghost use Rattle.shelf.specs.Shelf.{IsAfterReads};
-ghost use Rattle.difane_cli.specs.Exports.{Accounts, GivesBack, IsAccepted, MayFollowFault, NeedsReadFault, Outcome, RanOut, WritesLine, known_task, most_reads, status_line};
+ghost use Rattle.difane_cli.specs.Exports.{Accounts, GivesBack, IsAccepted, MayFollowFault, NamesOneOf, NeedsReadFault, Outcome, RanOut, WritesLine, known_task, most_reads, names_in, status_line};
 ghost use Rattle.command_line.specs.Grammar.{command_of};
 ghost use Rattle.command_line.specs.Commands.{argument_texts};
 ghost use Rattle.difane_cli.specs.declared.status.Status.TheVariants as status;
@@ -63,6 +63,9 @@ pub fn run<F: Shelf, K: Sink, E: Sink>(
         → Rose (F.state shelf.old).faults (F.state shelf.new).faults }
     ensures write_fault { result.status ≡ status.WriteFault
         → Rose (K.state out.old).faults (K.state out.new).faults }
+
+    // Whether or not files are known, a refusal names what the arguments name.
+    ensures names { NamesOneOf (names_in (command_of (argument_texts words.now))) result.status }
 
     // Only there is a fault counted, or, of files that aren't known, behind want of memory too: what
     // failed is not tried again with success.

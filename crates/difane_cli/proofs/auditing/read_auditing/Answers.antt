@@ -1,9 +1,10 @@
-use Rattle.std.proofs.Common.{◌≡◌, ◌∙◌, refl}
+use Rattle.std.proofs.Common.{◌≡◌, ◌∙◌, [], ◌∷◌, refl}
 use Rattle.command_line.specs.Named.{audit_named}
 use Rattle.difane_cli.specs.Inputs.{solo_ports}
 use Rattle.difane_cli.proofs.Begun.{as_many}
 use Rattle.difane_cli.proofs.AuditReads.{auditing_is, both_read, trace_alone}
 use Rattle.difane_cli.proofs.CalmReads.{stop_then, stopped}
+use Rattle.difane_cli.proofs.Named.{among_first, among_last, ends_at}
 use Rattle.difane_cli.proofs.auditing.read_auditing.Goals as goal
 
 all_ports : 18446744073709551615 ≡ solo_ports
@@ -53,3 +54,18 @@ returns-in_err-files-clause-calm g c =
 
 pub returns-clause-calm : goal.returns-clause-calm
 returns-clause-calm g c = c.in_ok-files.ensures.calm ∙ c.in_ok-trace.ensures.calm
+
+pub returns-in_err-trace-clause-stops : goal.returns-in_err-trace-clause-stops
+returns-in_err-trace-clause-stops g c =
+    let args = audit_named c.args.args.now in
+    ends_at (args.trace ∷ []) (args.trace ∷ args.policies) c.in_err-trace.field-0.0
+    c.from_residual.result (among_first args.trace args.policies)
+    c.from_residual.ensures.1 c.in_err-trace.ensures.stops
+
+pub returns-in_err-files-clause-stops : goal.returns-in_err-files-clause-stops
+returns-in_err-files-clause-stops g c =
+    let args = audit_named c.args.args.now in
+    ends_at args.policies (args.trace ∷ args.policies) c.in_err-files.field-0.0
+    c.from_residual-in_err-files.result (among_last [] args.trace args.policies)
+    c.from_residual-in_err-files.ensures.1
+    (rw c.deref-names.ensures.value at c.in_err-files.ensures.stops)

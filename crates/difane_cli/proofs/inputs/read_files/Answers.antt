@@ -1,6 +1,7 @@
 use Rattle.std.specs.Prelude.{IsSome, IsTrue, Vec}
 use Rattle.std.specs.Global.{Global}
 use Rattle.std.proofs.Common.{ℕ, ◌≡◌, ◌≤◌, ◌+◌, ◌==◌, ◌∙◌, Bool, Ok, Err, All, List, [], ◌∷◌, ◌++◌, ap, arith, drop, get_or, length, length-append, subst, sym}
+use Rattle.std.proofs.lemmas.List.{length-map}
 use Rattle.std.proofs.lemmas.List.Elements.{All-push}
 use Rattle.policy_file.specs.Changes.{file_length}
 use Rattle.policy_file.specs.Ports.{names_port_of}
@@ -9,10 +10,11 @@ use Rattle.policy_rules.specs.declared.file.PolicyFile.{PolicyFile}
 use Rattle.std.specs.Option.{ForSome}
 use Rattle.command_line.specs.Named.{names_seen}
 use Rattle.world.specs.Files.{first_policy}
-use Rattle.difane_cli.specs.Ending.{EndsRead}
+use Rattle.difane_cli.specs.Ending.{EndsRead, NamesOneOf, status_of}
 use Rattle.difane_cli.specs.Inputs.{read_file}
 use Rattle.difane_cli.proofs.CalmReads.{all_calm, stop_then, stopped}
 use Rattle.difane_cli.proofs.FileReads.{HasRead, at_next, first_behind, is_none, name_there, one_read, reads_at, stops_at}
+use Rattle.difane_cli.proofs.Named.{among_there, ends_at}
 use Rattle.difane_cli.proofs.inputs.read_files.Goals as goal
 
 -- a vector counts its elements
@@ -112,3 +114,16 @@ returns-in_err-push-clause-calm g c =
     all_calm (g.F.Shelf.state c.args.shelf.now) (g.F.Shelf.state c.read_file.new.shelf)
     c.from_residual-in_err-push.result
     (c.in_ok-file.ensures.calm ∙ c.loop-name.invariant.calm)
+
+pub returns-in_err-file-clause-stops : goal.returns-in_err-file-clause-stops
+returns-in_err-file-clause-stops g c =
+    let names = c.args.names.now in
+    let i = c.loop-name.name-index in
+    let name = get_or (names_seen names) i [] in
+    let stop = c.in_err-file.field-0.0 in
+    ends_at (name ∷ []) (names_seen names) stop c.from_residual.result
+    (among_there (names_seen names) i []
+    (omega (arith, length-map names (λ n. n.now), c.loop-name-test.true)))
+    c.from_residual.ensures.1
+    (subst (λ (name : List ℕ). NamesOneOf (name ∷ []) (status_of stop))
+    (name_there names i _ c.loop-name-test.true) c.in_err-file.ensures.stops)

@@ -1,11 +1,14 @@
 use Rattle.world.specs.State.{setting_at}
-use Rattle.std.proofs.Common.{◌∙◌, Some, ap, refl}
+use Rattle.std.specs.Prelude.{option_to_list}
+use Rattle.std.proofs.Common.{◌∙◌, Some, [], ◌∷◌, ◌++◌, ap, arith, refl}
+use Rattle.std.proofs.lemmas.List.{length-map}
 use Rattle.shelf.specs.Shelf.{IsAfterReads}
 use Rattle.command_line.specs.Commands.{Replay}
 use Rattle.command_line.specs.Named.{replay_named}
 use Rattle.difane_cli.specs.Inputs.{most_reads, net_reads}
 use Rattle.difane_cli.proofs.Begun.{all_are_events, as_many, asked_for, few_named, inputs_are}
 use Rattle.difane_cli.proofs.CalmReads.{all_calm, stop_then, stopped}
+use Rattle.difane_cli.proofs.Named.{among_behind, among_front, among_last, ends_at, first_check}
 use Rattle.difane_cli.proofs.ShelfReads.{all_reads, reads_then, schedule_read}
 use Rattle.difane_cli.proofs.inputs.read_inputs.Goals as goal
 use Rattle.difane_cli.proofs.inputs.read_inputs.Goals.{In_ok-files}
@@ -107,3 +110,41 @@ returns-in_err-world-clause-calm g c =
 pub returns-clause-calm : goal.returns-clause-calm
 returns-clause-calm g c =
     c.in_ok-files.ensures.calm ∙ c.in_ok-events.ensures.calm ∙ c.in_ok-net.ensures.calm
+
+pub returns-in_err-net-clause-stops : goal.returns-in_err-net-clause-stops
+returns-in_err-net-clause-stops g c =
+    let args = replay_named c.args.args.now in
+    let nets = option_to_list args.net in
+    let others = args.schedule ∷ args.policies in
+    ends_at nets (nets ++ others) c.in_err-net.field-0.0 c.from_residual.result
+    (among_front nets others) c.from_residual.ensures.1 c.in_err-net.ensures.stops
+
+pub returns-in_err-events-clause-stops : goal.returns-in_err-events-clause-stops
+returns-in_err-events-clause-stops g c =
+    let args = replay_named c.args.args.now in
+    let nets = option_to_list args.net in
+    ends_at (args.schedule ∷ []) (nets ++ args.schedule ∷ args.policies)
+    c.in_err-events.field-0.0 c.from_residual-in_err-events.result
+    (among_behind nets args.schedule args.policies)
+    c.from_residual-in_err-events.ensures.1 c.in_err-events.ensures.stops
+
+pub returns-in_err-files-clause-stops : goal.returns-in_err-files-clause-stops
+returns-in_err-files-clause-stops g c =
+    let args = replay_named c.args.args.now in
+    let nets = option_to_list args.net in
+    ends_at args.policies (nets ++ args.schedule ∷ args.policies)
+    c.in_err-files.field-0.0 c.from_residual-in_err-files.result
+    (among_last nets args.schedule args.policies) c.from_residual-in_err-files.ensures.1
+    (rw c.deref-names.ensures.value at c.in_err-files.ensures.stops)
+
+pub returns-in_err-world-clause-stops : goal.returns-in_err-world-clause-stops
+returns-in_err-world-clause-stops g c =
+    let args = replay_named c.args.args.now in
+    let nets = option_to_list args.net in
+    let named = length-map c.args.args.now.policies.items (λ n. n.now) in
+    ends_at args.policies (nets ++ args.schedule ∷ args.policies)
+    c.in_err-world.field-0.0 c.from_residual-in_err-world.result
+    (among_last nets args.schedule args.policies) c.from_residual-in_err-world.ensures.1
+    (first_check args.policies c.in_ok-net.net c.in_ok-files.files.items
+    c.in_err-world.field-0.0 (omega (arith, named, c.requires.0))
+    (rw c.deref-names.ensures.value at c.in_err-world.ensures.stopped))

@@ -1,0 +1,116 @@
+-- Which names a refusal names.
+use Rattle.std.specs.Prelude.{IsErrAnd, unwrap_or}
+use Rattle.std.proofs.Common.{ℕ, ◌≡◌, ◌<◌, Result, Ok, Err, List, [], ◌∷◌, ◌++◌, arith, inl, inr, length, refl, subst, sym, zero, suc, get_or}
+use Rattle.net_file.specs.declared.net.Net.{Net}
+use Rattle.partition.specs.Plan.{Hosted, plan_of}
+use Rattle.policy_rules.specs.Hosted as no_plan
+use Rattle.policy_rules.specs.Hosted.{NoPlan}
+use Rattle.policy_rules.specs.declared.file.PolicyFile.{PolicyFile}
+use Rattle.policy_rules.specs.declared.policy.Row.{Row}
+use Rattle.update_machine.specs.Pieces.{plan_code}
+use Rattle.world.specs.Files.{first_policy}
+use Rattle.difane_cli.specs.Ending.{IsOneOf, NamesOneOf, StopsAt, StopsCheck, status_of}
+use Rattle.difane_cli.specs.Inputs.{first_plan, plan_from, plan_on, refused_whole}
+use Rattle.difane_cli.specs.declared.status.Refusal.{Refusal}
+use Rattle.difane_cli.specs.declared.status.Status.{Status}
+use Rattle.difane_cli.specs.declared.status.Status.TheVariants as status
+use Rattle.difane_cli.specs.declared.status.Stop.{Stop}
+use Rattle.difane_cli.specs.declared.status.Stop.TheVariants as stop
+
+-- ---- one name
+
+-- a refusal of this is one of the file of this name
+abbrev pub IsOwn : {X : Type 0} → List ℕ → Result X Refusal → Type 0
+IsOwn name read = (refusal : Refusal) → read ≡ Err refusal → refusal.file ≡ name
+
+own_refusal : {X : Type 0} (name : List ℕ) (given : Refusal) → given.file ≡ name
+    → IsOwn {X = X} name (Err given)
+own_refusal name given own = λ refusal is.
+    let same : given ≡ refusal = cc is in
+    subst (λ (r : Refusal). r.file ≡ name) same own
+
+own_plan : (name : List ℕ) (net : Net) (rows : List Row) → IsOwn name (plan_on name net rows)
+own_plan name net rows = by (plan_of rows net)
+  where
+    by : (planned : Result (List Hosted) NoPlan) → IsOwn name (plan_from name planned)
+    by (Ok hosted) = λ refusal is. absurd (cc is)
+    by (Err (no_plan.NoRoom partition)) =
+        own_refusal name
+        (record { file = name; code = plan_code (no_plan.NoRoom partition); row = partition }) refl
+    by (Err why) = own_refusal name (refused_whole name (plan_code why)) refl
+
+-- a check of what the file of this name says
+by_check : {X : Type 0} (name : List ℕ) (read : Result X Refusal) (why : Stop) → IsOwn name read
+    → StopsCheck read why → NamesOneOf (name ∷ []) (status_of why)
+by_check name read (stop.Refused refusal) own is =
+    (inl (own refusal is.0), λ code. absurd (is.1 code))
+by_check name read stop.ReadFault own is = tt
+by_check name read stop.NoMemory own is = tt
+
+pub plan_check : (name : List ℕ) (net : Net) (rows : List Row) (why : Stop)
+    → StopsCheck (plan_on name net rows) why → NamesOneOf (name ∷ []) (status_of why)
+plan_check name net rows why is =
+    by_check name (plan_on name net rows) why (own_plan name net rows) is
+
+-- ---- several names
+
+-- each of these names is one of those
+abbrev pub AreAmong : (few all : List (List ℕ)) → Type 0
+AreAmong few all = (file : List ℕ) → IsOneOf few file → IsOneOf all file
+
+pub among_front : (few more : List (List ℕ)) (file : List ℕ) → IsOneOf few file
+    → IsOneOf (few ++ more) file
+among_front [] more file is = absurd is
+among_front (name ∷ few) more file (inl is) = inl is
+among_front (name ∷ few) more file (inr is) = inr (among_front few more file is)
+
+among_back : (few more : List (List ℕ)) (file : List ℕ) → IsOneOf more file
+    → IsOneOf (few ++ more) file
+among_back [] more file is = is
+among_back (name ∷ few) more file is = inr (among_back few more file is)
+
+pub among_first : (name : List ℕ) (more : List (List ℕ)) (file : List ℕ)
+    → IsOneOf (name ∷ []) file → IsOneOf (name ∷ more) file
+among_first name more file (inl is) = inl is
+among_first name more file (inr is) = absurd is
+
+-- the name behind some, and those behind it
+pub among_behind : (few : List (List ℕ)) (name : List ℕ) (more : List (List ℕ)) (file : List ℕ)
+    → IsOneOf (name ∷ []) file → IsOneOf (few ++ name ∷ more) file
+among_behind few name more file is =
+    among_back few (name ∷ more) file (among_first name more file is)
+
+pub among_last : (few : List (List ℕ)) (name : List ℕ) (more : List (List ℕ)) (file : List ℕ)
+    → IsOneOf more file → IsOneOf (few ++ name ∷ more) file
+among_last few name more file is = among_back few (name ∷ more) file (inr is)
+
+-- a name at a place
+pub among_there : (names : List (List ℕ)) (i : ℕ) (d : List ℕ) → i < length names
+    → (file : List ℕ) → IsOneOf (get_or names i d ∷ []) file → IsOneOf names file
+among_there [] i d within file is = absurd (omega (arith, within))
+among_there (name ∷ names) zero d within file is = among_first name names file is
+among_there (name ∷ names) (suc i) d within file is =
+    inr (among_there names i d (omega (arith, within)) file is)
+
+pub among : (few all : List (List ℕ)) (ended : Status) → AreAmong few all → NamesOneOf few ended
+    → NamesOneOf all ended
+among few all (status.Input file code row) wider is = (wider file is.0, is.1)
+among few all _ wider is = tt
+
+-- the plan of the first of these
+pub first_check : (names : List (List ℕ)) (net : Net) (files : List PolicyFile) (why : Stop)
+    → 0 < length names → StopsCheck (first_plan names net files) why
+    → NamesOneOf names (status_of why)
+first_check names net files why some is =
+    let name = get_or names 0 [] in
+    among (name ∷ []) names (status_of why) (among_there names 0 [] some)
+    (plan_check name net (unwrap_or (first_policy files) []) why is)
+
+-- a reading that ends with this stop
+pub ends_at : {V : Type 0} (few all : List (List ℕ)) (why : Stop) (result : Result V Stop)
+    → AreAmong few all → IsErrAnd result (λ stop. stop ≡ why) → NamesOneOf few (status_of why)
+    → StopsAt all result
+ends_at few all why (Ok value) wider is named = tt
+ends_at few all why (Err stop) wider is named =
+    subst (λ (s : Stop). NamesOneOf all (status_of s)) (sym is)
+    (among few all (status_of why) wider named)
