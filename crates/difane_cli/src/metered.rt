@@ -6,7 +6,7 @@ ghost use Rattle.shelf.specs.Sink.{Rose};
 ghost use Rattle.shelf.specs.Shelf.{IsAfterReads};
 ghost use Rattle.command_line.specs.Grammar.{command_of};
 ghost use Rattle.command_line.specs.Commands.{argument_texts};
-ghost use Rattle.difane_cli.specs.Exports.{Accounts, IsAccepted, MayFollowFault, NeedsReadFault, RanOut, WritesLine, known_task, most_reads, status_line};
+ghost use Rattle.difane_cli.specs.Exports.{Accounts, IsAccepted, MayFollowFault, NamesOneOf, NeedsReadFault, RanOut, WritesLine, known_task, most_reads, names_in, status_line};
 ghost use Rattle.difane_cli.specs.declared.status.Status.TheVariants as status;
 ghost use Rattle.difane_cli.specs.Metered.{MeteredOutcome, TellsFlows};
 ghost use Rattle.difane_cli.specs.NewMeters.{asks_flows, new_meter};
@@ -83,6 +83,8 @@ pub fn run_metered<F: Shelf, K: Sink, E: Sink>(
     ensures accounts { IfOk result (λ ending. ForSome
         (known_task (F.state shelf.old).files (command_of (argument_texts words.now)))
         (λ read. Accounts read ending.status)) }
+    ensures names { IfOk result (λ ending.
+        NamesOneOf (names_in (command_of (argument_texts words.now))) ending.status) }
     ensures read_fault { IfOk result (λ ending.
         NeedsReadFault (F.state shelf.old).files ending.status
         → Rose (F.state shelf.old).faults (F.state shelf.new).faults) }
