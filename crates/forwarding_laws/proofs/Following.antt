@@ -211,7 +211,7 @@ module _ (setting : Setting) (journal : List Item) (s i : ℕ) (header : Header)
               let made : new ≡ decision = cc is in
               sym (ap (λ (d : Decision). d.version) made)
               ∙ newest updated version (subst (λ k. SeeksRightly before k version)
-              (eqb-true packet i same) further)
+              (eqb-true packet i same) further.0)
       by next further is = follows.version decision is
 
   -- ---- how it ends
