@@ -1,7 +1,8 @@
 -- How the code's values are seen, and what its parts say of them.
-use Rattle.std.specs.Prelude.{ℕ, ◌-◌, ◌==◌, nat_eq, nat_le, if◌then◌else◌, Bool, MatchBool, Option, Some, None, option_map, List, slice_get}
-use Rattle.std.specs.HashMap.{get}
+use Rattle.std.specs.Prelude.{ℕ, ◌-◌, ◌==◌, nat_le, if◌then◌else◌, Bool, MatchBool, Option, Some, None, option_map, List, slice_get}
+use Rattle.std.specs.BTreeMap.{get}
 use Rattle.std.specs.Option.{option_or}
+use Rattle.std.specs.Ordering.{nat_cmp}
 use Rattle.five_tuple.specs.HeaderNumbers.{header_of}
 use Rattle.policy_rules.specs.declared.file.PolicyFile.{PolicyFile}
 use Rattle.policy_rules.specs.declared.policy.Action.{Action}
@@ -82,7 +83,7 @@ run_get first run number = if nat_le first number then slice_get run (number - f
 -- of each number the packet that is known there, if one is: in the run, or else among the others
 abbrev pub packets_seen : Packets → ℕ → Option Packet
 packets_seen p number = option_map packet_seen
-    (option_or (run_get p.first p.run.items number) (get nat_eq p.others number))
+    (option_or (run_get p.first p.run.items number) (get nat_cmp p.others number))
 
 -- the machine, and the header that waits
 abbrev pub state_seen : Auditor → State

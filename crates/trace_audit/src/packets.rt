@@ -6,7 +6,7 @@ use crate::told::End;
 use five_tuple::{Fields, Header};
 use policy_rules::{Action, Hit};
 use std::alloc::{AllocError, Global};
-use std::collections::HashMap;
+use std::collections::BTreeMap;
 
 /// Which rule decided a packet.
 #[derive(Clone, Copy)]
@@ -166,7 +166,8 @@ pub(crate) struct Packets {
     first: u32,
     // Packets whose numbers follow one another, as in the trace of a replay.
     run: Vec<Packet>,
-    others: HashMap<u32, Packet>,
+    // In order: a trace may choose numbers that a hash would put in one group.
+    others: BTreeMap<u32, Packet>,
 }
 
 impl Packets {
@@ -177,7 +178,7 @@ impl Packets {
         Packets {
             first: 0,
             run: Vec::new(alloc),
-            others: HashMap::new(alloc),
+            others: BTreeMap::new(alloc),
         }
     }
 

@@ -1,5 +1,6 @@
-use Rattle.std.proofs.Common.{◌≡◌, ◌∙◌, ℕ, ◌-◌, ◌<◌, Option, None, length, set, nat_eq, sym, ap, arith}
-use Rattle.std.specs.HashMap.{get}
+use Rattle.std.proofs.Common.{◌≡◌, ◌∙◌, ℕ, ◌-◌, ◌<◌, Option, None, length, set, nat_cmp, sym, ap, arith}
+use Rattle.std.specs.BTreeMap.{get}
+use Rattle.std.specs.Cmp.{unsigned_tied}
 use Rattle.std.specs.Option.{option_or}
 use Rattle.std.proofs.lemmas.Bool.{eqb-true, ne_eqb}
 use Rattle.std.proofs.lemmas.List.{nil_from_length}
@@ -14,7 +15,7 @@ returns-then-is_empty c =
     let old = c.args.self.now in
     let number = c.args.number in
     let item = c.args.packet in
-    let others : ℕ → Option Packet = get nat_eq old.others in
+    let others : ℕ → Option Packet = get nat_cmp old.others in
     let items = c.in_ok-push.ensures.items in
     let none : length old.run.items ≡ 0 = sym old.run.ok.0
     ∙ eqb-true old.run.len 0 (sym c.is_empty.ensures ∙ c.if-is_empty.true) in
@@ -36,7 +37,7 @@ returns-then-place-len c =
     let old = c.args.self.now in
     let number = c.args.number in
     let item = c.args.packet in
-    let others : ℕ → Option Packet = get nat_eq old.others in
+    let others : ℕ → Option Packet = get nat_cmp old.others in
     let within : number - old.first < length old.run.items =
     omega (arith, c.if-place-len.true, c.len.ensures, old.run.ok.0) in
     let above = c.if-number-self.true in
@@ -53,7 +54,7 @@ returns-then-place-len-2 c =
     let old = c.args.self.now in
     let number = c.args.number in
     let item = c.args.packet in
-    let others : ℕ → Option Packet = get nat_eq old.others in
+    let others : ℕ → Option Packet = get nat_cmp old.others in
     let items = c.in_ok-push-2.ensures.items in
     let end : number - old.first ≡ length old.run.items =
     omega (arith, c.if-place-len-2.true, c.len-then-number-self.ensures, old.run.ok.0) in
@@ -78,8 +79,8 @@ returns c =
       | else-number-self w ↦ run_below old.first run number w.if-number-self.false
     ] in
     let updates = c.in_ok-insert.ensures.updates in
-    seen_put packet_seen (λ n. option_or (run_get old.first run n) (get nat_eq old.others n))
-    (λ n. option_or (run_get old.first run n) (get nat_eq c.insert.new.self n)) number c.args.packet
-    (ap (λ o. option_or o (get nat_eq c.insert.new.self number)) none ∙ updates.1)
+    seen_put packet_seen (λ n. option_or (run_get old.first run n) (get nat_cmp old.others n))
+    (λ n. option_or (run_get old.first run n) (get nat_cmp c.insert.new.self n)) number c.args.packet
+    (ap (λ o. option_or o (get nat_cmp c.insert.new.self number)) none ∙ updates.1)
     (λ n other. ap (option_or (run_get old.first run n))
-    (updates.2 n (ne_eqb number n (λ e. other (sym e)))))
+    (updates.2 n (unsigned_tied number n ∙ ne_eqb number n (λ e. other (sym e)))))
