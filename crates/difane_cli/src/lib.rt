@@ -1,6 +1,7 @@
-//! The program's top call: it reads the arguments and the files, plays a schedule on a network or
-//! plans a policy for it, and writes the journal, the plan or a switch's tables. Or it draws a load
-//! case, plays it and writes its summary.
+//! The program's top call: it reads the arguments and the files, and does what they ask. It plays a
+//! schedule on a network, and writes the journal, the records of flows or the placement that is
+//! proposed. It plans a policy for a network, and writes the plan or a switch's tables. It checks a
+//! printed trace; or it draws a load case, plays it and writes its summary.
 //!
 //! `run` carries the headline. Where a replay answers `Ok` there are inputs that its journal
 //! answers, is a run of the abstract machine for, and whose items have their causes; where files

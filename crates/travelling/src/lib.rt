@@ -2,8 +2,8 @@
 //!
 //! `Travelling` keeps what is known of each packet that travels: its tunnel, and the version and
 //! the rule of its decision. It promises that each call changes the packet of its number alone, and
-//! that `next` finds the least number of one that travels. Only `StoredFlight::new` and `put` take
-//! memory.
+//! that `next` finds the least number of one that travels. To make a `StoredFlight`, a `Standing`
+//! or its links may take memory, and so may `put`; no other call does.
 //!
 //! ```text
 //! let mut travelling = Travelling::new(alloc);

@@ -38,9 +38,9 @@ use world_log::Log;
 /// A network of switches with its controller, the packets on their way in it, and the journal of
 /// what happened.
 ///
-/// Contracts see the network, the files, the journal, the switches, the packets on their way,
-/// the messages, how many packets there were, the controller, and whether memory ran out within a
-/// step.
+/// Contracts see the network, the files, the journal, the switches, the links that can be used, the
+/// packets on their way, the messages, how many packets there were, the controller, and whether
+/// memory ran out within a step.
 #[derive(Drop)]
 pub struct World {
     parts: Parts,

@@ -3,8 +3,9 @@
 //!
 //! A `Log` promises that each call writes exactly the items that the definitions state of the
 //! answer, posts the messages that it sends under the next numbers, and changes of the packets on
-//! their way that one alone. Where memory runs out, the journal has a part of the items. What the
-//! items have to do with earlier ones is for the crates above to say.
+//! their way the one that it names alone, or at a crash those that stand there. Where memory runs
+//! out, the journal has a part of the items. What the items have to do with earlier ones is for the
+//! crates above to say.
 //!
 //! ```text
 //! let site = Site { near, ports: &ports };

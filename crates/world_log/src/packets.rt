@@ -196,14 +196,12 @@ impl Log {
             HopEnd::Arrive => {
                 let kept = self.reroute(alloc, &tunnel, version, rule)?;
                 let at = kept.standing(here)?;
-                let route = kept.route();
-                let place = kept.place();
                 let verdict = switch.receive(Arriving {
                     header: &at.header,
                     ingress: at.ingress,
                     leg,
-                    route,
-                    place,
+                    route: kept.route(),
+                    place: kept.place(),
                 });
                 self.settle(alloc, at, verdict, switch, site)
             }

@@ -217,20 +217,20 @@ pub receive-verdict-requires-clause-here : goal.receive-verdict-requires-clause-
 receive-verdict-requires-clause-here c =
     let before = (goal.at.receive-verdict-requires-clause-here c).After-unwrap-other in
     let kept = c.in_ok-kept-in-Arrive.ensures.kept in
-    subst (λ w. StandsAt w c.route-route.result.now c.place-place.result)
+    subst (λ w. StandsAt w c.route.result.now c.place.result)
     (sym c.hop-hop.ensures.after)
-    (placed (StandsAt c.args.switch.now) c.route-route.result.now c.place-place.result
-    c.hop-hop.new.t (c.route-route.ensures ∙ ap (λ (k : Flight). k.tunnel.route) kept)
-    (c.place-place.ensures.place ∙ ap (λ (k : Flight). k.tunnel.place) kept)
+    (placed (StandsAt c.args.switch.now) c.route.result.now c.place.result
+    c.hop-hop.new.t (c.route.ensures ∙ ap (λ (k : Flight). k.tunnel.route) kept)
+    (c.place.ensures.place ∙ ap (λ (k : Flight). k.tunnel.place) kept)
     (still before c.in-Arrive.is))
 
 pub receive-verdict-requires-clause-last : goal.receive-verdict-requires-clause-last
 receive-verdict-requires-clause-last c =
     let kept = c.in_ok-kept-in-Arrive.ensures.kept in
     placed (λ route place. ◌≡◌ {A = Option ℕ} (slice_get route (place + 1)) None)
-    c.route-route.result.now c.place-place.result
-    c.hop-hop.new.t (c.route-route.ensures ∙ ap (λ (k : Flight). k.tunnel.route) kept)
-    (c.place-place.ensures.place ∙ ap (λ (k : Flight). k.tunnel.place) kept)
+    c.route.result.now c.place.result
+    c.hop-hop.new.t (c.route.ensures ∙ ap (λ (k : Flight). k.tunnel.route) kept)
+    (c.place.ensures.place ∙ ap (λ (k : Flight). k.tunnel.place) kept)
     (ap next c.hop-hop.ensures.tunnel ∙ hop_ends c.args.switch.now c.args.site.near
     c.tunnel-tunnel.result (sym c.hop-hop.ensures.end ∙ c.in-Arrive.is))
 
