@@ -4,7 +4,7 @@
 #![tactic(auto)]
 
 use difane_cli::{Status, run_metered, write_status};
-use shelf::{DiskShelf, StdSink};
+use shelf::{DiskShelf, Sink, StdSink};
 use std::alloc::AllocError;
 use std::io::ErrorKind;
 use std::process::ExitCode;
@@ -20,35 +20,33 @@ fn read_args<R: Env + AllocGlobal>(rt: &R) -> io::Result<Vec<String>> {
     Ok(args)
 }
 
-/// Does what the arguments ask, and says how it ended. Where there is no memory for the meters, it
-/// prints nothing.
-fn run_with(rt: HostRuntime, args: &Vec<String>) -> Result<Status, AllocError> {
-    let alloc = rt.alloc();
-    let mut errs = StdSink::new(rt.stderr());
-    let mut out = StdSink::new(rt.stdout());
-    let mut shelf = DiskShelf::new(rt);
-    let ending = run_metered(alloc, args, &mut shelf, &mut out, &mut errs)?;
-    // The process ends here: the system takes the journal's memory back at once.
-    mem::forget(ending.journal);
-    Ok(ending.status)
+/// The status of a call whose arguments can't be read. Where one is no text, its line is written.
+fn unread<E: Sink>(kind: ErrorKind, errs: &mut E) -> Status {
+    match kind {
+        ErrorKind::OutOfMemory => Status::NoMemory,
+        _ => {
+            write_status(&Status::Words, errs);
+            Status::Words
+        }
+    }
 }
 
 fn main(rt: HostRuntime) -> ExitCode {
+    let alloc = rt.alloc();
     let mut errs = StdSink::new(rt.stderr());
-    match read_args(&rt) {
-        Ok(args) => match run_with(rt, &args) {
-            Ok(status) => ExitCode::from(status.number()),
-            Err(_) => ExitCode::from(Status::NoMemory.number()),
-        },
-        Err(error) => {
-            let status = match error.kind() {
-                ErrorKind::OutOfMemory => Status::NoMemory,
-                _ => Status::Words,
-            };
-            if let Status::Words = status {
-                write_status(&status, &mut errs);
-            }
-            ExitCode::from(status.number())
+    let args = match read_args(&rt) {
+        Ok(args) => args,
+        Err(error) => return ExitCode::from(unread(error.kind(), &mut errs).number()),
+    };
+    let mut out = StdSink::new(rt.stdout());
+    let mut shelf = DiskShelf::new(rt);
+    match run_metered(alloc, &args, &mut shelf, &mut out, &mut errs) {
+        Ok(ending) => {
+            // The process ends here: the system takes the journal's memory back at once.
+            mem::forget(ending.journal);
+            ExitCode::from(ending.status.number())
         }
+        // There was none for the meters, and nothing is printed.
+        Err(AllocError) => ExitCode::from(Status::NoMemory.number()),
     }
 }
