@@ -1,17 +1,13 @@
 -- Each packet got the first match of its header under the version that decided it, and a change
 -- leaves the first match of each header that it doesn't touch.
-use Rattle.std.proofs.Common.{ℕ, suc, ◌≡◌, ◌+◌, ◌<◌, ◌≤◌, ◌==◌, ◌∙◌, if◌then◌else◌, Bool, true, false, Option, Some, None, Result, Ok, Err, List, [], ◌∷◌, ◌++◌, refl, ap, sym, subst, add-one, arith, inl, inr, ◌⊎◌}
-use Rattle.std.specs.Prelude.{IsTrue, is_some, option_and_then, unwrap_or}
+use Rattle.std.proofs.Common.{ℕ, ◌≡◌, ◌+◌, ◌≤◌, ◌==◌, ◌∙◌, if◌then◌else◌, Bool, true, false, Option, Some, None, List, [], ◌∷◌, ◌++◌, refl, ap, sym, subst, arith, inl, inr, ◌⊎◌}
+use Rattle.std.specs.Prelude.{unwrap_or}
 use Rattle.std.specs.Option.{option_or}
-use Rattle.std.specs.Result.{result_ok}
 use Rattle.std.proofs.lemmas.Bool.{eqb-true}
 use Rattle.five_tuple.specs.declared.header.Header.{Header}
-use Rattle.policy_rules.specs.Applied.{applied}
 use Rattle.policy_rules.specs.Laws.{AmendmentLaws}
 use Rattle.policy_rules.specs.Scan.{scan}
 use Rattle.policy_rules.specs.SoundPolicies.{IsPolicy}
-use Rattle.policy_rules.specs.declared.file.PolicyFile.TheVariants.{Change}
-use Rattle.policy_rules.specs.declared.applying.Inapplicable.{Inapplicable}
 use Rattle.policy_rules.specs.declared.packet.How.{How}
 use Rattle.policy_rules.specs.declared.policy.Action.{Action}
 use Rattle.policy_rules.specs.declared.policy.Row.{Row}
@@ -20,14 +16,11 @@ use Rattle.journal.specs.declared.item.Item.TheVariants as item
 use Rattle.update_machine.specs.Causes.{HaveCauses}
 use Rattle.update_machine.specs.Marks.{current_mark}
 use Rattle.update_machine.specs.Packets.{Decision, decision_of, header_in, gives_decision, gives_header, next_packet}
-use Rattle.update_machine.specs.Setting.{IsSetting, Setting, file_of, made_by, policy_by, policy_in}
-use Rattle.update_machine.specs.Versions.{is_version, policy_at}
-use Rattle.update_machine.proofs.CallerLemmas.{begins_planned, last_given_append, versions_own}
-use Rattle.control_laws.specs.ItemCauses.{HasItemCause}
+use Rattle.update_machine.specs.Setting.{IsSetting, Setting, policy_in}
+use Rattle.update_machine.specs.Versions.{policy_at}
+use Rattle.update_machine.proofs.CallerLemmas.{last_given_append, versions_own}
 use Rattle.control_laws.proofs.Facts.{AreKept, Behind, fact_on}
-use Rattle.control_laws.proofs.Planned.{versions_planned}
-use Rattle.control_laws.proofs.Versions.{caused_numbered}
-use Rattle.packet_laws.specs.Amended.{ChangesLeaveOthers, LeavesHeader, hit_in}
+use Rattle.packet_laws.specs.Amended.{ChangesLeaveOthers, hit_in}
 use Rattle.packet_laws.specs.Facts.{what_is_known}
 use Rattle.packet_laws.specs.KeptFacts.{AllKept}
 use Rattle.packet_laws.specs.Stages.{stage_of}
@@ -161,29 +154,6 @@ all_right setting journal is have =
 
 -- ---- the policies of two versions
 
-made_ok : (made : Result (List Row) Inapplicable) (rows : List Row) → result_ok made ≡ Some rows
-    → made ≡ Ok rows
-made_ok (Ok these) rows is = ap Ok (cc is)
-made_ok (Err why) rows is = absurd (cc is)
-
--- the policy of the next version is what the change makes of this one's
-made_next : (setting : Setting) (journal : List Item) (version : ℕ) (header : Header)
-    (new : List Row) → (leaves : LeavesHeader setting journal version header)
-    → policy_in setting journal (version + 1) ≡ Some new
-    → applied leaves.rows leaves.change ≡ Ok new
-unfolding policy_in
-made_next setting journal version header new leaves is =
-    made_ok (applied leaves.rows leaves.change) new
-    (sym made ∙ subst (λ v. policy_in setting journal v ≡ Some new) (add-one version) is)
-  where
-    made : policy_in setting journal (suc version) ≡ result_ok (applied leaves.rows leaves.change)
-    made =
-        ap (option_and_then
-        (λ file. result_ok (policy_by setting (policy_in setting journal version) file)))
-        (subst (λ v. file_of journal v ≡ Some leaves.file) (add-one version) leaves.submitted)
-        ∙ ap (λ file. result_ok (made_by file (policy_in setting journal version))) leaves.changes
-        ∙ ap (λ rows. result_ok (made_by (Some (Change leaves.change)) rows)) leaves.policy
-
 own_policy : (setting : Setting) (journal : List Item) (version : ℕ) (rows : List Row)
     → policy_in setting journal version ≡ Some rows → policy_at setting journal version ≡ rows
 unfolding policy_at
@@ -193,40 +163,29 @@ own_policy setting journal version rows is = ap (λ o. unwrap_or o []) is
 
 module _ (laws : AmendmentLaws) (setting : Setting) (journal : List Item) (is : IsSetting setting)
     (have : HaveCauses (IsWayItem setting) [] journal) where
-  causes : HaveCauses (HasItemCause setting) [] journal
-  causes = switches_of_all setting [] journal have
-
-  -- a version that is there has its policy
-  has_policy : (version : ℕ) → IsTrue (is_version journal version)
-      → policy_in setting journal version ≡ Some (policy_at setting journal version)
-  has_policy version there =
-      let within = (caused_numbered setting journal causes version).0 there in
-      ((versions_planned setting journal causes).planned (begins_planned setting is) version
-      within.0 within.1).policy
-
   pub changes_leave : ChangesLeaveOthers setting journal
   changes_leave version header leaves =
       let old : List Row = leaves.rows in
-      let new : List Row = policy_at setting journal (version + 1) in
-      let there : policy_in setting journal (version + 1) ≡ Some new =
-      has_policy (version + 1) (ap is_some leaves.submitted) in
+      let new : List Row = leaves.changed in
       let own : policy_at setting journal version ≡ old =
       own_policy setting journal version old leaves.policy in
+      let next : policy_at setting journal (version + 1) ≡ new =
+      own_policy setting journal (version + 1) new leaves.next in
       let same : scan new header ≡ scan old header =
       laws.same old new leaves.change header
-      (subst IsPolicy own (versions_own setting journal version is).0)
-      (made_next setting journal version header new leaves there) leaves.apart in
+      (subst IsPolicy own (versions_own setting journal version is).0) leaves.makes leaves.apart in
       let either : (v : ℕ) → (v ≡ version) ⊎ (v ≡ version + 1)
       → scan (policy_at setting journal v) header ≡ scan old header =
       λ v under. elim under [
         | inl this ↦ ap (λ n. scan (policy_at setting journal n) header) this
             ∙ ap (λ rows. scan rows header) own
-        | inr next ↦ ap (λ n. scan (policy_at setting journal n) header) next ∙ same
+        | inr later ↦ ap (λ n. scan (policy_at setting journal n) header) later
+            ∙ ap (λ rows. scan rows header) next ∙ same
       ] in
       record {
         hit = scan old header;
         before = record { rows = old; policy = leaves.policy; first_match = refl };
-        after = record { rows = new; policy = there; first_match = same };
+        after = record { rows = new; policy = leaves.next; first_match = same };
         decided = λ packet decision entered decided under.
             sym (all_right setting journal is have packet header decision entered decided).first_match
             ∙ either decision.version under;

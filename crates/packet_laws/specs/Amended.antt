@@ -1,29 +1,29 @@
 -- An amendment changes only what it touches: a header that none of its rows matches keeps its first
 -- match, and each packet with that header is decided by it, under the version before or the new one.
-use Rattle.std.specs.Prelude.{ℕ, ◌≡◌, ◌+◌, ◌⊎◌, Some, List, All, IsFalse}
+use Rattle.std.specs.Prelude.{ℕ, ◌≡◌, ◌+◌, ◌⊎◌, Some, Ok, List, All, IsFalse}
 use Rattle.five_tuple.specs.Header.{fields_of}
 use Rattle.five_tuple.specs.declared.header.Header.{Header}
+use Rattle.policy_rules.specs.Applied.{applied}
 use Rattle.policy_rules.specs.Policy.{row_matches}
 use Rattle.policy_rules.specs.Scan.{scan}
 use Rattle.policy_rules.specs.Touched.{touched_rows}
 use Rattle.policy_rules.specs.declared.amendment.Edit.{Edit}
-use Rattle.policy_rules.specs.declared.file.PolicyFile.TheVariants.{Change}
 use Rattle.policy_rules.specs.declared.policy.Hit.{Hit}
 use Rattle.policy_rules.specs.declared.policy.Row.{Row}
 use Rattle.journal.specs.declared.item.Item.{Item}
 use Rattle.update_machine.specs.Packets.{Decision, decision_of, header_in}
-use Rattle.update_machine.specs.Setting.{Setting, file_at, file_of, policy_in}
+use Rattle.update_machine.specs.Setting.{Setting, policy_in}
 
--- the version behind this one was made by a change of its policy; and none of the rows that the
--- change removes, and none that it adds, matches the header
+-- the policy of the version behind this one is what a change makes of this one's; and none of the
+-- rows that the change removes, and none that it adds, matches the header
 pub record LeavesHeader (setting : Setting) (journal : List Item) (version : ℕ) (header : Header)
     : Type 0 where
-  pub file : ℕ
-  pub change : List Edit
   pub rows : List Row
-  pub submitted : file_of journal (version + 1) ≡ Some file
-  pub changes : file_at setting file ≡ Some (Change change)
+  pub change : List Edit
+  pub changed : List Row
   pub policy : policy_in setting journal version ≡ Some rows
+  pub next : policy_in setting journal (version + 1) ≡ Some changed
+  pub makes : applied rows change ≡ Ok changed
   pub apart : All (λ row. IsFalse (row_matches row (fields_of header))) (touched_rows rows change)
 
 -- the version has a policy, by which this is the first match of the header
