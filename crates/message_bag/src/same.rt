@@ -4,6 +4,9 @@ ghost use Rattle.std.specs.Prelude.{◌≡◌, IsTrue};
 use policy_rules::{Partition, Rule};
 use switch_table::{PartRow, Tables};
 
+/// An odd number that spreads small ones.
+const FACTOR: usize = 2_654_435_769;
+
 /// Whether they are the same tables.
 pub fn are_same_tables(one: &Tables, other: &Tables) -> bool
     ensures { IsTrue result → one.now ≡ other.now }
@@ -17,6 +20,20 @@ pub fn have_same_rows(one: &Tables, other: &Tables) -> bool
 {
     are_same(one.auth.items(), other.auth.items())
         && are_same(one.parts.items(), other.parts.items())
+}
+
+/// A number that all tables of the same rows and partitions have, and few others: of how many rows
+/// there are, and of the number of each partition and how many rules it has.
+pub fn digest_of(tables: &Tables) -> usize {
+    let mut digest = tables.parts.items().len();
+    for part in tables.auth.items() {
+        digest = digest
+            .wrapping_mul(FACTOR)
+            .wrapping_add(part.number as usize)
+            .wrapping_mul(FACTOR)
+            .wrapping_add(part.rules.items().len());
+    }
+    digest
 }
 
 // A part of tables.

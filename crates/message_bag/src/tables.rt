@@ -7,7 +7,7 @@ ghost use Rattle.wire.specs.Messages.{HasSpelling, IsPlace, message_front, messa
 ghost use Rattle.message_bag.specs.KeptFrames.{AreOfMessage, IsGrown, IsInstallOf, CarryRows, CarryTables, frames_in};
 
 use crate::reading::{shared, tables_in};
-use crate::same::{are_same_tables, have_same_rows};
+use crate::same::{are_same_tables, digest_of, have_same_rows};
 use ctrl_msg::{Message, Place, SharedTables};
 use std::alloc::{AllocError, Global};
 use std::marker::Model;
@@ -24,6 +24,9 @@ pub struct TableFrames {
     // The tables as they come out of the frames: those of each message that is taken.
     said: SharedTables,
     frames: Frames,
+    // Their version and digest: a search passes over most others by these, which lie in the list.
+    version: u32,
+    digest: usize,
 }
 
 impl Model for TableFrames {
@@ -45,7 +48,12 @@ impl TableFrames {
     {
         let frames = split(alloc, message)?;
         let said = with_trees(alloc, tables_in(alloc, &frames)?)?;
-        Ok(TableFrames { said, frames })
+        Ok(TableFrames {
+            said,
+            frames,
+            version: tables.version,
+            digest: digest_of(tables),
+        })
     }
 
     // Of the same tables under another version, which are neither spelled nor read anew.
@@ -55,21 +63,28 @@ impl TableFrames {
     {
         let said = self.said.with_version(alloc, version)?;
         let frames = self.frames.with_version(alloc, version)?;
-        Ok(TableFrames { said, frames })
+        Ok(TableFrames {
+            said,
+            frames,
+            version,
+            digest: self.digest,
+        })
     }
 
-    // Whether they say these tables.
-    fn carry(&self, tables: &Tables) -> bool
+    // Whether they say these tables, which have this digest.
+    fn carry(&self, tables: &Tables, digest: usize) -> bool
         ensures { IsTrue result → CarryTables tables.now self.now }
     {
-        are_same_tables(self.said.tables(), tables)
+        self.version == tables.version
+            && self.digest == digest
+            && are_same_tables(self.said.tables(), tables)
     }
 
-    // Whether they say these tables under some version.
-    fn carry_rows(&self, tables: &Tables) -> bool
+    // Whether they say these tables, which have this digest, under some version.
+    fn carry_rows(&self, tables: &Tables, digest: usize) -> bool
         ensures { IsTrue result → CarryRows tables.now self.now }
     {
-        have_same_rows(self.said.tables(), tables)
+        self.digest == digest && have_same_rows(self.said.tables(), tables)
     }
 
     // Writes at the end the first frame of an installation of these tables: only the receiver and
@@ -127,7 +142,8 @@ fn find(kept: &[TableFrames], tables: &Tables) -> Option<usize>
     ensures there { IfSome result (λ number. number < length kept.now) }
     ensures carry { IfSome result (λ number. CarryTables tables.now (get_or kept.now number [])) }
 {
-    kept.iter().rposition(|frames| frames.carry(tables))
+    let digest = digest_of(tables);
+    kept.iter().rposition(|frames| frames.carry(tables, digest))
 }
 
 // The number of the frames that say these tables under some version.
@@ -135,7 +151,9 @@ fn find_rows(kept: &[TableFrames], tables: &Tables) -> Option<usize>
     ensures there { IfSome result (λ number. number < length kept.now) }
     ensures carry { IfSome result (λ number. CarryRows tables.now (get_or kept.now number [])) }
 {
-    kept.iter().rposition(|frames| frames.carry_rows(tables))
+    let digest = digest_of(tables);
+    kept.iter()
+        .rposition(|frames| frames.carry_rows(tables, digest))
 }
 
 // The frames of an installation of these tables: those that are there under another version, but

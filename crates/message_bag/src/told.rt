@@ -1,5 +1,5 @@
 //! Adverts that were told before: a repeat of one is shared with it, so that it takes few bytes.
-ghost use Rattle.std.specs.Prelude.{◌≡◌, ◌+◌, ◌<◌, length, IfOk, IfSome, IsTrue, OnOk};
+ghost use Rattle.std.specs.Prelude.{◌≡◌, ◌<◌, length, IfOk, IfSome, IsTrue, OnOk};
 
 use base::Shared;
 use ctrl_msg::{Body, Message, Place};
