@@ -1,4 +1,5 @@
 mod OverLemmas
+mod HitLemmas
 pub mod QueueLemmas
 pub mod CacheLemmas
 pub mod CarryLemmas

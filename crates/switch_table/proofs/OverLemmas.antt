@@ -10,7 +10,8 @@ use Rattle.ternary.specs.Meets.{meets, word_eq}
 use Rattle.ternary.specs.Word.{WordValue}
 use Rattle.switch_table.specs.Cache.{HaveDistinctKeys, same_key}
 use Rattle.switch_table.specs.Carried.{carried_entry, goes_over, meets_any, under}
-use Rattle.switch_table.specs.Queue.{AreUpTo, IsQueue, IsRing, Pair, entry_over, equal_keys, key_of, over, pair_over, ring_entries, rotated_list}
+use Rattle.switch_table.specs.Masks.{HasMaskOf}
+use Rattle.switch_table.specs.Queue.{AreMasked, AreUpTo, IsQueue, IsRing, Pair, entry_over, equal_keys, key_of, over, pair_over, ring_entries, rotated_list}
 use Rattle.switch_table.specs.declared.cache.CacheEntry.{CacheEntry}
 use Rattle.switch_table.specs.declared.key.CacheKey.{CacheKey}
 use Rattle.switch_table.proofs.CarryLemmas.{All-filter_map, carried_distinct}
@@ -133,7 +134,7 @@ some_first : (key : CacheKey) (pairs : List Pair) → Some key ≡ first_key pai
 some_first key [] is = absurd (cc is)
 some_first key (pair ∷ pairs) is = (pair, pairs, refl, same_Some key pair.0 is)
 
-equal_keys_itself : (key : CacheKey) → equal_keys key key ≡ true
+pub equal_keys_itself : (key : CacheKey) → equal_keys key key ≡ true
 unfolding equal_keys
 equal_keys_itself key =
     and_from (eqb key.number key.number) (word_eq key.word key.word) (eq-eqb _ _ refl)
@@ -147,7 +148,7 @@ words_same a b is =
     let masks = eqb-true a.mask b.mask parts.1 in
     λ i. record { value = values i; mask = masks i }
 
-equal_keys_same : (a b : CacheKey) → equal_keys a b ≡ true → a ≡ b
+pub equal_keys_same : (a b : CacheKey) → equal_keys a b ≡ true → a ≡ b
 unfolding equal_keys
 equal_keys_same a b is =
     let parts = and_parts (eqb a.number b.number) (word_eq a.word b.word) is in
@@ -339,14 +340,15 @@ own_over shift version touched pair some own =
     by_case false _ = tt
 
 -- what a carry makes of a ring whose entries all are below the version, as the calls say it
-pub ring_carried : (shift lower version newest first last : ℕ) (touched : List WordValue)
-    (pairs new : List Pair) (entries : List CacheEntry) → IsQueue shift newest first pairs
+pub ring_carried : (masks : Option (List WordValue)) (shift lower version newest first last : ℕ)
+    (touched : List WordValue)
+    (pairs new : List Pair) (entries : List CacheEntry) → IsQueue masks shift newest first pairs
     → ring_entries first pairs ≡ entries → newest < version → 0 < shift → lower ≡ shift - 1
     → new ≡ filter_map (pair_over version touched) pairs → last ≤ length new
     → ring_entries last new ≡ filter_map (entry_over version touched) (ring_entries first pairs)
     → IsRingOf lower last new (filter_map (carried_entry version touched entries) entries)
-ring_carried shift lower version newest first last touched pairs new entries is are later some less
-    made within left =
+ring_carried masks shift lower version newest first last touched pairs new entries is are later some
+    less made within left =
     let below : All (IsBelow version) entries =
     below_newest version newest entries later (subst (AreUpTo newest) are is.up_to) in
     let all : ring_entries last new ≡ filter_map (carried_entry version touched entries) entries =
@@ -360,6 +362,26 @@ ring_carried shift lower version newest first last touched pairs new entries is 
     ring_of lower last new _ (omega (arith, less, is.ring.fits)) within
     (subst (λ n. All (IsOwn n) new) (sym less) own) all
     (carried_distinct version touched entries (subst HaveDistinctKeys are is.ring.distinct))
+
+-- those that are left keep their words
+pub masked_carried : (masks : Option (List WordValue)) (version : ℕ) (touched : List WordValue)
+    (entries : List CacheEntry) → AreMasked masks entries
+    → AreMasked masks (filter_map (carried_entry version touched entries) entries)
+masked_carried masks version touched entries masked =
+    All-filter_map IsMasked (carried_entry version touched entries) entries
+    (All-weaker IsMasked
+    (λ entry. IfSome (carried_entry version touched entries entry) IsMasked)
+    (λ entry is. by_case entry (leb version entry.version)
+    (goes_over version touched entries entry) is) entries masked)
+  where
+    IsMasked : CacheEntry → Type 0
+    IsMasked entry = HasMaskOf masks entry.word
+
+    by_case : (entry : CacheEntry) (stays goes : Bool) → HasMaskOf masks entry.word
+        → IfSome (cond stays (Some entry) (cond goes (Some (under version entry)) None)) IsMasked
+    by_case entry true _ is = is
+    by_case entry false true is = is
+    by_case entry false false _ = tt
 
 -- no entry is of a later version then
 pub up_to_carried : (version newest next : ℕ) (touched : List WordValue)

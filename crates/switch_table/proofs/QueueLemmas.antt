@@ -19,7 +19,9 @@ use Rattle.std.proofs.Math.Bool.{or_comm}
 use Rattle.base.proofs.ListLemmas.{none_from_not_some}
 use Rattle.ternary.specs.Meets.{word_eq}
 use Rattle.switch_table.specs.Cache.{HaveDistinctKeys, same_key}
-use Rattle.switch_table.specs.Queue.{AreUpTo, IsQueue, IsRing, Pair, equal_keys, key_of, pair_of, pairs_from, ring_entries, rotated_list}
+use Rattle.switch_table.specs.Masks.{HasMaskOf}
+use Rattle.ternary.specs.Word.{WordValue}
+use Rattle.switch_table.specs.Queue.{AreMasked, AreUpTo, IsQueue, IsRing, Pair, equal_keys, key_of, pair_of, pairs_from, ring_entries, rotated_list}
 use Rattle.switch_table.specs.declared.cache.CacheEntry.{CacheEntry}
 use Rattle.switch_table.specs.declared.key.CacheKey.{CacheKey}
 
@@ -582,11 +584,13 @@ ring_kept shift version first next pairs new front entries is are values counted
 
 -- ---- no entry is of a later version
 
-pub queue_of : (shift newest first : ℕ) (pairs : List Pair) (entries : List CacheEntry) →
-    IsRingOf shift first pairs entries → AreUpTo newest entries → IsQueue shift newest first pairs
-queue_of shift newest first pairs entries is up_to = record {
+pub queue_of : (masks : Option (List WordValue)) (shift newest first : ℕ) (pairs : List Pair)
+    (entries : List CacheEntry) → IsRingOf shift first pairs entries → AreUpTo newest entries →
+    AreMasked masks entries → IsQueue masks shift newest first pairs
+queue_of masks shift newest first pairs entries is up_to masked = record {
   ring = is.ring;
   up_to = subst (AreUpTo newest) (sym is.entries_are) up_to;
+  masked = subst (AreMasked masks) (sym is.entries_are) masked;
 }
 
 -- and so of what comes last
@@ -598,3 +602,14 @@ up_to_pushed newest next entries entry up_to is =
     All-append IsUpTo entries (entry ∷ [])
     (All-weaker (λ e. e.version ≤ newest) IsUpTo (λ e le. omega (arith, le, is)) entries up_to)
     (All-cons IsUpTo entry [] (omega (arith, is)) (λ k d within. absurd (omega arith)))
+
+-- the masks of what is there and of what comes last
+pub masked_pushed : (masks next : Option (List WordValue)) (entries : List CacheEntry)
+    (entry : CacheEntry) → AreMasked masks entries →
+    ((word : WordValue) → HasMaskOf masks word → HasMaskOf next word) → HasMaskOf next entry.word →
+    AreMasked next (entries ++ entry ∷ [])
+masked_pushed masks next entries entry masked kept added =
+    let IsMasked = λ (e : CacheEntry). HasMaskOf next e.word in
+    All-append IsMasked entries (entry ∷ [])
+    (All-weaker (λ e. HasMaskOf masks e.word) IsMasked (λ e is. kept e.word is) entries masked)
+    (All-cons IsMasked entry [] added (λ k d within. absurd (omega arith)))

@@ -1,9 +1,11 @@
 -- Cache entries as a map holds them: each under its key, in a ring.
-use Rattle.std.specs.Prelude.{ℕ, ◌+◌, ◌≡◌, ◌≤◌, ◌^◌, Bool, not, ◌&&◌, ◌==◌, if◌then◌else◌, Option, Some, None, List, ◌++◌, length, map, filter, take, drop, nat_le, All}
+use Rattle.std.specs.Prelude.{ℕ, ◌+◌, ◌≡◌, ◌≤◌, ◌^◌, Bool, not, ◌&&◌, ◌==◌, if◌then◌else◌, Option, Some, None, List, ◌++◌, length, map, filter, take, drop, nat_le, bit_and, All}
+use Rattle.std.specs.List.{list_any}
 use Rattle.ternary.specs.Meets.{word_eq}
 use Rattle.ternary.specs.Word.{WordValue}
 use Rattle.switch_table.specs.Cache.{HaveDistinctKeys}
 use Rattle.switch_table.specs.Carried.{meets_any, under}
+use Rattle.switch_table.specs.Masks.{HasMaskOf}
 use Rattle.switch_table.specs.declared.cache.CacheEntry.{CacheEntry}
 use Rattle.switch_table.specs.declared.key.CacheKey.{CacheKey}
 
@@ -13,6 +15,18 @@ key_of shift entry = record { number = entry.version + shift; word = entry.word 
 
 unfoldable pub equal_keys : CacheKey → CacheKey → Bool
 equal_keys a b = (a.number == b.number) && word_eq a.word b.word
+
+-- the key of this number whose word has this one's mask and holds the header
+abbrev pub key_under : ℕ → ℕ → WordValue → CacheKey
+key_under number header mask = record {
+  number = number;
+  word = record { value = bit_and header mask.mask; mask = mask.mask };
+}
+
+-- the key is such a one, of one of these masks
+abbrev pub is_hit : ℕ → ℕ → List WordValue → CacheKey → Bool
+is_hit number header masks key =
+    list_any (λ mask. equal_keys (key_under number header mask) key) masks
 
 abbrev pub Pair : Type 0
 Pair = CacheKey × CacheEntry
@@ -58,7 +72,13 @@ pub record IsRing (shift first : ℕ) (pairs : List Pair) : Type 0 where
 abbrev pub AreUpTo : ℕ → List CacheEntry → Type 0
 AreUpTo newest entries = All (λ entry. entry.version ≤ newest) entries
 
--- it is a ring of entries of no later version
-pub record IsQueue (shift newest first : ℕ) (pairs : List Pair) : Type 0 where
+-- where the masks are known, these are those of all entries
+abbrev pub AreMasked : Option (List WordValue) → List CacheEntry → Type 0
+AreMasked masks entries = All (λ entry. HasMaskOf masks entry.word) entries
+
+-- it is a ring of entries of no later version, and the masks are theirs
+pub record IsQueue (masks : Option (List WordValue)) (shift newest first : ℕ) (pairs : List Pair)
+    : Type 0 where
   pub ring : IsRing shift first pairs
   pub up_to : AreUpTo newest (ring_entries first pairs)
+  pub masked : AreMasked masks (ring_entries first pairs)

@@ -91,6 +91,7 @@ impl Cache {
         if entry.version < stamp || self.queue.has_key_of(&entry) {
             return Ok(());
         }
+        self.queue.gather_masks()?;
         if self.queue.len() < self.capacity as usize {
             self.queue.push(&entry)
         } else if self.capacity > 0 {
@@ -139,10 +140,10 @@ impl Cache {
     }
 
     /// The first entry of this version whose word holds the header number.
-    pub(crate) fn first_entry(&self, version: u32, number: u128) -> Option<CacheEntry>
+    pub fn first_entry(&self, version: u32, number: u128) -> Option<CacheEntry>
         ensures { result ≡ first_entry version number self.now.entries }
     {
-        self.queue.iter().find(|entry| entry.version == version && entry.word.holds(number))
+        self.queue.first_entry(version, number)
     }
 }
 

@@ -14,6 +14,7 @@
 mod cache;
 mod items;
 mod key;
+mod masks;
 mod queue;
 mod search;
 mod tables;

@@ -1,16 +1,17 @@
-ghost use Rattle.std.specs.Prelude.{◌≡◌, ◌<◌, ◌≤◌, ◌^◌, [], ◌∷◌, ◌++◌, ◌==◌, ◌&&◌, not, length, drop, remove, map, filter, filter_map, find, nat_le, slice_get, IsFalse, IfSome, IfOk, OnOk, OnErr};
+ghost use Rattle.std.specs.Prelude.{◌≡◌, ◌+◌, ◌-◌, ◌<◌, ◌≤◌, ◌^◌, [], ◌∷◌, ◌++◌, ◌==◌, ◌&&◌, not, length, drop, remove, map, filter, filter_map, find, nat_le, slice_get, IsFalse, IfSome, IfOk, OnOk, OnErr};
 ghost use Rattle.std.specs.List.{IsDistinct, list_all, list_any, position_or_len};
 ghost use Rattle.std.specs.Map.{keys_of};
 ghost use Rattle.std.specs.Option.{option_copied};
-ghost use Rattle.switch_table.specs.Cache.{same_key, HaveDistinctKeys};
+ghost use Rattle.switch_table.specs.Cache.{first_entry, same_key, HaveDistinctKeys};
 ghost use Rattle.switch_table.specs.Carried.{carried_entry, meets_any};
-ghost use Rattle.switch_table.specs.Queue.{IsRing, entry_over, equal_keys, over, pair_of, pair_over, ring_entries};
+ghost use Rattle.switch_table.specs.Queue.{is_hit, key_under, rotated_list, IsRing, entry_over, equal_keys, over, pair_of, pair_over, ring_entries};
 ghost use Rattle.ternary.specs.Meets.{meets, word_eq};
 ghost use Rattle.ternary.specs.Word.{WordValue};
 
 use crate::cache::CacheEntry;
 use crate::items::CacheItems;
 use crate::key::CacheKey;
+use crate::masks::Masks;
 use crate::touched::{Touched, meets, meets_any};
 use indexmap::IndexMap;
 use std::alloc::{AllocError, Global};
@@ -32,6 +33,7 @@ pub struct EntryQueue {
     first: usize,
     shift: u64,
     newest: u32,
+    masks: Masks,
 }
 
 // The shift of a queue at first.
@@ -46,7 +48,7 @@ impl Model for EntryQueue {
 
     ghost view = { λ q. ring_entries q.first q.ring.entries };
 
-    ghost invariant = { λ q. IsQueue q.shift q.newest q.first q.ring.entries };
+    ghost invariant = { λ q. IsQueue q.masks q.shift q.newest q.first q.ring.entries };
 }
 
 impl EntryQueue {
@@ -58,6 +60,7 @@ impl EntryQueue {
             first: 0,
             shift: MOST_SHIFT,
             newest: 0,
+            masks: Masks::new(alloc),
         }
     }
 
@@ -68,6 +71,16 @@ impl EntryQueue {
         self.ring.contains_key(&entry.key(self.shift))
     }
 
+    /// Gathers the masks, if it is time to.
+    pub fn gather_masks(&mut self) -> Result<(), AllocError>
+        ensures { self.new ≡ self.old }
+    {
+        if self.masks.are_due() {
+            self.masks = Masks::gather(*self.ring.allocator(), self.iter(), self.ring.len())?;
+        }
+        Ok(())
+    }
+
     /// Puts an entry last, whose key is not there. A ring that has gone round is straightened
     /// first, so that none moves at the next pushes.
     pub fn push(&mut self, entry: &CacheEntry) -> Result<(), AllocError>
@@ -75,6 +88,7 @@ impl EntryQueue {
         ensures ok { OnOk result (self.new ≡ self.old ++ entry.now ∷ []) }
         ensures err { OnErr result (self.new ≡ self.old) }
     {
+        self.masks.add(&entry.word, self.ring.len())?;
         if self.first < self.ring.len() {
             let mut ring = self.straight(self.shift)?;
             ring.insert(entry.key(self.shift), *entry)?;
@@ -107,6 +121,7 @@ impl EntryQueue {
         ensures ok { OnOk result (self.new ≡ drop 1 self.old ++ entry.now ∷ []) }
         ensures err { OnErr result (self.new ≡ self.old) }
     {
+        self.masks.add(&entry.word, self.ring.len())?;
         let first = if self.first < self.ring.len() {
             self.first
         } else {
@@ -226,11 +241,100 @@ impl EntryQueue {
         CacheItems::new(back.values(), front.values())
     }
 
+    /// The first entry of this version whose word holds the header number: where the masks are few,
+    /// of each of them one key alone may be such an entry's.
+    pub fn first_entry(&self, version: u32, number: u128) -> Option<CacheEntry>
+        ensures { result ≡ first_entry version number self.now }
+    {
+        match self.masks.few(self.ring.len()) {
+            Some(masks) => {
+                let shifted = u64::from(version) + self.shift;
+                self.at(first_hit(&self.ring, self.first, shifted, number, masks))
+            }
+            None => self.iter().find(|entry| entry.version == version && entry.word.holds(number)),
+        }
+    }
+
+    // The entry at this place.
+    fn at(&self, place: usize) -> Option<CacheEntry>
+        ensures { result ≡ slice_get self.now place }
+    {
+        let len = self.ring.len();
+        if place >= len {
+            return None;
+        }
+        let later = len - self.first;
+        if place < later {
+            let (_, entry) = self.ring.get_index(self.first + place)?;
+            Some(*entry)
+        } else {
+            let (_, entry) = self.ring.get_index(place - later)?;
+            Some(*entry)
+        }
+    }
+
     pub fn len(&self) -> usize
         ensures len { result ≡ length self.now }
         ensures distinct { HaveDistinctKeys self.now }
     {
         self.ring.len()
+    }
+}
+
+// The place in order of the first entry whose key has this number and, under one of these masks,
+// the bits of the header; or the number of entries.
+fn first_hit(
+    ring: &IndexMap<CacheKey, CacheEntry>,
+    first: usize,
+    number: u64,
+    header: u128,
+    masks: &[Word],
+) -> usize
+    requires { first ≤ length ring.now.entries }
+    ensures { result ≡ position_or_len (λ pair. is_hit number header masks.now pair.0)
+        (rotated_list first ring.now.entries) }
+{
+    let mut least = ring.len();
+    for mask in masks {
+        let place = place_under(ring, first, number, header, mask);
+        least = least.min(place);
+    }
+    least
+}
+
+// The same for one mask.
+fn place_under(
+    ring: &IndexMap<CacheKey, CacheEntry>,
+    first: usize,
+    number: u64,
+    header: u128,
+    mask: &Word,
+) -> usize
+    requires { first ≤ length ring.now.entries }
+    ensures { result
+        ≡ position_or_len (λ pair. equal_keys (key_under number header mask.now) pair.0)
+        (rotated_list first ring.now.entries) }
+{
+    let bits = mask.mask();
+    let word = Word::new(header & bits, bits).unwrap();
+    let place = place_of(ring, CacheKey { number, word });
+    turned(place, first, ring.len())
+}
+
+// The place in a list of so many that is read from `first` on, by the place in the list itself.
+fn turned(place: usize, first: usize, len: usize) -> usize
+    requires first { first ≤ len }
+    requires place { place ≤ len }
+    ensures none { place ≡ len → result ≡ len }
+    ensures later { first ≤ place → place < len → result ≡ place - first }
+    ensures earlier { place < first → result ≡ place + (len - first) }
+{
+    if place == len {
+        len
+    } else if first <= place {
+        place - first
+    } else {
+        place + (len - first)
     }
 }
 

@@ -2,7 +2,6 @@ ghost use Rattle.std.specs.Prelude.{◌≡◌, ◌<◌, ◌^◌, ◌==◌, IfOk,
 ghost use Rattle.std.specs.Option.{option_and_then};
 ghost use Rattle.five_tuple.specs.Header.{IsHeader, number_of};
 ghost use Rattle.policy_rules.specs.Exports.{is_held, is_in};
-ghost use Rattle.switch_table.specs.Cache.{first_entry};
 ghost use Rattle.switch_table.specs.Lookup.{lookup_of, table_lookup};
 ghost use Rattle.switch_table.specs.Tables.{AreSoundTables};
 ghost use Rattle.table_tree.specs.Finding.{AreTreesOf, IsFinderTree, candidate_shape_of};
@@ -14,7 +13,7 @@ use policy_rules::Partition;
 use std::alloc::{AllocError, Global};
 use std::marker::Model;
 use std::rc::Rc;
-use switch_table::{Cache, CacheEntry, Found, Tables};
+use switch_table::{Cache, Found, Tables};
 use ternary::{holds_laws, meet_laws};
 
 /// The tables of a switch for one version, with trees for them: both may be shared. Contracts see
@@ -77,7 +76,7 @@ impl Finder {
     pub fn lookup(&self, cache: &Cache, header: &Header) -> Found
         ensures { result ≡ lookup_of cache.now.entries self.now.tables header.now }
     {
-        match cached(cache, self.tables().version, header.number()) {
+        match cache.first_entry(self.tables().version, header.number()) {
             Some(entry) => Found::Cached(entry),
             None => self.table_lookup(header),
         }
@@ -145,13 +144,6 @@ impl Finder {
             },
         }
     }
-}
-
-// The first entry of this version that holds the header number.
-fn cached(cache: &Cache, version: u32, number: u128) -> Option<CacheEntry>
-    ensures { result ≡ first_entry version number cache.now.entries }
-{
-    cache.entries().find(|entry| entry.version == version && entry.word.holds(number))
 }
 
 // The place of the partition of this number.

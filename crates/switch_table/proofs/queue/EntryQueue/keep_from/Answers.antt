@@ -1,7 +1,8 @@
 use Rattle.std.proofs.Common.{◌≡◌, ◌∙◌, ◌≤◌, leb, filter, map, take, ap, subst, rules}
 use Rattle.std.proofs.lemmas.List.Elements.{All-filter}
 use Rattle.indexmap.proofs.CallerLemmas.{filter-RetainsPairs}
-use Rattle.switch_table.specs.Queue.{AreUpTo, Pair, pairs_from}
+use Rattle.switch_table.specs.Masks.{HasMaskOf}
+use Rattle.switch_table.specs.Queue.{AreMasked, AreUpTo, Pair, pairs_from}
 use Rattle.switch_table.specs.declared.cache.CacheEntry.{CacheEntry}
 use Rattle.switch_table.proofs.QueueLemmas.{IsRingOf, entry_of, queue_of, ring_kept}
 use Rattle.switch_table.proofs.queue.EntryQueue.keep_from.Goals as goal
@@ -28,10 +29,13 @@ stays c =
 pub invariant_of-self : goal.invariant_of-self
 invariant_of-self c =
     let newest = c.self.inside.newest in
-    queue_of _ _ _ _ _ (stays c)
+    queue_of _ _ _ _ _ _ (stays c)
     (All-filter (λ (entry : CacheEntry). leb c.args.version entry.version)
     (λ (entry : CacheEntry). entry.version ≤ newest) c.args.self.now
     (subst (AreUpTo newest) c.self.view_is c.self.invariant.up_to))
+    (All-filter (λ (entry : CacheEntry). leb c.args.version entry.version)
+    (λ (entry : CacheEntry). HasMaskOf c.self.inside.masks entry.word) c.args.self.now
+    (subst (AreMasked c.self.inside.masks) c.self.view_is c.self.invariant.masked))
 
 pub returns : goal.returns
 returns c = (stays c).entries_are

@@ -1,8 +1,9 @@
 use Rattle.std.proofs.Common.{◌≡◌, ◌+◌, ◌∷◌, [], ◌++◌, drop, length, length-append, ap, subst, arith, ◌≤◌}
 use Rattle.std.proofs.lemmas.List.Elements.{All-drop}
-use Rattle.switch_table.specs.Queue.{AreUpTo, equal_keys}
+use Rattle.switch_table.specs.Masks.{HasMaskOf}
+use Rattle.switch_table.specs.Queue.{AreMasked, AreUpTo, equal_keys}
 use Rattle.switch_table.specs.declared.cache.CacheEntry.{CacheEntry}
-use Rattle.switch_table.proofs.QueueLemmas.{IsFirstPlace, IsRingOf, first_place, home_place, length-ring, queue_of, ring_inserted, ring_replaced, taken_at, up_to_pushed}
+use Rattle.switch_table.proofs.QueueLemmas.{IsFirstPlace, IsRingOf, first_place, home_place, length-ring, masked_pushed, queue_of, ring_inserted, ring_replaced, taken_at, up_to_pushed}
 use Rattle.switch_table.proofs.queue.EntryQueue.replace_first.Goals as goal
 use Rattle.switch_table.proofs.queue.EntryQueue.replace_first.Goals.{After-swap_remove_index, then-self-len, else-self-len}
 
@@ -45,10 +46,14 @@ pub invariant_of-self-2 : goal.invariant_of-self-2
 invariant_of-self-2 c =
     let newest = c.self.inside.newest in
     let IsUpTo = λ (entry : CacheEntry). entry.version ≤ newest in
-    queue_of _ _ _ _ _ (replaced (goal.at.invariant_of-self-2 c).After-swap_remove_index) (up_to_pushed newest _ (drop 1 c.args.self.now)
+    queue_of _ _ _ _ _ _ (replaced (goal.at.invariant_of-self-2 c).After-swap_remove_index) (up_to_pushed newest _ (drop 1 c.args.self.now)
     c.args.entry.now (All-drop IsUpTo 1 c.args.self.now
     (subst (AreUpTo newest) c.self.view_is c.self.invariant.up_to))
     c.max-self-inside.ensures)
+    (masked_pushed c.self.inside.masks _ (drop 1 c.args.self.now) c.args.entry.now
+    (All-drop (λ (entry : CacheEntry). HasMaskOf c.self.inside.masks entry.word) 1 c.args.self.now
+    (subst (AreMasked c.self.inside.masks) c.self.view_is c.self.invariant.masked))
+    c.add.ensures.kept c.in_ok-add.ensures.added)
 
 pub returns-clause-ok : goal.returns-clause-ok
 returns-clause-ok c = (replaced (goal.at.returns-clause-ok c).After-swap_remove_index).entries_are

@@ -1,0 +1,14 @@
+-- The masks of the entries of a cache.
+use Rattle.std.specs.Prelude.{◌==◌, Option, List, IfSome, IsTrue}
+use Rattle.std.specs.List.{list_any}
+use Rattle.ternary.specs.Word.{WordValue}
+use Rattle.ternary.specs.WordBits.{IsWord}
+
+-- one of these words has the word's mask
+pub record HasMaskIn (words : List WordValue) (word : WordValue) : Type 0 where
+  pub sound : IsWord word
+  pub there : IsTrue (list_any (λ other. other.mask == word.mask) words)
+
+-- the same, where the masks are known
+abbrev pub HasMaskOf : Option (List WordValue) → WordValue → Type 0
+HasMaskOf masks word = IfSome masks (λ words. HasMaskIn words word)

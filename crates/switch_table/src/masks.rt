@@ -1,0 +1,126 @@
+ghost use Rattle.std.specs.List.{list_any};
+ghost use Rattle.std.specs.Prelude.{◌≡◌, ◌==◌, Some, All, IfOk, IfSome, OnOk};
+ghost use Rattle.switch_table.specs.Masks.{HasMaskIn, HasMaskOf};
+ghost use Rattle.ternary.specs.Word.{WordValue};
+
+use crate::items::CacheItems;
+use std::alloc::{AllocError, Global};
+use std::marker::Model;
+use ternary::Word;
+
+// So many entries come at least before the masks are gathered anew.
+const LEAST_WAIT: usize = 1024;
+
+/// The masks of a queue's entries, where they are few beside these: a word of each. Where they
+/// were many, they are gathered anew once so many entries have come as there were.
+///
+/// Contracts see the words, or `None` where the masks aren't known. A mask may stay longer than its
+/// entries.
+#[derive(Drop)]
+pub struct Masks {
+    words: Vec<Word>,
+    are_known: bool,
+    wait: usize,
+}
+
+impl Model for Masks {
+    ghost use Rattle.std.specs.Prelude.{List, Option, Some, None, if◌then◌else◌};
+    ghost use Rattle.ternary.specs.Word.{WordValue};
+
+    ghost Value = { Option (List WordValue) };
+
+    ghost view = { λ m. if m.are_known then Some m.words.items else None };
+}
+
+impl Masks {
+    /// Masks that are to be gathered once some entries have come.
+    pub fn new(alloc: Global) -> Masks {
+        Masks::unknown(alloc, 0)
+    }
+
+    // Masks that are to be gathered once so many entries have come.
+    fn unknown(alloc: Global, entries: usize) -> Masks
+        ensures { (word : WordValue) → HasMaskOf result word }
+    {
+        Masks {
+            words: Vec::new(alloc),
+            are_known: false,
+            wait: entries.max(LEAST_WAIT),
+        }
+    }
+
+    /// The masks of these entries, of which there are so many.
+    pub fn gather(alloc: Global, entries: CacheItems<'_>, count: usize) -> Result<Masks, AllocError>
+        ensures { IfOk result
+            (λ masks. All (λ entry. HasMaskOf masks entry.word) entries.entry) }
+    {
+        let mut words = Vec::new(alloc);
+        for entry in entries {
+            note(&mut words, &entry.word)?;
+            if !are_few(words.len(), count) {
+                return Ok(Masks::unknown(alloc, count));
+            }
+        }
+        Ok(Masks {
+            words,
+            are_known: true,
+            wait: 0,
+        })
+    }
+
+    /// Whether it is time to gather them.
+    pub fn are_due(&self) -> bool {
+        !self.are_known && self.wait == 0
+    }
+
+    /// Takes in the mask of a word that comes to so many entries.
+    pub fn add(&mut self, word: &Word, count: usize) -> Result<(), AllocError>
+        ensures kept { (one : WordValue) → HasMaskOf self.old one → HasMaskOf self.new one }
+        ensures added { OnOk result (HasMaskOf self.new word.now) }
+    {
+        if !self.are_known {
+            self.wait = self.wait.saturating_sub(1);
+            return Ok(());
+        }
+        note(&mut self.words, word)?;
+        if !are_few(self.words.len(), count) {
+            self.are_known = false;
+            self.wait = count.max(LEAST_WAIT);
+        }
+        Ok(())
+    }
+
+    /// A word of each mask, if they are known and few beside so many entries.
+    pub fn few(&self, count: usize) -> Option<&[Word]>
+        ensures { IfSome result (λ words. self.now ≡ Some words.now) }
+    {
+        if self.are_known && are_few(self.words.len(), count) {
+            Some(&self.words)
+        } else {
+            None
+        }
+    }
+}
+
+// Whether a look for each of so many masks is less work than one at each of so many entries.
+fn are_few(masks: usize, entries: usize) -> bool {
+    masks <= entries / 64
+}
+
+// Notes the word's mask, if it isn't there.
+fn note(words: &mut Vec<Word>, word: &Word) -> Result<(), AllocError>
+    ensures kept { (one : WordValue) → HasMaskIn words.old.items one → HasMaskIn words.new.items one }
+    ensures added { OnOk result (HasMaskIn words.new.items word.now) }
+{
+    let mask = word.mask();
+    if !has_mask(words, mask) {
+        words.push(*word)?;
+    }
+    Ok(())
+}
+
+fn has_mask(words: &[Word], mask: u128) -> bool
+    ensures { result ≡ list_any (λ word. word.mask == mask) words.now }
+{
+    words.iter().any(|word| word.mask() == mask)
+}
