@@ -1,5 +1,5 @@
--- What a switch finds among its tables, and a partition of its own by the number.
-use Rattle.std.proofs.Common.{ℕ, suc, ◌≡◌, ◌≢◌, ◌∙◌, ◌-◌, ◌==◌, Bool, true, false, cond, Option, Some, None, IsSome, List, [], ◌∷◌, find, position, unwrap_or, slice_get, get_or, refl, ap, sym, subst, inl, inr, arith, All, AllPairs, Contains, eqb-true}
+-- What a lookup in sound tables finds, and a partition of its own by the number.
+use Rattle.std.proofs.Common.{ℕ, suc, ◌≡◌, ◌≢◌, ◌∙◌, ◌-◌, ◌==◌, Bool, true, false, cond, Option, Some, None, IsSome, List, [], ◌∷◌, find, position, unwrap_or, slice_get, get_or, refl, ap, sym, subst, inl, inr, arith, AllPairs, Contains, eqb-true}
 use Rattle.std.specs.Bool.{IsTrue}
 use Rattle.std.specs.Option.{IsSomeAnd, option_and_then, option_map_or}
 use Rattle.std.proofs.lemmas.Bool.{cases_lt}
@@ -22,13 +22,6 @@ use Rattle.switch_table.specs.declared.cache.CacheEntry.{CacheEntry}
 use Rattle.switch_table.specs.declared.tables.Tables.{Tables}
 use Rattle.switch_table.specs.declared.search.Found.TheVariants.{Cached}
 use Rattle.switch_core.specs.Deciding.{IsFirstHit, IsFound, place_of_first, no_part, own_part, part_numbered}
-
--- tables that are found are sound, as all of them are
-pub sound_found : (list : List Tables) (version : ℕ) (tables : Tables) → All AreSoundTables list →
-    Some tables ≡ find (λ tables. tables.version == version) list → AreSoundTables tables
-sound_found list version tables sound is =
-    All-contains AreSoundTables list tables sound
-    (find-there (λ (tables : Tables). tables.version == version) list tables (sym is)).0
 
 -- ---- a switch's own partitions
 

@@ -3,6 +3,7 @@ use Rattle.std.proofs.Common.{ℕ, ◌≡◌, ◌∙◌, ◌==◌, Bool, true, f
 use Rattle.std.specs.Bool.{IsTrue}
 use Rattle.std.specs.Option.{IsSomeAnd, MatchOption, ok_or, option_and_then}
 use Rattle.std.specs.Prelude.{Result, Ok, Err}
+use Rattle.std.proofs.lemmas.List.Elements.{All-contains}
 use Rattle.std.proofs.lemmas.List.Quantifiers.{position-Some}
 use Rattle.std.proofs.lemmas.Option.{slice_get-get_or}
 use Rattle.five_tuple.specs.Header.{number_of}
@@ -27,7 +28,7 @@ use Rattle.switch_core.specs.Ends.{Site, cause_of, next_of, set_out}
 use Rattle.switch_core.specs.State.{IsSwitch, SwitchValue, held_tables, holds_version, no_tables, serves, stamp_tables}
 use Rattle.switch_core.specs.Answers.{Answer, Decided, Seek, Stuck}
 use Rattle.switch_core.specs.declared.packet.Packet.{Packet}
-use Rattle.switch_core.proofs.Held.{lookup_is_found, sound_found}
+use Rattle.switch_core.proofs.Held.{lookup_is_found}
 
 -- ---- the tables of a version
 
@@ -38,7 +39,9 @@ version_held s version tables is =
 
 pub sound_held : (s : SwitchValue) (version : ℕ) (tables : Tables) → IsSwitch s →
     held_tables s version ≡ Some tables → AreSoundTables tables
-sound_held s version tables switch is = sound_found s.tables version tables switch.sound (sym is)
+sound_held s version tables switch is =
+    All-contains AreSoundTables s.tables tables switch.sound
+    (find-there (λ (t : Tables). t.version == version) s.tables tables is).0
 
 pub stamp_held : (s : SwitchValue) → IsTrue (holds_version s s.stamp) →
     held_tables s s.stamp ≡ Some (stamp_tables s)
@@ -48,6 +51,10 @@ stamp_held s holds = by_tables (held_tables s s.stamp) holds
         tables ≡ Some (unwrap_or tables no_tables)
     by_tables (Some tables) is = refl
     by_tables None is = absurd (cc)
+
+pub stamp_sound : (s : SwitchValue) → IsSwitch s → IsTrue (holds_version s s.stamp) →
+    AreSoundTables (stamp_tables s)
+stamp_sound s switch holds = sound_held s s.stamp (stamp_tables s) switch (stamp_held s holds)
 
 pub stamp_version : (s : SwitchValue) → IsTrue (holds_version s s.stamp) →
     (stamp_tables s).version ≡ s.stamp
@@ -151,7 +158,7 @@ lookup_authority : (s : SwitchValue) (site : Site) (packet : Packet) (partition 
 unfolding answer_by
 lookup_authority s site packet partition place ready found =
     let tables = stamp_tables s in
-    let sound = sound_held s s.stamp tables ready.switch (stamp_held s ready.stamped) in
+    let sound = stamp_sound s ready.switch ready.stamped in
     let is_found : IsFound tables packet.header (lookup_by_stamp s packet.header) =
     lookup_is_found s.cache.entries tables packet.header sound ready.is_header in
     let hit = hit_in s site packet tables.version tables partition place (rw found at is_found) in

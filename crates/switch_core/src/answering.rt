@@ -6,7 +6,7 @@ ghost use Rattle.switch_core.specs.Answers.{Answered};
 ghost use Rattle.switch_core.specs.Exports.{CanLookUp, IsAtAuthority, IsFirstHit, IsFound, IsUncached, Site as SiteValue, StandsAt, admitted, admitted_as, answer_by, answer_of, around, arrive_answer, arrived_on, call_counted, decided_at, decided_in, enter_answer, holds_version, incoming_packet, looked_up, own_part, packet_of, packet_with, serves};
 
 use crate::answers::{Arrived, Decision, Entered};
-use crate::deciding::{cache_word, found_in, own_part, rule_in};
+use crate::deciding::{cache_word, own_part, rule_in};
 use crate::kept::KeptTables;
 use crate::packet::{Arriving, Packet};
 use crate::site::Site;
@@ -145,9 +145,10 @@ impl Switch {
             answer_of self.now site (packet_with number h.now ingress down) result
             ≡ Answered (looked_up self.now site (packet_with number h.now ingress down)) }
     {
-        let tables = self.stamp_tables();
-        let found = found_in(&self.cache, tables, h);
-        self.by_found(h, ingress, tables.tables(), &found)
+        let finder = self.stamp_tables().finder();
+        let _ = h.number();
+        let found = finder.lookup(&self.cache, h);
+        self.by_found(h, ingress, finder.tables(), &found)
     }
 
     // By what was found in these tables.
@@ -189,7 +190,7 @@ impl Switch {
             (packet_with number h.now ingress down) partition tables.now) }
     {
         let place = tables.first_place(partition, h);
-        let tables = tables.tables();
+        let tables = tables.finder().tables();
         let part = own_part(tables, partition).unwrap();
         self.decide_at(h, ingress, tables.version, part, place)
     }

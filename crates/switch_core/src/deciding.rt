@@ -1,17 +1,13 @@
-ghost use Rattle.std.specs.Prelude.{◌≡◌, ◌<◌, ◌==◌, ℕ, List, find, length};
+ghost use Rattle.std.specs.Prelude.{◌≡◌, ◌<◌, ℕ, List, length};
 ghost use Rattle.std.specs.Option.{option_copied};
-ghost use Rattle.five_tuple.specs.Header.{IsHeader};
-ghost use Rattle.switch_table.specs.Lookup.{lookup_of};
-ghost use Rattle.switch_table.specs.Tables.{AreSoundTables};
-ghost use Rattle.switch_core.specs.Deciding.{IsFirstHit, IsFound, by_entry, by_rule, rule_for_cache, own_part, packet_with, rule_in};
+ghost use Rattle.switch_core.specs.Deciding.{IsFirstHit, by_entry, by_rule, rule_for_cache, own_part, packet_with, rule_in};
 ghost use Rattle.switch_core.specs.Verdicts.{cached_by};
 
 use crate::answers::Decision;
-use crate::kept::KeptTables;
 use cache_maker::widen;
 use five_tuple::Header;
 use policy_rules::{How, Partition, Rule};
-use switch_table::{Cache, CacheEntry, Found, Tables};
+use switch_table::{CacheEntry, Tables};
 use ternary::Word;
 
 impl Decision {
@@ -42,27 +38,11 @@ impl Decision {
     }
 }
 
-/// What a lookup finds. An authority rule that is found is the first hit of its partition.
-pub fn found_in(cache: &Cache, tables: &KeptTables, header: &Header) -> Found
-    requires { AreSoundTables tables.now }
-    ensures found { result ≡ lookup_of cache.now.entries tables.now header.now }
-    ensures first_hit { IsFound tables.now header.now result }
-    ensures header { IsHeader header.now }
-{
-    let _ = header.number();
-    tables.lookup(cache, header)
-}
-
 /// A switch's own partition of this number.
 pub fn own_part(tables: &Tables, number: u32) -> Option<&Partition>
     ensures { option_copied result ≡ own_part tables.now number }
 {
-    find_part(tables.auth.items(), number)
-}
-
-fn find_part(parts: &[Partition], number: u32) -> Option<&Partition>
-    ensures { option_copied result ≡ find (λ part. part.number == number) parts.now }
-{
+    let parts = tables.auth.items();
     parts.iter().find(|part| part.number == number)
 }
 

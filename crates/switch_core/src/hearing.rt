@@ -170,7 +170,7 @@ impl Switch {
     {
         self.collected = self.collected.max(version);
         let mark = self.collected;
-        self.tables.retain(|kept| kept.tables().version > mark);
+        self.tables.retain(|kept| kept.version() > mark);
     }
 
     // Takes a rule into the cache.

@@ -1,6 +1,5 @@
 ghost use Rattle.std.specs.Prelude.{◌≡◌, IfOk, IsSomeAnd, IsTrue};
 ghost use Rattle.policy_rules.specs.Hosted.{is_in};
-ghost use Rattle.switch_table.specs.Lookup.{lookup_of};
 ghost use Rattle.switch_table.specs.Tables.{AreSoundTables};
 ghost use Rattle.switch_core.specs.Deciding.{IsFirstHit, place_of_first, own_part, part_numbered};
 
@@ -8,7 +7,6 @@ use ctrl_msg::SharedTables;
 use five_tuple::Header;
 use std::alloc::{AllocError, Global};
 use std::marker::Model;
-use switch_table::{Cache, Found, Tables};
 use table_tree::Finder;
 
 /// The tables of one version, with the trees that lead to a header's rules in them. Contracts see
@@ -39,18 +37,18 @@ impl KeptTables {
         Ok(KeptTables { finder })
     }
 
-    /// The tables.
-    pub fn tables(&self) -> &Tables
-        ensures { result.now ≡ self.now }
+    /// The tables, by the trees of which headers are looked up.
+    pub fn finder(&self) -> &Finder
+        ensures { result.now.tables ≡ self.now }
     {
-        self.finder.tables()
+        &self.finder
     }
 
-    /// Looks a header up, as `switch_table::lookup` does.
-    pub fn lookup(&self, cache: &Cache, header: &Header) -> Found
-        ensures { result ≡ lookup_of cache.now.entries self.now header.now }
+    /// The version of the tables.
+    pub fn version(&self) -> u32
+        ensures { result ≡ self.now.version }
     {
-        self.finder.lookup(cache, header)
+        self.finder.tables().version
     }
 
     /// The place of the first rule that holds the header, in the own partition of this number.

