@@ -4,7 +4,7 @@ use Rattle.std.specs.Prelude.{IfOk, MatchResult, OnOk, slice_get}
 use Rattle.std.proofs.lemmas.List.{length-append, length-take, take_all, take_at}
 use Rattle.std.proofs.lemmas.Option.{same_Some}
 use Rattle.ctrl_msg.specs.declared.message.Body.{Body}
-use Rattle.ctrl_msg.specs.declared.message.Body.TheVariants.{Install, OpenAt, Stamp, Collect, CacheRule, Advertise, Hello, Installed, Stamped}
+use Rattle.ctrl_msg.specs.declared.message.Body.TheVariants.{Install}
 use Rattle.ctrl_msg.specs.declared.message.Message.{Message}
 use Rattle.ctrl_msg.specs.declared.message.Place.{Place}
 use Rattle.switch_table.specs.declared.tables.Tables.{Tables}
@@ -28,14 +28,7 @@ whole bytes =
 
 head_of : (b : Body) (bytes : List ℕ) → tables_version b ≡ None → head_len b bytes ≡ length bytes
 head_of (Install boot t) bytes alone = absurd cc
-head_of (OpenAt boot version) bytes alone = refl
-head_of (Stamp boot version touched) bytes alone = refl
-head_of (Collect boot version) bytes alone = refl
-head_of (CacheRule version word rule action) bytes alone = refl
-head_of (Advertise told) bytes alone = refl
-head_of (Hello s boot) bytes alone = refl
-head_of (Installed s boot version) bytes alone = refl
-head_of (Stamped s boot version) bytes alone = refl
+head_of b bytes alone = refl
 
 pub only_frame : (m : Message) → tables_version m.body ≡ None → frames m ≡ frame 0 1 (message.spell m) ∷ []
 only_frame m alone =
@@ -200,14 +193,7 @@ of_install to boot u first t fits are =
 of_body : (to : Place) (b : Body) (first : List ℕ) (t : Tables) → message.fits (record { to = to; body = b }) ≡ true
     → first ∷ table_frames t ≡ frames (record { to = to; body = b }) → IsInstalled first t
 of_body to (Install boot u) first t fits are = of_install to boot u first t fits are
-of_body to (OpenAt i j) first t fits are = absurd (lone (record { to = to; body = OpenAt i j }) first t refl are)
-of_body to (Stamp i j touched) first t fits are = absurd (lone (record { to = to; body = Stamp i j touched }) first t refl are)
-of_body to (Collect i j) first t fits are = absurd (lone (record { to = to; body = Collect i j }) first t refl are)
-of_body to (CacheRule i w r a) first t fits are = absurd (lone (record { to = to; body = CacheRule i w r a }) first t refl are)
-of_body to (Advertise a) first t fits are = absurd (lone (record { to = to; body = Advertise a }) first t refl are)
-of_body to (Hello s i) first t fits are = absurd (lone (record { to = to; body = Hello s i }) first t refl are)
-of_body to (Installed s i j) first t fits are = absurd (lone (record { to = to; body = Installed s i j }) first t refl are)
-of_body to (Stamped s i j) first t fits are = absurd (lone (record { to = to; body = Stamped s i j }) first t refl are)
+of_body to b first t fits are = absurd (lone (record { to = to; body = b }) first t refl are)
 
 is_installed : (first : List ℕ) (t : Tables) → AreOfMessage (first ∷ table_frames t) → IsInstalled first t
 is_installed first t of = of_body of.0.to of.0.body first t of.1.fits of.2

@@ -91,15 +91,14 @@ rule_fields version w rule act =
     )
 
 pub fields_short : (b : Body) → is_alone b ≡ true → length (spelled_fields b) ≤ 46
-fields_short (Install boot t) alone = absurd cc
 fields_short (OpenAt boot version) alone = omega (arith, two_numbers boot version)
-fields_short (Stamp boot version touched) alone = absurd cc
 fields_short (Collect boot version) alone = omega (arith, two_numbers boot version)
 fields_short (CacheRule version w rule act) alone = rule_fields version w rule act
 fields_short (Advertise a) alone = omega (arith, advert_len a)
 fields_short (Hello s boot) alone = omega (arith, told s boot)
 fields_short (Installed s boot version) alone = omega (arith, three_numbers s boot version)
 fields_short (Stamped s boot version) alone = omega (arith, three_numbers s boot version)
+fields_short b alone = absurd cc
 
 -- a stamp has at most sixteen words
 words_len : (touched : List WordValue) → length (flat_map word.spell touched) ≡ 32 * length touched
@@ -153,15 +152,14 @@ unfolding install_form
 install_long boot t =
     omega (arith, length-append (n4.spell boot) (tables.spell t), length_n4 boot)
 
--- so a message that brings no list is short
+-- so a message without tables is short
+sent_short : (m : Message) → length (spelled_fields m.body) ≤ 521
+    → length (message.spell m) < 2 ^ 40
+sent_short m short = omega (arith, length_message m, short)
+
 pub alone_short : (m : Message) → is_alone m.body ≡ true → length (message.spell m) < 2 ^ 40
-alone_short m alone = omega (arith, length_message m, fields_short m.body alone)
+alone_short m alone = sent_short m (omega (arith, fields_short m.body alone))
 
 pub stamp_sent_short : (to : Place) (boot version : ℕ) (list : List WordValue) → length list ≤ 16
     → length (message.spell (record { to = to; body = Stamp boot version list })) < 2 ^ 40
-stamp_sent_short to boot version list few =
-    omega (
-      arith,
-      length_message (record { to = to; body = Stamp boot version list }),
-      stamp_short boot version list few,
-    )
+stamp_sent_short to boot version list few = sent_short _ (stamp_short boot version list few)

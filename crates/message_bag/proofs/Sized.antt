@@ -1,5 +1,5 @@
 -- The frames of a message: of one count, at rising places, and none is empty or too long.
-use Rattle.std.proofs.Common.{◌≡◌, ℕ, zero, suc, ◌+◌, ◌-◌, ◌*◌, ◌≤◌, ◌<◌, ◌^◌, true, List, [], ◌∷◌, length, length-drop, take, drop, refl, sym, ap, subst, ◌∙◌, arith, ◌&&◌}
+use Rattle.std.proofs.Common.{◌≡◌, ℕ, zero, suc, ◌+◌, ◌-◌, ◌*◌, ◌≤◌, ◌<◌, ◌^◌, true, None, List, [], ◌∷◌, length, length-drop, take, drop, refl, sym, ap, subst, ◌∙◌, arith, ◌&&◌}
 use Rattle.std.specs.Prelude.{All}
 use Rattle.std.specs.Int.{div_ceil}
 use Rattle.std.specs.List.{AllByRecursion}
@@ -8,7 +8,7 @@ use Rattle.std.proofs.lemmas.List.{length-take}
 use Rattle.std.proofs.lemmas.List.Elements.{All-from_recursion}
 use Rattle.std.proofs.lemmas.Bool.{and_parts}
 use Rattle.ctrl_msg.specs.declared.message.Body.{Body}
-use Rattle.ctrl_msg.specs.declared.message.Body.TheVariants.{Install, OpenAt, Stamp, Collect, CacheRule, Advertise, Hello, Installed, Stamped}
+use Rattle.ctrl_msg.specs.declared.message.Body.TheVariants.{Install, Stamp}
 use Rattle.ctrl_msg.specs.declared.message.Message.{Message}
 use Rattle.wire.specs.Fields as form
 use Rattle.wire.specs.Fields.{n4}
@@ -18,8 +18,8 @@ use Rattle.wire.specs.Assembly.{AreRising, IsOfCount}
 use Rattle.wire.proofs.Framing.{length_frame, place_of_frame, count_of_frame, chunk_of_frame}
 use Rattle.wire.proofs.Cutting.{few_chunks}
 use Rattle.message_bag.specs.Feeding.{HasFrames}
-use Rattle.message_bag.proofs.Lengths.{is_alone, length_message, fields_short, install_long, stamp_short, few_words}
-use Rattle.ternary.specs.Word.{WordValue}
+use Rattle.message_bag.specs.KeptFrames.{tables_version}
+use Rattle.message_bag.proofs.Lengths.{length_message, fields_short, install_long, stamp_short, few_words}
 
 -- ---- places and counts
 
@@ -86,21 +86,16 @@ all_of b bytes short long = record {
   short = omega (arith, length-take (length bytes) bytes, short);
 }
 
-all_is : (b : Body) (bytes : List ℕ) → is_alone b ≡ true → length bytes ≡ 2 + length (spelled_fields b)
-    → IsChunk (take (length bytes) bytes)
-all_is b bytes alone long = all_of b bytes (omega (arith, fields_short b alone)) long
-
--- of a stamp the version and its list, which fit
-stamp_is : (boot version : ℕ) (touched : List WordValue) (bytes : List ℕ)
-    → fields_fit (Stamp boot version touched) ≡ true
-    → length bytes ≡ 2 + length (spelled_fields (Stamp boot version touched))
-    → IsChunk (take (length bytes) bytes)
+-- what fits and has no tables is short: of a stamp the version and its list
+fits_short : (b : Body) → tables_version b ≡ None → fields_fit b ≡ true
+    → length (spelled_fields b) ≤ 521
 unfolding stamp_form
-stamp_is boot version touched bytes fits long =
+fits_short (Install boot t) alone fits = absurd cc
+fits_short (Stamp boot version touched) alone fits =
     let rest = (and_parts (n4.fits boot) (n4.fits version && form.touched.fits touched) fits).1 in
-    all_of (Stamp boot version touched) bytes
-    (stamp_short boot version touched
-    (few_words touched (and_parts (n4.fits version) (form.touched.fits touched) rest).1)) long
+    stamp_short boot version touched
+    (few_words touched (and_parts (n4.fits version) (form.touched.fits touched) rest).1)
+fits_short b alone fits = omega (arith, fields_short b refl)
 
 head_is : (b : Body) (bytes : List ℕ) → fields_fit b ≡ true
     → length bytes ≡ 2 + length (spelled_fields b) → IsChunk (take (head_len b bytes) bytes)
@@ -108,15 +103,7 @@ head_is (Install boot t) bytes fits long = record {
   some = omega (arith, length-take 6 bytes, install_long boot t);
   short = omega (arith, length-take 6 bytes);
 }
-head_is (OpenAt boot version) bytes fits long = all_is (OpenAt boot version) bytes refl long
-head_is (Stamp boot version touched) bytes fits long = stamp_is boot version touched bytes fits long
-head_is (Collect boot version) bytes fits long = all_is (Collect boot version) bytes refl long
-head_is (CacheRule version word rule action) bytes fits long =
-    all_is (CacheRule version word rule action) bytes refl long
-head_is (Advertise told) bytes fits long = all_is (Advertise told) bytes refl long
-head_is (Hello s boot) bytes fits long = all_is (Hello s boot) bytes refl long
-head_is (Installed s boot version) bytes fits long = all_is (Installed s boot version) bytes refl long
-head_is (Stamped s boot version) bytes fits long = all_is (Stamped s boot version) bytes refl long
+head_is b bytes fits long = all_of b bytes (fits_short b refl fits) long
 
 fields_of_message : (m : Message) → message.fits m ≡ true → fields_fit m.body ≡ true
 unfolding message body
