@@ -7,7 +7,7 @@ use Rattle.std.proofs.lemmas.Bool.Decides.{nat_tests}
 use Rattle.std.proofs.lemmas.Option.{IfSome_then}
 use Rattle.ctrl_msg.specs.Bodies.{body_boot}
 use Rattle.ctrl_msg.specs.declared.message.Body.{Body}
-use Rattle.ctrl_msg.specs.declared.message.Body.TheVariants.{Install, OpenAt, Stamp, Collect, CacheRule, Advertise, Hello, Installed, Stamped}
+use Rattle.ctrl_msg.specs.declared.message.Body.TheVariants.{CacheRule, Advertise, Hello, Installed, Stamped}
 use Rattle.ctrl_msg.specs.declared.message.Message.{Message}
 use Rattle.ctrl_msg.specs.declared.message.Place.{Place}
 use Rattle.ctrl_msg.specs.Kinds.{to_controller}
@@ -83,17 +83,13 @@ past_on setting before item receiver.Controller body cause past =
 
 sent_past : (setting : Setting) (before : List Item) (to : Place) (body : Body)
     → IsRightMessage setting before to body → HasPastBoot before to body
-sent_past setting before (receiver.Switch s) (Install boot tables) right =
-    let known = right.to.known in omega arith
-sent_past setting before (receiver.Switch s) (OpenAt boot version) right =
-    let known = right.to.known in omega arith
-sent_past setting before (receiver.Switch s) (Stamp boot version touched) right =
-    let known = right.to.known in omega arith
-sent_past setting before (receiver.Switch s) (Collect boot version) right =
-    let known = right.to.known in omega arith
 sent_past setting before (receiver.Switch s) (CacheRule version word rule action) right = tt
 sent_past setting before (receiver.Switch s) (Advertise advert) right = tt
-sent_past setting before (receiver.Switch s) _ right = absurd right
+sent_past setting before (receiver.Switch s) (Hello t boot) right = absurd right
+sent_past setting before (receiver.Switch s) (Installed t boot version) right = absurd right
+sent_past setting before (receiver.Switch s) (Stamped t boot version) right = absurd right
+sent_past setting before (receiver.Switch s) command right =
+    let known = right.to.known in omega arith
 sent_past setting before receiver.Controller (Hello s boot) right =
     let own = right.own in omega arith
 sent_past setting before receiver.Controller (Installed s boot version) right =

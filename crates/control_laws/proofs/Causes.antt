@@ -29,7 +29,7 @@ use Rattle.update_machine.specs.Versions.{is_version, version_count}
 use Rattle.update_machine.specs.Links.{message_of}
 use Rattle.update_machine.proofs.CallerLemmas.{have_in_turn}
 use Rattle.control_laws.proofs.Boots.{hello_above}
-use Rattle.control_laws.proofs.Commands.{grows, settling_settles}
+use Rattle.control_laws.proofs.Commands.{IsCommand, grows, settling_settles}
 use Rattle.control_laws.proofs.Crashes.{crash_has}
 use Rattle.control_laws.proofs.Delivered.{row_delivers}
 use Rattle.control_laws.proofs.Facts.{have_weaker, piece_has}
@@ -53,12 +53,10 @@ IsKnownSwitch setting before s =
 
 -- what the controller says to switches, what these say of themselves, and adverts
 abbrev pub SaysOwn : Setting → List Item → Place → Body → Type 0
-SaysOwn setting before (receiver.Switch s) (Install boot tables) = IsKnownSwitch setting before s
-SaysOwn setting before (receiver.Switch s) (OpenAt boot version) = IsKnownSwitch setting before s
-SaysOwn setting before (receiver.Switch s) (Stamp boot version touched) = IsKnownSwitch setting before s
+SaysOwn setting before (receiver.Switch s) (Advertise advert) = s < length setting.net.switches
 SaysOwn setting before (receiver.Switch s) (Collect boot version) =
     (1 ≤ version) × IsKnownSwitch setting before s
-SaysOwn setting before (receiver.Switch s) (Advertise advert) = s < length setting.net.switches
+SaysOwn setting before (receiver.Switch s) body = IsCommand body × IsKnownSwitch setting before s
 SaysOwn setting before receiver.Controller (Hello s boot) = s < length setting.net.switches
 SaysOwn setting before to body = ⊥
 
@@ -126,21 +124,15 @@ known_sent setting before n s message known = elim known [
 own_sent : (setting : Setting) (before : List Item) (n : ℕ) (message : Message) (to : Place)
     (body : Body) → SaysOwn setting before to body
     → SaysOwn setting (before ++ item.Sent n message ∷ []) to body
-own_sent setting before n message (receiver.Switch s) (Install boot tables) own =
-    known_sent setting before n s message own
-own_sent setting before n message (receiver.Switch s) (OpenAt boot version) own =
-    known_sent setting before n s message own
-own_sent setting before n message (receiver.Switch s) (Stamp boot version touched) own =
-    known_sent setting before n s message own
-own_sent setting before n message (receiver.Switch s) (Collect boot version) own =
-    (own.0, known_sent setting before n s message own.1)
 own_sent setting before n message (receiver.Switch s) (Advertise advert) own = own
+own_sent setting before n message (receiver.Switch s) body own =
+    (own.0, known_sent setting before n s message own.1)
 own_sent setting before n message receiver.Controller (Hello s boot) own = own
 own_sent setting before n message to body own = absurd own
 
 own_names : (setting : Setting) (before : List Item) (to : Place) (body : Body)
     → SaysOwn setting before to body → SaysThere setting before to body
-own_names setting before (receiver.Switch s) (CacheRule version word rule action) own = absurd own
+own_names setting before (receiver.Switch s) (CacheRule version word rule action) own = absurd own.0
 own_names setting before receiver.Controller (Installed s boot version) own = absurd own
 own_names setting before receiver.Controller (Stamped s boot version) own = absurd own
 own_names setting before to body own = own
@@ -160,15 +152,15 @@ installs_own : (setting : Setting) (journal : List Item) (s : ℕ) (versions : L
     (map (λ version. install_for setting journal version s) versions)
 installs_own setting journal s [] known = tt
 installs_own setting journal s (version ∷ versions) known =
-    (known, installs_own setting journal s versions known)
+    ((tt, known), installs_own setting journal s versions known)
 
 -- ---- settling
 
 settling_own : (setting : Setting) → SettlingHas (NamesRightly setting) (IsOwn setting) setting
 settling_own setting = record {
   sends = sends_name setting;
-  rises = λ journal rises. record { may = tt; told = λ s there to member. inl there };
-  opens = λ journal s there joins. inl there;
+  rises = λ journal rises. record { may = tt; told = λ s there to member. (tt, inl there) };
+  opens = λ journal s there joins. (tt, inl there);
   retires = λ journal rises.
       record { may = tt; told = λ s there to member. (grind (arith, nat_tests), inl there) };
 }
@@ -195,8 +187,8 @@ all_installs_name setting journal =
     sends_name setting journal _
     (each_map (IsOwn setting journal) (install_for setting journal (version_count journal))
     (filter (λ s. not (is_over journal s)) (switches_of setting))
-    (each_of_network (IsKnownSwitch setting journal) setting (λ s. not (is_over journal s))
-    (λ s there is. inl there)))
+    (each_of_network (λ s. ⊤ × IsKnownSwitch setting journal s) setting
+    (λ s. not (is_over journal s)) (λ s there is. (tt, inl there))))
 
 submitted_name : (setting : Setting) (journal : List Item)
     → Name setting journal (submitted_items setting journal)
@@ -300,10 +292,10 @@ member_own : (setting : Setting) (journal : List Item) (s : ℕ)
     → IsKnownSwitch setting journal s
     → AllByRecursion (IsOwn setting journal) (resent_to_member setting journal s)
 member_own setting journal s known =
-    each_to_member (IsOwn setting journal) setting journal s known
+    each_to_member (IsOwn setting journal) setting journal s (tt, known)
     (installs_own setting journal s
     (filter (λ version. not (has_acked journal s version)) (later_versions journal)) known)
-    known (λ some. (grind (arith, nat_tests), known))
+    (tt, known) (λ some. (grind (arith, nat_tests), known))
 
 controller_own : (setting : Setting) (journal : List Item) (s : ℕ)
     → IsKnownSwitch setting journal s

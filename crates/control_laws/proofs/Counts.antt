@@ -20,7 +20,6 @@ use Rattle.switch_table.specs.declared.search.Found.{Found}
 use Rattle.journal.specs.declared.item.Item.{Item}
 use Rattle.journal.specs.declared.item.Item.TheVariants as item
 use Rattle.steps.specs.declared.step.Step.{Step}
-use Rattle.steps.specs.declared.step.Step.TheVariants.{Hop, Lose, Forget, Expire}
 use Rattle.update_machine.specs.Adverts.{held_adverts}
 use Rattle.update_machine.specs.Boots.{is_up}
 use Rattle.update_machine.specs.Caches.{lookup_at}
@@ -39,7 +38,7 @@ use Rattle.update_machine.specs.Versions.{version_count}
 use Rattle.update_machine.proofs.CallerLemmas.{count_of_append, policies_keep}
 use Rattle.control_laws.proofs.Commands.{IsOfSettling, settling_settles}
 use Rattle.control_laws.proofs.Facts.{have_weaker}
-use Rattle.control_laws.proofs.Traffic.{IsWorkStep}
+use Rattle.control_laws.proofs.Traffic.{IsWorkStep, work_cases}
 use Rattle.control_laws.proofs.LinkSends.{held_few}
 use Rattle.control_laws.proofs.Sums.{length_filter_less, sum_each}
 
@@ -130,11 +129,10 @@ packet_few setting i s header journal = grind (arith, sent_more, lookup_few)
 pub step_few : (setting : Setting) (before : List Item) (step : Step) (here : List Item)
     → IsWorkStep step → sent (step_items setting before step here) ≤ 1
 unfolding hop_items lose_items forget_items expire_items
-step_few setting before (Hop packet) here is = grind (arith, move_few)
-step_few setting before (Lose packet) here is = grind arith
-step_few setting before (Forget message) here is = grind arith
-step_few setting before (Expire s place) here is = grind arith
-step_few setting before step here is = absurd is
+step_few setting before step here =
+    work_cases (λ step. sent (step_items setting before step here) ≤ 1)
+    (λ packet. grind (arith, move_few)) (λ packet. grind arith) (λ message. grind arith)
+    (λ s place. grind arith) step
 
 -- ---- settling
 

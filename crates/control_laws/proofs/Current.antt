@@ -1,9 +1,10 @@
 -- Nobody stamps with a version that isn't current yet, or is told or said to.
 use Rattle.std.proofs.Common.{ℕ, ◌≡◌, ◌≤◌, ◌<◌, Option, Some, None, List, [], ◌∷◌, ◌++◌, map, refl, sym, subst, ◌∙◌, arith, inl, inr}
-use Rattle.std.specs.Prelude.{⊤, option_and_then}
+use Rattle.std.specs.Prelude.{⊤, IfSome, option_and_then}
 use Rattle.std.specs.List.{AllByRecursion}
 use Rattle.std.specs.Option.{option_or}
 use Rattle.std.proofs.lemmas.Bool.Decides.{nat_tests}
+use Rattle.std.proofs.lemmas.Option.{IfSome_then}
 use Rattle.ctrl_msg.specs.declared.message.Body.{Body}
 use Rattle.ctrl_msg.specs.declared.message.Body.TheVariants.{OpenAt, Stamp, Stamped}
 use Rattle.ctrl_msg.specs.declared.message.Message.{Message}
@@ -33,8 +34,8 @@ use Rattle.control_laws.proofs.Told.{each_if, each_weaker, tells, told_by, told_
 
 -- a message that lets a switch stamp, or says that it does, is of a version that is current or was
 abbrev pub IsOfCurrent : List Item → Place → Body → Type 0
-IsOfCurrent journal (receiver.Switch s) (OpenAt boot version) = version ≤ current_mark journal
-IsOfCurrent journal (receiver.Switch s) (Stamp boot version touched) = version ≤ current_mark journal
+IsOfCurrent journal (receiver.Switch s) body =
+    IfSome (stamp_in body) (λ version. version ≤ current_mark journal)
 IsOfCurrent journal receiver.Controller (Stamped s boot version) = version ≤ current_mark journal
 IsOfCurrent journal to body = ⊤
 
@@ -106,38 +107,29 @@ sent_current setting before receiver.Controller _ are right = tt
 current_on : (setting : Setting) (before : List Item) (next : Item) (to : Place) (body : Body)
     → HasItemCause setting before next → IsOfCurrent before to body
     → IsOfCurrent (before ++ next ∷ []) to body
-current_on setting before next (receiver.Switch s) (OpenAt boot version) cause is =
-    omega (arith, is, current_rises setting before next cause)
-current_on setting before next (receiver.Switch s) (Stamp boot version touched) cause is =
-    omega (arith, is, current_rises setting before next cause)
-current_on setting before next (receiver.Switch s) _ cause is = tt
+current_on setting before next (receiver.Switch s) body cause is =
+    IfSome_then (stamp_in body) is
+    (λ version below. omega (arith, below, current_rises setting before next cause))
 current_on setting before next receiver.Controller (Stamped s boot version) cause is =
     omega (arith, is, current_rises setting before next cause)
 current_on setting before next receiver.Controller _ cause is = tt
 
 -- ---- stamps
 
-stamp_current : (before : List Item) (s : ℕ) (body : Body) (version : ℕ)
-    → stamp_in body ≡ Some version → IsOfCurrent before (receiver.Switch s) body
-    → version ≤ current_mark before
-stamp_current before s body version is current = grind arith
-
 delivered_current : (before : List Item) (s number : ℕ) → StampsAreCurrent before
     → raised (stamp_of before s) (option_and_then stamp_in (body_to_switch before s number))
     ≤ current_mark before
 delivered_current before s number are = by_said (body_to_switch before s number) refl
   where
-    by_stamp : (body : Body) (stamp : Option ℕ) → stamp_in body ≡ stamp
-        → IsOfCurrent before (receiver.Switch s) body
+    by_stamp : (stamp : Option ℕ) → IfSome stamp (λ version. version ≤ current_mark before)
         → raised (stamp_of before s) stamp ≤ current_mark before
-    by_stamp body None e current = are.stamps s
-    by_stamp body (Some version) e current =
-        omega (arith, are.stamps s, stamp_current before s body version e current)
+    by_stamp None current = are.stamps s
+    by_stamp (Some version) current = omega (arith, are.stamps s, current)
 
     by_said : (said : Option Body) → body_to_switch before s number ≡ said
         → raised (stamp_of before s) (option_and_then stamp_in said) ≤ current_mark before
     by_said None e = are.stamps s
-    by_said (Some body) e = by_stamp body (stamp_in body) refl
+    by_said (Some body) e = by_stamp (stamp_in body)
         (are.sent number (to_switch s body) (said_parts before s number body e).sent)
 
 stamps_on : (setting : Setting) (before : List Item) (next : Item) (s : ℕ)

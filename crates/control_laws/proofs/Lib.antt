@@ -9,6 +9,7 @@ mod Settling
 pub mod Traffic
 pub mod ControllerBlocks
 pub mod Delivered
+pub mod SwitchCases
 pub mod SwitchBlocks
 pub mod HeardTables
 pub mod Resent

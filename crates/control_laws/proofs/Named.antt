@@ -1,6 +1,6 @@
 -- What messages name is there.
 use Rattle.std.proofs.Common.{ℕ, ◌≡◌, ◌<◌, ◌≤◌, ◌==◌, Bool, true, false, if◌then◌else◌, Option, Some, None, List, [], ◌∷◌, ◌++◌, length, refl, sym, subst, ◌∙◌, arith, inl, inr}
-use Rattle.std.specs.Prelude.{IfSome, option_and_then, option_to_list, unwrap_or}
+use Rattle.std.specs.Prelude.{option_and_then, option_to_list, unwrap_or}
 use Rattle.std.specs.List.{AllByRecursion}
 use Rattle.std.specs.Option.{option_or}
 use Rattle.std.proofs.lemmas.List.Elements.{All-from_recursion}
@@ -37,7 +37,7 @@ use Rattle.control_laws.proofs.Bounded.{count_rises, right_planned}
 use Rattle.control_laws.proofs.Told.{each_if, each_weaker}
 use Rattle.control_laws.proofs.Heard.{heard_on}
 use Rattle.control_laws.proofs.Planned.{IsPlanned, all_at_first, all_kept, own_tables}
-use Rattle.control_laws.specs.Named.{BodiesNameThere, IsAddressed, NamesOnlyThere}
+use Rattle.control_laws.specs.Named.{BodiesNameThere, NamesOnlyThere}
 use Rattle.control_laws.proofs.Causes.{IsKnownSwitch, NamesRightly, SaysThere, pieces_name}
 
 -- ---- what is kept
@@ -86,29 +86,6 @@ ingress_there setting before s some are is =
     by_ingress None e own = omega (arith, some, own)
     by_ingress (Some t) e own = omega (arith, are.ingress is.packet t e, own)
 
-addressed : (setting : Setting) (before : List Item) (to : Place) (body : Body)
-    → 1 ≤ length setting.net.switches → AreNamed setting before
-    → SaysThere setting before to body → IsAddressed setting to body
-addressed setting before (receiver.Switch s) (Install boot tables) some are says =
-    (known_there setting before s are says, refl)
-addressed setting before (receiver.Switch s) (OpenAt boot version) some are says =
-    (known_there setting before s are says, refl)
-addressed setting before (receiver.Switch s) (Stamp boot version touched) some are says =
-    (known_there setting before s are says, refl)
-addressed setting before (receiver.Switch s) (Collect boot version) some are says =
-    (known_there setting before s are says.1, refl)
-addressed setting before (receiver.Switch s) (CacheRule version word rule action) some are says =
-    (ingress_there setting before s some are says.1, refl)
-addressed setting before (receiver.Switch s) (Advertise advert) some are says = (says, refl)
-addressed setting before receiver.Controller (Hello s boot) some are says = says
-addressed setting before receiver.Controller (Installed s boot version) some are says =
-    (are.sent says.answers.number (to_switch s (Install boot says.tables))
-    says.answers.sent).addressed.0
-addressed setting before receiver.Controller (Stamped s boot version) some are says =
-    (are.sent says.answers.number (to_switch s (Stamp boot version says.touched))
-    says.answers.sent).addressed.0
-addressed setting before to body some are says = absurd says
-
 -- ---- versions
 
 opening_above : (setting : Setting) (before : List Item) (s boot version : ℕ)
@@ -119,40 +96,58 @@ opening_above setting before s boot version are right = elim right.opens [
       are.opened s (known_boot before s) version (sym (opened_is before s) ∙ same)
 ]
 
-version_there : (setting : Setting) (before : List Item) (to : Place) (body : Body)
-    → AreNamed setting before → IsRightMessage setting before to body
-    → SaysThere setting before to body → IfSome (body_version body) (IsThere before)
-version_there setting before (receiver.Switch s) (Install boot tables) are right says =
+names_there : (setting : Setting) (before : List Item) (to : Place) (body : Body)
+    → 1 ≤ length setting.net.switches → AreNamed setting before
+    → IsRightMessage setting before to body → SaysThere setting before to body
+    → NamesOnlyThere setting before (record { to = to; body = body })
+names_there setting before (receiver.Switch s) (Install boot tables) some are right says =
     let own = own_tables setting before s tables are.planned.so_far.versions
     (right_planned setting before s boot tables are.planned.so_far.marks right) in
-    (own.first, own.last)
-version_there setting before (receiver.Switch s) (OpenAt boot version) are right says = (
-  opening_above setting before s boot version are right,
-  omega (
-    arith,
-    right_current before s boot version are.current right,
-    are.current.marks.there,
-  ),
-)
-version_there setting before (receiver.Switch s) (Stamp boot version touched) are right says =
+    record {
+      addressed = (known_there setting before s are says.1, refl);
+      version = (own.first, own.last);
+    }
+names_there setting before (receiver.Switch s) (OpenAt boot version) some are right says = record {
+  addressed = (known_there setting before s are says.1, refl);
+  version = (
+    opening_above setting before s boot version are right,
+    omega (
+      arith,
+      right_current before s boot version are.current right,
+      are.current.marks.there,
+    ),
+  );
+}
+names_there setting before (receiver.Switch s) (Stamp boot version touched) some are right says =
     let current = right.current in
     let marks = are.current.marks in
-    (omega (arith, current, marks.first), omega (arith, current, marks.there))
-version_there setting before (receiver.Switch s) (Collect boot version) are right says =
+    record {
+      addressed = (known_there setting before s are says.1, refl);
+      version = (omega (arith, current, marks.first), omega (arith, current, marks.there));
+    }
+names_there setting before (receiver.Switch s) (Collect boot version) some are right says =
     let retired = right.retired in
-    (says.0, omega (arith, retired, are.current.retired, are.current.marks.there))
-version_there setting before (receiver.Switch s) (CacheRule version word rule action) are right
-    says = (are.planned.so_far.versions version).0 says.0
-version_there setting before (receiver.Switch s) (Advertise advert) are right says = tt
-version_there setting before receiver.Controller (Hello s boot) are right says = tt
-version_there setting before receiver.Controller (Installed s boot version) are right says =
-    subst (IsThere before) says.own
-    (are.sent says.answers.number (to_switch s (Install boot says.tables))
-    says.answers.sent).version
-version_there setting before receiver.Controller (Stamped s boot version) are right says =
-    (are.sent says.answers.number (to_switch s (Stamp boot version says.touched))
-    says.answers.sent).version
-version_there setting before to body are right says = absurd says
+    record {
+      addressed = (known_there setting before s are says.1, refl);
+      version = (says.0, omega (arith, retired, are.current.retired, are.current.marks.there));
+    }
+names_there setting before (receiver.Switch s) (CacheRule version word rule action) some are right
+    says = record {
+      addressed = (ingress_there setting before s some are says.1, refl);
+      version = (are.planned.so_far.versions version).0 says.0;
+    }
+names_there setting before (receiver.Switch s) (Advertise advert) some are right says =
+    record { addressed = (says, refl); version = tt }
+names_there setting before receiver.Controller (Hello s boot) some are right says =
+    record { addressed = says; version = tt }
+names_there setting before receiver.Controller (Installed s boot version) some are right says =
+    let names = are.sent says.answers.number _ says.answers.sent in
+    record { addressed = names.addressed.0; version = subst (IsThere before) says.own names.version }
+names_there setting before receiver.Controller (Stamped s boot version) some are right says =
+    let names = are.sent says.answers.number _ says.answers.sent in
+    record { addressed = names.addressed.0; version = names.version }
+names_there setting before (receiver.Switch s) body some are right says = absurd right
+names_there setting before receiver.Controller body some are right says = absurd says
 
 -- ---- items
 
@@ -173,12 +168,8 @@ sent_named setting before next n message some cause are is = elim
       | inl new ↦
           let own : Named setting before (item.Sent n message) =
           subst (Named setting before) new cause in
-          names_on setting before next message (record {
-            addressed =
-                addressed setting before message.to message.body some are own.second;
-            version =
-                version_there setting before message.to message.body are own.first own.second;
-          })
+          names_on setting before next message
+          (names_there setting before message.to message.body some are own.first own.second)
       | inr old ↦ names_on setting before next message (are.sent n message old)
     ]
 

@@ -3,7 +3,7 @@ use Rattle.std.proofs.Common.{ℕ, ◌≡◌, ◌+◌, true, false, List, [], �
 use Rattle.std.specs.Prelude.{IsFalse, filter, not}
 use Rattle.std.specs.List.{AllByRecursion}
 use Rattle.ctrl_msg.specs.declared.message.Body.{Body}
-use Rattle.ctrl_msg.specs.declared.message.Body.TheVariants.{Install, OpenAt, Stamp, Advertise}
+use Rattle.ctrl_msg.specs.declared.message.Body.TheVariants.{OpenAt}
 use Rattle.ctrl_msg.specs.declared.message.Message.{Message}
 use Rattle.ctrl_msg.specs.declared.message.Place.{Place}
 use Rattle.ctrl_msg.specs.declared.message.Place.TheVariants as receiver
@@ -33,6 +33,7 @@ use Rattle.control_laws.proofs.Sends.{each, each_flat_map, each_map}
 use Rattle.control_laws.proofs.Sent.{each_by_switch}
 use Rattle.control_laws.proofs.Openings.{member_parts, still_opened}
 use Rattle.control_laws.proofs.Traffic.{IsTraffic, Traffic, between_cases, links_traffic, packet_has, passed_traffic, step_traffic}
+use Rattle.control_laws.proofs.SwitchCases.{switch_cases}
 use Rattle.control_laws.specs.Steps.{asks_controller}
 use Rattle.control_laws.proofs.Leaves.{LeavesController, OpensNone, leaves_keep}
 
@@ -108,12 +109,11 @@ sends_leave journal messages all = sent_leave messages journal (next_message jou
 
 switch_leaves : (setting : Setting) (before : List Item) (s : ℕ) (body : Body) (now : List Item)
     → Leave now (switch_items setting before s body now)
-unfolding switch_items
-switch_leaves setting before s (Install boot tables) now = sends_leave now _ (tt, tt)
-switch_leaves setting before s (Stamp boot version touched) now = sends_leave now _ (tt, tt)
-switch_leaves setting before s (OpenAt boot version) now = grind (arith, links_leave)
-switch_leaves setting before s (Advertise advert) now = grind (arith, passed_leave)
-switch_leaves setting before s _ now = tt
+switch_leaves setting before s body now =
+    switch_cases (Leave now) setting before s body now
+    (λ boot version. sends_leave now _ (tt, tt)) (λ boot version. sends_leave now _ (tt, tt))
+    (λ boot version is. grind (arith, links_leave))
+    (λ advert is news. passed_leave setting now s advert) tt
 
 deliver_leaves : (setting : Setting) (before : List Item) (row number : ℕ) (step : Step)
     → IsFalse (is_message_to_controller before number)

@@ -4,7 +4,6 @@ use Rattle.std.proofs.Common.{ℕ, ◌≡◌, ◌+◌, ◌≤◌, length, Bool, 
 use Rattle.std.specs.Prelude.{IsFalse}
 use Rattle.std.specs.Bool.{beq}
 use Rattle.ctrl_msg.specs.declared.message.Body.{Body}
-use Rattle.ctrl_msg.specs.declared.message.Body.TheVariants.{Install, OpenAt, Stamp, Advertise}
 use Rattle.ctrl_msg.specs.declared.message.Message.{Message}
 use Rattle.ctrl_msg.specs.declared.message.Place.{Place}
 use Rattle.ctrl_msg.specs.declared.message.Place.TheVariants as receiver
@@ -15,8 +14,8 @@ use Rattle.steps.specs.declared.step.Step.{Step}
 use Rattle.steps.specs.declared.step.Step.TheVariants.{Packet, Deliver, Update, LinkDown, LinkUp, Crash, Restart, Confirm, Resend}
 use Rattle.update_machine.specs.Boots.{boot_of, is_up, body_to_switch}
 use Rattle.update_machine.specs.Concerns.{NoneConcern, concerns_links}
-use Rattle.update_machine.specs.Deliveries.{controller_items, delivery_items, is_news_to, link_changes, passed_on, received_items, switch_items}
-use Rattle.update_machine.specs.Links.{is_link_up, serves, message_of}
+use Rattle.update_machine.specs.Deliveries.{controller_items, delivery_items, link_changes, passed_on, received_items, switch_items}
+use Rattle.update_machine.specs.Links.{is_link_up, message_of}
 use Rattle.update_machine.specs.Messages.{is_deliverable, send_items}
 use Rattle.update_machine.specs.Moves.{items_then}
 use Rattle.update_machine.specs.Packets.{next_packet}
@@ -31,6 +30,7 @@ use Rattle.control_laws.proofs.Sent.{resends_any}
 use Rattle.control_laws.proofs.LinkCauses.{ChangedNoLinks}
 use Rattle.control_laws.proofs.Plain.{IsPlain, control_is_plain, control_plain, packet_plain, step_plain, plain_keeps_links, sends_silent}
 use Rattle.control_laws.proofs.Stepping.{delivered_first, row_first}
+use Rattle.control_laws.proofs.SwitchCases.{opening_items, switch_cases}
 use Rattle.control_laws.proofs.Counts.{confirm_few, controller_few, packet_few, passed_few, put_few, resend_few, sends_count, sent, sent_more, step_few, update_few}
 use Rattle.control_laws.proofs.LinkSends.{all_adverts_sent, changes_few}
 use Rattle.control_laws.proofs.LinkPieces.{IsLinkPiece, link_piece}
@@ -197,14 +197,13 @@ switch_kind : (setting : Setting) (before : List Item) (row number : ℕ) (step 
     → let now = (before ++ item.Row row step ∷ []) ++ item.Delivered number ∷ [] in
     PieceKind setting before (item.Row row step ∷ item.Delivered number
     ∷ switch_items setting before s body now)
-unfolding switch_items
-switch_kind setting before row number step s (Install boot tables) =
-    behind_delivered setting before row number step _ (sends_silent _ _)
-    (λ net versions. sends_few _ _ 5000 (omega arith))
-switch_kind setting before row number step s (Stamp boot version touched) =
-    behind_delivered setting before row number step _ (sends_silent _ _)
-    (λ net versions. sends_few _ _ 5000 (omega arith))
-switch_kind setting before row number step s (OpenAt boot version) = by_serving (serves before s)
+switch_kind setting before row number step s body =
+    switch_cases (λ items. PieceKind setting before (item.Row row step ∷ item.Delivered number
+    ∷ items)) setting before s body now (λ boot version. answered _) (λ boot version. answered _)
+    (λ boot version is. opened)
+    (λ advert is news. sent_behind (passed_on setting now s advert)
+    (λ net. omega (arith, passed_few setting net now s advert)))
+    (nothing_caused setting before row number step)
   where
     here : List Item
     here = before ++ item.Row row step ∷ []
@@ -212,14 +211,20 @@ switch_kind setting before row number step s (OpenAt boot version) = by_serving 
     now : List Item
     now = here ++ item.Delivered number ∷ []
 
-    by_serving : (serving : Bool) → PieceKind setting before (item.Row row step
-        ∷ item.Delivered number ∷ elim serving [
-          | true ↦ []
-          | false ↦ items_then (item.Opened s (stamp_of now s) ∷ []) (link_changes setting before)
-              now
-        ])
-    by_serving true = nothing_caused setting before row number step
-    by_serving false =
+    sent_behind : (messages : List Message) → (IsNet setting.net → length messages ≤ 5000)
+        → PieceKind setting before (item.Row row step ∷ item.Delivered number
+        ∷ send_items now messages)
+    sent_behind messages few =
+        behind_delivered setting before row number step _ (sends_silent now messages)
+        (λ net versions. sends_few now messages 5000 (few net))
+
+    answered : (message : Message) → PieceKind setting before (item.Row row step
+        ∷ item.Delivered number ∷ send_items now (message ∷ []))
+    answered message = sent_behind (message ∷ []) (λ net. omega arith)
+
+    opened : PieceKind setting before (item.Row row step ∷ item.Delivered number
+        ∷ opening_items setting before s now)
+    opened =
         let whole : before ++ (item.Row row step ∷ item.Delivered number ∷ []) ≡ now =
         sym (append_assoc before (item.Row row step ∷ []) (item.Delivered number ∷ [])) in
         inr (inl (link_piece setting before (item.Row row step ∷ item.Delivered number ∷ [])
@@ -231,26 +236,6 @@ switch_kind setting before row number step s (OpenAt boot version) = by_serving 
         (sym (append-nil ((before ++ (item.Row row step ∷ item.Delivered number ∷ []))
         ++ item.Opened s (stamp_of now s) ∷ [])
         ∙ ap (λ journal. journal ++ item.Opened s (stamp_of now s) ∷ []) whole)))))
-switch_kind setting before row number step s (Advertise advert) =
-    by_news (is_news_to setting before s advert)
-  where
-    now : List Item
-    now = (before ++ item.Row row step ∷ []) ++ item.Delivered number ∷ []
-
-    by_news : (news : Bool) → PieceKind setting before (item.Row row step
-        ∷ item.Delivered number ∷ elim news [
-          | true ↦ send_items now (passed_on setting now s advert)
-          | false ↦ []
-        ])
-    by_news true =
-        behind_delivered setting before row number step
-        (send_items now (passed_on setting now s advert))
-        (sends_silent now (passed_on setting now s advert))
-        (λ net versions. sends_few now (passed_on setting now s advert) 5000
-        (omega (arith, passed_few setting net now s advert)))
-    by_news false = nothing_caused setting before row number step
-switch_kind setting before row number step s _ =
-    nothing_caused setting before row number step
 
 received_kind : (setting : Setting) (before : List Item) (row number : ℕ) (step : Step)
     (message : Message)

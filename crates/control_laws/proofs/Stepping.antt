@@ -3,16 +3,15 @@ use Rattle.std.proofs.Common.{ℕ, ◌≡◌, ◌==◌, Bool, true, false, not, 
 use Rattle.std.specs.Prelude.{IsFalse}
 use Rattle.std.specs.Option.{option_map_or}
 use Rattle.ctrl_msg.specs.declared.message.Body.{Body}
-use Rattle.ctrl_msg.specs.declared.message.Body.TheVariants.{Install, OpenAt, Stamp, Advertise, Installed, Stamped}
-use Rattle.ctrl_msg.specs.Kinds.{to_controller}
+use Rattle.ctrl_msg.specs.declared.message.Body.TheVariants.{Advertise}
 use Rattle.journal.specs.declared.item.Item.{Item}
 use Rattle.journal.specs.declared.item.Item.TheVariants as item
 use Rattle.steps.specs.declared.step.Step.{Step}
 use Rattle.steps.specs.declared.step.Step.TheVariants.{Packet, Deliver, Update, LinkDown, LinkUp, Crash, Restart, Confirm, Resend}
 use Rattle.update_machine.specs.Boots.{heard, body_to_switch}
 use Rattle.update_machine.specs.Concerns.{concerns_links}
-use Rattle.update_machine.specs.Deliveries.{is_news_to, link_changes, passed_on, switch_items}
-use Rattle.update_machine.specs.Messages.{send_items, sent_from}
+use Rattle.update_machine.specs.Deliveries.{link_changes, switch_items}
+use Rattle.update_machine.specs.Messages.{sent_from}
 use Rattle.update_machine.specs.Moves.{items_then}
 use Rattle.update_machine.specs.Packets.{next_packet}
 use Rattle.update_machine.specs.Pieces.{crash_items, deliver_items, link_items, restart_items, step_items}
@@ -20,7 +19,6 @@ use Rattle.update_machine.specs.Quiet.{is_advert}
 use Rattle.update_machine.specs.Setting.{Setting}
 use Rattle.update_machine.specs.Steps.{changes_steps, steps_in}
 use Rattle.update_machine.specs.Versions.{stamp_of}
-use Rattle.update_machine.specs.Links.{serves}
 use Rattle.update_machine.proofs.CallerLemmas.{PiecesHave, folded_append, have_append, have_first, have_put}
 use Rattle.control_laws.proofs.Commands.{confirm_control, controller_control, update_has}
 use Rattle.control_laws.proofs.Crashes.{losts_have}
@@ -31,6 +29,7 @@ use Rattle.control_laws.proofs.Grown.{heard_more}
 use Rattle.control_laws.proofs.LinkCauses.{ChangedNoLinks, HasLinkCause, HaveLinkCauses, IsToldIn}
 use Rattle.control_laws.proofs.Plain.{ArePlain, IsPlain, control_is_plain, control_plain, packet_plain, step_plain}
 use Rattle.control_laws.proofs.ResentAdverts.{resend_caused}
+use Rattle.control_laws.proofs.SwitchCases.{switch_cases}
 use Rattle.control_laws.proofs.Telling.{changes_controller_heard, last_heard, passed_told, sends_told}
 
 -- ---- plain items have their causes
@@ -108,35 +107,15 @@ news_of_other origin s news is = by_test (origin == s) is
 switch_caused : (setting : Setting) (before now : List Item) (s : ℕ) (bodies : List Body)
     (body : Body) → ChangedNoLinks now → heard now s ≡ bodies ++ body ∷ []
     → HaveLinkCauses setting now (switch_items setting before s body now)
-unfolding switch_items
-switch_caused setting before now s bodies (Install boot tables) first heard =
-    sends_told setting now (to_controller (Installed s boot tables.version) ∷ []) (tt, tt)
-switch_caused setting before now s bodies (Stamp boot version touched) first heard =
-    sends_told setting now (to_controller (Stamped s boot version) ∷ []) (tt, tt)
-switch_caused setting before now s bodies (OpenAt boot version) first heard =
-    by_serving (serves before s)
-  where
-    by_serving : (serving : Bool) → HaveLinkCauses setting now (elim serving [
-      | true ↦ []
-      | false ↦ items_then (item.Opened s (stamp_of now s) ∷ []) (link_changes setting before) now
-    ])
-    by_serving true = tt
-    by_serving false =
-        have_first (HasLinkCause setting) (item.Opened s (stamp_of now s))
-        (link_changes setting before) now first (changes_controller_heard setting before _)
-switch_caused setting before now s bodies (Advertise advert) first heard =
-    by_news (is_news_to setting before s advert) refl
-  where
-    by_news : (news : Bool) → is_news_to setting before s advert ≡ news
-        → HaveLinkCauses setting now (elim news [
-          | true ↦ send_items now (passed_on setting now s advert)
-          | false ↦ []
-        ])
-    by_news true is =
-        passed_told setting now s advert
-        (last_heard before now s bodies advert heard (news_of_other advert.origin s _ is))
-    by_news false is = tt
-switch_caused setting before now s bodies _ first heard = tt
+switch_caused setting before now s bodies body first heard =
+    switch_cases (HaveLinkCauses setting now) setting before s body now
+    (λ boot version. sends_told setting now _ (tt, tt))
+    (λ boot version. sends_told setting now _ (tt, tt))
+    (λ boot version is. have_first (HasLinkCause setting) (item.Opened s (stamp_of now s))
+    (link_changes setting before) now first (changes_controller_heard setting before _))
+    (λ advert is news. passed_told setting now s advert
+    (last_heard before now s bodies advert (heard ∙ ap (λ b. bodies ++ b ∷ []) is)
+    (news_of_other advert.origin s _ news))) tt
 
 deliver_caused : (setting : Setting) (before : List Item) (row number : ℕ) (step : Step)
     → let here = before ++ item.Row row step ∷ [] in

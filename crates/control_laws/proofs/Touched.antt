@@ -1,14 +1,12 @@
 -- Each stamp that was sent says what the change of its version touches.
 use Rattle.std.proofs.Common.{ℕ, ◌≡◌, Some, None, List, [], ◌∷◌, ◌++◌, sym, subst, ◌∙◌, arith, inl, inr}
-use Rattle.ctrl_msg.specs.declared.message.Body.TheVariants.{Stamp}
 use Rattle.ternary.specs.Word.{WordValue}
 use Rattle.journal.specs.declared.item.Item.{Item}
 use Rattle.update_machine.specs.Numbers.{VersionsAreNumbered}
 use Rattle.update_machine.specs.Setting.{Setting}
-use Rattle.update_machine.specs.Settling.{to_switch}
 use Rattle.update_machine.proofs.CallerLemmas.{numbered_at_first, start_laws, touched_stays}
 use Rattle.control_laws.specs.ItemCauses.{HasItemCause, IsRightStamp}
-use Rattle.control_laws.specs.Touched.{IsTouched, StampsSayTouched}
+use Rattle.control_laws.specs.Touched.{IsTouched, StampsSayTouched, stamp_to}
 use Rattle.control_laws.proofs.Boots.{by_number}
 use Rattle.control_laws.proofs.Bounded.{IsThere, count_rises, there_at_first, there_kept}
 use Rattle.control_laws.proofs.Facts.{AreKept, FromCauses, from_causes}
@@ -35,7 +33,7 @@ touched_kept setting before next cause are = record {
   versions = numbered_kept setting before next cause are.versions;
   stamps = record {
     sent = λ n s boot version touched is. elim
-        (by_number before next n (to_switch s (Stamp boot version touched)) is) [
+        (by_number before next n (stamp_to s boot version touched) is) [
           | inl new ↦
               let right : IsRightStamp setting before s boot version touched =
               subst (HasItemCause setting before) new cause in
@@ -56,7 +54,7 @@ touched_at_first setting = record {
   versions = numbered_at_first;
   stamps = record {
     sent = λ n s boot version touched is.
-        let none : None ≡ Some (to_switch s (Stamp boot version touched)) =
+        let none : None ≡ Some (stamp_to s boot version touched) =
         rw (start_laws.message n).message at is in absurd cc;
   };
 }

@@ -482,13 +482,23 @@ IsWorkStep (Forget message) = ⊤
 IsWorkStep (Expire s place) = ⊤
 IsWorkStep _ = ⊥
 
+-- what is true of each of these is true of each such step
+pub work_cases : (P : Step → Type 0) → ((packet : ℕ) → P (Hop packet))
+    → ((packet : ℕ) → P (Lose packet)) → ((message : ℕ) → P (Forget message))
+    → ((s place : ℕ) → P (Expire s place)) → (step : Step) → IsWorkStep step → P step
+work_cases P hop lose forget expire (Hop packet) is = hop packet
+work_cases P hop lose forget expire (Lose packet) is = lose packet
+work_cases P hop lose forget expire (Forget message) is = forget message
+work_cases P hop lose forget expire (Expire s place) is = expire s place
+work_cases P hop lose forget expire step is = absurd is
+
 pub step_work : (setting : Setting) (before : List Item) (step : Step) (here : List Item)
     → IsWorkStep step → Work setting here (step_items setting before step here)
-step_work setting before (Hop packet) here is = hop_work setting packet here
-step_work setting before (Lose packet) here is = lose_work setting packet here
-step_work setting before (Forget message) here is = forget_work setting message here
-step_work setting before (Expire s place) here is = expire_work setting s place here
-step_work setting before step here is = absurd is
+step_work setting before step here =
+    work_cases (λ step. Work setting here (step_items setting before step here))
+    (λ packet. hop_work setting packet here) (λ packet. lose_work setting packet here)
+    (λ message. forget_work setting message here)
+    (λ s place. expire_work setting s place here) step
 
 -- and those that change links too
 abbrev pub IsTrafficStep : Step → Type 0

@@ -1,6 +1,7 @@
 -- What switches are told of the changes that made versions.
 use Rattle.std.specs.Prelude.{ℕ, ◌≡◌, ◌≤◌, Some, List}
 use Rattle.ctrl_msg.specs.declared.message.Body.TheVariants.{Stamp}
+use Rattle.ctrl_msg.specs.declared.message.Message.{Message}
 use Rattle.ternary.specs.Word.{WordValue}
 use Rattle.journal.specs.declared.item.Item.{Item}
 use Rattle.update_machine.specs.Links.{message_of}
@@ -16,9 +17,13 @@ pub record IsTouched (setting : Setting) (journal : List Item) (version : ℕ)
   pub last : version ≤ version_count journal
   pub says : touched ≡ touched_by setting journal version
 
+-- the message that tells the switch, in this boot, to stamp with a version
+abbrev pub stamp_to : ℕ → ℕ → ℕ → List WordValue → Message
+stamp_to s boot version touched = to_switch s (Stamp boot version touched)
+
 -- each message that tells a switch to stamp with a version, sent again or not, says what the change
 -- of that version touches
 pub record StampsSayTouched (setting : Setting) (journal : List Item) : Type 0 where
   pub sent : (n s boot version : ℕ) (touched : List WordValue)
-      → message_of journal n ≡ Some (to_switch s (Stamp boot version touched))
+      → message_of journal n ≡ Some (stamp_to s boot version touched)
       → IsTouched setting journal version touched
