@@ -1,10 +1,11 @@
 -- At the end of each step a switch has answered what it heard in its boot, and has told the
 -- controller of that boot.
 use Rattle.std.proofs.Common.{ℕ, ◌≡◌, ◌+◌, ◌⊎◌, ◌==◌, Bool, true, false, if◌then◌else◌, Option, Some, None, List, [], ◌∷◌, ◌++◌, refl, ap, sym, subst, ◌∙◌, append-nil, append_assoc, arith, inl, inr}
-use Rattle.std.specs.Prelude.{IsTrue, IsFalse, unwrap_or}
+use Rattle.std.specs.Prelude.{IfSome, IsTrue, IsFalse, unwrap_or}
 use Rattle.std.specs.Option.{option_map_or}
 use Rattle.std.proofs.lemmas.Bool.{eq-eqb, eqb-true}
 use Rattle.std.proofs.lemmas.Bool.Decides.{nat_tests}
+use Rattle.std.proofs.lemmas.Option.{IfSome_then}
 use Rattle.ctrl_msg.specs.declared.message.Body.{Body}
 use Rattle.ctrl_msg.specs.declared.message.Body.TheVariants.{Install, OpenAt, Stamp, Hello, Installed, Stamped}
 use Rattle.ctrl_msg.specs.Kinds.{to_controller}
@@ -35,14 +36,17 @@ use Rattle.convergence_laws.proofs.Sendings.{IsSent, sends_all, sent_stays}
 
 -- ---- what is said
 
--- the switch acknowledged tables and stamps, and serves once it was told to open
+-- the acknowledgement that the switch owes for tables and for a stamp
+abbrev pub answer_of : ℕ → Body → Option Body
+answer_of s (Install boot tables) = Some (Installed s boot tables.version)
+answer_of s (Stamp boot version touched) = Some (Stamped s boot version)
+answer_of s _ = None
+
+-- the switch sent it, and serves once it was told to open
 abbrev pub IsAnswered : List Item → ℕ → Body → Type 0
-IsAnswered journal s (Install boot tables) =
-    IsSent journal (to_controller (Installed s boot tables.version))
-IsAnswered journal s (Stamp boot version touched) =
-    IsSent journal (to_controller (Stamped s boot version))
 IsAnswered journal s (OpenAt boot version) = IsTrue (serves journal s)
-IsAnswered journal s _ = Unit {0}
+IsAnswered journal s body =
+    IfSome (answer_of s body) (λ answer. IsSent journal (to_controller answer))
 
 -- all that was heard is answered, but what is still owed
 pub record AreAnswered (Owed : ℕ → Body → Type 0) (journal : List Item) : Type 0 where
@@ -110,10 +114,9 @@ was_in before next s body plain is = record {
 answered_stays : (before : List Item) (next : Item) (s : ℕ) (body : Body)
     → (IsTrue (serves before s) → IsTrue (serves (before ++ next ∷ []) s))
     → IsAnswered before s body → IsAnswered (before ++ next ∷ []) s body
-answered_stays before next s (Install boot tables) serving is = sent_stays before next _ is
-answered_stays before next s (Stamp boot version touched) serving is = sent_stays before next _ is
 answered_stays before next s (OpenAt boot version) serving is = serving is
-answered_stays before next s _ serving is = tt
+answered_stays before next s body serving is =
+    IfSome_then (answer_of s body) is (λ answer sent. sent_stays before next (to_controller answer) sent)
 
 answers_on : (Owed : ℕ → Body → Type 0) (before : List Item) (next : Item)
     → IsFalse (is_delivered next) → AreAnswered Owed before

@@ -6,7 +6,7 @@ use Rattle.std.specs.Option.{option_map_or}
 use Rattle.std.proofs.lemmas.Bool.Decides.{nat_tests}
 use Rattle.std.proofs.lemmas.List.FromFn.{get_or-map-range_with_len}
 use Rattle.ctrl_msg.specs.declared.message.Body.{Body}
-use Rattle.ctrl_msg.specs.declared.message.Body.TheVariants.{Install, OpenAt, Stamp, Advertise}
+use Rattle.ctrl_msg.specs.declared.message.Body.TheVariants.{OpenAt, Advertise}
 use Rattle.ctrl_msg.specs.declared.message.Message.{Message}
 use Rattle.ctrl_msg.specs.declared.message.Place.{Place}
 use Rattle.ctrl_msg.specs.Kinds.{to_controller}
@@ -46,6 +46,7 @@ use Rattle.control_laws.proofs.Sent.{resends_any}
 use Rattle.control_laws.proofs.Openings.{IsKnown, known_kept}
 use Rattle.control_laws.proofs.StepCases.{deliver_cases}
 use Rattle.control_laws.proofs.SwitchBlocks.{said_have, said_parts, said_row}
+use Rattle.control_laws.proofs.SwitchCases.{switch_cases}
 use Rattle.control_laws.proofs.Traffic.{packet_works, step_work}
 use Rattle.control_laws.proofs.AllAdverts.{is_newest}
 use Rattle.control_laws.proofs.NetLinks.{own_origin}
@@ -280,12 +281,10 @@ open_spread setting before row number step t boot version net =
 other_still : (setting : Setting) (before : List Item) (s : ℕ) (body : Body) (now : List Item)
     → ((boot version : ℕ) → body ≡ OpenAt boot version → ⊥)
     → Still now (switch_items setting before s body now)
-unfolding switch_items
-other_still setting before s (Install boot tables) now none = sends_still now _
-other_still setting before s (Stamp boot version touched) now none = sends_still now _
-other_still setting before s (OpenAt boot version) now none = absurd (none boot version refl)
-other_still setting before s (Advertise advert) now none = grind (arith, sends_still)
-other_still setting before s _ now none = tt
+other_still setting before s body now none =
+    switch_cases (Still now) setting before s body now (λ boot version. sends_still now _)
+    (λ boot version. sends_still now _)
+    (λ boot version is. absurd (none boot version is)) (λ advert is news. sends_still now _) tt
 
 -- what is said to a switch
 said_spread : (setting : Setting) (before : List Item) (row number : ℕ) (step : Step) (t : ℕ)

@@ -3,12 +3,11 @@
 use Rattle.std.proofs.Common.{ℕ, ◌≡◌, ◌+◌, Bool, true, false, List, [], ◌∷◌, ◌++◌, refl, ◌∙◌, arith}
 use Rattle.std.specs.Prelude.{⊤, IsFalse, IsTrue}
 use Rattle.ctrl_msg.specs.declared.message.Body.{Body}
-use Rattle.ctrl_msg.specs.declared.message.Body.TheVariants.{Install, OpenAt, Stamp, Advertise}
 use Rattle.ctrl_msg.specs.declared.message.Message.{Message}
 use Rattle.journal.specs.declared.item.Item.{Item}
 use Rattle.journal.specs.declared.item.Item.TheVariants as item
 use Rattle.steps.specs.declared.step.Step.{Step}
-use Rattle.steps.specs.declared.step.Step.TheVariants.{Packet, Hop, Lose, Deliver, Forget, Expire, Update, LinkDown, LinkUp, Crash, Restart, Confirm, Resend}
+use Rattle.steps.specs.declared.step.Step.TheVariants.{Packet, Hop, Deliver, Update, LinkDown, LinkUp, Crash, Restart, Confirm, Resend}
 use Rattle.update_machine.specs.Boots.{boot_of, is_up}
 use Rattle.update_machine.specs.Causes.{HaveCauses}
 use Rattle.update_machine.specs.Deliveries.{delivery_items, link_changes, switch_items}
@@ -24,7 +23,8 @@ use Rattle.control_laws.proofs.Crashes.{crash_changes}
 use Rattle.control_laws.proofs.Delivered.{delivery_has}
 use Rattle.control_laws.proofs.Facts.{have_weaker, piece_has}
 use Rattle.control_laws.proofs.Sent.{resends_any, sends_any}
-use Rattle.control_laws.proofs.Traffic.{Change, link_change, IsChange, IsTraffic, links_change, packet_has, step_traffic}
+use Rattle.control_laws.proofs.SwitchCases.{switch_cases}
+use Rattle.control_laws.proofs.Traffic.{Change, link_change, IsChange, IsTraffic, links_change, packet_has, step_traffic, work_cases}
 
 abbrev pub IsPlain : List Item → Item → Type 0
 IsPlain before (item.Delivered number) = ⊥
@@ -99,12 +99,11 @@ traffic_is setting before _ is = tt
 
 switch_aside : (setting : Setting) (before : List Item) (s : ℕ) (body : Body) (now : List Item)
     → Aside now (switch_items setting before s body now)
-unfolding switch_items
-switch_aside setting before s (Install boot tables) now = sends_aside now _
-switch_aside setting before s (Stamp boot version touched) now = sends_aside now _
-switch_aside setting before s (OpenAt boot version) now = grind (arith, have_first, links_aside)
-switch_aside setting before s (Advertise advert) now = grind (arith, sends_aside)
-switch_aside setting before s _ now = tt
+switch_aside setting before s body now =
+    switch_cases (Aside now) setting before s body now (λ boot version. sends_aside now _)
+    (λ boot version. sends_aside now _)
+    (λ boot version is. grind (arith, have_first, links_aside))
+    (λ advert is news. sends_aside now _) tt
 
 delivery_aside : (setting : Setting) (before : List Item) (number : ℕ) (now : List Item)
     → Aside now (delivery_items setting before number now)
@@ -143,9 +142,6 @@ is_aside _ = true
 
 step_aside : (setting : Setting) (before : List Item) (step : Step) (here : List Item)
     → IsTrue (is_aside step) → Aside here (step_items setting before step here)
-step_aside setting before (Lose packet) here is = lose_aside packet _
-step_aside setting before (Forget message) here is = forget_aside message _
-step_aside setting before (Expire s at) here is = expire_aside setting s at _
 step_aside setting before (Update file) here is =
     update_has IsAside control_is setting file _ (λ version. tt)
 step_aside setting before (LinkDown one two) here is =
@@ -157,7 +153,14 @@ step_aside setting before (Crash s) here is =
 step_aside setting before (Confirm s) here is = control_aside _ _ (confirm_control setting s _)
 step_aside setting before (Resend s) here is =
     resends_any IsAside (λ now n message. tt) setting s _ tt
-step_aside setting before step here is = absurd cc
+step_aside setting before (Packet s header) here is = absurd cc
+step_aside setting before (Deliver message) here is = absurd cc
+step_aside setting before (Restart s) here is = absurd cc
+step_aside setting before step here is =
+    work_cases (λ step. IsTrue (is_aside step)
+    → Aside here (step_items setting before step here)) (λ packet none. absurd cc)
+    (λ packet one. lose_aside packet _) (λ message one. forget_aside message _)
+    (λ s place one. expire_aside setting s place _) step tt is
 
 -- the steps that write neither
 abbrev pub is_plain : Step → Bool

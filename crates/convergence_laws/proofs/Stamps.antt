@@ -3,7 +3,7 @@
 use Rattle.std.proofs.Common.{ℕ, ◌≡◌, ◌+◌, ◌<◌, ◌⊎◌, Bool, true, false, Some, List, [], ◌∷◌, ◌++◌, length, map, refl, ap, sym, subst, ◌∙◌, append-nil, append_assoc, arith, inl, inr}
 use Rattle.std.specs.Prelude.{⊤, IsTrue, nat_lt}
 use Rattle.ctrl_msg.specs.declared.message.Body.{Body}
-use Rattle.ctrl_msg.specs.declared.message.Body.TheVariants.{Hello, Stamp}
+use Rattle.ctrl_msg.specs.declared.message.Body.TheVariants.{Hello}
 use Rattle.ctrl_msg.specs.declared.message.Message.{Message}
 use Rattle.journal.specs.declared.item.Item.{Item}
 use Rattle.journal.specs.declared.item.Item.TheVariants as item
@@ -19,7 +19,7 @@ use Rattle.update_machine.specs.Moves.{in_turn, items_then}
 use Rattle.update_machine.specs.Pieces.{confirm_items, deliver_items, nothing, piece, step_items, update_items}
 use Rattle.update_machine.specs.Setting.{Setting}
 use Rattle.update_machine.specs.SwitchNumbers.{switches_of}
-use Rattle.update_machine.specs.Settling.{current_items, installs_to, installs_to_all, open_items, retired_items, settling, stamp_for, to_switch}
+use Rattle.update_machine.specs.Settling.{current_items, installs_to, installs_to_all, open_items, retired_items, settling, stamp_for}
 use Rattle.update_machine.specs.Versions.{version_count}
 use Rattle.update_machine.proofs.CallerLemmas.{have_first, have_in_turn}
 use Rattle.update_machine.specs.Touched.{touched_by}
@@ -34,6 +34,7 @@ use Rattle.control_laws.proofs.StepCases.{confirm_cases, deliver_cases, update_c
 use Rattle.control_laws.proofs.Current.{StampsAreCurrent, current_kept}
 use Rattle.control_laws.proofs.Members.{LeavesMember, delivered_cases, member_was, over_cases, quiet_leaves, sent_cases}
 use Rattle.control_laws.specs.Steps.{asks_controller}
+use Rattle.control_laws.specs.Touched.{stamp_to}
 use Rattle.control_laws.proofs.Ends.{told_is}
 use Rattle.control_laws.proofs.Leaves.{leaves_keep}
 use Rattle.control_laws.proofs.Others.{ReopensAlone, others_keep, sends_leave}
@@ -46,7 +47,7 @@ use Rattle.ternary.specs.Word.{WordValue}
 -- the switch was told to stamp with the version in this boot, whatever was touched
 pub record IsStampSent (journal : List Item) (s boot version : ℕ) : Type 0 where
   pub touched : List WordValue
-  pub sent : IsSent journal (to_switch s (Stamp boot version touched))
+  pub sent : IsSent journal (stamp_to s boot version touched)
 
 pub record HaveStamps (setting : Setting) (journal : List Item) : Type 0 where
   pub each : (s : ℕ) → s < length setting.net.switches → IsTrue (is_member journal s)
