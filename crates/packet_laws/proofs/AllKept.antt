@@ -6,7 +6,7 @@ use Rattle.std.proofs.lemmas.Bool.{eqb-true}
 use Rattle.std.proofs.lemmas.List.Elements.{All-nil, All-weaker}
 use Rattle.cache_maker.specs.Independent.{widen}
 use Rattle.ctrl_msg.specs.declared.message.Body.{Body}
-use Rattle.ctrl_msg.specs.declared.message.Body.TheVariants.{CacheRule, Stamp}
+use Rattle.ctrl_msg.specs.declared.message.Body.TheVariants.{CacheRule}
 use Rattle.ctrl_msg.specs.declared.message.Message.{Message}
 use Rattle.five_tuple.specs.Header.{number_of}
 use Rattle.five_tuple.specs.declared.header.Header.{Header}
@@ -25,7 +25,6 @@ use Rattle.update_machine.specs.Versions.{policy_at, plan_at, HasPlan}
 use Rattle.update_machine.specs.Travels.{leg_of, travels}
 use Rattle.update_machine.specs.Ways.{found_down}
 use Rattle.update_machine.proofs.CallerLemmas.{step_stays, begins_planned}
-use Rattle.update_machine.specs.Settling.{to_switch}
 use Rattle.control_laws.proofs.Facts.{AreKept, Behind, fact_on, have_weaker, with_fact}
 use Rattle.control_laws.proofs.Grown.{message_more}
 use Rattle.control_laws.proofs.Reached.{NamesOwn}
@@ -36,6 +35,7 @@ use Rattle.control_laws.specs.ItemCauses.{HasItemCause}
 use Rattle.control_laws.proofs.Current.{StampsAreCurrent, current_at_first, current_kept}
 use Rattle.control_laws.proofs.Planned.{versions_planned}
 use Rattle.control_laws.proofs.Touched.{stamps_touched}
+use Rattle.control_laws.specs.Touched.{stamp_to}
 use Rattle.packet_laws.specs.Rules.{IsRightEntry, IsRightRule}
 use Rattle.packet_laws.specs.OnWay.{IsUnknown}
 use Rattle.packet_laws.specs.Facts.{is_of_packet, facts_after, what_is_known}
@@ -344,9 +344,9 @@ cached_on setting before next known grow s =
     (λ number boot version touched said cache all.
     carried_right setting before version cache known.is
     (planned number boot version touched
-    (said_parts before s number (Stamp boot version touched) said).sent)
+    (said_parts before s number _ said).sent)
     (current number boot version touched
-    (said_parts before s number (Stamp boot version touched) said).sent) all)
+    (said_parts before s number _ said).sent) all)
     (λ number version word rule act said.
     known.kept.sent number _ (said_parts before s number (CacheRule version word rule act) said).sent)
     (known.kept.cached s))
@@ -360,13 +360,13 @@ cached_on setting before next known grow s =
 
     -- a stamp that was sent is of a version that is there, and current or was
     current : (number boot version : ℕ) (touched : List WordValue)
-        → message_of before number ≡ Some (to_switch s (Stamp boot version touched))
+        → message_of before number ≡ Some (stamp_to s boot version touched)
         → version ≤ current_mark before
     current number boot version touched sent =
-        are.sent number (to_switch s (Stamp boot version touched)) sent
+        are.sent number _ sent
 
     planned : (number boot version : ℕ) (touched : List WordValue)
-        → message_of before number ≡ Some (to_switch s (Stamp boot version touched))
+        → message_of before number ≡ Some (stamp_to s boot version touched)
         → HasPlan setting before version
     planned number boot version touched sent =
         let there = (stamps_touched setting before have).sent number s boot version touched sent in

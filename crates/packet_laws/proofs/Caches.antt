@@ -19,6 +19,7 @@ use Rattle.update_machine.specs.Setting.{Setting}
 use Rattle.update_machine.specs.Versions.{stamp_of}
 use Rattle.update_machine.proofs.CallerLemmas.{folded_append}
 use Rattle.update_machine.specs.Touched.{touched_by}
+use Rattle.packet_laws.specs.Untouched.{IsToldStamp}
 
 -- the entry of a cache rule
 abbrev pub entry_of : ℕ → ℕ → WordValue → Option ℕ → Action → CacheEntry
@@ -63,14 +64,25 @@ carried_holds P touched earlier version cache carries all = by_test (nat_lt earl
     by_test true = carries cache all
     by_test false = all
 
-told_holds : (P : CacheEntry → Type 0) (touched_of : ℕ → List WordValue)
-    (earlier stamp number : ℕ) (cache : CacheValue) (body : Body)
-    → ((boot version : ℕ) (touched : List WordValue) → body ≡ Stamp boot version touched
-    → IsCarried P version (touched_of version))
-    → ((version : ℕ) (word : WordValue) (rule : Option ℕ) (action : Action)
-    → body ≡ CacheRule version word rule action → P (entry_of number version word rule action))
-    → Holds P cache → Holds P (cache_after touched_of earlier stamp number cache body)
-told_holds P touched_of earlier stamp number cache (CacheRule version word rule action) carries
+-- the stamps that the switch is told of carry it
+abbrev pub StampsCarry : (CacheEntry → Type 0) → Setting → List Item → ℕ → Type 0
+StampsCarry P setting before s = (number boot version : ℕ) (touched : List WordValue)
+    → IsToldStamp before s number boot version touched
+    → IsCarried P version (touched_by setting before version)
+
+-- and the cache rules that are said to it bring it
+abbrev pub RulesBring : (CacheEntry → Type 0) → List Item → ℕ → Type 0
+RulesBring P before s =
+    (number version : ℕ) (word : WordValue) (rule : Option ℕ) (action : Action)
+    → body_to_switch before s number ≡ Some (CacheRule version word rule action)
+    → P (entry_of number version word rule action)
+
+told_holds : (P : CacheEntry → Type 0) (setting : Setting) (s : ℕ) (before : List Item)
+    (stamp number : ℕ) (cache : CacheValue) (body : Body)
+    → body_to_switch before s number ≡ Some body → StampsCarry P setting before s
+    → RulesBring P before s → Holds P cache
+    → Holds P (cache_after (touched_by setting before) (stamp_of before s) stamp number cache body)
+told_holds P setting s before stamp number cache (CacheRule version word rule action) said carries
     brings all =
     by_test (nat_lt version stamp
     || list_any (same_key (entry_of number version word rule action)) cache.entries)
@@ -84,23 +96,18 @@ told_holds P touched_of earlier stamp number cache (CacheRule version word rule 
         newest_holds P cache.capacity
         (cache.entries ++ entry_of number version word rule action ∷ [])
         (All-push P cache.entries (entry_of number version word rule action) all
-        (brings version word rule action refl))
-told_holds P touched_of earlier stamp number cache (OpenAt boot version) carries brings all =
-    raised_holds P earlier stamp cache all
-told_holds P touched_of earlier stamp number cache (Stamp boot version touched) carries brings
+        (brings number version word rule action said))
+told_holds P setting s before stamp number cache (OpenAt boot version) said carries brings all =
+    raised_holds P (stamp_of before s) stamp cache all
+told_holds P setting s before stamp number cache (Stamp boot version touched) said carries brings
     all =
-    carried_holds P (touched_of version) earlier version cache
-    (carries boot version touched refl) all
-told_holds P touched_of earlier stamp number cache _ carries brings all = all
+    carried_holds P (touched_by setting before version) (stamp_of before s) version cache
+    (carries number boot version touched said) all
+told_holds P setting s before stamp number cache _ said carries brings all = all
 
 changed_holds : (P : CacheEntry → Type 0) (setting : Setting) (s : ℕ) (before : List Item)
     (cache : CacheValue) (next : Item)
-    → ((number boot version : ℕ) (touched : List WordValue)
-    → body_to_switch before s number ≡ Some (Stamp boot version touched)
-    → IsCarried P version (touched_by setting before version))
-    → ((number version : ℕ) (word : WordValue) (rule : Option ℕ) (action : Action)
-    → body_to_switch before s number ≡ Some (CacheRule version word rule action)
-    → P (entry_of number version word rule action))
+    → StampsCarry P setting before s → RulesBring P before s
     → Holds P cache → Holds P (changes_cache setting s before cache next)
 changed_holds P setting s before cache (item.Down switch) carries brings all = by_switch (switch == s)
   where
@@ -130,22 +137,13 @@ changed_holds P setting s before cache (item.Delivered number) carries brings al
         (stamp_of (before ++ item.Delivered number ∷ []) s) number cache) o cache)
     by_said None e = all
     by_said (Some body) e =
-        told_holds P (touched_by setting before) (stamp_of before s)
-        (stamp_of (before ++ item.Delivered number ∷ []) s) number cache body
-        (λ boot version touched same. carries number boot version touched
-        (subst (λ b. body_to_switch before s number ≡ Some b) same e))
-        (λ version word rule action same. brings number version word rule action
-        (subst (λ b. body_to_switch before s number ≡ Some b) same e)) all
+        told_holds P setting s before (stamp_of (before ++ item.Delivered number ∷ []) s) number
+        cache body e carries brings all
 changed_holds P setting s before cache _ carries brings all = all
 
 pub cache_holds : (P : CacheEntry → Type 0) (setting : Setting) (s : ℕ) (before : List Item)
     (next : Item)
-    → ((number boot version : ℕ) (touched : List WordValue)
-    → body_to_switch before s number ≡ Some (Stamp boot version touched)
-    → IsCarried P version (touched_by setting before version))
-    → ((number version : ℕ) (word : WordValue) (rule : Option ℕ) (action : Action)
-    → body_to_switch before s number ≡ Some (CacheRule version word rule action)
-    → P (entry_of number version word rule action))
+    → StampsCarry P setting before s → RulesBring P before s
     → All P (cache_of setting before s).entries
     → All P (cache_of setting (before ++ next ∷ []) s).entries
 unfolding cache_of

@@ -3,7 +3,7 @@ use Rattle.std.proofs.Common.{ℕ, ◌≡◌, ◌⊎◌, Bool, true, false, Opti
 use Rattle.std.specs.Prelude.{⊤, filter}
 use Rattle.std.specs.List.{AllByRecursion}
 use Rattle.ctrl_msg.specs.declared.message.Body.{Body}
-use Rattle.ctrl_msg.specs.declared.message.Body.TheVariants.{Install, OpenAt, Stamp, CacheRule, Advertise}
+use Rattle.ctrl_msg.specs.declared.message.Body.TheVariants.{CacheRule}
 use Rattle.ctrl_msg.specs.declared.message.Message.{Message}
 use Rattle.base.specs.Masks.{has}
 use Rattle.journal.specs.declared.item.Item.{Item}
@@ -12,7 +12,7 @@ use Rattle.steps.specs.declared.step.Step.{Step}
 use Rattle.steps.specs.declared.step.Step.TheVariants.{LinkDown, LinkUp, Restart, Update}
 use Rattle.update_machine.specs.Adverts.{held_adverts, own_advert}
 use Rattle.update_machine.specs.Causes.{HaveCauses, IsLinkStep, present_step}
-use Rattle.update_machine.specs.Deliveries.{advert_to, has_changed, link_changes, passed_on, switch_items, messages_of, messages_over, switches_in}
+use Rattle.update_machine.specs.Deliveries.{advert_to, has_changed, link_changes, switch_items, messages_of, messages_over, switches_in}
 use Rattle.update_machine.specs.LinkMasks.{near}
 use Rattle.update_machine.specs.Messages.{send_items}
 use Rattle.update_machine.specs.Pieces.{deliver_items, expire_items, forget_items, link_items, resend_items, restart_items, update_items}
@@ -26,6 +26,7 @@ use Rattle.control_laws.proofs.Facts.{have_weaker}
 use Rattle.control_laws.proofs.Resent.{each_by_controller, each_to_member, later_versions, resent_has}
 use Rattle.control_laws.proofs.Sends.{each, each_flat_map, each_map}
 use Rattle.control_laws.proofs.Sent.{each_by_switch, sends_each}
+use Rattle.control_laws.proofs.SwitchCases.{switch_cases}
 use Rattle.packet_laws.specs.WayCauses.{WayCause}
 
 -- ---- items
@@ -201,16 +202,13 @@ expire_aside setting s place journal = grind arith
 
 switch_aside : (setting : Setting) (before : List Item) (s : ℕ) (body : Body)
     (journal : List Item) → AreAside journal (switch_items setting before s body journal)
-unfolding switch_items
-switch_aside setting before s (Install boot tables) journal = sends_aside journal _ (tt, tt)
-switch_aside setting before s (Stamp boot version touched) journal = sends_aside journal _ (tt, tt)
-switch_aside setting before s (OpenAt boot version) journal =
-    grind (arith, have_first, changes_aside)
-switch_aside setting before s (Advertise advert) journal =
-    let passed : AreAside journal (send_items journal (passed_on setting journal s advert)) =
-    to_each journal (λ neighbour. advert_to neighbour advert) (λ neighbour. tt) _ in
-    grind (arith, passed)
-switch_aside setting before s _ journal = tt
+switch_aside setting before s body journal =
+    switch_cases (AreAside journal) setting before s body journal
+    (λ boot version. sends_aside journal _ (tt, tt))
+    (λ boot version. sends_aside journal _ (tt, tt))
+    (λ boot version is. grind (arith, have_first, changes_aside))
+    (λ advert is news. to_each journal (λ neighbour. advert_to neighbour advert)
+    (λ neighbour. tt) _) tt
 
 pub deliver_aside : (setting : Setting) (before : List Item) (number : ℕ) (journal : List Item)
     → AreAside journal (deliver_items setting before number journal)

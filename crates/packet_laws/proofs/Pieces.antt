@@ -1,6 +1,6 @@
 -- Each piece has the causes of packets' items, whatever its step, where all packets rest before it.
 use Rattle.std.proofs.Common.{ℕ, zero, suc, ◌≡◌, ◌+◌, ◌≤◌, Bool, true, false, Option, Some, None, List, [], ◌∷◌, ◌++◌, map, refl, ap, sym, ◌∙◌, arith, inr}
-use Rattle.std.specs.Prelude.{IsFalse, filter, if◌then◌else◌, unwrap_or}
+use Rattle.std.specs.Prelude.{⊤, IsFalse, filter, if◌then◌else◌, unwrap_or}
 use Rattle.std.specs.List.{range_with_len}
 use Rattle.std.specs.Option.{option_or}
 use Rattle.std.proofs.lemmas.Bool.{and_parts, eq-eqb, eqb-true, ne_eqb}
@@ -23,7 +23,7 @@ use Rattle.control_laws.proofs.Commands.{confirm_control}
 use Rattle.control_laws.proofs.Grown.{serving_more, up_more}
 use Rattle.packet_laws.specs.Rest.{AreResting, IsServed}
 use Rattle.packet_laws.specs.WayCauses.{WayCause, ends_with_row, fallen_switch, gives_fall, gives_row_test}
-use Rattle.packet_laws.proofs.OtherBlocks.{aside_ways, changes_aside, control_aside, deliver_aside, expire_aside, forget_aside, link_aside, resend_aside, restart_aside, update_aside}
+use Rattle.packet_laws.proofs.OtherBlocks.{AreAside, aside_ways, changes_aside, control_aside, deliver_aside, expire_aside, forget_aside, link_aside, resend_aside, restart_aside, update_aside}
 use Rattle.packet_laws.proofs.PacketBlocks.{Ways, hop_ways, lose_ways, packet_ways, stage_stays}
 
 -- ---- a crash
@@ -172,6 +172,33 @@ row_rests before row step rests = record {
     keeps : (i : ℕ) → PacketKeeps i before (before ++ item.Row row step ∷ [])
     keeps i = packet_keeps i before (item.Row row step ∷ []) (refl, tt)
 
+-- the steps that move no packet
+abbrev pub MovesNone : Step → Type 0
+MovesNone (Packet s header) = ⊥
+MovesNone (Hop i) = ⊥
+MovesNone (Lose i) = ⊥
+MovesNone (Crash s) = ⊥
+MovesNone _ = ⊤
+
+pub step_aside : (setting : Setting) (before : List Item) (row : ℕ) (step : Step) → MovesNone step
+    → let here = before ++ item.Row row step ∷ [] in
+    AreAside here (step_items setting before step here)
+step_aside setting before row (Deliver number) none = deliver_aside setting before number _
+step_aside setting before row (Forget number) none = forget_aside number _
+step_aside setting before row (Expire s place) none = expire_aside setting s place _
+step_aside setting before row (Update file) none =
+    update_aside setting file _ (step_now before row (Update file))
+step_aside setting before row (LinkDown one two) none =
+    link_aside setting before one two false _ (step_now before row (LinkDown one two))
+step_aside setting before row (LinkUp one two) none =
+    link_aside setting before one two true _ (step_now before row (LinkUp one two))
+step_aside setting before row (Restart s) none =
+    restart_aside s _ (step_now before row (Restart s))
+step_aside setting before row (Confirm s) none =
+    control_aside _ _ (confirm_control setting s _)
+step_aside setting before row (Resend s) none = resend_aside setting s _
+step_aside setting before row step none = absurd none
+
 step_ways : (setting : Setting) (before : List Item) (row : ℕ) (step : Step) → AreResting before
     → let here = before ++ item.Row row step ∷ [] in
     Ways setting here (step_items setting before step here)
@@ -185,32 +212,14 @@ step_ways setting before row (Hop i) rests =
     hop_ways setting _ i (row_rests before row (Hop i) rests)
 step_ways setting before row (Lose i) rests =
     lose_ways setting _ i (step_now before row (Lose i))
-step_ways setting before row (Deliver number) rests =
-    aside_ways setting _ _ (deliver_aside setting before number _)
-step_ways setting before row (Forget number) rests =
-    aside_ways setting _ _ (forget_aside number _)
-step_ways setting before row (Expire s place) rests =
-    aside_ways setting _ _ (expire_aside setting s place _)
-step_ways setting before row (Update file) rests =
-    aside_ways setting _ _ (update_aside setting file _ (step_now before row (Update file)))
-step_ways setting before row (LinkDown one two) rests =
-    aside_ways setting _ _
-    (link_aside setting before one two false _ (step_now before row (LinkDown one two)))
-step_ways setting before row (LinkUp one two) rests =
-    aside_ways setting _ _
-    (link_aside setting before one two true _ (step_now before row (LinkUp one two)))
 step_ways setting before row (Crash s) rests =
     crash_ways setting before s _ (step_now before row (Crash s))
     (λ j above.
     let keeps : PacketKeeps j before (before ++ item.Row row (Crash s) ∷ []) =
     packet_keeps j before (item.Row row (Crash s) ∷ []) (refl, tt) in
     (keeps.travels, keeps.stands))
-step_ways setting before row (Restart s) rests =
-    aside_ways setting _ _ (restart_aside s _ (step_now before row (Restart s)))
-step_ways setting before row (Confirm s) rests =
-    aside_ways setting _ _ (control_aside _ _ (confirm_control setting s _))
-step_ways setting before row (Resend s) rests =
-    aside_ways setting _ _ (resend_aside setting s _)
+step_ways setting before row step rests =
+    aside_ways setting _ _ (step_aside setting before row step tt)
 
 pub piece_ways : (setting : Setting) (before : List Item) (row : ℕ) (step : Step)
     → AreResting before → Ways setting before (piece setting before row step)

@@ -1,6 +1,6 @@
 -- Between steps all packets rest: on their way, at switches that serve. So all items of packets
 -- have their causes.
-use Rattle.std.proofs.Common.{ℕ, ◌≡◌, ◌≢◌, ◌+◌, ◌<◌, ◌==◌, true, false, Option, Some, None, List, [], ◌∷◌, ◌++◌, length, refl, ap, sym, subst, ◌∙◌, arith, inl, inr, ◌⊎◌}
+use Rattle.std.proofs.Common.{ℕ, ◌≡◌, ◌≢◌, ◌+◌, ◌<◌, ◌==◌, false, Option, Some, None, List, [], ◌∷◌, ◌++◌, length, refl, ap, sym, subst, ◌∙◌, arith, inl, inr, ◌⊎◌}
 use Rattle.std.specs.Prelude.{⊤, IsTrue, unwrap_or}
 use Rattle.std.proofs.lemmas.Bool.{cases_eq, eq-eqb, ne_eqb}
 use Rattle.five_tuple.specs.Header.{IsHeader}
@@ -9,7 +9,7 @@ use Rattle.switch_table.specs.declared.search.Found.TheVariants as found
 use Rattle.journal.specs.declared.item.Item.{Item}
 use Rattle.journal.specs.declared.item.Item.TheVariants as item
 use Rattle.steps.specs.declared.step.Step.{Step}
-use Rattle.steps.specs.declared.step.Step.TheVariants.{Packet, Hop, Lose, Deliver, Forget, Expire, Update, LinkDown, LinkUp, Crash, Restart, Confirm, Resend}
+use Rattle.steps.specs.declared.step.Step.TheVariants.{Packet, Hop, Lose, Crash}
 use Rattle.update_machine.specs.Links.{serves}
 use Rattle.update_machine.specs.Caches.{lookup_at}
 use Rattle.update_machine.specs.Causes.{HaveCauses}
@@ -21,7 +21,6 @@ use Rattle.update_machine.specs.Versions.{stamp_of}
 use Rattle.update_machine.specs.Travels.{travels}
 use Rattle.update_machine.proofs.CallerLemmas.{have_append, last_given_append, packet_keeps}
 use Rattle.control_laws.specs.ItemCauses.{HasItemCause}
-use Rattle.control_laws.proofs.Commands.{confirm_control}
 use Rattle.control_laws.proofs.Facts.{Both, fact_on, have_both, have_weaker}
 use Rattle.control_laws.proofs.Grown.{serving_more}
 use Rattle.control_laws.proofs.Pieces.{pieces_have}
@@ -36,9 +35,9 @@ use Rattle.packet_laws.specs.WayCauses.{WayCause}
 use Rattle.packet_laws.proofs.CrashServed.{crash_served}
 use Rattle.packet_laws.proofs.Done.{hop_done, packet_done}
 use Rattle.packet_laws.proofs.Lookups.{FindsRule, authority_found, rule_there, stamped}
-use Rattle.packet_laws.proofs.OtherBlocks.{AreAside, IsAside, control_aside, deliver_aside, expire_aside, forget_aside, link_aside, resend_aside, restart_aside, update_aside}
+use Rattle.packet_laws.proofs.OtherBlocks.{AreAside, IsAside}
 use Rattle.packet_laws.proofs.Others.{IsInStep, IsNoRow, Spares, SparesAll, aside_spares, crash_spares, hop_spares, in_step, lose_spares, packet_spares, spare, spared}
-use Rattle.packet_laws.proofs.Pieces.{piece_ways, row_rests, step_now}
+use Rattle.packet_laws.proofs.Pieces.{piece_ways, row_rests, step_aside}
 use Rattle.packet_laws.proofs.Served.{AreNumbered, HaveLegs, IsCausedUp, NotDown, legs_kept, numbered_kept, served_kept}
 
 -- ---- causes with their past
@@ -160,27 +159,9 @@ others_spare : (setting : Setting) (j : ℕ) (before : List Item) (row : ℕ) (s
 others_spare setting j before row (Packet s header) none apart = absurd none
 others_spare setting j before row (Hop i) none apart = hop_spares setting j i _ (apart i refl)
 others_spare setting j before row (Lose i) none apart = lose_spares j i _
-others_spare setting j before row (Deliver number) none apart =
-    aside_spares j _ _ (deliver_aside setting before number _)
-others_spare setting j before row (Forget number) none apart =
-    aside_spares j _ _ (forget_aside number _)
-others_spare setting j before row (Expire s place) none apart =
-    aside_spares j _ _ (expire_aside setting s place _)
-others_spare setting j before row (Update file) none apart =
-    aside_spares j _ _ (update_aside setting file _ (step_now before row (Update file)))
-others_spare setting j before row (LinkDown one two) none apart =
-    aside_spares j _ _
-    (link_aside setting before one two false _ (step_now before row (LinkDown one two)))
-others_spare setting j before row (LinkUp one two) none apart =
-    aside_spares j _ _
-    (link_aside setting before one two true _ (step_now before row (LinkUp one two)))
 others_spare setting j before row (Crash s) none apart = crash_spares setting j before s _
-others_spare setting j before row (Restart s) none apart =
-    aside_spares j _ _ (restart_aside s _ (step_now before row (Restart s)))
-others_spare setting j before row (Confirm s) none apart =
-    aside_spares j _ _ (control_aside _ _ (confirm_control setting s _))
-others_spare setting j before row (Resend s) none apart =
-    aside_spares j _ _ (resend_aside setting s _)
+others_spare setting j before row step none apart =
+    aside_spares j _ _ (step_aside setting before row step tt)
 
 step_spares : (setting : Setting) (j : ℕ) (before : List Item) (row : ℕ) (step : Step)
     → IsApart j before step → let here = before ++ item.Row row step ∷ [] in
@@ -323,17 +304,6 @@ step_served setting before row step settled = by_kind step
         header _ tt)
     by_kind (Hop i) = traffic_served (Hop i) (step_traffic setting before (Hop i) _ tt)
     by_kind (Lose i) = traffic_served (Lose i) (step_traffic setting before (Lose i) _ tt)
-    by_kind (Deliver number) = aside_served (Deliver number) (deliver_aside setting before number _)
-    by_kind (Forget number) = aside_served (Forget number) (forget_aside number _)
-    by_kind (Expire s place) = aside_served (Expire s place) (expire_aside setting s place _)
-    by_kind (Update file) =
-        aside_served (Update file) (update_aside setting file _ (step_now before row (Update file)))
-    by_kind (LinkDown one two) =
-        aside_served (LinkDown one two)
-        (link_aside setting before one two false _ (step_now before row (LinkDown one two)))
-    by_kind (LinkUp one two) =
-        aside_served (LinkUp one two)
-        (link_aside setting before one two true _ (step_now before row (LinkUp one two)))
     by_kind (Crash s) =
         crash_served setting before s (before ++ item.Row row (Crash s) ∷ [])
         (numbered setting before (ways_of_all setting [] before settled.causes))
@@ -341,11 +311,7 @@ step_served setting before row step settled = by_kind step
         (λ i.
         let keeps = packet_keeps i before (item.Row row (Crash s) ∷ []) (refl, tt) in
         (keeps.travels, keeps.stands))
-    by_kind (Restart s) =
-        aside_served (Restart s) (restart_aside s _ (step_now before row (Restart s)))
-    by_kind (Confirm s) =
-        aside_served (Confirm s) (control_aside _ _ (confirm_control setting s _))
-    by_kind (Resend s) = aside_served (Resend s) (resend_aside setting s _)
+    by_kind step = aside_served step (step_aside setting before row step tt)
 
 step_moving : (setting : Setting) (before : List Item) (row : ℕ) (step : Step)
     → IsSetting setting → NamesOwn setting step → IsSettled setting before → (j : ℕ)
@@ -398,17 +364,7 @@ step_moving setting before row step is own settled j = by_kind step own
     by_kind (Packet s header) own =
         by_packet s header own.0 own.1 (cases_eq (next_packet before) j)
     by_kind (Hop i) own = by_hop i (cases_eq i j)
-    by_kind (Lose i) own = other (Lose i) (λ k e. absurd cc)
-    by_kind (Deliver number) own = other (Deliver number) (λ k e. absurd cc)
-    by_kind (Forget number) own = other (Forget number) (λ k e. absurd cc)
-    by_kind (Expire s place) own = other (Expire s place) (λ k e. absurd cc)
-    by_kind (Update file) own = other (Update file) (λ k e. absurd cc)
-    by_kind (LinkDown one two) own = other (LinkDown one two) (λ k e. absurd cc)
-    by_kind (LinkUp one two) own = other (LinkUp one two) (λ k e. absurd cc)
-    by_kind (Crash s) own = other (Crash s) (λ k e. absurd cc)
-    by_kind (Restart s) own = other (Restart s) (λ k e. absurd cc)
-    by_kind (Confirm s) own = other (Confirm s) (λ k e. absurd cc)
-    by_kind (Resend s) own = other (Resend s) (λ k e. absurd cc)
+    by_kind step own = other step (λ k e. absurd cc)
 
 pub piece_settled : (setting : Setting) (before : List Item) (row : ℕ) (step : Step)
     → IsSetting setting → NamesOwn setting step → IsSettled setting before

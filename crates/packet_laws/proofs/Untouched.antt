@@ -1,9 +1,8 @@
 -- A rule that a change doesn't touch outlives it.
-use Rattle.std.proofs.Common.{ℕ, ◌≡◌, ◌<◌, ◌∙◌, true, if◌then◌else◌, nat_lt, Some, List, [], ◌∷◌, ◌++◌, All, Any, ap, sym, subst, arith}
+use Rattle.std.proofs.Common.{ℕ, ◌≡◌, ◌<◌, ◌∙◌, true, if◌then◌else◌, nat_lt, List, [], ◌∷◌, ◌++◌, All, Any, ap, sym, subst, arith}
 use Rattle.std.specs.Option.{option_map_or}
 use Rattle.std.proofs.lemmas.Bool.Decides.{nat_tests}
 use Rattle.std.proofs.lemmas.List.Elements.{All-contains}
-use Rattle.ctrl_msg.specs.declared.message.Body.TheVariants.{Stamp}
 use Rattle.switch_table.specs.Cache.{CacheValue}
 use Rattle.switch_table.specs.Carried.{after_carry}
 use Rattle.switch_table.specs.declared.cache.CacheEntry.{CacheEntry}
@@ -11,7 +10,6 @@ use Rattle.switch_table.proofs.CarryLemmas.{untouched_stays}
 use Rattle.ternary.specs.Word.{WordValue}
 use Rattle.journal.specs.declared.item.Item.{Item}
 use Rattle.journal.specs.declared.item.Item.TheVariants as item
-use Rattle.update_machine.specs.Boots.{body_to_switch}
 use Rattle.update_machine.specs.Caches.{cache_after, cache_of, changes_cache}
 use Rattle.update_machine.specs.Causes.{HaveCauses}
 use Rattle.update_machine.specs.Setting.{IsSetting, Setting}
@@ -19,7 +17,7 @@ use Rattle.update_machine.specs.Touched.{touched_by}
 use Rattle.update_machine.specs.Versions.{stamp_of}
 use Rattle.update_machine.proofs.CallerLemmas.{folded_append}
 use Rattle.packet_laws.specs.Rules.{IsRightEntry}
-use Rattle.packet_laws.specs.Untouched.{UntouchedStay}
+use Rattle.packet_laws.specs.Untouched.{IsToldStamp, UntouchedStay}
 use Rattle.packet_laws.proofs.AllKept.{Before, all_kept, cached_on}
 use Rattle.packet_laws.proofs.Growing.{grows}
 use Rattle.packet_laws.proofs.Rests.{IsWayItem, switches_of_all}
@@ -27,7 +25,7 @@ use Rattle.packet_laws.proofs.Rests.{IsWayItem, switches_of_all}
 -- a stamp that rises carries the cache
 stamped_cache : (setting : Setting) (before : List Item) (s number boot version : ℕ)
     (touched : List WordValue)
-    → body_to_switch before s number ≡ Some (Stamp boot version touched)
+    → IsToldStamp before s number boot version touched
     → stamp_of before s < version
     → cache_of setting (before ++ item.Delivered number ∷ []) s
     ≡ after_carry version (touched_by setting before version) (cache_of setting before s)

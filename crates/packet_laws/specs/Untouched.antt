@@ -20,12 +20,17 @@ HasUnder setting journal s version entry =
     Any (λ kept. (kept.version ≡ version) × ((kept.word ≡ entry.word)
     × IsRightEntry setting journal kept)) (cache_of setting journal s).entries
 
+-- the delivery of this message tells the switch, in this boot, to stamp with a version
+abbrev pub IsToldStamp : List Item → ℕ → ℕ → ℕ → ℕ → List WordValue → Type 0
+IsToldStamp before s number boot version touched =
+    body_to_switch before s number ≡ Some (Stamp boot version touched)
+
 -- as the stamp of a switch rises to a version, because it is told so, each rule of the version
 -- before whose word meets nothing that the version's change touches is there under that version
 abbrev pub UntouchedStay : Setting → List Item → Type 0
 UntouchedStay setting before =
     (s number boot version : ℕ) (touched : List WordValue) (entry : CacheEntry)
-    → body_to_switch before s number ≡ Some (Stamp boot version touched)
+    → IsToldStamp before s number boot version touched
     → stamp_of before s < version → Contains (cache_of setting before s).entries entry
     → entry.version + 1 ≡ version
     → IsFalse (meets_any (touched_by setting before version) entry.word)
