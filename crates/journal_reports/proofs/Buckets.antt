@@ -2,43 +2,26 @@
 use Rattle.std.proofs.Common.{ℕ, ◌≡◌, ◌≢◌, ◌+◌, ◌≤◌, ◌<◌, ◌⊎◌, ◌==◌, Bool, true, false, if◌then◌else◌, List, [], ◌∷◌, ◌++◌, length, get_or, set, take, drop, refl, ap, sym, subst, ◌∙◌, arith, inl, inr}
 use Rattle.std.specs.Prelude.{◌↔◌, nat_lt}
 use Rattle.std.specs.Option.{option_map_or}
-use Rattle.std.proofs.lemmas.Bool.{and_parts, cases_lt, eq-eqb, eqb-true}
+use Rattle.std.proofs.lemmas.Bool.{cases_lt, eq-eqb, eqb-true}
 use Rattle.std.proofs.lemmas.Bool.Decides.{nat_tests}
 use Rattle.std.proofs.lemmas.List.{get_or-set_other, get_or-set_same, get_or_append_left, get_or_push, length-set, take-append-drop, take_more}
 use Rattle.std.proofs.lemmas.Option.{slice_get-get_or, slice_get_cases, slice_get_past}
 use Rattle.ctrl_msg.specs.declared.message.Body.{Body}
-use Rattle.ctrl_msg.specs.declared.message.Body.TheVariants.{Install, OpenAt, Stamp, Collect, Advertise, Hello, Installed, Stamped}
 use Rattle.ctrl_msg.specs.declared.message.Message.{Message}
-use Rattle.failover.specs.declared.advert.Advert.{Advert}
 use Rattle.journal_reports.specs.declared.bucket.Bucket.{Bucket}
-use Rattle.journal_reports.specs.Judging.{SaysAsMuch, is_same, replaces_body}
+use Rattle.journal_reports.specs.Judging.{SaysAsMuch}
 use Rattle.journal_reports.specs.Buckets.{AreEmpty, HasSaying, IsKept, bucket_of, messages_in, messages_of, subject}
-use Rattle.journal_reports.proofs.SayingAsMuch.{advert_means, says_through}
+use Rattle.journal_reports.proofs.SayingAsMuch.{later_more, means_of, says_through}
 
 -- ---- what says as much is in the same bucket
 
-says_subject : (later earlier : Body) → replaces_body later earlier ≡ true
-    → subject later ≡ subject earlier
-says_subject (Install boot tables) (Install of earlier) says = eqb-true _ _ (and_parts _ _ says).1
-says_subject (OpenAt boot version) (OpenAt of earlier) says = eqb-true _ _ (and_parts _ _ says).1
-says_subject (Stamp boot version touched) (Stamp of earlier others) says = refl
-says_subject (Collect boot version) (Collect of earlier) says = refl
-says_subject (Advertise one) (Advertise other) says =
-    elim (advert_means one other (is_same one other) refl says) [
-      | inl same ↦ ap (λ (advert : Advert). advert.origin) same
-      | inr newer ↦ eqb-true one.origin other.origin (and_parts _ _ newer).0
-    ]
-says_subject (Hello s boot) (Hello t of) says = refl
-says_subject (Installed s boot version) (Installed t of earlier) says =
-    eqb-true _ _ (and_parts _ _ says).1
-says_subject (Stamped s boot version) (Stamped t of earlier) says = refl
-says_subject later earlier says = absurd cc
-
 says_bucket : (later earlier : Message) → SaysAsMuch later earlier
     → bucket_of later.body ≡ bucket_of earlier.body
-says_bucket later earlier says =
-    ap (λ n. if nat_lt n 64 then n else 0)
-    (says_subject later.body earlier.body (and_parts _ _ says.message).1)
+says_bucket later earlier says = elim (means_of later earlier says) [
+  | inl same ↦ ap bucket_of same
+  | inr more ↦ ap (λ n. if nat_lt n 64 then n else 0)
+      (later_more later.body earlier.body more).about
+]
 
 pub bucket_below : (body : Body) → bucket_of body < 64
 bucket_below body = by_test (nat_lt (subject body) 64) refl
