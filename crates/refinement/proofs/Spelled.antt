@@ -1,7 +1,7 @@
 -- What was sent has a short spelling.
 use Rattle.std.proofs.Common.{◌≡◌, ℕ, ◌<◌, ◌^◌, Some, List, length, refl, sym, subst, arith, ◌≤◌}
 use Rattle.ctrl_msg.specs.declared.message.Body.{Body}
-use Rattle.ctrl_msg.specs.declared.message.Body.TheVariants.{Install, OpenAt, Stamp, Collect, CacheRule, Advertise, Hello, Installed, Stamped}
+use Rattle.ctrl_msg.specs.declared.message.Body.TheVariants.{Install, Stamp, Advertise, Hello, Installed, Stamped}
 use Rattle.ctrl_msg.specs.declared.message.Place.{Place}
 use Rattle.ctrl_msg.specs.declared.message.Place.TheVariants as receiver
 use Rattle.switch_table.specs.declared.tables.Tables.{Tables}
@@ -26,7 +26,7 @@ use Rattle.control_laws.specs.Named.{BodiesNameThere, IsAddressed}
 use Rattle.control_laws.proofs.Named.{bodies_named}
 use Rattle.control_laws.specs.Planned.{TablesArePlanned, VersionsArePlanned}
 use Rattle.control_laws.proofs.Planned.{tables_planned, versions_planned}
-use Rattle.control_laws.specs.Touched.{StampsSayTouched}
+use Rattle.control_laws.specs.Touched.{StampsSayTouched, stamp_to}
 use Rattle.control_laws.proofs.Touched.{stamps_touched}
 use Rattle.packet_laws.proofs.Plans.{version_planned}
 use Rattle.refinement.specs.Spelled.{AreSpelled}
@@ -80,8 +80,7 @@ module _ (setting : Setting) (journal : List Item) (is : IsSetting setting)
       ((always _ stamps_touched).behind.ends.stepped setting reached.steps)
 
   few : (n s boot version : ℕ) (touched : List WordValue)
-      → message_of journal n ≡ Some (to_switch s (Stamp boot version touched))
-      → length touched ≤ 16
+      → message_of journal n ≡ Some (stamp_to s boot version touched) → length touched ≤ 16
   few n s boot version touched sent =
       subst (λ words. length words ≤ 16)
       (sym (touches.sent n s boot version touched sent).says)
@@ -99,22 +98,10 @@ module _ (setting : Setting) (journal : List Item) (is : IsSetting setting)
         spelling = record { switch = below s named.0; suits = refl; fields = its.0 };
         short = tables_short (receiver.Switch s) boot t its.1;
       }
-  spelled n (receiver.Switch s) (OpenAt boot version) sent named = record {
-    spelling = record { switch = below s named.0; suits = refl; fields = tt };
-    short = alone_short _ refl;
-  }
   spelled n (receiver.Switch s) (Stamp boot version touched) sent named = record {
     spelling = record { switch = below s named.0; suits = refl; fields = tt };
     short = stamp_sent_short (receiver.Switch s) boot version touched
         (few n s boot version touched sent);
-  }
-  spelled n (receiver.Switch s) (Collect boot version) sent named = record {
-    spelling = record { switch = below s named.0; suits = refl; fields = tt };
-    short = alone_short _ refl;
-  }
-  spelled n (receiver.Switch s) (CacheRule version word rule action) sent named = record {
-    spelling = record { switch = below s named.0; suits = refl; fields = tt };
-    short = alone_short _ refl;
   }
   spelled n (receiver.Switch s) (Advertise told) sent named = record {
     spelling = record {
@@ -127,6 +114,10 @@ module _ (setting : Setting) (journal : List Item) (is : IsSetting setting)
   spelled n (receiver.Switch s) (Hello t boot) sent named = absurd (cc named.1)
   spelled n (receiver.Switch s) (Installed t boot version) sent named = absurd (cc named.1)
   spelled n (receiver.Switch s) (Stamped t boot version) sent named = absurd (cc named.1)
+  spelled n (receiver.Switch s) body sent named = record {
+    spelling = record { switch = below s named.0; suits = refl; fields = tt };
+    short = alone_short _ refl;
+  }
   spelled n receiver.Controller (Hello t boot) sent named = record {
     spelling = record { switch = tt; suits = refl; fields = below t named };
     short = alone_short _ refl;
