@@ -20,7 +20,7 @@ use Rattle.packet_laws.specs.Entries.{EachEnters, IsEntryOf, StepRow, gives_row,
 use Rattle.steps.specs.Limits.{max_events}
 use Rattle.steps.specs.Steps.{HasSwitch, max_number}
 use Rattle.steps.specs.declared.step.Step.{Step}
-use Rattle.steps.specs.declared.step.Step.TheVariants.{Packet, Hop, Lose, Deliver, Forget, Expire, Update, LinkDown, LinkUp, Crash, Restart, Confirm, Resend}
+use Rattle.steps.specs.declared.step.Step.TheVariants.{Packet}
 use Rattle.update_machine.proofs.CallerLemmas.{count_of_append}
 use Rattle.update_machine.specs.Causes.{HasCause, HaveCauses}
 use Rattle.update_machine.specs.Folds.{count_of}
@@ -55,18 +55,7 @@ row_follows : (files : List PolicyFile) (old new : Machine) (pending : Option He
     → Follows files (at old pending) (told_item (item.Row row step)) (at new (row_pending step))
 row_follows files old new pending row (Packet switch header) e =
     ap (λ m. at m (Some header)) e
-row_follows files old new pending row (Hop packet) e = ap (λ m. at m None) e
-row_follows files old new pending row (Lose packet) e = ap (λ m. at m None) e
-row_follows files old new pending row (Deliver message) e = ap (λ m. at m None) e
-row_follows files old new pending row (Forget message) e = ap (λ m. at m None) e
-row_follows files old new pending row (Expire switch place) e = ap (λ m. at m None) e
-row_follows files old new pending row (Update file) e = ap (λ m. at m None) e
-row_follows files old new pending row (LinkDown one two) e = ap (λ m. at m None) e
-row_follows files old new pending row (LinkUp one two) e = ap (λ m. at m None) e
-row_follows files old new pending row (Crash switch) e = ap (λ m. at m None) e
-row_follows files old new pending row (Restart switch) e = ap (λ m. at m None) e
-row_follows files old new pending row (Confirm switch) e = ap (λ m. at m None) e
-row_follows files old new pending row (Resend switch) e = ap (λ m. at m None) e
+row_follows files old new pending row step e = ap (λ m. at m None) e
 
 -- what the machine does is what the line tells; there are at most 64 versions then
 item_follows : (setting : Setting) (old new : Machine) (pending : Option Header) (first : Item)

@@ -24,7 +24,7 @@ use Rattle.journal_text.specs.Lines.{body_text, cause_text, how_text, item_line,
 use Rattle.steps.specs.Limits.{max_events}
 use Rattle.steps.specs.Steps.{HasSwitch, max_number}
 use Rattle.steps.specs.declared.step.Step.{Step}
-use Rattle.steps.specs.declared.step.Step.TheVariants.{Packet, Hop, Lose, Deliver, Forget, Expire, Update, LinkDown, LinkUp, Crash, Restart, Confirm, Resend}
+use Rattle.steps.specs.declared.step.Step.TheVariants.{Packet}
 use Rattle.update_machine.specs.Machine.{Dropped, LeftBy, Lost, Stuck}
 use Rattle.trace_audit.specs.Told.{Told, any_told, is_row_number, item_told, number_of_word, packet_row_told, pair_told, row_told, told_by, told_of, words_of}
 use Rattle.trace_audit.specs.Told as told
@@ -252,19 +252,7 @@ module _ (laws : TextLaws) (net : Net) (sound : IsNet net) where
       (decimal header.fields.dport) (proto_number_text header.fields.proto) header.fields
       (row_number_is row is.0 is.1) (name_is laws.names net sound switch is.2)
       (fields_back header is.3)
-  row_line_told row (Hop packet) is = row_told_by row (step_text net (Hop packet))
-  row_line_told row (Lose packet) is = row_told_by row (step_text net (Lose packet))
-  row_line_told row (Deliver message) is = row_told_by row (step_text net (Deliver message))
-  row_line_told row (Forget message) is = row_told_by row (step_text net (Forget message))
-  row_line_told row (Expire switch place) is =
-      row_told_by row (step_text net (Expire switch place))
-  row_line_told row (Update file) is = row_told_by row (step_text net (Update file))
-  row_line_told row (LinkDown one two) is = row_told_by row (step_text net (LinkDown one two))
-  row_line_told row (LinkUp one two) is = row_told_by row (step_text net (LinkUp one two))
-  row_line_told row (Crash switch) is = row_told_by row (step_text net (Crash switch))
-  row_line_told row (Restart switch) is = row_told_by row (step_text net (Restart switch))
-  row_line_told row (Confirm switch) is = row_told_by row (step_text net (Confirm switch))
-  row_line_told row (Resend switch) is = row_told_by row (step_text net (Resend switch))
+  row_line_told row step is = row_told_by row (step_text net step)
 
   -- ---- moves
 
