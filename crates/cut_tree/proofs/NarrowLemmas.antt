@@ -1,10 +1,10 @@
 -- Narrowing, rule by rule.
-use Rattle.std.proofs.Common.{◌≡◌, ℕ, ◌+◌, ◌<◌, ◌≤◌, ◌&&◌, eqb, Bool, true, false, sym, Some, None, List, [], ◌∷◌, length, get_or, drop, refl, ◌∙◌, ap}
+use Rattle.std.proofs.Common.{◌≡◌, ℕ, ◌+◌, ◌<◌, ◌≤◌, ◌&&◌, eqb, Bool, true, false, sym, Some, None, List, [], ◌∷◌, ◌++◌, append-nil, append_assoc, length, get_or, drop, refl, ◌∙◌, ap}
 use Rattle.std.proofs.Common.{inl, inr, arith}
 use Rattle.std.specs.Bool.{IsTrue}
 use Rattle.std.specs.Int.{bit_at}
 use Rattle.std.specs.List.{All}
-use Rattle.std.proofs.lemmas.Bool.{cases_Bool, eqb-true, eq-eqb, false_from_ne_true}
+use Rattle.std.proofs.lemmas.Bool.{cases_Bool, eqb-true, eq-eqb, ne_eqb, false_from_ne_true}
 use Rattle.std.proofs.lemmas.Bool.Decides.{nat_tests}
 use Rattle.std.proofs.lemmas.Nat.Bits.{bit_at-lt, same_from_bits}
 use Rattle.std.proofs.lemmas.List.{at_drop_all}
@@ -17,8 +17,6 @@ use Rattle.policy_rules.specs.declared.rules.Rule.{Rule}
 use Rattle.policy_rules.proofs.CallerLemmas.{at_item}
 use Rattle.cut_tree.specs.Narrow.{narrowed_rule, narrow}
 use Rattle.cut_tree.specs.Nodes.{AreNodeRules, AreWords, IsOneHeader, LiesIn}
-
--- ---- meets of words
 
 -- ---- one rule
 
@@ -93,7 +91,7 @@ covers_by_mask w r m met = by_case (covers_of w r) refl
         let covers = sym (covers_met w r m met)
         ∙ mask_covers m r inside (eqb-true m.mask r.mask same) in cc))
 
-pub narrow_last : (rules : List Rule) (index : ℕ) (rule : Rule) (region word : WordValue)
+narrow_last : (rules : List Rule) (index : ℕ) (rule : Rule) (region word : WordValue)
     → index < length rules → rule ≡ get_or rules index rule → meet_of rule.word region ≡ Some word
     → covers_of rule.word region ≡ true → narrow (drop index rules) region ≡ with_word rule
     word ∷ []
@@ -104,7 +102,7 @@ narrow_last rules index rule region word within is some covers =
     ∙ narrow_covered region rule (drop (index + 1) rules) met.0 covers
     ∙ ap (λ w. with_word rule w ∷ []) met.1
 
-pub narrow_step : (rules : List Rule) (index : ℕ) (rule : Rule) (region word : WordValue)
+narrow_step : (rules : List Rule) (index : ℕ) (rule : Rule) (region word : WordValue)
     → index < length rules → rule ≡ get_or rules index rule → meet_of rule.word region ≡ Some word
     → covers_of rule.word region ≡ false → narrow (drop index rules) region ≡ with_word rule
     word ∷ narrow (drop (index + 1) rules) region
@@ -120,6 +118,29 @@ pub narrow_end : (rules : List Rule) (index : ℕ) (region : WordValue) → leng
     → narrow (drop index rules) region ≡ []
 narrow_end rules index region past = at_drop_all (λ rs. narrow rs region) rules index past
     ∙ narrow_none region
+
+-- a loop that keeps what narrowing keeps, `whole`, has read the rules before `index`
+module _ (rules kept whole : List Rule) (index : ℕ) (region : WordValue)
+    (so_far : whole ≡ kept ++ narrow (drop index rules) region) where
+  behind_kept : (rest : List Rule) → narrow (drop index rules) region ≡ rest → whole ≡ kept ++ rest
+  behind_kept rest is = so_far ∙ ap (λ rules. kept ++ rules) is
+
+  pub keeps_all : length rules ≤ index → whole ≡ kept
+  keeps_all past = behind_kept [] (narrow_end rules index region past) ∙ append-nil kept
+
+  -- the next rule, where it meets the region
+  module _ (rule : Rule) (word : WordValue) (within : index < length rules)
+      (is : rule ≡ get_or rules index rule) (met : meet_of rule.word region ≡ Some word) where
+    pub keeps_last : word.mask ≡ region.mask → whole ≡ kept ++ with_word rule word ∷ []
+    keeps_last same = behind_kept _ (narrow_last rules index rule region word within is met
+        (covers_by_mask rule.word region word met ∙ eq-eqb _ _ same))
+
+    pub keeps_next : (word.mask ≡ region.mask → ⊥)
+        → whole ≡ (kept ++ with_word rule word ∷ []) ++ narrow (drop (index + 1) rules) region
+    keeps_next other =
+        behind_kept _ (narrow_step rules index rule region word within is met
+        (covers_by_mask rule.word region word met ∙ ne_eqb _ _ other))
+        ∙ sym (append_assoc kept (with_word rule word ∷ []) (narrow (drop (index + 1) rules) region))
 
 -- ---- what narrowed rules are
 

@@ -1,5 +1,5 @@
 ghost use Rattle.std.specs.Prelude.{ℕ, ◌≡◌, ◌≢◌, ◌+◌, ◌*◌, ◌<◌, ◌≤◌, ◌^◌, ◌↔◌, Bool, true, false, List, ◌∷◌, length, All, IsFalse, IsTrue};
-ghost use Rattle.std.specs.Int.{bit_at, from_bool};
+ghost use Rattle.std.specs.Int.{bit_at, from_bool, trailing_zeros, w128};
 ghost use Rattle.ternary.specs.Word.{WordValue};
 ghost use Rattle.ternary.specs.Meets.{admits, covers_of, fix_of};
 ghost use Rattle.policy_rules.specs.declared.rules.Rule.{Rule};
@@ -222,13 +222,16 @@ fn fixes_few(word: &Word, region: &Word) -> bool
         IsFalse (covers_of word.now (fix_of region.now bit one)) }
 {
     let fixed = word.mask() ^ region.mask();
-    if fixed == 0 {
-        true
-    } else if fixed == 1 << fixed.trailing_zeros() {
-        true
-    } else {
-        false
-    }
+    if fixed == 0 { true } else { is_one_bit(fixed) }
+}
+
+// Whether a set of bits that isn't empty has one alone, its lowest.
+#[inline(always)]
+fn is_one_bit(bits: u128) -> bool
+    requires { bits ≢ 0 }
+    ensures { IsTrue result ↔ (bits ≡ 2 ^ trailing_zeros w128 bits) }
+{
+    bits == 1 << bits.trailing_zeros()
 }
 
 // The bits whose half the word meets, where it meets the region.
@@ -249,7 +252,7 @@ fn halves_covered(word: &Word, region: &Word, one: bool) -> u128
     let fixed = word.mask() ^ region.mask();
     if fixed == 0 {
         met
-    } else if fixed == 1 << fixed.trailing_zeros() {
+    } else if is_one_bit(fixed) {
         fixed & met
     } else {
         0

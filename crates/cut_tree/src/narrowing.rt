@@ -12,7 +12,7 @@ use ternary::{Word, holds_laws};
 
 /// The rules that decide the headers of the region: in order those that meet it, up to and
 /// including the first that covers it, each for its headers there.
-#[tactic(auto, using(crate::proofs::NarrowLemmas::narrow_past, crate::proofs::NarrowLemmas::narrow_last))]
+#[tactic(auto, using(crate::proofs::NarrowLemmas::narrow_past))]
 pub fn narrow(alloc: Global, rules: &[Rule], region: &Word) -> Result<Vec<Rule>, AllocError>
     ensures { IfOk result (λ kept. kept.items ≡ narrow rules.now region.now) }
 {

@@ -1,48 +1,31 @@
-use Rattle.std.proofs.Common.{◌≡◌, ◌<◌, ◌^◌, ◌∙◌, bit_xor, arith, sym, refl}
-use Rattle.std.specs.Int.{w128, trailing_zeros}
-use Rattle.cut_tree.proofs.SideLemmas.{beyond, beyond_small, lowest_beyond, one_shifted, covered_whole, covered_one, covered_none}
+use Rattle.std.proofs.Common.{◌≡◌, ◌<◌, ◌∙◌, bit_xor, arith, sym, refl}
+use Rattle.std.proofs.lemmas.Bool.{both_ways}
+use Rattle.cut_tree.proofs.SideLemmas.{beyond, beyond_small, covered_whole, covered_one, covered_none}
 use Rattle.cut_tree.proofs.choice.halves_covered.Goals as goal
+use Rattle.cut_tree.proofs.choice.halves_covered.Goals.{After-mask-2}
 
-pub overflow_shl-fixed : goal.overflow_shl-fixed
-overflow_shl-fixed c =
-    let w = c.args.word.now in
-    let r = c.args.region.now in
-    let is : bit_xor c.mask.result c.mask-2.result ≡ beyond w r =
-    rw (c.mask.ensures.mask, c.mask-2.ensures.mask) refl in
-    lowest_beyond _ c.if-fixed-eq0.false (rw is (beyond_small w r (omega arith) (omega arith)))
+-- the bits that are compared
+fixed_is : (c : After-mask-2) → bit_xor c.mask.result c.mask-2.result
+    ≡ beyond c.args.word.now c.args.region.now
+fixed_is c = rw (c.mask.ensures.mask, c.mask-2.ensures.mask) refl
 
 pub returns-then-fixed-eq0 : goal.returns-then-fixed-eq0
 returns-then-fixed-eq0 c = λ bit free.
-    let w = c.args.word.now in
-    let r = c.args.region.now in
-    let is : bit_xor c.mask.result c.mask-2.result ≡ beyond w r =
-    rw (c.mask.ensures.mask, c.mask-2.ensures.mask) refl in
-    covered_whole w r bit c.args.one _ c.requires (sym is ∙ c.if-fixed-eq0.true)
-    (c.halves_met-met.ensures bit free.bound)
+    let is = fixed_is (goal.at.returns-then-fixed-eq0 c).After-mask-2 in
+    covered_whole c.args.word.now c.args.region.now bit c.args.one _ c.requires
+    (sym is ∙ c.if-fixed-eq0.true) (c.halves_met-met.ensures bit free.bound)
 
-pub returns-then-fixed : goal.returns-then-fixed
-returns-then-fixed c = λ bit free.
-    let w = c.args.word.now in
-    let r = c.args.region.now in
-    let is : bit_xor c.mask.result c.mask-2.result ≡ beyond w r =
-    rw (c.mask.ensures.mask, c.mask-2.ensures.mask) refl in
-    let t = trailing_zeros w128 (bit_xor c.mask.result c.mask-2.result) in
-    rw is (covered_one w r t bit c.args.one _ c.requires
-    (sym is ∙ c.if-fixed.true
-    ∙ one_shifted t (lowest_beyond _ c.if-fixed-eq0.false
-    (rw is (beyond_small w r (omega arith) (omega arith)))))
+pub returns-then-is_one_bit : goal.returns-then-is_one_bit
+returns-then-is_one_bit c = λ bit free.
+    let is = fixed_is (goal.at.returns-then-is_one_bit c).After-mask-2 in
+    rw is (covered_one c.args.word.now c.args.region.now _ bit c.args.one _ c.requires
+    (sym is ∙ c.is_one_bit.ensures.0 c.if-is_one_bit.true)
     (c.halves_met-met.ensures bit free.bound))
 
-pub returns-else-fixed : goal.returns-else-fixed
-returns-else-fixed c = λ bit free.
-    let w = c.args.word.now in
-    let r = c.args.region.now in
-    let fixed = bit_xor c.mask.result c.mask-2.result in
-    let is : fixed ≡ beyond w r = rw (c.mask.ensures.mask, c.mask-2.ensures.mask) refl in
-    let some : 0 < fixed = omega (arith, c.if-fixed-eq0.false) in
-    let many : beyond w r ≡ 2 ^ trailing_zeros w128 (beyond w r)
-    → ⊥ = rw (← is) (λ e. c.if-fixed.false
-    (e ∙ sym (one_shifted _ (lowest_beyond _ c.if-fixed-eq0.false
-    (rw is (beyond_small w r (omega arith) (omega arith))))))) in
-    covered_none w r bit c.args.one c.requires (rw (← is) some)
-    (beyond_small w r (omega arith) (omega arith)) many
+pub returns-else-is_one_bit : goal.returns-else-is_one_bit
+returns-else-is_one_bit c = λ bit free.
+    let is = fixed_is (goal.at.returns-else-is_one_bit c).After-mask-2 in
+    let some : 0 < bit_xor c.mask.result c.mask-2.result = omega (arith, c.if-fixed-eq0.false) in
+    covered_none c.args.word.now c.args.region.now bit c.args.one c.requires (rw (← is) some)
+    (beyond_small c.args.word.now c.args.region.now (omega arith) (omega arith))
+    (rw (← is) (λ e. both_ways _ c.if-is_one_bit.false (c.is_one_bit.ensures.1 e)))

@@ -1,30 +1,40 @@
-use Rattle.std.proofs.Common.{◌∷◌, bit_and, arith}
+use Rattle.std.proofs.Common.{◌∷◌, ℕ, ◌+◌, ◌≤◌, bit_and, arith}
+use Rattle.std.specs.Int.{bit_at}
 use Rattle.std.proofs.lemmas.Nat.Bits.{bit_at-lt}
 use Rattle.cut_tree.proofs.SideLemmas.{met_step}
 use Rattle.cut_tree.proofs.choice.Side.count_four.Goals as goal
+use Rattle.cut_tree.proofs.choice.Side.count_four.Goals.{After-halves_met-fourth}
 
-pub add_four-requires : goal.add_four-requires
-add_four-requires c = λ bit.
+-- what the four rules add to the count of a half
+added_few : (c : After-halves_met-fourth) (bit : ℕ) → let left = c.args.self.now.«open» in
+    bit_at (bit_and left c.halves_met-first.result) bit
+    + bit_at (bit_and left c.halves_met-second.result) bit
+    + bit_at (bit_and left c.halves_met-third.result) bit
+    + bit_at (bit_and left c.halves_met-fourth.result) bit ≤ 4
+added_few c bit =
     let left = c.args.self.now.«open» in
     omega (
       arith,
-      c.requires.room bit,
       bit_at-lt (bit_and left c.halves_met-first.result) bit,
       bit_at-lt (bit_and left c.halves_met-second.result) bit,
       bit_at-lt (bit_and left c.halves_met-third.result) bit,
       bit_at-lt (bit_and left c.halves_met-fourth.result) bit,
     )
 
+pub add_four-requires : goal.add_four-requires
+add_four-requires c = λ bit.
+    omega (
+      arith,
+      c.requires.room bit,
+      added_few (goal.at.add_four-requires c).After-halves_met-fourth bit,
+    )
+
 pub returns-clause-few : goal.returns-clause-few
 returns-clause-few c = λ bit.
-    let left = c.args.self.now.«open» in
     omega (
       arith,
       c.add_four.ensures bit,
-      bit_at-lt (bit_and left c.halves_met-first.result) bit,
-      bit_at-lt (bit_and left c.halves_met-second.result) bit,
-      bit_at-lt (bit_and left c.halves_met-third.result) bit,
-      bit_at-lt (bit_and left c.halves_met-fourth.result) bit,
+      added_few (goal.at.returns-clause-few c).After-halves_met-fourth bit,
     )
 
 pub returns-clause-expected : goal.returns-clause-expected
