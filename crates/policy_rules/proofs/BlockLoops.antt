@@ -10,23 +10,27 @@ use Rattle.five_tuple.specs.Header.{PortRangeValue}
 use Rattle.five_tuple.specs.SoundFields.{IsPortRange}
 use Rattle.five_tuple.specs.declared.port_blocks.Blocks.{Blocks}
 
+-- a loop that has passed the blocks `done`, at its next call
+pub record IsAtBlock (range : PortRangeValue) (done : List Block) (next : Option Block) : Type 0
+  where
+    pub turn : IsPortRange range → (block : Block) → next ≡ Some block
+        → (length done < 30) × IsPortBlock block
+    pub end : next ≡ None → done ≡ cover_of range
+
 module _ (range : PortRangeValue) {start from : Blocks} (same : from ≡ start)
     (blocks : blocks_left start ≡ cover_of range) where
   road : YieldsList (YieldsFirst blocks_left) (λ x. x) from (cover_of range)
   road = YieldsList-from_first (λ x. x) blocks_left (cover_of range) (ap blocks_left same ∙ blocks)
 
-  -- a loop that has passed the blocks `done`, at its next call
-  module _ (done : List Block) (now : Blocks)
-      (yielded : Yields (YieldsFirst blocks_left) from done now) (next : Option Block)
-      (after : Blocks) (step : YieldsFirst blocks_left now next after) where
-    pub block_turn : IsPortRange range → {block : Block} → next ≡ Some block
-        → (length done < 30) × IsPortBlock block
-    block_turn sound is =
-        let turn = YieldsList-turn road done now yielded next after _ is step in
+  pub at_block : (done : List Block) (now : Blocks)
+      → Yields (YieldsFirst blocks_left) from done now → (next : Option Block) (after : Blocks)
+      → YieldsFirst blocks_left now next after → IsAtBlock range done next
+  at_block done now yielded next after step = record {
+    turn = λ sound block is.
+        let turn = YieldsList-turn road done now yielded next after block is step in
         let cover = is_cover_of range sound in (
           omega (arith, turn.0, cover.few),
           subst IsPortBlock (sym turn.1) (cover.masked (length done) _ turn.0),
-        )
-
-    pub block_end : next ≡ None → done ≡ cover_of range
-    block_end is = sym (map-id done) ∙ (YieldsList-end road done now yielded next after is step).0
+        );
+    end = λ is. sym (map-id done) ∙ (YieldsList-end road done now yielded next after is step).0;
+  }

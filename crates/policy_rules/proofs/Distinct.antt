@@ -1,11 +1,12 @@
--- Rows of distinct priorities, one row further.
-use Rattle.std.proofs.Common.{ℕ, ◌≡◌, ◌∙◌, ◌+◌, ◌<◌, ◌≢◌, Bool, true, false, cond, ◌||◌, eqb, List, [], ◌∷◌, ◌++◌, length, take, get_or, refl, sym, ap, subst}
+-- Rows that are sound and of distinct priorities, one row further.
+use Rattle.std.proofs.Common.{ℕ, ◌≡◌, ◌∙◌, ◌+◌, ◌<◌, ◌≤◌, ◌^◌, ◌≢◌, Bool, true, false, cond, ◌||◌, eqb, All, List, [], ◌∷◌, ◌++◌, length, take, get_or, refl, sym, ap, subst}
 use Rattle.std.proofs.lemmas.Bool.{eq-eqb}
-use Rattle.std.proofs.lemmas.List.{get_or_default, take_more}
+use Rattle.std.proofs.lemmas.List.{get_or_default, take_all, take_more}
+use Rattle.std.proofs.lemmas.List.Elements.{All-more}
 use Rattle.std.proofs.lemmas.List.Folds.{list_any-from_Any, list_any_more}
 use Rattle.std.proofs.lemmas.List.Quantifiers.{all_pairs_push}
 use Rattle.policy_rules.specs.declared.policy.Row.{Row}
-use Rattle.policy_rules.specs.Policy.{HaveDistinctPriorities}
+use Rattle.policy_rules.specs.Policy.{HaveDistinctPriorities, IsPolicy, IsSoundRow}
 use Rattle.policy_rules.specs.Applied.{has_priority}
 
 or_from_cond : (a b : Bool) → cond a true b ≡ (b || a)
@@ -44,3 +45,25 @@ distinct_more rows i row within is distinct new =
     subst HaveDistinctPriorities
     (ap (λ x. take i rows ++ x ∷ []) is ∙ sym (take_more rows i row within))
     (distinct_push (take i rows) row distinct new)
+
+-- the first rows are as those of a policy are
+pub record AreSoFar (rows : List Row) (i : ℕ) : Type 0 where
+  pub sound : All IsSoundRow (take i rows)
+  pub distinct : HaveDistinctPriorities (take i rows)
+
+pub so_far_more : (rows : List Row) (i : ℕ) (row : Row) → i < length rows
+    → row ≡ get_or rows i row → AreSoFar rows i → IsSoundRow row
+    → has_priority (take i rows) row.priority ≡ false → AreSoFar rows (i + 1)
+so_far_more rows i row within is so_far sound new = record {
+  sound = All-more IsSoundRow rows i row within so_far.sound (subst IsSoundRow is sound);
+  distinct = distinct_more rows i row within is so_far.distinct new;
+}
+
+pub so_far_all : (rows : List Row) (i : ℕ) → length rows ≤ i → length rows < 2 ^ 32
+    → AreSoFar rows i → IsPolicy rows
+so_far_all rows i past few so_far =
+    let all = take_all i rows past in record {
+      sound = subst (All IsSoundRow) all so_far.sound;
+      distinct = subst HaveDistinctPriorities all so_far.distinct;
+      few = few;
+    }

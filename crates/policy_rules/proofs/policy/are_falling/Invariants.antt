@@ -1,11 +1,10 @@
-use Rattle.std.proofs.Common.{◌≡◌, ℕ, ◌<◌, false, take, All}
-use Rattle.policy_rules.specs.Policy.{HaveDistinctPriorities, IsSoundRow}
+use Rattle.std.proofs.Common.{◌≡◌, ℕ, ◌<◌, false, take}
 use Rattle.policy_rules.specs.Applied.{has_priority}
+use Rattle.policy_rules.proofs.Distinct.{AreSoFar}
 use Rattle.policy_rules.proofs.policy.are_falling.Given as goal
 
 abbrev pub invariant-loop-row : goal.invariant-loop-row
 invariant-loop-row l = record {
   fresh : (q : ℕ) → q < l.above → has_priority (take l.row-index l.rows) q ≡ false;
-  sound : All IsSoundRow (take l.row-index l.rows);
-  distinct : HaveDistinctPriorities (take l.row-index l.rows);
+  so_far : AreSoFar l.rows l.row-index;
 }

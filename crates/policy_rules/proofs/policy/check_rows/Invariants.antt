@@ -1,13 +1,12 @@
-use Rattle.std.proofs.Common.{◌≡◌, ℕ, nat_eq, take, All}
+use Rattle.std.proofs.Common.{◌≡◌, ℕ, nat_eq, take}
 use Rattle.std.specs.HashSet.{contains}
-use Rattle.policy_rules.specs.Policy.{HaveDistinctPriorities, IsSoundRow}
 use Rattle.policy_rules.specs.Applied.{has_priority}
+use Rattle.policy_rules.proofs.Distinct.{AreSoFar}
 use Rattle.policy_rules.proofs.policy.check_rows.Given as goal
 
 abbrev pub invariant-loop-row : goal.invariant-loop-row
 invariant-loop-row l = record {
   counts : l.number ≡ l.row-index;
   seen : (q : ℕ) → contains nat_eq l.seen q ≡ has_priority (take l.row-index l.rows) q;
-  sound : All IsSoundRow (take l.row-index l.rows);
-  distinct : HaveDistinctPriorities (take l.row-index l.rows);
+  so_far : AreSoFar l.rows l.row-index;
 }

@@ -5,9 +5,16 @@ use Rattle.five_tuple.proofs.CallerLemmas.{is_cover_of}
 use Rattle.five_tuple.specs.Cover.{Block, cover_of}
 use Rattle.policy_rules.specs.Words.{word_of_row}
 use Rattle.policy_rules.specs.RuleList.{ranked_from, with_hit}
-use Rattle.policy_rules.proofs.BlockLoops.{block_turn, block_end}
+use Rattle.policy_rules.proofs.BlockLoops.{IsAtBlock, at_block}
 use Rattle.policy_rules.proofs.Ranks.{ranked_more, length_ranked, few_pairs}
 use Rattle.policy_rules.proofs.rule_list.push_row.Goals as goal
+use Rattle.policy_rules.proofs.rule_list.push_row.Goals.{After-next}
+
+-- the loop, at its next block
+here : (c : After-next) → IsAtBlock c.args.row.now.sport c.loop-source.yielded c.next.result
+here c = at_block c.args.row.now.sport c.into_iter-source-iterator.ensures.into_iter_gives
+    c.blocks-source-items.ensures.blocks c.loop-source.yielded _ c.loop-source.yielded_by c.next.result
+    c.next.new.self c.next.ensures.steps
 
 pub loop-source-init : goal.loop-source-init
 unfolding ranked_from
@@ -16,19 +23,16 @@ loop-source-init c = sym (append-nil _)
 pub push_words-requires-clause-few : goal.push_words-requires-clause-few
 push_words-requires-clause-few c =
     let row = c.args.row.now in
-    let done = c.loop-source.yielded in
-    let turn = block_turn row.sport c.into_iter-source-iterator.ensures.into_iter_gives
-    c.blocks-source-items.ensures.blocks done _ c.loop-source.yielded_by c.next.result c.next.new.self c.next.ensures.steps
-    c.requires.row.sport c.in-Some.is in
-    let pairs = few_pairs row (cover_of row.dport) done
+    let turn = (here (goal.at.push_words-requires-clause-few c).After-next).turn c.requires.row.sport _
+    c.in-Some.is in
+    let pairs = few_pairs row (cover_of row.dport) c.loop-source.yielded
     (is_cover_of row.dport c.requires.row.dport).few (omega (arith, turn.0)) in
     omega (arith, pairs, length_ranked _ _ _ c.loop-source.invariant)
 
 pub push_words-requires-clause-source : goal.push_words-requires-clause-source
 push_words-requires-clause-source c =
-    (block_turn c.args.row.now.sport c.into_iter-source-iterator.ensures.into_iter_gives
-    c.blocks-source-items.ensures.blocks c.loop-source.yielded _ c.loop-source.yielded_by
-    c.next.result c.next.new.self c.next.ensures.steps c.requires.row.sport c.in-Some.is).1
+    ((here (goal.at.push_words-requires-clause-source c).After-next).turn c.requires.row.sport _
+    c.in-Some.is).1
 
 pub loop-source-preserved : goal.loop-source-preserved
 loop-source-preserved c =
@@ -42,11 +46,7 @@ loop-source-preserved c =
 pub returns : goal.returns
 returns c =
     let row = c.args.row.now in
-    let done = c.loop-source.yielded in
-    let f = λ (source : Block). map (word_of_row row source) (cover_of row.dport) in
-    let all = block_end row.sport c.into_iter-source-iterator.ensures.into_iter_gives
-    c.blocks-source-items.ensures.blocks done _ c.loop-source.yielded_by c.next.result c.next.new.self c.next.ensures.steps
-    c.in-None.is in
     c.loop-source.invariant ∙ ap
     (λ sources. c.args.rules.now.items ++ ranked_from (length c.args.rules.now.items)
-    (with_hit row (flat_map f sources))) all
+    (with_hit row (flat_map (λ source. map (word_of_row row source) (cover_of row.dport)) sources)))
+    ((here (goal.at.returns c).After-next).end c.in-None.is)

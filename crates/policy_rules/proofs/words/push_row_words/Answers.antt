@@ -3,17 +3,23 @@ use Rattle.std.specs.List.{flat_map}
 use Rattle.std.proofs.lemmas.List.{flat_map_more}
 use Rattle.five_tuple.specs.Cover.{Block, cover_of}
 use Rattle.policy_rules.specs.Words.{word_of_row}
-use Rattle.policy_rules.proofs.BlockLoops.{block_turn, block_end}
+use Rattle.policy_rules.proofs.BlockLoops.{IsAtBlock, at_block}
 use Rattle.policy_rules.proofs.words.push_row_words.Goals as goal
+use Rattle.policy_rules.proofs.words.push_row_words.Goals.{After-next}
+
+-- the loop, at its next block
+here : (c : After-next) → IsAtBlock c.args.row.now.sport c.loop-source.yielded c.next.result
+here c = at_block c.args.row.now.sport c.into_iter-source-iterator.ensures.into_iter_gives
+    c.blocks-source-items.ensures.blocks c.loop-source.yielded _ c.loop-source.yielded_by c.next.result
+    c.next.new.self c.next.ensures.steps
 
 pub loop-source-init : goal.loop-source-init
 loop-source-init c = sym (append-nil _)
 
 pub push_source_words-requires-clause-source : goal.push_source_words-requires-clause-source
 push_source_words-requires-clause-source c =
-    (block_turn c.args.row.now.sport c.into_iter-source-iterator.ensures.into_iter_gives
-    c.blocks-source-items.ensures.blocks c.loop-source.yielded _ c.loop-source.yielded_by
-    c.next.result c.next.new.self c.next.ensures.steps c.requires.sport c.in-Some.is).1
+    ((here (goal.at.push_source_words-requires-clause-source c).After-next).turn c.requires.sport _
+    c.in-Some.is).1
 
 pub loop-source-preserved : goal.loop-source-preserved
 loop-source-preserved c =
@@ -27,10 +33,7 @@ loop-source-preserved c =
 pub returns : goal.returns
 returns c =
     let row = c.args.row.now in
-    let done = c.loop-source.yielded in
-    let f = λ (source : Block). map (word_of_row row source) (cover_of row.dport) in
-    let all = block_end row.sport c.into_iter-source-iterator.ensures.into_iter_gives
-    c.blocks-source-items.ensures.blocks done _ c.loop-source.yielded_by c.next.result c.next.new.self c.next.ensures.steps
-    c.in-None.is in
     c.loop-source.invariant ∙ ap
-    (λ sources. c.args.words.now.items ++ flat_map f sources) all
+    (λ sources. c.args.words.now.items
+    ++ flat_map (λ source. map (word_of_row row source) (cover_of row.dport)) sources)
+    ((here (goal.at.returns c).After-next).end c.in-None.is)

@@ -1,17 +1,23 @@
 use Rattle.std.proofs.Common.{◌∙◌, ◌++◌, ◌∷◌, ap, sym, [], append-nil, append_assoc, map}
 use Rattle.std.proofs.lemmas.List.{map-append}
 use Rattle.policy_rules.specs.Words.{word_of_row}
-use Rattle.policy_rules.proofs.BlockLoops.{block_turn, block_end}
+use Rattle.policy_rules.proofs.BlockLoops.{IsAtBlock, at_block}
 use Rattle.policy_rules.proofs.words.push_source_words.Goals as goal
+use Rattle.policy_rules.proofs.words.push_source_words.Goals.{After-next}
+
+-- the loop, at its next block
+here : (c : After-next) → IsAtBlock c.args.row.now.dport c.loop-destination.yielded c.next.result
+here c = at_block c.args.row.now.dport c.into_iter-destination-iterator.ensures.into_iter_gives
+    c.blocks-destination-items.ensures.blocks c.loop-destination.yielded _ c.loop-destination.yielded_by c.next.result
+    c.next.new.self c.next.ensures.steps
 
 pub loop-destination-init : goal.loop-destination-init
 loop-destination-init c = sym (append-nil _)
 
 pub word_of_row-requires-clause-destination : goal.word_of_row-requires-clause-destination
 word_of_row-requires-clause-destination c =
-    (block_turn c.args.row.now.dport c.into_iter-destination-iterator.ensures.into_iter_gives
-    c.blocks-destination-items.ensures.blocks c.loop-destination.yielded _
-    c.loop-destination.yielded_by c.next.result c.next.new.self c.next.ensures.steps c.requires.row.dport c.in-Some.is).1
+    ((here (goal.at.word_of_row-requires-clause-destination c).After-next).turn c.requires.row.dport _
+    c.in-Some.is).1
 
 pub loop-destination-preserved : goal.loop-destination-preserved
 loop-destination-preserved c =
@@ -27,10 +33,6 @@ loop-destination-preserved c =
 
 pub returns : goal.returns
 returns c =
-    let row = c.args.row.now in
-    let done = c.loop-destination.yielded in
-    let all = block_end row.dport c.into_iter-destination-iterator.ensures.into_iter_gives
-    c.blocks-destination-items.ensures.blocks done _ c.loop-destination.yielded_by
-    c.next.result c.next.new.self c.next.ensures.steps c.in-None.is in
     c.loop-destination.invariant
-    ∙ ap (λ ports. c.args.words.now.items ++ map (word_of_row row c.args.source) ports) all
+    ∙ ap (λ ports. c.args.words.now.items ++ map (word_of_row c.args.row.now c.args.source) ports)
+    ((here (goal.at.returns c).After-next).end c.in-None.is)
