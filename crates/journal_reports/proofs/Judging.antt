@@ -16,7 +16,7 @@ use Rattle.convergence_laws.proofs.Lists.{all_in, each_of_in}
 use Rattle.journal_reports.specs.declared.traffic.Traffic.{Traffic}
 use Rattle.journal_reports.specs.Judging.{concerned_switch, has_mark, is_missed, is_named, status_in}
 use Rattle.journal_reports.specs.Traffic.{AreTraffic, ConcernsOne, IsAfter, IsTraffic}
-use Rattle.journal_reports.proofs.Reading.{mark_first, none_delivered, not_received, received_first, traffic_first}
+use Rattle.journal_reports.proofs.Reading.{IsReadNext, mark_first, none_delivered, not_received, received_first, traffic_first}
 
 -- ---- switches
 
@@ -115,45 +115,50 @@ marks_before items place from n next marks now at there is was step =
     (was ∙ ap (λ k. was_delivered (drop k items) n) at) step
     ∙ ap (λ js. was_delivered js n) (sym (item_before items place next there is))
 
-pub rows_before : (items : List Item) (place from : ℕ) (next : Item) (marks : List Bool)
+pub read_next : (items : List Item) (place from : ℕ) (next : Item) (marks : List Bool)
     (rows now : List Traffic) (answer : Bool)
     → from ≡ place + 1 → place < length items → next ≡ get_or items place next
-    → ((n : ℕ) → has_mark marks n ≡ was_delivered (drop place items) n)
-    → AreTraffic items (drop from items) rows → length now ≡ length rows
-    → ((s : ℕ) (d : Traffic) → s < length rows → is_named s (concerned_switch next) ≡ true
-    → IsAfter marks next (get_or rows s d) (get_or now s d) answer)
-    → ((s : ℕ) (d : Traffic) → is_named s (concerned_switch next) ≡ false
-    → get_or now s d ≡ get_or rows s d)
-    → AreTraffic items (drop place items) now
-rows_before items place from next marks rows now answer at there is right was count one others =
-    subst (λ js. AreTraffic items js now) (sym first)
-    (traffic_first items (drop (place + 1) items) next marks rows now answer
-    (λ n. right n ∙ ap (λ js. was_delivered js n) first)
-    (subst (λ k. AreTraffic items (drop k items) rows) at was) count one others)
-  where
-    first : drop place items ≡ next ∷ drop (place + 1) items
-    first = item_before items place next there is
-
-pub received_before : (setting : Setting) (items : List Item) (place from : ℕ) (next : Item)
-    (marks : List Bool) (rows now : List Traffic) (answer : Bool)
-    → from ≡ place + 1 → place < length items → next ≡ get_or items place next
-    → length setting.net.switches ≡ length rows
     → ((n : ℕ) → has_mark marks n ≡ was_delivered (drop place items) n)
     → AreTraffic items (drop from items) rows
     → ((s : ℕ) (d : Traffic) → s < length rows → is_named s (concerned_switch next) ≡ true
     → IsAfter marks next (get_or rows s d) (get_or now s d) answer)
-    → IsTrue answer → AreReceived setting items (drop from items)
-    → AreReceived setting items (drop place items)
-received_before setting items place from next marks rows now answer at there is count right was one
-    met received =
-    subst (AreReceived setting items) (sym first)
-    (received_first setting items (drop (place + 1) items) next marks rows now answer count
-    (λ n. right n ∙ ap (λ js. was_delivered js n) first)
-    (subst (λ k. AreTraffic items (drop k items) rows) at was) one met
-    (subst (λ k. AreReceived setting items (drop k items)) at received))
-  where
-    first : drop place items ≡ next ∷ drop (place + 1) items
-    first = item_before items place next there is
+    → IsReadNext items (drop (place + 1) items) next marks rows now answer
+read_next items place from next marks rows now answer at there is right was one = record {
+  right = λ n. right n ∙ ap (λ js. was_delivered js n) (item_before items place next there is);
+  was = subst (λ k. AreTraffic items (drop k items) rows) at was;
+  one = one;
+}
+
+module _ (items : List Item) (place : ℕ) (next : Item) (marks : List Bool)
+    (rows now : List Traffic) (answer : Bool) (there : place < length items)
+    (is : next ≡ get_or items place next)
+    (read : IsReadNext items (drop (place + 1) items) next marks rows now answer) where
+  first : drop place items ≡ next ∷ drop (place + 1) items
+  first = item_before items place next there is
+
+  pub rows_before : length now ≡ length rows
+      → ((s : ℕ) (d : Traffic) → is_named s (concerned_switch next) ≡ false
+      → get_or now s d ≡ get_or rows s d)
+      → AreTraffic items (drop place items) now
+  rows_before count others =
+      subst (λ js. AreTraffic items js now) (sym first)
+      (traffic_first items (drop (place + 1) items) next marks rows now answer read count others)
+
+  module _ (setting : Setting) (count : length setting.net.switches ≡ length rows) where
+    pub received_before : (from : ℕ) → from ≡ place + 1 → IsTrue answer
+        → AreReceived setting items (drop from items) → AreReceived setting items (drop place items)
+    received_before from at met received =
+        subst (AreReceived setting items) (sym first)
+        (received_first setting items (drop (place + 1) items) next marks rows now answer count read
+        met (subst (λ k. AreReceived setting items (drop k items)) at received))
+
+    -- a message that matters wasn't received
+    pub waiting_answer : ConcernsOne rows next → IsFalse answer → IsQuiet setting items → ⊥
+    waiting_answer concerns unmet quiet =
+        not_received setting items (drop (place + 1) items) next marks rows now answer count read
+        concerns unmet
+        (subst (AreReceived setting items) first
+        (received_tail setting items items place quiet.messages))
 
 -- ---- before any item is read
 
@@ -186,23 +191,3 @@ missed_answer setting journal rows are count some quiet =
   where
     clash : false ≡ true → ⊥
     clash e = absurd cc
-
--- a message that matters wasn't received
-pub waiting_answer : (setting : Setting) (items : List Item) (place from : ℕ) (next : Item)
-    (marks : List Bool) (rows now : List Traffic) (answer : Bool)
-    → from ≡ place + 1 → place < length items → next ≡ get_or items place next
-    → length setting.net.switches ≡ length rows
-    → ((n : ℕ) → has_mark marks n ≡ was_delivered (drop place items) n)
-    → AreTraffic items (drop from items) rows
-    → ((s : ℕ) (d : Traffic) → s < length rows → is_named s (concerned_switch next) ≡ true
-    → IsAfter marks next (get_or rows s d) (get_or now s d) answer)
-    → ConcernsOne rows next → IsFalse answer → IsQuiet setting items → ⊥
-waiting_answer setting items place from next marks rows now answer at there is count right was one
-    concerns unmet quiet =
-    not_received setting items (drop (place + 1) items) next marks rows now answer count
-    (λ n. right n ∙ ap (λ js. was_delivered js n) first)
-    (subst (λ k. AreTraffic items (drop k items) rows) at was) one concerns unmet
-    (subst (AreReceived setting items) first (received_tail setting items items place quiet.messages))
-  where
-    first : drop place items ≡ next ∷ drop (place + 1) items
-    first = item_before items place next there is

@@ -234,17 +234,24 @@ traffic_stays journal after s next row other is = record {
     by_item next other message matter =
         is.kept message (matters_less journal next after s message matter)
 
+-- one item before those that were read is read, with the marks of what was delivered: of the
+-- switches that it concerns the new rows are known, and what is answered
+pub record IsReadNext (journal after : List Item) (next : Item) (marks : List Bool)
+    (rows now : List Traffic) (answer : Bool) : Type 0 where
+  pub right : (n : ℕ) → has_mark marks n ≡ was_delivered (next ∷ after) n
+  pub was : AreTraffic journal after rows
+  pub one : (s : ℕ) (d : Traffic) → s < length rows
+      → is_named s (concerned_switch next) ≡ true
+      → IsAfter marks next (get_or rows s d) (get_or now s d) answer
+
 -- so it is with all switches
 pub traffic_first : (journal after : List Item) (next : Item) (marks : List Bool)
     (rows now : List Traffic) (answer : Bool)
-    → ((n : ℕ) → has_mark marks n ≡ was_delivered (next ∷ after) n)
-    → AreTraffic journal after rows → length now ≡ length rows
-    → ((s : ℕ) (d : Traffic) → s < length rows → is_named s (concerned_switch next) ≡ true
-    → IsAfter marks next (get_or rows s d) (get_or now s d) answer)
+    → IsReadNext journal after next marks rows now answer → length now ≡ length rows
     → ((s : ℕ) (d : Traffic) → is_named s (concerned_switch next) ≡ false
     → get_or now s d ≡ get_or rows s d)
     → AreTraffic journal (next ∷ after) now
-traffic_first journal after next marks rows now answer right was count one others s d there =
+traffic_first journal after next marks rows now answer read count others s d there =
     by_test (is_named s (concerned_switch next)) refl
   where
     here : s < length rows
@@ -253,11 +260,11 @@ traffic_first journal after next marks rows now answer right was count one other
     by_test : (b : Bool) → is_named s (concerned_switch next) ≡ b
         → IsTraffic journal (next ∷ after) s (get_or now s d)
     by_test true e =
-        traffic_on journal after s next marks (get_or rows s d) (get_or now s d) answer right
-        (was s d here) (one s d here e)
+        traffic_on journal after s next marks (get_or rows s d) (get_or now s d) answer
+        read.right (read.was s d here) (read.one s d here e)
     by_test false e =
         subst (IsTraffic journal (next ∷ after) s) (sym (others s d e))
-        (traffic_stays journal after s next (get_or rows s d) e (was s d here))
+        (traffic_stays journal after s next (get_or rows s d) e (read.was s d here))
 
 -- ---- what was received
 
@@ -270,14 +277,11 @@ some_row (row ∷ rows) s there = row
 pub received_first : (setting : Setting) (journal after : List Item) (next : Item)
     (marks : List Bool) (rows now : List Traffic) (answer : Bool)
     → length setting.net.switches ≡ length rows
-    → ((n : ℕ) → has_mark marks n ≡ was_delivered (next ∷ after) n)
-    → AreTraffic journal after rows
-    → ((s : ℕ) (d : Traffic) → s < length rows → is_named s (concerned_switch next) ≡ true
-    → IsAfter marks next (get_or rows s d) (get_or now s d) answer)
+    → IsReadNext journal after next marks rows now answer
     → IsTrue answer → AreReceived setting journal after
     → AreReceived setting journal (next ∷ after)
-received_first setting journal after (item.Sent number message) marks rows now answer count right
-    was one met received = (
+received_first setting journal after (item.Sent number message) marks rows now answer count read
+    met received = (
       λ s there matter.
           let below : s < length rows = omega (arith, there, count) in
           each s below (some_row rows s below) matter,
@@ -288,28 +292,23 @@ received_first setting journal after (item.Sent number message) marks rows now a
         → IsReceived number message after
     each s there d matter =
         let row : Traffic = get_or rows s d in
-        let is : IsTraffic journal after s row = was s d there in
-        elim ((one s d there (named journal after s message matter)).met.0 met
+        let is : IsTraffic journal after s row = read.was s d there in
+        elim ((read.one s d there (named journal after s message matter)).met.0 met
         (in_row journal after s row message is ∙ matter)) [
           | inl delivered ↦
-              inl (sym (sent_mark marks number message after right) ∙ delivered)
+              inl (sym (sent_mark marks number message after read.right) ∙ delivered)
           | inr kept ↦ inr ((is.kept message matter).0 kept)
         ]
-received_first setting journal after next marks rows now answer count right was one met received =
-    received
+received_first setting journal after next marks rows now answer count read met received = received
 
 -- the answer no
 pub not_received : (setting : Setting) (journal after : List Item) (next : Item)
     (marks : List Bool) (rows now : List Traffic) (answer : Bool)
     → length setting.net.switches ≡ length rows
-    → ((n : ℕ) → has_mark marks n ≡ was_delivered (next ∷ after) n)
-    → AreTraffic journal after rows
-    → ((s : ℕ) (d : Traffic) → s < length rows → is_named s (concerned_switch next) ≡ true
-    → IsAfter marks next (get_or rows s d) (get_or now s d) answer)
+    → IsReadNext journal after next marks rows now answer
     → ConcernsOne rows next → IsFalse answer → AreReceived setting journal (next ∷ after) → ⊥
-not_received setting journal after next marks rows now answer count right was one concerns unmet
-    received =
-    clash (sym unmet ∙ step.met.1 (met next right received))
+not_received setting journal after next marks rows now answer count read concerns unmet received =
+    clash (sym unmet ∙ step.met.1 (met next read.right received))
   where
     s : ℕ
     s = concerns.switch
@@ -318,10 +317,10 @@ not_received setting journal after next marks rows now answer count right was on
     row = get_or rows s (some_row rows s concerns.there)
 
     is : IsTraffic journal after s row
-    is = was s (some_row rows s concerns.there) concerns.there
+    is = read.was s (some_row rows s concerns.there) concerns.there
 
     step : IsAfter marks next row (get_or now s (some_row rows s concerns.there)) answer
-    step = one s (some_row rows s concerns.there) concerns.there concerns.concerned
+    step = read.one s (some_row rows s concerns.there) concerns.there concerns.concerned
 
     clash : false ≡ true → ⊥
     clash e = absurd cc

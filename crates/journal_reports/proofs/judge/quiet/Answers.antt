@@ -7,7 +7,7 @@ use Rattle.update_machine.specs.Quiet.{IsQuiet}
 use Rattle.journal_reports.specs.Judging.{has_mark, is_missed}
 use Rattle.journal_reports.specs.Traffic.{AreTraffic}
 use Rattle.journal_reports.specs.declared.traffic.Traffic.{Traffic}
-use Rattle.journal_reports.proofs.Judging.{marks_at_end, marks_before, missed_answer, received_at_end, received_before, rows_at_end, rows_before, switches_found, waiting_answer}
+use Rattle.journal_reports.proofs.Judging.{marks_at_end, marks_before, missed_answer, read_next, received_at_end, received_before, rows_at_end, rows_before, switches_found, waiting_answer}
 use Rattle.journal_reports.proofs.judge.quiet.Goals as goal
 
 pub returns-then-not-none_missed : goal.returns-then-not-none_missed
@@ -57,14 +57,16 @@ returns-then-not-branch c = λ setting net.
     ∙ marks_before items place from n next c.loop-place.delivered.items
     c.mark_item.new.marks.items (omega arith) (omega arith) c.index-items-place.is
     (c.loop-place.invariant.marks n) (c.in_ok-mark_item.ensures n) in
+    let now = c.take_item.new.rows.items in
+    let read = read_next items place from next marks rows now c.in_ok-take_item.field-0 (omega arith)
+    (omega arith) c.index-items-place.is right c.loop-place.invariant.rows
+    c.in_ok-take_item.ensures.concerned in
     let count = ap (λ (of : Net). length of.switches) net
     ∙ sym (ap (λ (rows : List SwitchRow). length rows) c.items.ensures)
     ∙ sym c.loop-place.invariant.count in (
       λ answer. absurd (true≢false (sym answer)),
-      λ quiet. absurd (waiting_answer setting items place from next marks rows
-          c.take_item.new.rows.items c.in_ok-take_item.field-0 (omega arith) (omega arith)
-          c.index-items-place.is count right c.loop-place.invariant.rows
-          c.in_ok-take_item.ensures.concerned
+      λ quiet. absurd (waiting_answer items place next marks rows now c.in_ok-take_item.field-0
+          (omega arith) c.index-items-place.is read setting count
           (c.in_ok-take_item.ensures.some c.if-not-branch.true) c.if-not-branch.true
           (subst (IsQuiet setting) (sym c.items-items.ensures) quiet)),
     )
@@ -85,18 +87,19 @@ loop-place-preserved c =
     (c.loop-place.invariant.marks n) (c.in_ok-mark_item.ensures n) in
     let right : (n : ℕ) → has_mark marks n ≡ was_delivered (drop place items) n = λ n.
     ap (λ (marks : List Bool). has_mark marks n) c.deref-in-loop-place.ensures.value ∙ own n in
+    let read = read_next items place from next marks rows now c.in_ok-take_item.field-0 (omega arith)
+    (omega arith) c.index-items-place.is right c.loop-place.invariant.rows
+    c.in_ok-take_item.ensures.concerned in
     record {
       within = omega arith;
       marks = own;
       count = c.in_ok-take_item.ensures.count ∙ c.loop-place.invariant.count;
-      rows = rows_before items place from next marks rows now c.in_ok-take_item.field-0
-          (omega arith) (omega arith) c.index-items-place.is right c.loop-place.invariant.rows
-          c.in_ok-take_item.ensures.count c.in_ok-take_item.ensures.concerned
+      rows = rows_before items place next marks rows now c.in_ok-take_item.field-0 (omega arith)
+          c.index-items-place.is read c.in_ok-take_item.ensures.count
           c.in_ok-take_item.ensures.others;
-      received = λ setting count. received_before setting items place from next marks rows now
-          c.in_ok-take_item.field-0 (omega arith) (omega arith) c.index-items-place.is
-          (count ∙ sym c.loop-place.invariant.count) right c.loop-place.invariant.rows
-          c.in_ok-take_item.ensures.concerned c.if-not-branch.false
+      received = λ setting count. received_before items place next marks rows now
+          c.in_ok-take_item.field-0 (omega arith) c.index-items-place.is read setting
+          (count ∙ sym c.loop-place.invariant.count) from (omega arith) c.if-not-branch.false
           (c.loop-place.invariant.received setting count);
       switches = c.loop-place.invariant.switches;
     }
