@@ -1,5 +1,5 @@
 -- Moves of the machine that a line may tell, and such that it may not.
-use Rattle.std.proofs.Common.{◌≡◌, ℕ, Option, Some, None, option_map, true, false, is_some, List, length, ltb, get_or, slice_get, refl, sym, ap, subst}
+use Rattle.std.proofs.Common.{◌≡◌, ℕ, Option, Some, None, option_map, true, false, is_some, List, length, ltb, get_or, slice_get, refl, sym, ap, subst, ◌∙◌}
 use Rattle.std.proofs.lemmas.Bool.{ltb-true}
 use Rattle.std.proofs.lemmas.Option.{slice_get_read}
 use Rattle.policy_rules.specs.Policy.{IsFirstMatch}
@@ -7,7 +7,13 @@ use Rattle.policy_rules.specs.declared.policy.Hit.{Hit}
 use Rattle.policy_rules.specs.declared.policy.Row.{Row}
 use Rattle.update_machine.specs.Machine.{Decides, Machine, Packet, submitted_policy}
 use Rattle.trace_audit.specs.Reading.{IsPrinted}
+use Rattle.trace_audit.specs.Seen.{packets_seen, with_one}
+use Rattle.trace_audit.specs.declared.auditor.Auditor.{Auditor}
 use Rattle.trace_audit.proofs.Readings.{some_same}
+
+-- what is known, but for the packets
+abbrev with_packets : Auditor → (ℕ → Option Packet) → Machine
+with_packets a packets = record { policies = a.policies.items; mark = a.mark; packets = packets }
 
 -- a number of which nothing is known
 pub none_seen : {A B : Type 0} (seen : A → B) (found : Option A) (there : Option B)
@@ -42,3 +48,10 @@ not_decided old new number version rule action packet rows hit g there submitted
     let first = subst (λ x. IsFirstMatch x packet.header g) policies
     (subst (λ x. IsFirstMatch d.policy x.header g) packets d.first_match) in
     bad (subst (IsPrinted rule action) (only g first) printed)
+
+-- a packet is put, and nothing else changes
+pub put_after : (a : Auditor) (number : ℕ) (after : ℕ → Option Packet) (put packet : Packet)
+    → put ≡ packet → after ≡ with_one (packets_seen a.packets) number put
+    → with_packets a after ≡ with_packets a (with_one (packets_seen a.packets) number packet)
+put_after a number after put packet is done = ap (with_packets a)
+    (done ∙ ap (with_one (packets_seen a.packets) number) is)

@@ -1,6 +1,6 @@
 -- What a line of a printed trace tells, by its first words. A line is cut at each single
 -- blank, so that two blanks make an empty word. A number is decimal, without sign or leading zero.
-use Rattle.std.specs.Prelude.{ℕ, ◌≡◌, ◌==◌, ◌&&◌, ◌||◌, nat_le, not, if◌then◌else◌, Bool, false, Option, Some, None, option_map, List, [], ◌∷◌, take, drop, codes, bytes_eq}
+use Rattle.std.specs.Prelude.{ℕ, ◌≡◌, ◌==◌, ◌&&◌, ◌||◌, nat_le, not, if◌then◌else◌, Bool, false, MatchOption, Option, Some, None, option_map, List, [], ◌∷◌, take, drop, codes, bytes_eq}
 use Rattle.std.specs.List.{list_all, list_any}
 use Rattle.std.specs.Option.{option_map_or}
 use Rattle.std.specs.Borrow.{Bor}
@@ -25,6 +25,12 @@ pub data Told : Type 0 where
   Nothing : Told
 
 -- ---- words
+
+-- what stands before and after the first such byte of the text; or it has none
+abbrev pub IsCut : ℕ → List ℕ → Option (Bor (List ℕ) × Bor (List ℕ)) → Type 0
+IsCut byte text cut = MatchOption cut
+    (parts_round byte text ≡ text ∷ [])
+    (λ r. parts_round byte text ≡ r.0.now ∷ parts_round byte r.1.now)
 
 abbrev pub words_of : List ℕ → List (List ℕ)
 words_of line = parts_round 32 line

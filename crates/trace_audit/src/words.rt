@@ -1,6 +1,5 @@
-ghost use Rattle.std.specs.Prelude.{◌≡◌, ◌∷◌, ◌==◌, ◌||◌, [], IfNone, IfSome, IsTrue, List, MatchBool, MatchOption, bytes_eq, position, ℕ};
-ghost use Rattle.five_tuple.specs.Texts.{parts_round};
-ghost use Rattle.trace_audit.specs.Told.{TakesNext, is_word, words_of};
+ghost use Rattle.std.specs.Prelude.{◌≡◌, ◌∷◌, ◌==◌, ◌||◌, [], IfNone, IfSome, IsTrue, List, MatchBool, bytes_eq, position, ℕ};
+ghost use Rattle.trace_audit.specs.Told.{IsCut, TakesNext, is_word, words_of};
 
 use memchr::memchr;
 use std::marker::Model;
@@ -12,16 +11,6 @@ fn place_of(text: &[u8], byte: u8) -> Option<usize>
     memchr(byte, text)
 }
 
-/// What stands before and after the first such byte; `None` where there is none.
-pub(crate) fn cut(text: &[u8], byte: u8) -> Option<(&[u8], &[u8])>
-    ensures { MatchOption result
-        (parts_round byte text.now ≡ text.now ∷ [])
-        (λ r. parts_round byte text.now ≡ r.0.now ∷ parts_round byte r.1.now) }
-{
-    let at = place_of(text, byte)?;
-    Some((&text[..at], &text[at + 1..]))
-}
-
 // The place of the first such byte, where it is likely to be near.
 #[inline(always)]
 fn near_place_of(text: &[u8], byte: u8) -> Option<usize>
@@ -30,15 +19,31 @@ fn near_place_of(text: &[u8], byte: u8) -> Option<usize>
     text.iter().position(|b| *b == byte)
 }
 
-/// The same as `cut`, where the byte is likely to be near.
+// What stands before and after this place, that of the first such byte; `None` where there is none.
+#[inline(always)]
+fn cut_at(text: &[u8], at: Option<usize>) -> Option<(&[u8], &[u8])>
+    requires { (byte : ℕ) × (at ≡ position (λ b. b == byte) text.now) }
+    ensures { (byte : ℕ) → at ≡ position (λ b. b == byte) text.now → IsCut byte text.now result }
+{
+    match at {
+        Some(place) => Some((&text[..place], &text[place + 1..])),
+        None => None,
+    }
+}
+
+/// What stands before and after the first such byte; `None` where there is none.
+pub(crate) fn cut(text: &[u8], byte: u8) -> Option<(&[u8], &[u8])>
+    ensures { IsCut byte text.now result }
+{
+    cut_at(text, place_of(text, byte))
+}
+
+/// The same, where the byte is likely to be near.
 #[inline(always)]
 pub(crate) fn cut_near(text: &[u8], byte: u8) -> Option<(&[u8], &[u8])>
-    ensures { MatchOption result
-        (parts_round byte text.now ≡ text.now ∷ [])
-        (λ r. parts_round byte text.now ≡ r.0.now ∷ parts_round byte r.1.now) }
+    ensures { IsCut byte text.now result }
 {
-    let at = near_place_of(text, byte)?;
-    Some((&text[..at], &text[at + 1..]))
+    cut_at(text, near_place_of(text, byte))
 }
 
 // What stands behind the word and a blank, where the text begins with them.

@@ -1,10 +1,9 @@
-use Rattle.std.proofs.Common.{ℕ, ◌∙◌, Option, refl, sym, ap, subst, rules, arith}
+use Rattle.std.proofs.Common.{◌∙◌, refl, sym, subst, rules, arith}
 use Rattle.policy_rules.specs.Policy.{IsFirstMatch}
 use Rattle.policy_rules.specs.declared.policy.Hit.{Hit}
 use Rattle.policy_rules.proofs.CallerLemmas.{none_from_not_some}
-use Rattle.update_machine.specs.Machine.{Packet}
-use Rattle.trace_audit.specs.Seen.{packet_seen, packets_seen, with_one}
-use Rattle.trace_audit.proofs.Moves.{none_made_of, not_decided, policy_there}
+use Rattle.trace_audit.specs.Seen.{packet_seen}
+use Rattle.trace_audit.proofs.Moves.{none_made_of, not_decided, policy_there, put_after}
 use Rattle.trace_audit.proofs.auditor.Auditor.decide.Goals as goal
 
 pub returns-then-not-is_printed : goal.returns-then-not-is_printed
@@ -34,12 +33,7 @@ returns c = λ files. (
     first_match = subst
         (λ header. IsFirstMatch c.in-Some-get.policy.now header c.first_match-hit.result)
         c.header.ensures c.first_match-hit.ensures.is;
-    after = ap (λ (packets : ℕ → Option Packet). record {
-      policies = c.args.self.now.policies.items;
-      mark = c.args.self.now.mark;
-      packets = packets;
-    }) (c.in_ok-put.ensures
-        ∙ ap (with_one (packets_seen c.args.self.now.packets) c.args.number) c.decided.ensures);
+    after = put_after c.args.self.now c.args.number _ _ _ c.decided.ensures c.in_ok-put.ensures;
   },
   refl,
 )
