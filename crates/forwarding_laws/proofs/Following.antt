@@ -414,6 +414,20 @@ module _ (setting : Setting) (journal : List Item) (s i : ℕ) (header : Header)
                 });
           })
 
+  -- what follows once an item of some packet stands, where it does of another one and of this one
+  of_packet : (next : ℕ → Item) (packet : ℕ)
+      → ((packet == i) ≡ false → Fate setting journal s i header (before ++ next packet ∷ []))
+      → (packet ≡ i → Fate setting journal s i header (before ++ next i ∷ []))
+      → Fate setting journal s i header (before ++ next packet ∷ [])
+  of_packet next packet other own = by (packet == i) refl
+    where
+      by : (b : Bool) → (packet == i) ≡ b
+          → Fate setting journal s i header (before ++ next packet ∷ [])
+      by false apart = other apart
+      by true same =
+          let is : packet ≡ i = eqb-true packet i same in
+          subst (λ k. Fate setting journal s i header (before ++ next k ∷ [])) (sym is) (own is)
+
   fate_next : IsNet setting.net → HasConverged setting journal → IsUpdated setting journal
       → Before setting before → (next : Item) → StrongCause setting before next
       → Fate setting journal s i header (before ++ next ∷ [])
@@ -421,57 +435,27 @@ module _ (setting : Setting) (journal : List Item) (s i : ℕ) (header : Header)
       let apart : (packet == i) ≡ false =
       comes_other packet i (next_packet before) strong.0.0.number follows.number in
       pass_on (item.Entered packet t other) (rw apart refl) refl
-  fate_next net converged updated known (item.Dropped packet) strong = by (packet == i) refl
-    where
-      by : (b : Bool) → (packet == i) ≡ b
-          → Fate setting journal s i header (before ++ item.Dropped packet ∷ [])
-      by false apart = pass_on (item.Dropped packet) (rw apart refl) refl
-      by true same =
-          let is : packet ≡ i = eqb-true packet i same in
-          subst (λ k. Fate setting journal s i header (before ++ item.Dropped k ∷ [])) (sym is)
-          (dropped (subst (λ k. WayCause setting before (item.Dropped k)) is strong.0))
+  fate_next net converged updated known (item.Dropped packet) strong =
+      of_packet item.Dropped packet (λ apart. pass_on (item.Dropped packet) (rw apart refl) refl)
+      (λ is. dropped (subst (λ k. WayCause setting before (item.Dropped k)) is strong.0))
   fate_next net converged updated known (item.Left packet port leaving) strong =
-      by (packet == i) refl
-    where
-      by : (b : Bool) → (packet == i) ≡ b
-          → Fate setting journal s i header (before ++ item.Left packet port leaving ∷ [])
-      by false apart = pass_on (item.Left packet port leaving) (rw apart refl) refl
-      by true same =
-          let is : packet ≡ i = eqb-true packet i same in
-          subst (λ k. Fate setting journal s i header (before ++ item.Left k port leaving ∷ []))
-          (sym is) (left port leaving
-          (subst (λ k. FurtherCause setting before (item.Left k port leaving)) is strong.1))
-  fate_next net converged updated known (item.Lost packet) strong = by (packet == i) refl
-    where
-      by : (b : Bool) → (packet == i) ≡ b
-          → Fate setting journal s i header (before ++ item.Lost packet ∷ [])
-      by false apart = pass_on (item.Lost packet) (rw apart refl) refl
-      by true same =
-          absurd (not_lost (subst (λ k. WayCause setting before (item.Lost k))
-          (eqb-true packet i same) strong.0))
+      of_packet (λ k. item.Left k port leaving) packet
+      (λ apart. pass_on (item.Left packet port leaving) (rw apart refl) refl)
+      (λ is. left port leaving
+      (subst (λ k. FurtherCause setting before (item.Left k port leaving)) is strong.1))
+  fate_next net converged updated known (item.Lost packet) strong =
+      of_packet item.Lost packet (λ apart. pass_on (item.Lost packet) (rw apart refl) refl)
+      (λ is. absurd (not_lost (subst (λ k. WayCause setting before (item.Lost k)) is strong.0)))
   fate_next net converged updated known (item.Stuck packet t cause leg down) strong =
-      by (packet == i) refl
-    where
-      by : (b : Bool) → (packet == i) ≡ b
-          → Fate setting journal s i header (before ++ item.Stuck packet t cause leg down ∷ [])
-      by false apart = pass_on (item.Stuck packet t cause leg down) (rw apart refl) refl
-      by true same =
-          let is : packet ≡ i = eqb-true packet i same in
-          subst (λ k. Fate setting journal s i header
-          (before ++ item.Stuck k t cause leg down ∷ [])) (sym is)
-          (stuck net converged updated known t cause leg down
-          (subst (λ k. StrongCause setting before (item.Stuck k t cause leg down)) is strong))
+      of_packet (λ k. item.Stuck k t cause leg down) packet
+      (λ apart. pass_on (item.Stuck packet t cause leg down) (rw apart refl) refl)
+      (λ is. stuck net converged updated known t cause leg down
+      (subst (λ k. StrongCause setting before (item.Stuck k t cause leg down)) is strong))
   fate_next net converged updated known (item.Decided packet version rule act how) strong =
-      by (packet == i) refl
-    where
-      next : Item
-      next = item.Decided packet version rule act how
-
-      by : (b : Bool) → (packet == i) ≡ b → Fate setting journal s i header (before ++ next ∷ [])
-      by false apart = pass_on next refl (rw apart refl)
-      by true same =
-          inl (travels_more before next i
-          ∙ subst (λ k. IsTrue (travels before k)) (eqb-true packet i same) strong.0.at.travelling)
+      of_packet (λ k. item.Decided k version rule act how) packet
+      (λ apart. pass_on (item.Decided packet version rule act how) refl (rw apart refl))
+      (λ is. inl (travels_more before (item.Decided i version rule act how) i
+      ∙ subst (λ k. IsTrue (travels before k)) is strong.0.at.travelling))
   fate_next net converged updated known next strong = pass_on next refl refl
 
 -- each item of packets keeps it
