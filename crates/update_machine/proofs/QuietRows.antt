@@ -1,5 +1,5 @@
 -- Quiet networks and others, computed.
-use Rattle.std.proofs.Common.{ℕ, zero, suc, ◌≡◌, ◌<◌, ◌++◌, inl, inr, List, [], ◌∷◌, refl, sym, true≢false, arith}
+use Rattle.std.proofs.Common.{ℕ, zero, suc, ◌≡◌, ◌∙◌, ◌<◌, ◌⊎◌, ◌++◌, Bool, false, inl, inr, List, [], ◌∷◌, refl, sym, true≢false, arith}
 use Rattle.std.specs.Prelude.{◌||◌, not, IsTrue}
 use Rattle.std.specs.List.{AllByRecursion}
 use Rattle.std.proofs.lemmas.List.Elements.{All-from_recursion}
@@ -33,6 +33,17 @@ of_both : (P : ℕ → Type 0) → P 0 → P 1 → (s : ℕ) → s < 2 → P s
 of_both P a b zero there = a
 of_both P a b (suc zero) there = b
 of_both P a b (suc (suc s)) there = absurd (omega arith)
+
+-- of what matters to neither, anything holds
+neither : (matters : ℕ → Bool) (P : ℕ → Type 0) → matters 0 ≡ false → matters 1 ≡ false → (s : ℕ)
+    → s < 2 → IsTrue (matters s) → P s
+neither matters P a b = of_both (λ s. IsTrue (matters s) → P s)
+    (λ m. absurd (true≢false (sym m ∙ a))) (λ m. absurd (true≢false (sym m ∙ b)))
+
+-- what wasn't delivered, and is replaced by nothing, isn't received
+unmet : (delivered : Bool) → IsTrue delivered ⊎ ⊥ → delivered ≡ false → ⊥
+unmet delivered (inl came) lacks = true≢false (sym came ∙ lacks)
+unmet delivered (inr none) lacks = absurd none
 
 -- ---- switches
 
@@ -93,8 +104,7 @@ quiet_once_updated = by_parts _ (refl, (refl, tt)) (
                   (
                     λ s there m. inl refl,
                     (
-                      of_both _ (λ m. absurd (true≢false (sym m)))
-                          (λ m. absurd (true≢false (sym m))),
+                      neither _ _ refl refl,
                       tt,
                     ),
                   ),
@@ -121,15 +131,15 @@ restarted =
 pub quiet_in_boot_2 : IsQuiet open_net restarted
 unfolding was_delivered is_up boot_of current_mark
 quiet_in_boot_2 = by_parts _ (refl, (refl, tt)) (
-  of_both _ (λ m. absurd (true≢false (sym m))) (λ m. absurd (true≢false (sym m))),
+  neither _ _ refl refl,
   (
-    of_both _ (λ m. absurd (true≢false (sym m))) (λ m. absurd (true≢false (sym m))),
+    neither _ _ refl refl,
     (
       λ s there m. inl refl,
       (
-        of_both _ (λ m. absurd (true≢false (sym m))) (λ m. absurd (true≢false (sym m))),
+        neither _ _ refl refl,
         (
-          of_both _ (λ m. absurd (true≢false (sym m))) (λ m. absurd (true≢false (sym m))),
+          neither _ _ refl refl,
           tt,
         ),
       ),
@@ -140,18 +150,14 @@ quiet_in_boot_2 = by_parts _ (refl, (refl, tt)) (
 -- an advert that was sent since does matter
 pub advert_waits : IsQuiet open_net (restarted ++ item.Sent 6 (to 0 (advert 1 1 2 1)) ∷ []) → ⊥
 unfolding was_delivered is_up boot_of current_mark
-advert_waits quiet =
-    elim (quiet.messages.1.1.1.1.1.0 0 (omega arith) refl) [
-      | inl delivered ↦ true≢false (sym delivered)
-      | inr none ↦ absurd none
-    ]
+advert_waits quiet = unmet _ (quiet.messages.1.1.1.1.1.0 0 (omega arith) refl) refl
 
 -- nor does what was sent before a boot began that has the number of the one before
 pub boot_begins :
     IsQuiet open_net (item.Sent 1 (to 0 (body.Stamp 1 1 [])) ∷ item.Booted 0 1 ∷ [])
 unfolding was_delivered is_up boot_of current_mark
 boot_begins = by_parts _ (refl, (refl, tt)) (
-  of_both _ (λ m. absurd (true≢false (sym m))) (λ m. absurd (true≢false (sym m))),
+  neither _ _ refl refl,
   tt,
 )
 
@@ -162,9 +168,9 @@ pub quiet_without_old_tables :
     ∷ item.Sent 2 (to_controller (body.Installed 0 1 1)) ∷ item.Current 2 ∷ [])
 unfolding was_delivered is_up boot_of current_mark
 quiet_without_old_tables = by_parts _ (refl, (refl, tt)) (
-  of_both _ (λ m. absurd (true≢false (sym m))) (λ m. absurd (true≢false (sym m))),
+  neither _ _ refl refl,
   (
-    of_both _ (λ m. absurd (true≢false (sym m))) (λ m. absurd (true≢false (sym m))),
+    neither _ _ refl refl,
     tt,
   ),
 )
@@ -173,11 +179,7 @@ quiet_without_old_tables = by_parts _ (refl, (refl, tt)) (
 pub delivered_too_early :
     IsQuiet open_net (item.Delivered 1 ∷ item.Sent 1 (to_controller (body.Hello 0 1)) ∷ []) → ⊥
 unfolding was_delivered is_up boot_of current_mark
-delivered_too_early quiet =
-    elim (quiet.messages.0 0 (omega arith) refl) [
-      | inl delivered ↦ true≢false (sym delivered)
-      | inr none ↦ absurd none
-    ]
+delivered_too_early quiet = unmet _ (quiet.messages.0 0 (omega arith) refl) refl
 
 -- ---- replaced messages
 
@@ -218,11 +220,7 @@ hello = to_controller (body.Hello 1 1)
 pub later_waits :
     IsQuiet open_net (item.Sent 1 hello ∷ item.Sent 2 hello ∷ item.Delivered 1 ∷ []) → ⊥
 unfolding was_delivered is_up boot_of current_mark
-later_waits quiet =
-    elim (quiet.messages.1.0 1 (omega arith) refl) [
-      | inl delivered ↦ true≢false (sym delivered)
-      | inr none ↦ absurd none
-    ]
+later_waits quiet = unmet _ (quiet.messages.1.0 1 (omega arith) refl) refl
 
 -- other tables of the same version don't replace those before them
 pub other_tables_wait : (one other : Tables) → one.version ≡ 1 → (one ≡ other → ⊥)
