@@ -4,7 +4,6 @@ use Rattle.std.proofs.Common.{ℕ, ◌≡◌, ◌≤◌, false, true, List, [], 
 use Rattle.std.specs.Prelude.{IsTrue}
 use Rattle.std.proofs.lemmas.Bool.{cases_lt}
 use Rattle.ctrl_msg.specs.declared.message.Body.TheVariants.{Install, OpenAt, Stamp, Collect}
-use Rattle.policy_rules.specs.declared.policy.Action.TheVariants.{Drop}
 use Rattle.switch_table.specs.declared.tables.Tables.{Tables}
 use Rattle.journal.specs.declared.item.Item.{Item}
 use Rattle.journal.specs.declared.item.Item.TheVariants as item
@@ -14,11 +13,12 @@ use Rattle.update_machine.specs.Marks.{controller_heard, current_mark, is_over, 
 use Rattle.update_machine.specs.Settling.{to_switch}
 use Rattle.update_machine.specs.Versions.{HasPlan, holds_version, next_policy, stamp_of, tables_at, version_count}
 use Rattle.update_machine.specs.Links.{serves, message_of}
-use Rattle.update_machine.proofs.Examples.{all_to, open_net, plan_q, tables_of, versions}
+use Rattle.update_machine.proofs.Examples.{open_net, plan_q, tables_of, versions}
 use Rattle.update_machine.proofs.ExampleVersions.{first_planned, none_of_7, second_plan, second_planned}
 use Rattle.control_laws.specs.ItemCauses.{HasItemCause}
 use Rattle.control_laws.specs.Planned.{AreTablesOf, BringsTables, TablesArePlanned, VersionsArePlanned}
 use Rattle.control_laws.specs.Serving.{HoldsStamp, ServingHold}
+use Rattle.control_laws.proofs.CauseRows.{second_file}
 use Rattle.control_laws.proofs.Planned.{tables_planned}
 use Rattle.control_laws.proofs.Serving.{serving_hold}
 
@@ -149,14 +149,7 @@ told =
 told_rightly : HaveCauses (HasItemCause open_net) [] told
 unfolding version_count retired_mark known_boot is_over controller_heard next_policy
 told_rightly = (
-  record {
-    next = refl;
-    rows = all_to Drop ∷ [];
-    policy = refl;
-    planned = refl;
-    live = λ met. omega (arith, met);
-    few = λ met. omega (arith, met);
-  },
+  second_file,
   (
     record {
       to = record { known = refl; not_over = refl };

@@ -48,22 +48,16 @@ impl PackedLeaving {
     pub fn new(leaving: &Leaving) -> PackedLeaving
         ensures { result ≡ leaving.now }
     {
-        let Fields {
-            src,
-            dst,
-            sport,
-            dport,
-            proto,
-        } = leaving.header.fields();
+        let fields = leaving.header.fields();
         PackedLeaving {
             packet: leaving.packet,
             version: leaving.version,
-            src,
-            dst,
-            sport,
-            dport,
+            src: fields.src,
+            dst: fields.dst,
+            sport: fields.sport,
+            dport: fields.dport,
             priority: leaving.rule.unwrap_or(0),
-            proto,
+            proto: fields.proto,
             has_rule: leaving.rule.is_some(),
         }
     }
