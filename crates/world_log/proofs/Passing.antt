@@ -12,7 +12,6 @@ use Rattle.switch_core.specs.Moving.{Moved, StandsAt, link_found_down, hop_answe
 use Rattle.switch_core.specs.State.{SwitchValue, call_counted}
 use Rattle.switch_core.specs.Answers.{Arrival}
 use Rattle.switch_core.specs.declared.answers.HopEnd.{HopEnd}
-use Rattle.switch_core.specs.declared.answers.HopEnd.TheVariants as hop
 use Rattle.tunnel.specs.Moves.{advanced_tunnel, next}
 use Rattle.tunnel.specs.Tunnel.{TunnelValue}
 use Rattle.travelling.specs.Travelling.{Flight, Standing, placed_at, standing_at}
@@ -20,7 +19,6 @@ use Rattle.world_log.specs.Packets.{arrival, arrival_items, arrival_posts, ended
 use Rattle.world_log.specs.Writing.{IsPart, LogAfter, arrived_items, arrived_posts, arrived_flight, packet_standing}
 use Rattle.world_log.specs.declared.log.Log.{Log}
 use Rattle.world_log.proofs.Logs.{log_behind}
-use Rattle.world_log.proofs.Writing.{part_first}
 
 -- a link that is free isn't found down
 pub free_none : (near : ℕ) (o : Option ℕ) → is_free near o ≡ true → link_found_down near o ≡ None
@@ -178,7 +176,7 @@ met_log r s near ports t number packet here other end tunnel old mid new is grow
     (log_behind r (turned_items packet here (Some other) end tunnel.route) ended [] posts packet
     this old mid new grown (same_bag ∙ sym (append-nil old.bag)) same log)))
 
--- where memory ran out, a part was written: up to the route that was taken, or the link alone
+-- where memory ran out, a part was written: up to the route that was taken
 module _ (s : SwitchValue) (near : ℕ) (ports : Ports) (t : Flight)
     (number packet here other : ℕ) (end : HopEnd) (tunnel : TunnelValue) (old new : List Item)
     (is : IsMet s near t packet here other end tunnel) where
@@ -203,22 +201,6 @@ module _ (s : SwitchValue) (near : ℕ) (ports : Ports) (t : Flight)
             ∙ ap (λ k. old ++ turned_items k here (Some other) end tunnel.route) (sym is.same)
             ∙ ap (λ n. old ++ turned_items t.tunnel.packet n (Some other) end tunnel.route) is.at;
       })
-
-  pub met_first : new ≡ old ++ item.FoundDown packet here other ∷ []
-      → IsPart old (hop_written number s near ports t) new
-  met_first grown =
-      let u : Flight = record t { tunnel = tunnel } in
-      let told : new ≡ old ++ item.FoundDown t.tunnel.packet s.number other ∷ [] =
-      grown ∙ ap (λ k. old ++ item.FoundDown k here other ∷ []) (sym is.same)
-      ∙ ap (λ n. old ++ item.FoundDown t.tunnel.packet n other ∷ []) is.at in
-      part_by (by_end end told)
-    where
-      by_end : (e : HopEnd) → new ≡ old ++ item.FoundDown t.tunnel.packet s.number other ∷ []
-          → IsPart old (turned_items t.tunnel.packet s.number (Some other) e tunnel.route
-          ++ ended_items number (call_counted s) near ports (record t { tunnel = tunnel }) e) new
-      by_end hop.Arrive told = part_first old new _ _ told
-      by_end (hop.Move onward) told = part_first old new _ _ told
-      by_end (hop.Stuck cause) told = part_first old new _ _ told
 
 -- and the switch was asked so often
 pub met_switch : (s : SwitchValue) (near : ℕ) (t : Flight) (end : HopEnd)

@@ -1,7 +1,7 @@
 -- A packet goes around a link that it found down.
 use Rattle.std.proofs.Common.{ℕ, ◌≡◌, ◌+◌, ◌++◌, ◌∷◌, ◌<◌, [], Option, Some, None, List, ap, length, refl, subst, sym, ◌∙◌}
 use Rattle.std.specs.Option.{option_copied}
-use Rattle.std.specs.Prelude.{IsSomeAnd, slice_get}
+use Rattle.std.specs.Prelude.{IsErr, IsSomeAnd, Result, slice_get}
 use Rattle.journal.specs.declared.item.Item.{Item}
 use Rattle.journal.specs.declared.item.Item.TheVariants as item
 use Rattle.message_bag.specs.Posts.{Post}
@@ -16,7 +16,7 @@ use Rattle.switch_core.specs.declared.answers.HopEnd.TheVariants as hop
 use Rattle.travelling.specs.Travelling.{Flight, Standing, WithOne, standing_at, standing_kept, flight}
 use Rattle.tunnel.specs.Moves.{next}
 use Rattle.tunnel.specs.Tunnel.{TunnelValue}
-use Rattle.world_log.specs.Packets.{hop_posts, hop_flight, hop_written}
+use Rattle.world_log.specs.Packets.{ended_flight, ended_items, ended_posts, hop_posts, hop_flight, hop_written, turned_items}
 use Rattle.world_log.specs.Writing.{LogAfter, arrived_items, arrived_posts, arrived_flight, packet_standing}
 use Rattle.world_log.specs.declared.log.Log.{Log}
 use Rattle.world_log.proofs.Hopping.{SamePacket, authority_counted, hopped_same}
@@ -91,84 +91,98 @@ rerouted c old begun new first grown =
     (item.Rerouted c.args.packet c.hop-hop.new.t.route ∷ []) first
     (grown ∙ ap (λ k. begun ++ item.Rerouted k c.hop-hop.new.t.route ∷ []) (packet_is c))
 
+-- ---- what is written of it
+
+abbrev Written : After-unwrap-other → {T E : Type 0} → Result T E → Log → Flight → Type 0
+Written c r now t =
+    let s = c.args.switch.now in
+    let near = c.args.site.near in
+    let ports = c.args.site.ports.now in
+    LogAfter r (hop_written (length c.args.self.now.bag + 1) s near ports t)
+    (hop_posts s near ports t) c.args.packet (hop_flight s near ports t) c.args.self.now now
+
+-- the items of its turn, and then those of its end
+goes_on : (c : After-unwrap-other) {T E : Type 0} (r : Result T E) (end : HopEnd) (mid now : Log)
+    → c.hop-hop.result.end ≡ end
+    → mid.journal ≡ c.args.self.now.journal ++ turned_items c.args.packet c.number-here.result
+    (Some c.unwrap-other.result) end c.hop-hop.new.t.route
+    → mid.bag ≡ c.args.self.now.bag → mid.travelling ≡ c.args.self.now.travelling
+    → let s = call_counted c.args.switch.now in
+    let near = c.args.site.near in
+    let ports = c.args.site.ports.now in
+    let u : Flight = record (its_flight c) { tunnel = c.hop-hop.new.t } in
+    LogAfter r (ended_items (length c.args.self.now.bag + 1) s near ports u end)
+    (ended_posts s near ports u end) c.args.packet (ended_flight s near ports u end) mid now
+    → (t : Flight)
+    → ◌≡◌ {A = Option Flight} (flight c.args.self.now.travelling c.args.packet) (Some t)
+    → Written c r now t
+goes_on c r end mid now is grown same_bag same log =
+    of_kept (Written c r now) _ (its_flight c) (its c)
+    (met_log r c.args.switch.now c.args.site.near c.args.site.ports.now (its_flight c)
+    (length c.args.self.now.bag + 1) c.args.packet c.number-here.result c.unwrap-other.result end
+    c.hop-hop.new.t c.args.self.now mid now (met c end is) grown same_bag same log)
+
+-- memory runs out behind those of its turn
+fails : (c : After-unwrap-other) {T E : Type 0} (r : Result T E) (end : HopEnd) (now : Log)
+    → IsErr r → c.hop-hop.result.end ≡ end
+    → now.journal ≡ c.args.self.now.journal ++ turned_items c.args.packet c.number-here.result
+    (Some c.unwrap-other.result) end c.hop-hop.new.t.route
+    → (t : Flight)
+    → ◌≡◌ {A = Option Flight} (flight c.args.self.now.travelling c.args.packet) (Some t)
+    → Written c r now t
+fails c r end now failed is grown =
+    of_kept (Written c r now) _ (its_flight c) (its c)
+    (log_failed r _ _ c.args.packet _ c.args.self.now now failed
+    (met_turned c.args.switch.now c.args.site.near c.args.site.ports.now (its_flight c)
+    (length c.args.self.now.bag + 1) c.args.packet c.number-here.result c.unwrap-other.result end
+    c.hop-hop.new.t c.args.self.now.journal now.journal (met c end is) grown))
+
 -- ---- there is no other route
 
 pub returns-in_ok-at-in-Stuck-clause-log : goal.returns-in_ok-at-in-Stuck-clause-log
 returns-in_ok-at-in-Stuck-clause-log c =
     let before = (goal.at.returns-in_ok-at-in-Stuck-clause-log c).After-unwrap-other in
-    let t = its_flight before in
     let s = c.args.switch.now in
-    let near = c.args.site.near in
-    let ports = c.args.site.ports.now in
-    let n = length c.args.self.now.bag + 1 in
-    let end = hop.Stuck c.in-Stuck.cause in
     let tunnel = c.hop-hop.new.t in
     let begun : Log = record c.args.self.now { journal = c.push.new.self } in
-    let is = met before end c.in-Stuck.is in
+    let is = met before (hop.Stuck c.in-Stuck.cause) c.in-Stuck.is in
     let stuck : ℕ → ℕ → Leg → Type 0 = λ k here leg. LogAfter c.stuck.result
     (item.Stuck tunnel.packet here c.in-Stuck.cause leg tunnel.down ∷ []) [] k None begun
     c.stuck.new.self in
-    of_kept (λ t. LogAfter c.stuck.result (hop_written n s near ports t) (hop_posts s near ports t)
-    c.args.packet (hop_flight s near ports t) c.args.self.now c.stuck.new.self) _ t (its before)
-    (met_log c.stuck.result s near ports t n c.args.packet c.number-here.result
-    c.unwrap-other.result end tunnel c.args.self.now begun c.stuck.new.self is
+    goes_on before c.stuck.result (hop.Stuck c.in-Stuck.cause) begun c.stuck.new.self c.in-Stuck.is
     c.in_ok-push.ensures.pushed refl refl
     (subst (λ k. stuck k s.number tunnel.leg) (packet_is before)
     (subst (λ leg. stuck tunnel.packet s.number leg) (leg_is before)
     (subst (λ here. stuck tunnel.packet here c.leg-leg.result) is.at
     (subst (λ (a : Standing). LogAfter c.stuck.result
     (item.Stuck a.packet a.switch c.in-Stuck.cause c.leg-leg.result a.down ∷ []) [] a.packet None
-    begun c.stuck.new.self) c.in_ok-at-in-Stuck.ensures.at c.stuck.ensures)))))
+    begun c.stuck.new.self) c.in_ok-at-in-Stuck.ensures.at c.stuck.ensures))))
 
 -- ---- it moves on along another route
 
 pub returns-in_err-put-in-Move-clause-log : goal.returns-in_err-put-in-Move-clause-log
 returns-in_err-put-in-Move-clause-log c =
     let before = (goal.at.returns-in_err-put-in-Move-clause-log c).After-unwrap-other in
-    let t = its_flight before in
-    let s = c.args.switch.now in
-    let near = c.args.site.near in
-    let ports = c.args.site.ports.now in
-    let n = length c.args.self.now.bag + 1 in
-    let r = c.from_residual-in_err-put-in-Move.result in
-    let end = hop.Move c.in-Move.next in
-    let now : Log = record {
+    fails before c.from_residual-in_err-put-in-Move.result (hop.Move c.in-Move.next) (record {
       journal = c.reroute.new.self.journal;
       travelling = c.put.new.self;
       bag = c.reroute.new.self.bag;
-    } in
-    of_kept (λ t. LogAfter r (hop_written n s near ports t) (hop_posts s near ports t)
-    c.args.packet (hop_flight s near ports t) c.args.self.now now) _ t (its before)
-    (log_failed r _ _ c.args.packet _ c.args.self.now now
-    c.from_residual-in_err-put-in-Move.ensures.0
-    (met_turned s near ports t n c.args.packet c.number-here.result c.unwrap-other.result end
-    c.hop-hop.new.t c.args.self.now.journal c.reroute.new.self.journal
-    (met before end c.in-Move.is)
+    }) c.from_residual-in_err-put-in-Move.ensures.0 c.in-Move.is
     (rerouted before c.args.self.now.journal c.push.new.self c.reroute.new.self.journal
-    c.in_ok-push.ensures.pushed c.in_ok-kept-in-Move.ensures.written)))
+    c.in_ok-push.ensures.pushed c.in_ok-kept-in-Move.ensures.written)
 
 pub returns-in_ok-put-in-Move-clause-log : goal.returns-in_ok-put-in-Move-clause-log
 returns-in_ok-put-in-Move-clause-log c =
     let before = (goal.at.returns-in_ok-put-in-Move-clause-log c).After-unwrap-other in
-    let t = its_flight before in
-    let s = c.args.switch.now in
-    let near = c.args.site.near in
-    let ports = c.args.site.ports.now in
-    let n = length c.args.self.now.bag + 1 in
     let r = c.push-in-Move.result in
-    let end = hop.Move c.in-Move.next in
-    let tunnel = c.hop-hop.new.t in
-    let u : Flight = record t { tunnel = tunnel } in
+    let u : Flight = record (its_flight before) { tunnel = c.hop-hop.new.t } in
     let mid : Log = c.reroute.new.self in
     let now : Log = record {
       journal = c.push-in-Move.new.self;
       travelling = c.put.new.self;
       bag = c.reroute.new.self.bag;
     } in
-    of_kept (λ t. LogAfter r (hop_written n s near ports t) (hop_posts s near ports t)
-    c.args.packet (hop_flight s near ports t) c.args.self.now now) _ t (its before)
-    (met_log r s near ports t n c.args.packet c.number-here.result c.unwrap-other.result end
-    tunnel c.args.self.now mid now (met before end c.in-Move.is)
+    goes_on before r (hop.Move c.in-Move.next) mid now c.in-Move.is
     (rerouted before c.args.self.now.journal c.push.new.self mid.journal
     c.in_ok-push.ensures.pushed c.in_ok-kept-in-Move.ensures.written)
     c.reroute.ensures.unsent c.reroute.ensures.travelling
@@ -177,29 +191,18 @@ returns-in_ok-put-in-Move-clause-log c =
     (log_one r (item.Hopped c.args.packet c.in-Move.next) c.args.packet (Some u) mid now
     c.push-in-Move.ensures.pushed c.push-in-Move.ensures.unchanged refl
     (subst (λ (k : Flight). WithOne mid.travelling c.args.packet (Some k) c.put.new.self)
-    c.in_ok-kept-in-Move.ensures.kept c.in_ok-put-in-Move.ensures))))
+    c.in_ok-kept-in-Move.ensures.kept c.in_ok-put-in-Move.ensures)))
 
 -- ---- or it is at its end
 
 pub returns-in_err-at-in-Arrive-clause-log : goal.returns-in_err-at-in-Arrive-clause-log
 returns-in_err-at-in-Arrive-clause-log c =
     let before = (goal.at.returns-in_err-at-in-Arrive-clause-log c).After-unwrap-other in
-    let t = its_flight before in
-    let s = c.args.switch.now in
-    let near = c.args.site.near in
-    let ports = c.args.site.ports.now in
-    let n = length c.args.self.now.bag + 1 in
-    let r = c.from_residual-in_err-at-in-Arrive.result in
     let now : Log = c.reroute-in-Arrive.new.self in
-    of_kept (λ t. LogAfter r (hop_written n s near ports t) (hop_posts s near ports t)
-    c.args.packet (hop_flight s near ports t) c.args.self.now now) _ t (its before)
-    (log_failed r _ _ c.args.packet _ c.args.self.now now
-    c.from_residual-in_err-at-in-Arrive.ensures.0
-    (met_turned s near ports t n c.args.packet c.number-here.result c.unwrap-other.result
-    hop.Arrive c.hop-hop.new.t c.args.self.now.journal now.journal
-    (met before hop.Arrive c.in-Arrive.is)
+    fails before c.from_residual-in_err-at-in-Arrive.result hop.Arrive now
+    c.from_residual-in_err-at-in-Arrive.ensures.0 c.in-Arrive.is
     (rerouted before c.args.self.now.journal c.push.new.self now.journal
-    c.in_ok-push.ensures.pushed c.in_ok-kept-in-Arrive.ensures.written)))
+    c.in_ok-push.ensures.pushed c.in_ok-kept-in-Arrive.ensures.written)
 
 -- where it arrives its switch is asked at the end of its route
 still : (c : After-unwrap-other) → c.hop-hop.result.end ≡ hop.Arrive
@@ -263,14 +266,12 @@ settle-requires-clause-ingress c =
 pub returns-in_ok-at-in-Arrive-clause-log : goal.returns-in_ok-at-in-Arrive-clause-log
 returns-in_ok-at-in-Arrive-clause-log c =
     let before = (goal.at.returns-in_ok-at-in-Arrive-clause-log c).After-unwrap-other in
-    let t = its_flight before in
     let s = c.args.switch.now in
     let near = c.args.site.near in
     let ports = c.args.site.ports.now in
     let n = length c.args.self.now.bag + 1 in
     let r = c.settle.result in
-    let tunnel = c.hop-hop.new.t in
-    let u : Flight = record t { tunnel = tunnel } in
+    let u : Flight = record (its_flight before) { tunnel = c.hop-hop.new.t } in
     let mid : Log = c.reroute-in-Arrive.new.self in
     let now : Log = c.settle.new.self in
     let at = c.in_ok-at-in-Arrive.at in
@@ -287,10 +288,7 @@ returns-in_ok-at-in-Arrive-clause-log c =
     packet (arrived_flight at.version at.rule
     (arrived_on w (around near ports) (packet_standing (standing_kept at)) c.leg-leg.result))
     mid now in
-    of_kept (λ t. LogAfter r (hop_written n s near ports t) (hop_posts s near ports t)
-    c.args.packet (hop_flight s near ports t) c.args.self.now now) _ t (its before)
-    (met_log r s near ports t n c.args.packet c.number-here.result c.unwrap-other.result
-    hop.Arrive tunnel c.args.self.now mid now is
+    goes_on before r hop.Arrive mid now c.in-Arrive.is
     (rerouted before c.args.self.now.journal c.push.new.self mid.journal
     c.in_ok-push.ensures.pushed c.in_ok-kept-in-Arrive.ensures.written)
     c.reroute-in-Arrive.ensures.unsent c.reroute-in-Arrive.ensures.travelling
@@ -304,4 +302,4 @@ returns-in_ok-at-in-Arrive-clause-log c =
     (subst (λ bag. P bag c.hop-hop.new.self at.packet) c.reroute-in-Arrive.ensures.unsent
     (settled_log r (length mid.bag + 1) (standing_kept at) at.version at.rule at.packet mid now _ _
     (c.receive-verdict.ensures.answer (around near ports) at.packet (standing_kept at).down)
-    c.settle.ensures.log))))))
+    c.settle.ensures.log)))))
