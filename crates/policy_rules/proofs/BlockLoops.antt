@@ -1,5 +1,5 @@
 -- Loops over the blocks of a range.
-use Rattle.std.proofs.Common.{◌≡◌, ◌∙◌, ◌<◌, List, length, Option, Some, None, ap, sym, subst, arith, map-id}
+use Rattle.std.proofs.Common.{◌≡◌, ◌∙◌, ◌<◌, List, length, map, Option, Some, None, ap, sym, subst, arith, map-id}
 use Rattle.std.specs.Iterator.{YieldsFirst, Yields}
 use Rattle.std.proofs.lemmas.Iterator.{YieldsList}
 use Rattle.std.proofs.lemmas.Iterator.Consumers.{YieldsList-from_first, YieldsList-end, YieldsList-turn}
@@ -9,6 +9,13 @@ use Rattle.five_tuple.specs.Cover.{Block, IsPortBlock, cover_of}
 use Rattle.five_tuple.specs.Header.{PortRangeValue}
 use Rattle.five_tuple.specs.SoundFields.{IsPortRange}
 use Rattle.five_tuple.specs.declared.port_blocks.Blocks.{Blocks}
+use Rattle.ternary.specs.Word.{WordValue}
+use Rattle.policy_rules.specs.Words.{word_of_row}
+use Rattle.policy_rules.specs.declared.policy.Row.{Row}
+
+-- the words of a row for one block of its source ports
+abbrev pub block_words : Row → Block → List WordValue
+block_words row source = map (word_of_row row source) (cover_of row.dport)
 
 -- a loop that has passed the blocks `done`, at its next call
 pub record IsAtBlock (range : PortRangeValue) (done : List Block) (next : Option Block) : Type 0

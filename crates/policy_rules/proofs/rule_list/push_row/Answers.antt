@@ -1,11 +1,10 @@
-use Rattle.std.proofs.Common.{◌∙◌, ◌++◌, ap, sym, [], length, append-nil, arith, map}
+use Rattle.std.proofs.Common.{◌∙◌, ◌++◌, ap, sym, [], length, append-nil, arith}
 use Rattle.std.specs.List.{flat_map}
 use Rattle.std.proofs.lemmas.List.{flat_map_more, map-append}
 use Rattle.five_tuple.proofs.CallerLemmas.{is_cover_of}
-use Rattle.five_tuple.specs.Cover.{Block, cover_of}
-use Rattle.policy_rules.specs.Words.{word_of_row}
+use Rattle.five_tuple.specs.Cover.{cover_of}
 use Rattle.policy_rules.specs.RuleList.{ranked_from, with_hit}
-use Rattle.policy_rules.proofs.BlockLoops.{IsAtBlock, at_block}
+use Rattle.policy_rules.proofs.BlockLoops.{IsAtBlock, at_block, block_words}
 use Rattle.policy_rules.proofs.Ranks.{ranked_more, length_ranked, few_pairs}
 use Rattle.policy_rules.proofs.rule_list.push_row.Goals as goal
 use Rattle.policy_rules.proofs.rule_list.push_row.Goals.{After-next}
@@ -38,15 +37,14 @@ pub loop-source-preserved : goal.loop-source-preserved
 loop-source-preserved c =
     let row = c.args.row.now in
     let done = c.loop-source.yielded in
-    let f = λ (source : Block). map (word_of_row row source) (cover_of row.dport) in
     ranked_more _ _ _ _ _ _ c.loop-source.invariant c.in_ok-push_words.ensures
-    (ap (with_hit row) (sym (flat_map_more f [] done c.in-Some.source))
-    ∙ map-append _ (flat_map f done) (f c.in-Some.source))
+    (ap (with_hit row) (sym (flat_map_more (block_words row) [] done c.in-Some.source))
+    ∙ map-append _ (flat_map (block_words row) done) (block_words row c.in-Some.source))
 
 pub returns : goal.returns
 returns c =
     let row = c.args.row.now in
-    c.loop-source.invariant ∙ ap
-    (λ sources. c.args.rules.now.items ++ ranked_from (length c.args.rules.now.items)
-    (with_hit row (flat_map (λ source. map (word_of_row row source) (cover_of row.dport)) sources)))
+    c.loop-source.invariant
+    ∙ ap (λ sources. c.args.rules.now.items ++ ranked_from (length c.args.rules.now.items)
+    (with_hit row (flat_map (block_words row) sources)))
     ((here (goal.at.returns c).After-next).end c.in-None.is)

@@ -1,9 +1,7 @@
-use Rattle.std.proofs.Common.{◌∙◌, ◌++◌, ap, sym, append-nil, map}
+use Rattle.std.proofs.Common.{◌∙◌, ◌++◌, ap, sym, append-nil}
 use Rattle.std.specs.List.{flat_map}
 use Rattle.std.proofs.lemmas.List.{flat_map_more}
-use Rattle.five_tuple.specs.Cover.{Block, cover_of}
-use Rattle.policy_rules.specs.Words.{word_of_row}
-use Rattle.policy_rules.proofs.BlockLoops.{IsAtBlock, at_block}
+use Rattle.policy_rules.proofs.BlockLoops.{IsAtBlock, at_block, block_words}
 use Rattle.policy_rules.proofs.words.push_row_words.Goals as goal
 use Rattle.policy_rules.proofs.words.push_row_words.Goals.{After-next}
 
@@ -23,17 +21,13 @@ push_source_words-requires-clause-source c =
 
 pub loop-source-preserved : goal.loop-source-preserved
 loop-source-preserved c =
-    let row = c.args.row.now in
-    let done = c.loop-source.yielded in
-    let f = λ (source : Block). map (word_of_row row source) (cover_of row.dport) in
+    let words = block_words c.args.row.now in
     c.in_ok-push_source_words.ensures
-    ∙ ap (λ these. these ++ f c.in-Some.source) c.loop-source.invariant
-    ∙ flat_map_more f c.args.words.now.items done c.in-Some.source
+    ∙ ap (λ these. these ++ words c.in-Some.source) c.loop-source.invariant
+    ∙ flat_map_more words c.args.words.now.items c.loop-source.yielded c.in-Some.source
 
 pub returns : goal.returns
 returns c =
-    let row = c.args.row.now in
-    c.loop-source.invariant ∙ ap
-    (λ sources. c.args.words.now.items
-    ++ flat_map (λ source. map (word_of_row row source) (cover_of row.dport)) sources)
+    c.loop-source.invariant
+    ∙ ap (λ sources. c.args.words.now.items ++ flat_map (block_words c.args.row.now) sources)
     ((here (goal.at.returns c).After-next).end c.in-None.is)
