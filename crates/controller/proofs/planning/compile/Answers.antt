@@ -77,14 +77,4 @@ returns-clause-parts c =
     ) (c.plan_laws.ensures.holds _ _ _ c.in_ok-rules.ensures.policy c.requires planned)
 
 pub returns-clause-leads : goal.returns-clause-leads
-returns-clause-leads c =
-    let ready = ready_to_host (goal.at.returns-clause-leads c).After-place in
-    let planned = planned_at _ _ _ _ _ _ _ ready c.in_ok-targets.ensures.value in
-    rw (
-      c.in_ok-plan.ensures.hosted,
-      c.deref-5.ensures.value,
-      c.deref-6.ensures.value,
-      c.in_ok-parts.ensures.parts,
-    )
-    (plan_leads _ _ _
-    (c.plan_laws.ensures.holds _ _ _ c.in_ok-rules.ensures.policy c.requires planned))
+returns-clause-leads c = plan_leads _ _ _ (returns-clause-parts c)
