@@ -178,22 +178,29 @@ module _ {T E : Type 0} {r : Result T E} {before : List Item} {row : ℕ} {step 
       (before ++ item.Row row step ∷ one ∷ []) new (with_posts old bag)) (sym same) is.1) pushed)
 
 module _ {T E : Type 0} {r : Result T E} {before : List Item} {row : ℕ} {step : Step}
-    {old new : Parts} (begins : BeginsStep before row step old) (keeps : KeepNet old new) where
-  -- it gives up behind its row, for want of memory
-  pub nothing_goes : IsErr r → new.log.journal ≡ old.log.journal → Goes r before row step old new
-  nothing_goes failed same = record {
+    {old new : Parts} (keeps : KeepNet old new) where
+  -- it gives up for want of memory, and a part of its items is written
+  pub part_goes : IsErr r → IsPart before (piece (setting_in old) before row step) new.log.journal
+      → Goes r before row step old new
+  part_goes failed part = record {
     net = keeps;
     newest = none_ok _ r failed;
     counted = none_ok _ r failed;
     written = none_ok _ r failed;
     refines = none_ok _ r failed;
-    part = on_err r (record {
-      written = item.Row row step ∷ [];
-      rest = step_items (setting_in old) before step (before ++ item.Row row step ∷ []);
-      split = piece_split (setting_in old) before row step;
-      grown = same ∙ begins.rowed;
-    });
+    part = on_err r part;
   }
+
+module _ {T E : Type 0} {r : Result T E} {before : List Item} {row : ℕ} {step : Step}
+    {old new : Parts} (begins : BeginsStep before row step old) (keeps : KeepNet old new) where
+  -- behind its row
+  pub nothing_goes : IsErr r → new.log.journal ≡ old.log.journal → Goes r before row step old new
+  nothing_goes failed same = part_goes keeps failed (record {
+    written = item.Row row step ∷ [];
+    rest = step_items (setting_in old) before step (before ++ item.Row row step ∷ []);
+    split = piece_split (setting_in old) before row step;
+    grown = same ∙ begins.rowed;
+  })
 
 -- only the journal is another
 abbrev pub with_journal : Parts → List Item → Parts

@@ -17,8 +17,8 @@ use Rattle.world_log.specs.Sending.{act_items, act_posts}
 use Rattle.world_log.specs.Writing.{IsPart}
 use Rattle.world_log.specs.declared.log.Log.{Log}
 use Rattle.world.specs.declared.parts.Parts.{Parts}
-use Rattle.world.proofs.Frame.{Follows, goes}
-use Rattle.world_log.proofs.Writing.{both_ok, none_ok, step_part, step_written, on_err}
+use Rattle.world.proofs.Frame.{Follows, goes, part_goes}
+use Rattle.world_log.proofs.Writing.{both_ok, step_part, step_written}
 
 -- the journal behind the first item, what is written then, under which number the messages are,
 -- and what they post behind these posts
@@ -113,20 +113,14 @@ pub first_goes : {T E : Type 0} {r : Result T E} {before : List Item} {row : ℕ
     → KeepNet old new
     → piece (setting_in old) before row step ≡ item.Row row step ∷ first ∷ rest
     → IsErr r → new.log.journal ≡ old.log.journal ++ first ∷ [] → Goes r before row step old new
-first_goes {r} {before} {row} {step} first rest begins keeps is failed pushed = record {
-  net = keeps;
-  newest = none_ok _ r failed;
-  counted = none_ok _ r failed;
-  written = none_ok _ r failed;
-  refines = none_ok _ r failed;
-  part = on_err r (record {
-    written = item.Row row step ∷ first ∷ [];
-    rest = rest;
-    split = is;
-    grown = pushed ∙ ap (λ js. js ++ first ∷ []) begins.rowed
-        ∙ append_assoc before (item.Row row step ∷ []) (first ∷ []);
-  });
-}
+first_goes {before} {row} {step} first rest begins keeps is failed pushed =
+    part_goes keeps failed (record {
+      written = item.Row row step ∷ first ∷ [];
+      rest = rest;
+      split = is;
+      grown = pushed ∙ ap (λ js. js ++ first ∷ []) begins.rowed
+          ∙ append_assoc before (item.Row row step ∷ []) (first ∷ []);
+    })
 
 -- what is known in the control plane where only messages and usable links changed
 pub same_control : (control : Control) (new : Parts) (posts : List Post) (near : List ℕ)

@@ -13,6 +13,7 @@ use Rattle.world.specs.Parts.{KeepNet, setting_in, world_value}
 use Rattle.world.specs.declared.parts.Parts.{Parts}
 use Rattle.packet_laws.specs.OnTheWay.{HoldsSoFar}
 use Rattle.world.proofs.world.World.step.Goals as goal
+use Rattle.world.proofs.world.World.step.Goals.{After-play}
 
 -- the network and the files stay
 setting_kept : (old new : Parts) → KeepNet old new → setting_in new ≡ setting_in old
@@ -56,25 +57,28 @@ pub returns-in_err-play-clause-full : goal.returns-in_err-play-clause-full
 returns-in_err-play-clause-full c = λ is.
     absurd (not_full c.from_residual.result c.from_residual.ensures.1 is)
 
-pub returns-in_err-play-clause-refused : goal.returns-in_err-play-clause-refused
-returns-in_err-play-clause-refused c = λ able full.
-    let room = subst (λ (w : WorldValue). HasRoom w.journal) c.self.view_is
-    (has_room _ _ _ _ _ _ (c.self.invariant.refines c.if-self.false)
-    (omega (arith, c.sent.ensures, c.if-sent-ge-FULL_AT.false))) in
-    absurd (omega (arith, room, full))
-
-pub returns-clause-room : goal.returns-clause-room
-returns-clause-room c =
-    subst (λ (w : WorldValue). HasRoom w.journal) c.self.view_is
+-- there is room for the step, so it may be played
+room : (c : After-play) → HasRoom c.args.self.now.journal
+room c = subst (λ (w : WorldValue). HasRoom w.journal) c.self.view_is
     (has_room _ _ _ _ _ _ (c.self.invariant.refines c.if-self.false)
     (omega (arith, c.sent.ensures, c.if-sent-ge-FULL_AT.false)))
 
+may : (c : After-play)
+    → let old = world_value c.self.inside.parts c.self.inside.is_spent in
+    IsStep old.net (length old.files) c.args.step.now
+may c = subst (λ (w : WorldValue). IsStep w.net (length w.files) c.args.step.now)
+    (sym c.self.view_is) (c.requires.may (room c))
+
+pub returns-in_err-play-clause-refused : goal.returns-in_err-play-clause-refused
+returns-in_err-play-clause-refused c = λ able full.
+    absurd (omega (arith, room (goal.at.returns-in_err-play-clause-refused c).After-play, full))
+
+pub returns-clause-room : goal.returns-clause-room
+returns-clause-room c = room (goal.at.returns-clause-room c).After-play
+
 pub returns-clause-refused : goal.returns-clause-refused
 returns-clause-refused c = λ able full.
-    let room = subst (λ (w : WorldValue). HasRoom w.journal) c.self.view_is
-    (has_room _ _ _ _ _ _ (c.self.invariant.refines c.if-self.false)
-    (omega (arith, c.sent.ensures, c.if-sent-ge-FULL_AT.false))) in
-    absurd (omega (arith, room, full))
+    absurd (omega (arith, room (goal.at.returns-clause-refused c).After-play, full))
 
 pub returns-then-sent-ge-FULL_AT-clause-so_far : goal.returns-then-sent-ge-FULL_AT-clause-so_far
 returns-then-sent-ge-FULL_AT-clause-so_far c = λ able.
@@ -85,28 +89,16 @@ returns-then-sent-ge-FULL_AT-clause-so_far c = λ able.
 
 pub returns-in_err-play-clause-so_far : goal.returns-in_err-play-clause-so_far
 returns-in_err-play-clause-so_far c = λ able.
-    let old = world_value c.self.inside.parts c.self.inside.is_spent in
     let after : List Item = c.play.new.self.log.journal in
-    let refines = c.self.invariant.refines c.if-self.false in
-    let room = subst (λ (w : WorldValue). HasRoom w.journal) c.self.view_is
-    (has_room _ _ _ _ _ _ refines
-    (omega (arith, c.sent.ensures, c.if-sent-ge-FULL_AT.false))) in
-    let may = subst (λ (w : WorldValue). IsStep w.net (length w.files) c.args.step.now)
-    (sym c.self.view_is) (c.requires.may room) in
     subst (λ (w : WorldValue). HoldsSoFar (setting_at w) after) c.self.view_is
-    (part_so_far c.journals_hold_so_far.ensures old c.args.row c.args.step.now after refines may
-    c.in_err-play.ensures.part)
+    (part_so_far c.journals_hold_so_far.ensures (world_value c.self.inside.parts c.self.inside.is_spent)
+    c.args.row c.args.step.now after (c.self.invariant.refines c.if-self.false)
+    (may (goal.at.returns-in_err-play-clause-so_far c).After-play) c.in_err-play.ensures.part)
 
 pub returns-clause-so_far : goal.returns-clause-so_far
 returns-clause-so_far c = λ able.
-    let old = world_value c.self.inside.parts c.self.inside.is_spent in
     let after : List Item = c.play.new.self.log.journal in
-    let refines = c.self.invariant.refines c.if-self.false in
-    let room = subst (λ (w : WorldValue). HasRoom w.journal) c.self.view_is
-    (has_room _ _ _ _ _ _ refines
-    (omega (arith, c.sent.ensures, c.if-sent-ge-FULL_AT.false))) in
-    let may = subst (λ (w : WorldValue). IsStep w.net (length w.files) c.args.step.now)
-    (sym c.self.view_is) (c.requires.may room) in
     subst (λ (w : WorldValue). HoldsSoFar (setting_at w) after) c.self.view_is
-    (step_so_far c.journals_hold_so_far.ensures old c.args.row c.args.step.now after refines may
-    c.in_ok-play.ensures.written)
+    (step_so_far c.journals_hold_so_far.ensures (world_value c.self.inside.parts c.self.inside.is_spent)
+    c.args.row c.args.step.now after (c.self.invariant.refines c.if-self.false)
+    (may (goal.at.returns-clause-so_far c).After-play) c.in_ok-play.ensures.written)
