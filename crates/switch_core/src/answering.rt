@@ -146,6 +146,7 @@ impl Switch {
             ≡ Answered (looked_up self.now site (packet_with number h.now ingress down)) }
     {
         let finder = self.stamp_tables().finder();
+        // The call says that the header is below its bound.
         let _ = h.number();
         let found = finder.lookup(&self.cache, h);
         self.by_found(h, ingress, finder.tables(), &found)

@@ -1,23 +1,21 @@
 -- What a cache keeps as it goes over to a version.
-use Rattle.std.proofs.Common.{ℕ, zero, suc, ◌≡◌, ◌∙◌, ◌+◌, ◌≤◌, ◌^◌, Bool, true, false, cond, leb, eqb, not, ◌&&◌, ◌||◌, ◌⊎◌, Option, Some, None, Result, Ok, Err, IfSome, List, [], ◌∷◌, ◌++◌, append-nil, length, map, filter, filter_map, get_or, refl, ap, sym, subst, inl, inr, arith, All, AllPairs, Any, Contains}
+use Rattle.std.proofs.Common.{ℕ, zero, suc, ◌≡◌, ◌∙◌, ◌+◌, ◌≤◌, Bool, true, false, cond, leb, eqb, not, ◌&&◌, ◌||◌, ◌⊎◌, Option, Some, None, Result, Ok, Err, IfSome, List, [], ◌∷◌, ◌++◌, append-nil, length, map, filter, filter_map, get_or, refl, ap, sym, subst, inl, inr, arith, All, AllPairs, Any, Contains}
 use Rattle.std.specs.List.{cons_option, list_any}
 use Rattle.std.specs.Prelude.{OnErr, OnOk}
 use Rattle.std.proofs.lemmas.Bool.{eq-eqb, eqb-true, false_from_ne_true, le-leb, leb-true}
-use Rattle.std.proofs.lemmas.List.{get_or_default}
+use Rattle.std.proofs.lemmas.List.{get_or_default, map-append}
 use Rattle.std.proofs.lemmas.List.Elements.{All-cons, All-contains_itself, All-head, All-nil, All-tail, All-weaker, filter_map-append}
 use Rattle.std.proofs.lemmas.List.Folds.{Any-from_list_any, list_any-from_Any}
 use Rattle.std.proofs.lemmas.List.Kept.{AllPairs-cons}
 use Rattle.ternary.specs.Meets.{any_word}
 use Rattle.ternary.specs.Word.{WordValue}
 use Rattle.ternary.proofs.CallerLemmas.{any_covers, meets_cover}
-use Rattle.indexmap.specs.IndexMap.{insert_entry}
 use Rattle.switch_table.specs.Cache.{CacheValue, HaveDistinctKeys, IsCache, after_raise, same_key}
 use Rattle.switch_table.specs.CacheLaws.{WentOver}
 use Rattle.switch_table.specs.Carried.{after_carry, all_touched, carried_entry, goes_over, meets_any, under}
-use Rattle.switch_table.specs.Queue.{Pair, equal_keys, key_of, pair_of}
+use Rattle.switch_table.specs.Keys.{Pair, has_key, key_of, pair_of}
 use Rattle.switch_table.specs.declared.cache.CacheEntry.{CacheEntry}
-use Rattle.switch_table.specs.declared.key.CacheKey.{CacheKey}
-use Rattle.switch_table.proofs.QueueLemmas.{IsRingOf, apart-sym, ring_straight, same_key_from, same_key_parts, straight_grown}
+use Rattle.switch_table.proofs.QueueLemmas.{apart-sym, has_key_of_pairs, none_before, same_key_from, same_key_parts}
 
 -- ---- what is left of a list
 
@@ -335,7 +333,7 @@ all_carried version cache =
     ap (λ es. record { entries = es; capacity = cache.capacity })
     (all_left version cache.entries cache.entries)
 
--- ---- a map of what is left
+-- ---- pairs of what is left
 
 -- an entry of which nothing is left ..
 pub left_out : (shift : ℕ) (f : CacheEntry → Option CacheEntry) (before : List CacheEntry)
@@ -349,28 +347,27 @@ left_out shift f before entry pairs none are =
 
 -- .. or something
 pub left_in : (shift : ℕ) (f : CacheEntry → Option CacheEntry) (before : List CacheEntry)
-    (entry left : CacheEntry) (rest : List CacheEntry) (pairs new : List Pair) (key : CacheKey)
-    → shift ≤ 2 ^ 32 → HaveDistinctKeys (filter_map f (before ++ entry ∷ rest))
-    → f entry ≡ Some left
-    → pairs ≡ map (pair_of shift) (filter_map f before) → key ≡ key_of shift left
-    → new ≡ insert_entry equal_keys pairs key left
+    (entry left : CacheEntry) (pairs new : List Pair) → f entry ≡ Some left
+    → pairs ≡ map (pair_of shift) (filter_map f before) → new ≡ pairs ++ pair_of shift left ∷ []
     → new ≡ map (pair_of shift) (filter_map f (before ++ entry ∷ []))
-left_in shift f before entry left rest pairs new key fits distinct some are own made =
+left_in shift f before entry left pairs new some are made =
+    made ∙ ap (λ ps. ps ++ pair_of shift left ∷ []) are
+    ∙ sym (map-append (pair_of shift) (filter_map f before) (left ∷ []))
+    ∙ ap (map (pair_of shift)) (sym (filter_map-append f before (entry ∷ [])
+    ∙ ap (λ o. filter_map f before ++ cons_option o []) some))
+
+-- whose key is not there
+pub left_absent : (shift : ℕ) (f : CacheEntry → Option CacheEntry) (before : List CacheEntry)
+    (entry left : CacheEntry) (rest : List CacheEntry) (pairs : List Pair)
+    → HaveDistinctKeys (filter_map f (before ++ entry ∷ rest)) → f entry ≡ Some left
+    → pairs ≡ map (pair_of shift) (filter_map f before) → has_key (key_of shift left) pairs ≡ false
+left_absent shift f before entry left rest pairs distinct some are =
     let all : filter_map f (before ++ entry ∷ rest) ≡ filter_map f before ++ left ∷ filter_map f rest =
     filter_map-append f before (entry ∷ rest)
     ∙ ap (λ o. filter_map f before ++ cons_option o (filter_map f rest)) some in
-    let grown = straight_grown shift (filter_map f before) left (filter_map f rest) pairs new key
-    fits (subst HaveDistinctKeys all distinct) are own made in
-    grown ∙ ap (map (pair_of shift)) (sym (filter_map-append f before (entry ∷ [])
-    ∙ ap (λ o. filter_map f before ++ cons_option o []) some))
-
--- it is a ring, which begins at its end
-pub ring_left : (shift first : ℕ) (pairs : List Pair) (entries : List CacheEntry)
-    → shift ≤ 2 ^ 32 → HaveDistinctKeys entries → pairs ≡ map (pair_of shift) entries
-    → first ≡ length pairs
-    → IsRingOf shift first pairs entries
-ring_left shift first pairs entries fits distinct are end =
-    rw (end, are) (ring_straight shift entries fits distinct)
+    ap (has_key (key_of shift left)) are ∙ has_key_of_pairs shift left (filter_map f before)
+    ∙ none_before (filter_map f before) left (filter_map f rest)
+    (subst HaveDistinctKeys all distinct)
 
 -- there are no more of them
 pub left_few : (version capacity : ℕ) (touched : List WordValue) (old new : List CacheEntry)

@@ -1,5 +1,9 @@
 mod OverLemmas
-mod HitLemmas
+mod SlotPushLemmas
+mod LiveLemmas
+mod FirstLemmas
+mod SlotHitLemmas
+mod SlotRemoveLemmas
 pub mod QueueLemmas
 pub mod CacheLemmas
 pub mod CarryLemmas

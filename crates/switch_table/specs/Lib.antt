@@ -1,8 +1,11 @@
 pub mod Cache
 pub mod Carried
+pub mod Keys
 pub mod Listed
+pub mod Live
 pub mod CacheLaws
 pub mod Masks
 pub mod Queue
+pub mod Slots
 pub mod Tables
 pub mod Lookup

@@ -1,11 +1,11 @@
-ghost use Rattle.std.specs.Prelude.{◌≡◌, ◌≤◌, ◌^◌, [], slice_get, option_map, OnOk, OnErr};
+ghost use Rattle.std.specs.Prelude.{◌≡◌, ◌≤◌, ◌<◌, ◌+◌, ◌^◌, [], slice_get, option_map, OnOk, OnErr};
 ghost use Rattle.switch_table.specs.Cache.{IsCache, after_accept, after_expire, after_raise, after_clear, first_entry};
 ghost use Rattle.switch_table.specs.CacheLaws.{CacheLaws, CarryLaws};
 ghost use Rattle.switch_table.specs.Carried.{after_carry};
-ghost use Rattle.switch_table.specs.Queue.{key_of};
+ghost use Rattle.switch_table.specs.Keys.{entry_of, key_of, learnt_of};
 
 use crate::items::CacheItems;
-use crate::key::CacheKey;
+use crate::key::{CacheKey, Learnt};
 use crate::queue::EntryQueue;
 use crate::touched::Touched;
 use policy_rules::Action;
@@ -35,6 +35,31 @@ impl CacheEntry {
         CacheKey {
             number: u64::from(self.version) + shift,
             word: self.word,
+        }
+    }
+
+    /// What it says beside its key.
+    pub(crate) fn learnt(&self) -> Learnt
+        ensures { result ≡ learnt_of self.now }
+    {
+        Learnt {
+            rule: self.rule,
+            action: self.action,
+            message: self.message,
+        }
+    }
+
+    /// The entry of this key in a queue that adds so much to versions.
+    pub(crate) fn of(key: &CacheKey, learnt: &Learnt, shift: u64) -> CacheEntry
+        requires { (shift ≤ key.now.number) × (key.now.number < shift + 2 ^ 32) }
+        ensures { result ≡ entry_of shift (key.now, learnt.now) }
+    {
+        CacheEntry {
+            version: (key.number - shift) as u32,
+            word: key.word,
+            rule: learnt.rule,
+            action: learnt.action,
+            message: learnt.message,
         }
     }
 }

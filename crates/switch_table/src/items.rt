@@ -1,35 +1,83 @@
-ghost use Rattle.std.specs.Prelude.{◌≡◌, ◌++◌};
+ghost use Rattle.std.specs.Prelude.{◌≡◌};
+ghost use Rattle.switch_table.specs.Keys.{entries_of};
+ghost use Rattle.switch_table.specs.Queue.{HaveVersions};
+ghost use Rattle.switch_table.specs.Slots.{live_pairs};
 
 use crate::cache::CacheEntry;
-use crate::key::CacheKey;
-use indexmap::map::Values;
+use crate::key::{CacheKey, Learnt, Slot};
+use indexmap::map::Iter;
 use std::marker::Model;
+
+/// The live slots of a map, in order, a copy of each. Contracts see those that are left.
+#[derive(Drop)]
+pub struct SlotItems<'a> {
+    slots: Iter<'a, CacheKey, Slot>,
+}
+
+impl<'a> Model for SlotItems<'a> {
+    ghost use Rattle.std.specs.Prelude.{List};
+    ghost use Rattle.switch_table.specs.Keys.{Pair};
+    ghost use Rattle.switch_table.specs.Slots.{live_pairs};
+
+    ghost Value = { List Pair };
+
+    ghost view = { λ i. live_pairs i.slots };
+}
+
+impl<'a> SlotItems<'a> {
+    pub fn new(slots: Iter<'a, CacheKey, Slot>) -> SlotItems<'a>
+        ensures { result ≡ live_pairs slots.entry }
+    {
+        SlotItems { slots }
+    }
+}
+
+impl Iterator for SlotItems<'_> {
+    ghost use Rattle.std.specs.Iterator.{YieldsFirst, item_count};
+
+    type Item = (CacheKey, Learnt);
+
+    ghost next_gives = { YieldsFirst (λ s. s) };
+
+    ghost remaining = { item_count (λ s. s) };
+
+    fn next(&mut self) -> Option<(CacheKey, Learnt)> {
+        while let Some((key, slot)) = self.slots.next() {
+            if slot.is_live {
+                return Some((*key, slot.learnt));
+            }
+        }
+        None
+    }
+}
 
 /// The entries of a cache, in order, a copy of each. Contracts see those that are left.
 #[derive(Drop)]
 pub struct CacheItems<'a> {
-    back: Values<'a, CacheKey, CacheEntry>,
-    front: Values<'a, CacheKey, CacheEntry>,
+    slots: SlotItems<'a>,
+    shift: u64,
 }
 
 impl<'a> Model for CacheItems<'a> {
-    ghost use Rattle.std.specs.Prelude.{List, ◌++◌};
+    ghost use Rattle.std.specs.Prelude.{List};
+    ghost use Rattle.switch_table.specs.Keys.{entries_of};
+    ghost use Rattle.switch_table.specs.Queue.{HaveVersions};
     ghost use Rattle.switch_table.specs.declared.cache.CacheEntry.{CacheEntry};
 
     ghost Value = { List CacheEntry };
 
-    ghost view = { λ i. i.back ++ i.front };
+    ghost view = { λ i. entries_of i.shift i.slots };
+
+    ghost invariant = { λ i. HaveVersions i.shift i.slots };
 }
 
 impl<'a> CacheItems<'a> {
-    /// The entries at the back of a ring, and then those at its front.
-    pub(crate) fn new(
-        back: Values<'a, CacheKey, CacheEntry>,
-        front: Values<'a, CacheKey, CacheEntry>,
-    ) -> CacheItems<'a>
-        ensures { result ≡ back.entry ++ front.entry }
+    /// The entries of these slots, whose keys add so much to the versions.
+    pub(crate) fn new(slots: SlotItems<'a>, shift: u64) -> CacheItems<'a>
+        requires { HaveVersions shift slots }
+        ensures { result ≡ entries_of shift slots.entry }
     {
-        CacheItems { back, front }
+        CacheItems { slots, shift }
     }
 }
 
@@ -43,9 +91,7 @@ impl Iterator for CacheItems<'_> {
     ghost remaining = { item_count (λ s. s) };
 
     fn next(&mut self) -> Option<CacheEntry> {
-        match self.back.next() {
-            Some(entry) => Some(*entry),
-            None => self.front.next().copied(),
-        }
+        let (key, learnt) = self.slots.next()?;
+        Some(CacheEntry::of(&key, &learnt, self.shift))
     }
 }

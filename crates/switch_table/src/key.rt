@@ -1,3 +1,4 @@
+use policy_rules::Action;
 use ternary::Word;
 
 /// What makes a cache entry one of its kind: its word, and a number for its version.
@@ -8,4 +9,19 @@ use ternary::Word;
 pub struct CacheKey {
     pub number: u64,
     pub word: Word,
+}
+
+/// What a cache entry says beside its key.
+#[derive(Clone, Copy)]
+pub struct Learnt {
+    pub rule: Option<u32>,
+    pub action: Action,
+    pub message: u32,
+}
+
+/// A place of a map of entries: what was learnt, or what is left of it once it is gone.
+#[derive(Clone, Copy)]
+pub struct Slot {
+    pub learnt: Learnt,
+    pub is_live: bool,
 }

@@ -14,9 +14,12 @@
 mod cache;
 mod items;
 mod key;
+mod live;
 mod masks;
+mod over;
 mod queue;
 mod search;
+mod slots;
 mod tables;
 mod touched;
 

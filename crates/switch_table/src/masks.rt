@@ -11,6 +11,9 @@ use ternary::Word;
 // So many entries come at least before the masks are gathered anew.
 const LEAST_WAIT: usize = 1024;
 
+// So many masks are few at most.
+const MOST_FEW: usize = 256;
+
 /// The masks of a queue's entries, where they are few beside these: a word of each. Where they
 /// were many, they are gathered anew once so many entries have come as there were.
 ///
@@ -73,6 +76,13 @@ impl Masks {
         !self.are_known && self.wait == 0
     }
 
+    /// Where so many entries are left of those that were counted: waits for no more than as many.
+    pub fn wait_for(&mut self, count: usize)
+        ensures { self.new ≡ self.old }
+    {
+        self.wait = self.wait.min(count.max(LEAST_WAIT));
+    }
+
     /// Takes in the mask of a word that comes to so many entries.
     pub fn add(&mut self, word: &Word, count: usize) -> Result<(), AllocError>
         ensures kept { (one : WordValue) → HasMaskOf self.old one → HasMaskOf self.new one }
@@ -104,7 +114,7 @@ impl Masks {
 
 // Whether a look for each of so many masks is less work than one at each of so many entries.
 fn are_few(masks: usize, entries: usize) -> bool {
-    masks <= entries / 64
+    masks <= MOST_FEW.min(entries / 64)
 }
 
 // Notes the word's mask, if it isn't there.

@@ -1,11 +1,11 @@
 use Rattle.std.proofs.Common.{◌≡◌, ◌++◌, filter_map, map}
 use Rattle.switch_table.specs.Carried.{carried_entry}
-use Rattle.switch_table.specs.Queue.{pair_of}
+use Rattle.switch_table.specs.Keys.{pair_of}
 use Rattle.switch_table.proofs.queue.EntryQueue.carried.Given as goal
 
--- what is left of the entries that came is in the map, in order, and the others are to come
+-- what is left of the entries that came is there, in order, and the others are to come
 abbrev pub invariant-loop-entry : goal.invariant-loop-entry
 invariant-loop-entry l =
-    (l.ring.entries ≡ map (pair_of l.shift)
+    (l.slots ≡ map (pair_of l.shift)
     (filter_map (carried_entry l.version l.touched l.fn.self) l.yielded))
     × (l.yielded ++ l.entry-iterator ≡ l.fn.self)

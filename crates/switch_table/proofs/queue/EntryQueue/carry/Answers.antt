@@ -1,52 +1,81 @@
-use Rattle.std.proofs.Common.{◌-◌, filter_map, refl, subst, arith}
+use Rattle.std.proofs.Common.{◌≡◌, ◌∙◌, ◌+◌, ◌-◌, All, ap, arith, filter, filter_map, subst, sym}
 use Rattle.switch_table.specs.Carried.{carried_entry}
-use Rattle.switch_table.specs.Queue.{AreMasked, AreUpTo}
-use Rattle.switch_table.proofs.CarryLemmas.{carried_distinct, ring_left}
-use Rattle.switch_table.proofs.OverLemmas.{masked_carried, ring_carried, up_to_carried}
-use Rattle.switch_table.proofs.QueueLemmas.{IsRingOf, queue_of}
+use Rattle.switch_table.specs.Keys.{Pair, entries_of, is_over}
+use Rattle.switch_table.specs.Queue.{AreMasked, AreUpTo, HaveVersions, IsQueue}
+use Rattle.switch_table.proofs.OverLemmas.{IsBelow, below_newest, carried_pairs, masked_carried, pairs_over, up_to_carried, versions_over}
+use Rattle.switch_table.proofs.QueueLemmas.{entries_of_pairs, queue_of, versions_of_pairs}
 use Rattle.switch_table.proofs.queue.EntryQueue.carry.Goals as goal
-use Rattle.switch_table.proofs.queue.EntryQueue.carry.Goals.{After-take_over-self-inside, After-len-self-inside}
+use Rattle.switch_table.proofs.queue.EntryQueue.carry.Goals.{After-keep_over}
 
-gone_over : (c : After-take_over-self-inside) → IsRingOf (c.self.inside.shift - 1)
-    c.take_over-self-inside.result c.take_over-self-inside.new.ring.entries
-    (filter_map (carried_entry c.args.version c.args.touched.now c.args.self.now) c.args.self.now)
+kept : (c : After-keep_over) → c.keep_over.new.self
+    ≡ pairs_over c.self.inside.shift c.args.version c.args.touched.now c.self.inside.slots
+kept c =
+    let lower = c.self.inside.shift - 1 in
+    c.keep_over.ensures
+    ∙ (λ i. filter (λ (pair : Pair). is_over (c.from.ensures i + lower) (c.words.ensures.words i)
+    pair.0) c.self.inside.slots)
+
+gone_over : (c : After-keep_over)
+    → entries_of (c.self.inside.shift - 1) c.keep_over.new.self
+    ≡ filter_map (carried_entry c.args.version c.args.touched.now c.args.self.now) c.args.self.now
 gone_over c =
-    ring_carried c.self.inside.masks c.self.inside.shift (c.self.inside.shift - 1) c.args.version c.self.inside.newest
-    c.self.inside.first c.take_over-self-inside.result c.args.touched.now
-    c.self.inside.ring.entries c.take_over-self-inside.new.ring.entries c.args.self.now
-    c.self.invariant c.self.view_is (omega (arith, c.if-self-version.true))
-    (omega (arith, c.if-self-gt0.true)) refl c.take_over-self-inside.ensures.pairs
-    c.take_over-self-inside.ensures.within c.take_over-self-inside.ensures.entries
-
-left : (c : After-len-self-inside) → IsRingOf c.self.inside.shift c.len-self-inside.result
-    c.in_ok-ring.ring.entries
-    (filter_map (carried_entry c.args.version c.args.touched.now c.args.self.now) c.args.self.now)
-left c = ring_left c.self.inside.shift c.len-self-inside.result c.in_ok-ring.ring.entries _
-    c.self.invariant.ring.fits (carried_distinct c.args.version c.args.touched.now c.args.self.now
-    c.in_ok-ring.ensures.distinct) c.in_ok-ring.ensures.entries c.len-self-inside.ensures.len
+    let shift = c.self.inside.shift in
+    let version = c.args.version in
+    let touched = c.args.touched.now in
+    let entries = entries_of shift c.self.inside.slots in
+    let below : All (IsBelow version) entries =
+    below_newest version c.self.inside.newest entries (omega (arith, c.if-self-version.true))
+    c.self.invariant.up_to in
+    ap (entries_of (shift - 1)) (kept c)
+    ∙ carried_pairs shift version touched entries c.self.inside.slots
+    (omega (arith, c.if-self-gt0.true)) c.self.invariant.versions below below
+    ∙ (λ i. filter_map (carried_entry version touched (c.self.view_is i)) (c.self.view_is i))
 
 pub invariant_of-self : goal.invariant_of-self
 invariant_of-self c =
-    queue_of _ _ _ _ _ _ (gone_over (goal.at.invariant_of-self c).After-take_over-self-inside)
-    (up_to_carried c.args.version c.self.inside.newest c.args.version c.args.touched.now
-    c.args.self.now
+    let here = (goal.at.invariant_of-self c).After-keep_over in
+    let shift = c.self.inside.shift in
+    let version = c.args.version in
+    let touched = c.args.touched.now in
+    subst (λ masks. IsQueue masks (shift - 1) version c.keep_over.new.self)
+    (sym c.wait_for.ensures)
+    (queue_of c.self.inside.masks (shift - 1) version c.keep_over.new.self _
+    (omega (arith, c.self.invariant.fits))
+    (subst (HaveVersions (shift - 1)) (sym (kept here))
+    (versions_over shift version touched c.self.inside.slots (omega (arith, c.if-self-gt0.true))
+    (omega (arith, c.ranges.version.fits)))) (gone_over here)
+    (up_to_carried version c.self.inside.newest version touched c.args.self.now
     (subst (AreUpTo c.self.inside.newest) c.self.view_is c.self.invariant.up_to)
     (omega (arith, c.if-self-version.true)) (omega arith))
-    (masked_carried c.self.inside.masks c.args.version c.args.touched.now c.args.self.now
-    (subst (AreMasked c.self.inside.masks) c.self.view_is c.self.invariant.masked))
+    (masked_carried c.self.inside.masks version touched c.args.self.now
+    (subst (AreMasked c.self.inside.masks) c.self.view_is c.self.invariant.masked)))
 
 pub returns-then-self-version-clause-ok : goal.returns-then-self-version-clause-ok
 returns-then-self-version-clause-ok c =
-    (gone_over (goal.at.returns-then-self-version-clause-ok c).After-take_over-self-inside).entries_are
+    gone_over (goal.at.returns-then-self-version-clause-ok c).After-keep_over
 
 pub invariant_of-self-2 : goal.invariant_of-self-2
 invariant_of-self-2 c =
-    queue_of _ _ _ _ _ _ (left (goal.at.invariant_of-self-2 c).After-len-self-inside)
-    (up_to_carried c.args.version c.self.inside.newest _ c.args.touched.now c.args.self.now
+    let shift = c.self.inside.shift in
+    let newest = c.max-self-inside.result in
+    let version = c.args.version in
+    let touched = c.args.touched.now in
+    let after = filter_map (carried_entry version touched c.args.self.now) c.args.self.now in
+    let up_to : AreUpTo newest after =
+    up_to_carried version c.self.inside.newest newest touched c.args.self.now
     (subst (AreUpTo c.self.inside.newest) c.self.view_is c.self.invariant.up_to)
-    (omega (arith, c.max-self-inside.ensures)) (omega (arith, c.max-self-inside.ensures)))
-    (masked_carried c.self.inside.masks c.args.version c.args.touched.now c.args.self.now
+    (omega (arith, c.max-self-inside.ensures)) (omega (arith, c.max-self-inside.ensures)) in
+    queue_of c.self.inside.masks shift newest c.in_ok-self-inside.field-0 after
+    c.self.invariant.fits
+    (subst (HaveVersions shift) (sym c.in_ok-self-inside.ensures)
+    (versions_of_pairs shift newest after c.max-self-inside.type_inv up_to))
+    (ap (entries_of shift) c.in_ok-self-inside.ensures ∙ entries_of_pairs shift after) up_to
+    (masked_carried c.self.inside.masks version touched c.args.self.now
     (subst (AreMasked c.self.inside.masks) c.self.view_is c.self.invariant.masked))
 
 pub returns-clause-ok : goal.returns-clause-ok
-returns-clause-ok c = (left (goal.at.returns-clause-ok c).After-len-self-inside).entries_are
+returns-clause-ok c =
+    let after = filter_map (carried_entry c.args.version c.args.touched.now c.args.self.now)
+    c.args.self.now in
+    ap (entries_of c.self.inside.shift) c.in_ok-self-inside.ensures
+    ∙ entries_of_pairs c.self.inside.shift after

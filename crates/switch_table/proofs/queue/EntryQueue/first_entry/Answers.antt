@@ -1,24 +1,51 @@
-use Rattle.std.proofs.Common.{◌&&◌, ◌∙◌, ◌+◌, sym, ap, eqb, rules, subst}
+use Rattle.std.proofs.Common.{◌≡◌, ◌∙◌, ◌+◌, ◌&&◌, Option, Some, None, IfSome, ap, eqb, find, option_map, rules, subst, sym}
 use Rattle.std.proofs.lemmas.Iterator.Adapters.{option_map_id}
 use Rattle.std.proofs.lemmas.Iterator.Consumers.{YieldsList-from_first}
 use Rattle.std.proofs.lemmas.Iterator.Search.{find_from_yields_List}
-use Rattle.std.specs.List.{position_or_len}
 use Rattle.ternary.specs.Word.{holds}
-use Rattle.switch_table.specs.Queue.{AreMasked, Pair, is_hit, ring_entries, rotated_list}
+use Rattle.switch_table.specs.Cache.{first_entry}
+use Rattle.switch_table.specs.Keys.{Pair, entries_of, entry_of, is_hit}
+use Rattle.switch_table.specs.Queue.{AreMasked}
 use Rattle.switch_table.specs.declared.cache.CacheEntry.{CacheEntry}
-use Rattle.switch_table.proofs.HitLemmas.{found_by_hits}
+use Rattle.switch_table.proofs.FirstLemmas.{first_by_hits, found_is}
+use Rattle.switch_table.proofs.QueueLemmas.{HasVersion}
 use Rattle.switch_table.proofs.queue.EntryQueue.first_entry.Goals as goal
+use Rattle.switch_table.proofs.queue.EntryQueue.first_entry.Goals.{After-first_hit}
 
-pub returns-in-Some : goal.returns-in-Some
-returns-in-Some c =
-    let first = c.self.inside.first in
-    let pairs = c.self.inside.ring.entries in
-    c.at.ensures ∙ found_by_hits c.self.inside.shift first c.args.version c.args.number
-    c.first_hit.result c.in-Some.masks.now pairs c.args.self.now c.self.invariant.ring
-    c.self.view_is (subst (λ masks. AreMasked masks (ring_entries first pairs)) c.in-Some.ensures
-    c.self.invariant.masked) (c.first_hit.ensures ∙ ap (λ version. position_or_len
-    (λ (pair : Pair). is_hit (version + c.self.inside.shift) c.args.number c.in-Some.masks.now pair.0)
-    (rotated_list first pairs)) c.from.ensures)
+-- the first entry, by the first pair of such a key
+entry_is : (c : After-first_hit) (pair : Option Pair)
+    → pair ≡ find (λ (p : Pair). is_hit (c.from.result + c.self.inside.shift) c.args.number
+    c.in-Some.masks.now p.0) c.self.inside.slots
+    → option_map (entry_of c.self.inside.shift) pair
+    ≡ first_entry c.args.version c.args.number c.args.self.now
+entry_is c pair is =
+    let shift = c.self.inside.shift in
+    let masks = c.in-Some.masks.now in
+    let pairs = c.self.inside.slots in
+    ap (option_map (entry_of shift)) (is ∙ ap
+    (λ version. find (λ (p : Pair). is_hit (version + shift) c.args.number masks p.0) pairs)
+    c.from.ensures)
+    ∙ first_by_hits shift c.args.version c.args.number masks pairs c.self.invariant.versions
+    (subst (λ known. AreMasked known (entries_of shift pairs)) c.in-Some.ensures
+    c.self.invariant.masked)
+    ∙ ap (first_entry c.args.version c.args.number) c.self.view_is
+
+pub returns-in_err-key-in-Some : goal.returns-in_err-key-in-Some
+returns-in_err-key-in-Some c =
+    let none : c.from_residual.result ≡ None = search rules in
+    none ∙ entry_is (goal.at.returns-in_err-key-in-Some c).After-first_hit None (search rules)
+
+pub of-requires : goal.of-requires
+of-requires c =
+    let HasOne = λ (found : Option Pair). IfSome found (HasVersion c.self.inside.shift) in
+    subst HasOne (sym c.in_ok-key-in-Some.ensures)
+    (found_is (HasVersion c.self.inside.shift) _ c.self.inside.slots c.self.invariant.versions)
+
+pub returns-in_ok-key-in-Some : goal.returns-in_ok-key-in-Some
+returns-in_ok-key-in-Some c =
+    ap Some c.of.ensures
+    ∙ entry_is (goal.at.returns-in_ok-key-in-Some c).After-first_hit
+    (Some (c.in_ok-key-in-Some.key, c.in_ok-key-in-Some.learnt)) c.in_ok-key-in-Some.ensures
 
 pub returns-in-None : goal.returns-in-None
 returns-in-None c =

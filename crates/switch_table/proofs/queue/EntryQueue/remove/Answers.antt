@@ -1,48 +1,54 @@
-use Rattle.std.proofs.Common.{◌≤◌}
-use Rattle.switch_table.specs.Masks.{HasMaskOf}
-use Rattle.switch_table.specs.declared.cache.CacheEntry.{CacheEntry}
-use Rattle.switch_table.proofs.QueueLemmas.{All-remove, queue_of, ring_earlier, ring_later, ring_remove_earlier, ring_remove_later}
+use Rattle.std.proofs.Common.{◌≡◌, ◌∙◌, Option, Some, None, ap, option_map, remove, rules, slice_get, sym}
+use Rattle.std.proofs.lemmas.Option.{slice_get-map}
+use Rattle.switch_table.specs.Keys.{Pair, entries_of, entry_of}
+use Rattle.switch_table.proofs.QueueLemmas.{HasVersion, entries_removed, got_is, queue_removed}
 use Rattle.switch_table.proofs.queue.EntryQueue.remove.Goals as goal
+use Rattle.switch_table.proofs.queue.EntryQueue.remove.Goals.{After-remove}
 
-pub invariant_of-self-then-place-later : goal.invariant_of-self-then-place-later
-invariant_of-self-then-place-later c =
-    rw c.in_ok-entry.ensures.entries (queue_of _ _ _ _ _ _
-    (ring_remove_later _ _ c.args.place _ _ c.self.invariant.ring c.len-len.ensures.len
-    c.if-place-later.true)
-    (All-remove (λ (entry : CacheEntry). entry.version ≤ c.self.inside.newest) _ c.args.place
-    c.self.invariant.up_to)
-    (All-remove (λ (entry : CacheEntry). HasMaskOf c.self.inside.masks entry.word) _ c.args.place
-    c.self.invariant.masked))
+-- the entry at the place, by the pair there
+entry_is : (c : After-remove) (pair : Option Pair)
+    → pair ≡ slice_get c.self.inside.slots c.args.place
+    → option_map (entry_of c.self.inside.shift) pair ≡ slice_get c.args.self.now c.args.place
+entry_is c pair is =
+    ap (option_map (entry_of c.self.inside.shift)) is
+    ∙ sym (slice_get-map (entry_of c.self.inside.shift) c.self.inside.slots c.args.place)
+    ∙ ap (λ entries. slice_get entries c.args.place) c.self.view_is
 
-pub invariant_of-self-else-place-later : goal.invariant_of-self-else-place-later
-invariant_of-self-else-place-later c =
-    rw c.in_ok-entry-2.ensures.entries (queue_of _ _ _ _ _ _
-    (ring_remove_earlier _ _ c.args.place _ _ c.self.invariant.ring c.len-len.ensures.len
-    c.if-place-len.false c.if-place-later.false)
-    (All-remove (λ (entry : CacheEntry). entry.version ≤ c.self.inside.newest) _ c.args.place
-    c.self.invariant.up_to)
-    (All-remove (λ (entry : CacheEntry). HasMaskOf c.self.inside.masks entry.word) _ c.args.place
-    c.self.invariant.masked))
+rest_is : (c : After-remove)
+    → entries_of c.self.inside.shift c.remove.new.self ≡ remove c.args.self.now c.args.place
+rest_is c =
+    ap (entries_of c.self.inside.shift) c.remove.ensures.rest
+    ∙ entries_removed c.self.inside.shift c.self.inside.slots c.args.place
+    ∙ ap (λ entries. remove entries c.args.place) c.self.view_is
 
-pub returns-in_ok-entry-clause-entry : goal.returns-in_ok-entry-clause-entry
-returns-in_ok-entry-clause-entry c =
-    rw (← c.self.view_is) (ring_later _ c.args.place _ _ _ c.self.invariant.ring.within
-    c.len-len.ensures.len c.if-place-later.true c.in_ok-entry.ensures.entry)
+pub invariant_of-self : goal.invariant_of-self
+invariant_of-self c =
+    queue_removed _ _ _ c.args.place _ _ c.self.invariant c.remove.ensures.rest
 
-pub returns-in_ok-entry-clause-rest : goal.returns-in_ok-entry-clause-rest
-returns-in_ok-entry-clause-rest c =
-    rw (← c.self.view_is, c.in_ok-entry.ensures.entries)
-    (ring_remove_later _ _ c.args.place _ _ c.self.invariant.ring c.len-len.ensures.len
-    c.if-place-later.true).entries_are
+pub returns-in_err-key-clause-entry : goal.returns-in_err-key-clause-entry
+returns-in_err-key-clause-entry c =
+    let none : c.from_residual.result ≡ None = search rules in
+    none ∙ entry_is (goal.at.returns-in_err-key-clause-entry c).After-remove None
+    (search rules)
 
-pub returns-in_ok-entry-2-clause-entry : goal.returns-in_ok-entry-2-clause-entry
-returns-in_ok-entry-2-clause-entry c =
-    rw (← c.self.view_is) (ring_earlier _ c.args.place _ _ _ c.self.invariant.ring.within
-    c.len-len.ensures.len c.if-place-len.false c.if-place-later.false
-    c.in_ok-entry-2.ensures.entry)
+pub returns-in_err-key-clause-rest : goal.returns-in_err-key-clause-rest
+returns-in_err-key-clause-rest c =
+    rest_is (goal.at.returns-in_err-key-clause-rest c).After-remove
 
-pub returns-in_ok-entry-2-clause-rest : goal.returns-in_ok-entry-2-clause-rest
-returns-in_ok-entry-2-clause-rest c =
-    rw (← c.self.view_is, c.in_ok-entry-2.ensures.entries)
-    (ring_remove_earlier _ _ c.args.place _ _ c.self.invariant.ring c.len-len.ensures.len
-    c.if-place-len.false c.if-place-later.false).entries_are
+pub of-requires : goal.of-requires
+of-requires c =
+    got_is (HasVersion c.self.inside.shift) c.self.inside.slots c.args.place
+    (c.in_ok-key.key, c.in_ok-key.learnt) c.self.invariant.versions c.in_ok-key.ensures.pair
+
+pub invariant_of-self-2 : goal.invariant_of-self-2
+invariant_of-self-2 c =
+    queue_removed _ _ _ c.args.place _ _ c.self.invariant c.remove.ensures.rest
+
+pub returns-clause-entry : goal.returns-clause-entry
+returns-clause-entry c =
+    ap Some c.of.ensures
+    ∙ entry_is (goal.at.returns-clause-entry c).After-remove
+    (Some (c.in_ok-key.key, c.in_ok-key.learnt)) c.in_ok-key.ensures.pair
+
+pub returns-clause-rest : goal.returns-clause-rest
+returns-clause-rest c = rest_is (goal.at.returns-clause-rest c).After-remove

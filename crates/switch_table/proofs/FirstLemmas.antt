@@ -1,0 +1,109 @@
+-- The first entry that holds a header, by the keys of its masks.
+use Rattle.std.proofs.Common.{arith, ℕ, ◌≡◌, ◌∙◌, ◌+◌, Bool, true, false, Option, Some, IfSome, cond, eqb, ◌&&◌, ◌||◌, List, [], ◌∷◌, find, option_map, refl, ap, sym, All}
+use Rattle.std.specs.List.{list_any}
+use Rattle.std.specs.Int.Bits.{bit_and}
+use Rattle.std.proofs.lemmas.Bool.{eqb-true}
+use Rattle.std.proofs.lemmas.List.Elements.{All-head, All-tail}
+use Rattle.std.proofs.Math.Bool.{and-false, and_assoc as and_joined}
+use Rattle.ternary.specs.Word.{WordValue, holds}
+use Rattle.switch_table.specs.Cache.{first_entry}
+use Rattle.switch_table.specs.Keys.{Pair, entries_of, entry_of, equal_keys, is_hit, key_of, key_under}
+use Rattle.switch_table.specs.Masks.{HasMaskIn}
+use Rattle.switch_table.specs.Queue.{AreMasked, HaveVersions}
+use Rattle.switch_table.specs.declared.cache.CacheEntry.{CacheEntry}
+use Rattle.switch_table.proofs.QueueLemmas.{HasVersion, key_of_entry}
+use Rattle.std.proofs.lemmas.Bool.Decides.{nat_tests}
+
+list_any-both : {X : Type 0} (t : Bool) (q : X → Bool) (xs : List X) →
+    list_any (λ x. t && q x) xs ≡ (t && list_any q xs)
+list_any-both t q [] = sym (and-false t)
+list_any-both true q (x ∷ xs) = ap (λ b. q x || b) (list_any-both true q xs)
+list_any-both false q (x ∷ xs) = list_any-both false q xs
+
+abbrev pub holds_of : ℕ → ℕ → CacheEntry → Bool
+holds_of version header entry = eqb entry.version version && holds entry.word header
+
+-- a key of one mask is the entry's where the entry holds the header and has the mask
+key_is : (shift version header : ℕ) (masks : List WordValue) (entry : CacheEntry)
+    (mask : WordValue) → HasMaskIn masks entry.word →
+    equal_keys (key_under (version + shift) header mask) (key_of shift entry)
+    ≡ (holds_of version header entry && eqb mask.mask entry.word.mask)
+unfolding equal_keys holds
+key_is shift version header masks entry mask has = by_case (eqb mask.mask entry.word.mask) refl
+  where
+    numbers : eqb (version + shift) (entry.version + shift) ≡ eqb entry.version version
+    numbers = grind (arith, nat_tests)
+
+    by_case : (b : Bool) → eqb mask.mask entry.word.mask ≡ b →
+        (eqb (version + shift) (entry.version + shift)
+        && (eqb (bit_and header mask.mask) entry.word.value && b))
+        ≡ ((eqb entry.version version
+        && eqb (bit_and header entry.word.mask) (bit_and entry.word.value entry.word.mask)) && b)
+    by_case true is =
+        let masks_are : mask.mask ≡ entry.word.mask = eqb-true mask.mask entry.word.mask is in
+        let value : entry.word.value ≡ bit_and entry.word.value entry.word.mask =
+        sym has.sound.within in
+        (λ i. numbers i && (eqb (bit_and header (masks_are i)) (value i) && true))
+        ∙ sym (and_joined (eqb entry.version version)
+        (eqb (bit_and header entry.word.mask) (bit_and entry.word.value entry.word.mask)) true)
+    by_case false is =
+        ap (λ b. eqb (version + shift) (entry.version + shift) && b)
+        (and-false (eqb (bit_and header mask.mask) entry.word.value))
+        ∙ and-false (eqb (version + shift) (entry.version + shift)) ∙ sym (and-false _)
+
+-- whether the entry is of the version and holds the header, by its key
+pub entry_hit : (shift version header : ℕ) (masks : List WordValue) (entry : CacheEntry) →
+    HasMaskIn masks entry.word →
+    holds_of version header entry ≡ is_hit (version + shift) header masks (key_of shift entry)
+entry_hit shift version header masks entry has =
+    sym ((λ i. list_any (λ mask. key_is shift version header masks entry mask has i) masks)
+    ∙ list_any-both (holds_of version header entry) (λ mask. eqb mask.mask entry.word.mask) masks
+    ∙ ap (λ b. holds_of version header entry && b) has.there ∙ and_true (holds_of version header entry))
+  where
+    and_true : (b : Bool) → (b && true) ≡ b
+    and_true true = refl
+    and_true false = refl
+
+-- whether the pair's key is such a one, by its entry
+pair_hit : (shift version header : ℕ) (masks : List WordValue) (pair : Pair)
+    → HasVersion shift pair → HasMaskIn masks pair.0.word
+    → is_hit (version + shift) header masks pair.0 ≡ holds_of version header (entry_of shift pair)
+pair_hit shift version header masks pair is has =
+    sym (entry_hit shift version header masks (entry_of shift pair) has
+    ∙ ap (is_hit (version + shift) header masks) (key_of_entry shift pair is))
+
+pub first_by_hits : (shift version header : ℕ) (masks : List WordValue) (pairs : List Pair)
+    → HaveVersions shift pairs → AreMasked (Some masks) (entries_of shift pairs)
+    → option_map (entry_of shift)
+    (find (λ (pair : Pair). is_hit (version + shift) header masks pair.0) pairs)
+    ≡ first_entry version header (entries_of shift pairs)
+first_by_hits shift version header masks [] are masked = refl
+first_by_hits shift version header masks (pair ∷ pairs) are masked =
+    let IsMasked = λ (entry : CacheEntry). HasMaskIn masks entry.word in
+    let here = pair_hit shift version header masks pair (All-head (HasVersion shift) pair pairs are)
+    (All-head IsMasked (entry_of shift pair) (entries_of shift pairs) masked) in
+    let left = first_entry version header (entries_of shift pairs) in
+    by_case (is_hit (version + shift) header masks pair.0) left
+    (first_by_hits shift version header masks pairs (All-tail (HasVersion shift) pair pairs are)
+    (All-tail IsMasked (entry_of shift pair) (entries_of shift pairs) masked))
+    ∙ ap (λ b. cond b (Some (entry_of shift pair)) left) here
+  where
+    found : Option Pair
+    found = find (λ (p : Pair). is_hit (version + shift) header masks p.0) pairs
+
+    by_case : (b : Bool) (left : Option CacheEntry) → option_map (entry_of shift) found ≡ left
+        → option_map (entry_of shift) (cond b (Some pair) found)
+        ≡ cond b (Some (entry_of shift pair)) left
+    by_case true left rest = refl
+    by_case false left rest = rest
+
+-- what holds of each holds of the one that is found
+pub found_is : {X : Type 0} (P : X → Type 0) (test : X → Bool) (xs : List X) → All P xs
+    → IfSome (find test xs) P
+found_is P test [] all = tt
+found_is {X} P test (x ∷ xs) all =
+    by_case (test x) (found_is P test xs (All-tail P x xs all))
+  where
+    by_case : (b : Bool) → IfSome (find test xs) P → IfSome (cond b (Some x) (find test xs)) P
+    by_case true rest = All-head P x xs all
+    by_case false rest = rest

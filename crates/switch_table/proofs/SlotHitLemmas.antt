@@ -1,0 +1,236 @@
+-- Where the first live slot stands whose key has a header's bits under one of some masks.
+use Rattle.std.proofs.Common.{ℕ, suc, ◌≡◌, ◌∙◌, ◌+◌, ◌<◌, ◌^◌, Bool, true, false, Option, Some, None, cond, min, not, ◌&&◌, ◌||◌, option_map, find, List, [], ◌∷◌, length, get_or, take, refl, ap, slice_get, sym, subst, arith}
+use Rattle.std.specs.List.{AllByRecursion, IsDistinct, cons_option, position_or_len}
+use Rattle.std.specs.Map.{keys_of}
+use Rattle.std.specs.Int.Bits.{bit_and, and_self}
+use Rattle.std.proofs.lemmas.Nat.{and_assoc}
+use Rattle.std.proofs.lemmas.List.Folds.{find_at, list_any_more}
+use Rattle.std.proofs.lemmas.Option.{same_Some}
+use Rattle.ternary.specs.Word.{WordValue}
+use Rattle.ternary.specs.WordBits.{IsWord}
+use Rattle.switch_table.specs.Keys.{Pair, equal_keys, is_hit, key_under}
+use Rattle.switch_table.specs.Slots.{SlotPair, is_live, live_pairs}
+use Rattle.switch_table.specs.declared.key.CacheKey.{CacheKey}
+use Rattle.switch_table.proofs.SlotPushLemmas.{equal_keys_same}
+
+-- ---- the first place that passes
+
+pub place_none : {X : Type 0} (xs : List X) → position_or_len (λ x. false) xs ≡ length xs
+place_none [] = refl
+place_none (x ∷ xs) = omega (arith, place_none xs)
+
+-- the first place that passes one of two tests
+place_either : {X : Type 0} (p q : X → Bool) (xs : List X) →
+    position_or_len (λ x. p x || q x) xs ≡ min (position_or_len p xs) (position_or_len q xs)
+place_either p q [] = refl
+place_either {X} p q (x ∷ xs) = by_case (p x) (q x) (place_either p q xs)
+  where
+    step : Bool → ℕ → ℕ
+    step b n = cond (not b) (1 + n) 0
+
+    by_case : (a b : Bool) →
+        position_or_len (λ y. p y || q y) xs ≡ min (position_or_len p xs) (position_or_len q xs) →
+        step (a || b) (position_or_len (λ y. p y || q y) xs)
+        ≡ min (step a (position_or_len p xs)) (step b (position_or_len q xs))
+    by_case true true rest = refl
+    by_case true false rest = omega arith
+    by_case false true rest = omega arith
+    by_case false false rest = omega (arith, rest)
+
+-- the first one that passes a test passes another too
+place_both : {X : Type 0} (p q : X → Bool) (xs : List X) (x : X) →
+    slice_get xs (position_or_len p xs) ≡ Some x → q x ≡ true →
+    position_or_len (λ y. p y && q y) xs ≡ position_or_len p xs
+place_both p q [] x there holds = refl
+place_both {X} p q (y ∷ ys) x there holds = by_case (p y) there (λ later. place_both p q ys x later holds)
+  where
+    n : ℕ
+    n = position_or_len p ys
+
+    both : ℕ
+    both = position_or_len (λ z. p z && q z) ys
+
+    by_case : (a : Bool) → slice_get (y ∷ ys) (cond (not a) (1 + n) 0) ≡ Some x →
+        (slice_get ys n ≡ Some x → both ≡ n) →
+        cond (not (a && q y)) (1 + both) 0 ≡ cond (not a) (1 + n) 0
+    by_case true here rest =
+        ap (λ b. cond (not b) (1 + both) 0) (ap q (same_Some y x here) ∙ holds)
+    by_case false later rest =
+        let next : suc n ≡ 1 + n = omega arith in
+        ap (λ k. 1 + k) (rest (ap (slice_get (y ∷ ys)) next ∙ later))
+
+-- none passes a test, so none passes another too
+none_both : {X : Type 0} (p q : X → Bool) (xs : List X) → position_or_len p xs ≡ length xs →
+    position_or_len (λ y. p y && q y) xs ≡ length xs
+none_both p q [] none = refl
+none_both {X} p q (y ∷ ys) none = by_case (p y) none (none_both p q ys)
+  where
+    n : ℕ
+    n = position_or_len p ys
+
+    both : ℕ
+    both = position_or_len (λ z. p z && q z) ys
+
+    by_case : (a : Bool) → cond (not a) (1 + n) 0 ≡ length (y ∷ ys) →
+        (n ≡ length ys → both ≡ length ys) →
+        cond (not (a && q y)) (1 + both) 0 ≡ length (y ∷ ys)
+    by_case true end rest = absurd (omega (arith, end))
+    by_case false end rest = omega (arith, rest (omega (arith, end)))
+
+-- ---- the place of a key
+
+abbrev pub has : CacheKey → SlotPair → Bool
+has key slot = equal_keys key slot.0
+
+-- of this key, and live
+abbrev pub has_live : CacheKey → SlotPair → Bool
+has_live key slot = equal_keys key slot.0 && is_live slot
+
+-- the map's place of a key, as its keys say it
+keys_place : (key : CacheKey) (slots : List SlotPair) →
+    position_or_len (equal_keys key) (keys_of slots) ≡ position_or_len (has key) slots
+keys_place key [] = refl
+keys_place key (slot ∷ slots) =
+    ap (λ n. cond (not (equal_keys key slot.0)) (1 + n) 0) (keys_place key slots)
+
+pub place_live : (key : CacheKey) (slots : List SlotPair) (place : ℕ) (slot : SlotPair) →
+    position_or_len (equal_keys key) (keys_of slots) ≡ place → slice_get slots place ≡ Some slot →
+    slot.1.is_live ≡ true → place ≡ position_or_len (has_live key) slots
+place_live key slots place slot is there live =
+    let at : position_or_len (has key) slots ≡ place = sym (keys_place key slots) ∙ is in
+    sym (place_both (has key) is_live slots slot (ap (slice_get slots) at ∙ there) live ∙ at)
+
+pub place_missing : (key : CacheKey) (slots : List SlotPair) →
+    position_or_len (equal_keys key) (keys_of slots) ≡ length slots →
+    length slots ≡ position_or_len (has_live key) slots
+place_missing key slots none =
+    sym (none_both (has key) is_live slots (sym (keys_place key slots) ∙ none))
+
+none_behind : (key : CacheKey) (slots : List SlotPair) →
+    AllByRecursion (λ other. equal_keys key other ≡ false) (keys_of slots) →
+    position_or_len (has_live key) slots ≡ length slots
+none_behind key [] apart = refl
+none_behind key (slot ∷ slots) apart =
+    ap (λ b. cond (not (b && is_live slot)) (1 + position_or_len (has_live key) slots) 0) apart.0
+    ∙ omega (arith, none_behind key slots apart.1)
+
+dead_place : (key : CacheKey) (slots : List SlotPair) (slot : SlotPair) →
+    IsDistinct equal_keys (keys_of slots) →
+    slice_get slots (position_or_len (has key) slots) ≡ Some slot → slot.1.is_live ≡ false →
+    position_or_len (has_live key) slots ≡ length slots
+unfolding IsDistinct
+dead_place key [] slot distinct there dead = refl
+dead_place key (x ∷ xs) slot distinct there dead =
+    by_case (equal_keys key x.0) refl there (dead_place key xs slot distinct.1)
+  where
+    n : ℕ
+    n = position_or_len (has key) xs
+
+    both : ℕ
+    both = position_or_len (has_live key) xs
+
+    by_case : (a : Bool) → equal_keys key x.0 ≡ a →
+        slice_get (x ∷ xs) (cond (not a) (1 + n) 0) ≡ Some slot →
+        (slice_get xs n ≡ Some slot → slot.1.is_live ≡ false → both ≡ length xs) →
+        cond (not (a && is_live x)) (1 + both) 0 ≡ length (x ∷ xs)
+    by_case true same here rest =
+        let gone : is_live x ≡ false = ap is_live (same_Some x slot here) ∙ dead in
+        let none = none_behind key xs (subst (λ k.
+        AllByRecursion (λ other. equal_keys k other ≡ false) (keys_of xs))
+        (sym (equal_keys_same key x.0 same)) distinct.0) in
+        ap (λ b. cond (not b) (1 + both) 0) gone ∙ omega (arith, none)
+    by_case false apart later rest =
+        let next : suc n ≡ 1 + n = omega arith in
+        let none = rest (ap (slice_get (x ∷ xs)) next ∙ later) dead in omega (arith, none)
+
+-- no other slot has the key of a dead one
+pub place_dead : (key : CacheKey) (slots : List SlotPair) (place : ℕ) (slot : SlotPair) →
+    IsDistinct equal_keys (keys_of slots) →
+    position_or_len (equal_keys key) (keys_of slots) ≡ place → slice_get slots place ≡ Some slot →
+    slot.1.is_live ≡ false → length slots ≡ position_or_len (has_live key) slots
+place_dead key slots place slot distinct is there dead =
+    let at : position_or_len (has key) slots ≡ place = sym (keys_place key slots) ∙ is in
+    sym (dead_place key slots slot distinct (ap (slice_get slots) at ∙ there) dead)
+
+-- a header's bits under a mask are a word
+pub under_is_word : (header mask : ℕ) → mask < 2 ^ 104 →
+    IsWord (record { value = bit_and header mask; mask = mask })
+under_is_word header mask bounded = record {
+  within = and_assoc mask header mask ∙ ap (bit_and header) (and_self mask);
+  bounded = bounded;
+}
+
+-- ---- the first of some masks
+
+-- of a key of one of these masks, and live
+abbrev pub hit_live : ℕ → ℕ → List WordValue → SlotPair → Bool
+hit_live number header masks slot = is_hit number header masks slot.0 && is_live slot
+
+-- one more mask
+pub hit_more : (number header i : ℕ) (masks : List WordValue) (mask : WordValue)
+    (slots : List SlotPair) → i < length masks → mask ≡ get_or masks i mask →
+    position_or_len (hit_live number header (take (i + 1) masks)) slots
+    ≡ min (position_or_len (hit_live number header (take i masks)) slots)
+    (position_or_len (has_live (key_under number header mask)) slots)
+hit_more number header i masks mask slots within is =
+    (λ k. position_or_len (λ (slot : SlotPair). more slot k) slots)
+    ∙ place_either (hit_live number header (take i masks))
+    (has_live (key_under number header mask)) slots
+  where
+    shared : (a b c : Bool) → ((a || b) && c) ≡ ((a && c) || (b && c))
+    shared true true true = refl
+    shared true true false = refl
+    shared true false true = refl
+    shared true false false = refl
+    shared false b c = refl
+
+    key_more : (key : CacheKey) → is_hit number header (take (i + 1) masks) key
+        ≡ (is_hit number header (take i masks) key
+        || equal_keys (key_under number header mask) key)
+    key_more key =
+        list_any_more (λ m. equal_keys (key_under number header m) key) masks i mask within
+        ∙ ap (λ m. is_hit number header (take i masks) key
+        || equal_keys (key_under number header m) key) (sym is)
+
+    more : (slot : SlotPair) → hit_live number header (take (i + 1) masks) slot
+        ≡ (hit_live number header (take i masks) slot
+        || has_live (key_under number header mask) slot)
+    more slot =
+        ap (λ b. b && is_live slot) (key_more slot.0)
+        ∙ shared (is_hit number header (take i masks) slot.0)
+        (equal_keys (key_under number header mask) slot.0) (is_live slot)
+
+abbrev pub pair_at : SlotPair → Pair
+pair_at slot = (slot.0, slot.1.learnt)
+
+first_live : (test : CacheKey → Bool) (slots : List SlotPair) →
+    option_map pair_at (find (λ slot. test slot.0 && is_live slot) slots)
+    ≡ find (λ pair. test pair.0) (live_pairs slots)
+first_live test [] = refl
+first_live test (x ∷ xs) = by_case (test x.0) (is_live x) refl (first_live test xs)
+  where
+    first : Option SlotPair
+    first = find (λ slot. test slot.0 && is_live slot) xs
+
+    passes : Pair → Bool
+    passes pair = test pair.0
+
+    rest : Option Pair
+    rest = find (λ pair. test pair.0) (live_pairs xs)
+
+    by_case : (a b : Bool) → test x.0 ≡ a → option_map pair_at first ≡ rest →
+        option_map pair_at (cond (a && b) (Some x) first)
+        ≡ find (λ pair. test pair.0) (cons_option (cond b (Some (pair_at x)) None) (live_pairs xs))
+    by_case true true is same = sym (ap (λ b. cond b (Some (pair_at x)) rest) is)
+    by_case true false is same = same
+    by_case false true is same = same ∙ sym (ap (λ b. cond b (Some (pair_at x)) rest) is)
+    by_case false false is same = same
+
+-- what stands at the first place is the first one
+pub hit_at : (test : CacheKey → Bool) (slots : List SlotPair) (place : ℕ) →
+    place ≡ position_or_len (λ slot. test slot.0 && is_live slot) slots →
+    option_map pair_at (slice_get slots place) ≡ find (λ pair. test pair.0) (live_pairs slots)
+hit_at test slots place is =
+    ap (λ n. option_map pair_at (slice_get slots n)) is
+    ∙ ap (option_map pair_at) (sym (find_at (λ slot. test slot.0 && is_live slot) slots))
+    ∙ first_live test slots

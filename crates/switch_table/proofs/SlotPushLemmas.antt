@@ -1,0 +1,385 @@
+-- Live slots among dead ones: their counts and keys, and what a push, a new key and a sweep leave.
+use Rattle.std.proofs.Common.{ℕ, zero, suc, ◌≡◌, ◌∙◌, ◌+◌, ◌-◌, ◌<◌, ◌≤◌, Bool, true, false, cond, not, eqb, ◌||◌, Option, Some, None, List, [], ◌∷◌, ◌++◌, length, length-append, get_or, filter, take, set, replicate, slice_get, option_map, IfSome, IsFalse, refl, ap, sym, subst, arith, All}
+use Rattle.std.specs.List.{AllByRecursion, IsDistinct, cons_option, position, position_or_len, swap_remove}
+use Rattle.std.specs.Map.{keys_of, lookup, values_of}
+use Rattle.std.proofs.lemmas.Bool.{and_from, and_parts, eq-eqb, eqb-true, false≢true}
+use Rattle.std.proofs.lemmas.List.{get_or-map, get_or_append_left, get_or_push, length-map, length-set, length-take-le, length_push, map_push, set-append_left, take-append-le, take-map, take_at}
+use Rattle.std.proofs.lemmas.List.Elements.{filter_map-append}
+use Rattle.std.proofs.lemmas.List.Sums.{count_by-le-length, length-filter}
+use Rattle.std.proofs.lemmas.Option.{get_or_from_slice_get, none-some, same_Some, slice_get-get_or, slice_get-map, slice_get_within}
+use Rattle.indexmap.proofs.MapLemmas.{Found-position}
+use Rattle.ternary.specs.Meets.{word_eq}
+use Rattle.ternary.specs.Word.{WordValue}
+use Rattle.switch_table.specs.Keys.{HaveOwnKeys, Pair, equal_keys, has_key}
+use Rattle.switch_table.specs.Live.{AreCounts, HaveRoom, count_set}
+use Rattle.switch_table.specs.Slots.{AreSlots, SlotPair, flags_of, is_live, live_pair, live_pairs}
+use Rattle.switch_table.specs.declared.key.CacheKey.{CacheKey}
+use Rattle.switch_table.specs.declared.key.Learnt.{Learnt}
+use Rattle.switch_table.specs.declared.key.Slot.{Slot}
+use Rattle.switch_table.specs.declared.live.LiveCounts.{LiveCounts}
+
+-- ---- keys
+
+pub equal_keys_itself : (key : CacheKey) → equal_keys key key ≡ true
+unfolding equal_keys
+equal_keys_itself key =
+    and_from (eqb key.number key.number) (word_eq key.word key.word) (eq-eqb _ _ refl)
+    (and_from (eqb key.word.value key.word.value) (eqb key.word.mask key.word.mask)
+    (eq-eqb _ _ refl) (eq-eqb _ _ refl))
+
+words_same : (a b : WordValue) → word_eq a b ≡ true → a ≡ b
+words_same a b is =
+    let parts = and_parts (eqb a.value b.value) (eqb a.mask b.mask) is in
+    let values = eqb-true a.value b.value parts.0 in
+    let masks = eqb-true a.mask b.mask parts.1 in
+    λ i. record { value = values i; mask = masks i }
+
+pub equal_keys_same : (a b : CacheKey) → equal_keys a b ≡ true → a ≡ b
+unfolding equal_keys
+equal_keys_same a b is =
+    let parts = and_parts (eqb a.number b.number) (word_eq a.word b.word) is in
+    let numbers = eqb-true a.number b.number parts.0 in
+    let words = words_same a.word b.word parts.1 in
+    λ i. record { number = numbers i; word = words i }
+
+-- ---- counts and keys of live slots
+
+-- the pairs of a slot that is live or not, and of those behind it
+abbrev with_slot : Bool → SlotPair → List Pair → List Pair
+with_slot live slot pairs = cons_option (cond live (Some (slot.0, slot.1.learnt)) None) pairs
+
+pub count_live : (slots : List SlotPair) → count_set (flags_of slots) ≡ length (live_pairs slots)
+count_live slots = sym (length-filter (λ flag. flag) (flags_of slots)) ∙ set_flags slots
+  where
+    set_flags : (some : List SlotPair) →
+        length (filter (λ flag. flag) (flags_of some)) ≡ length (live_pairs some)
+    set_flags [] = refl
+    set_flags (slot ∷ some) = by_case slot.1.is_live (set_flags some)
+      where
+        by_case : (live : Bool) →
+            length (filter (λ flag. flag) (flags_of some)) ≡ length (live_pairs some) →
+            length (cond live (live ∷ filter (λ flag. flag) (flags_of some))
+            (filter (λ flag. flag) (flags_of some)))
+            ≡ length (with_slot live slot (live_pairs some))
+        by_case true rest = omega (arith, rest)
+        by_case false rest = rest
+
+pub live_fit : (slots : List SlotPair) → length (live_pairs slots) ≤ length slots
+live_fit slots = omega (
+  arith,
+  count_live slots,
+  count_by-le-length (λ flag. flag) (flags_of slots),
+  length-map slots is_live,
+)
+
+abbrev AreApart : CacheKey → List CacheKey → Type 0
+AreApart key keys = AllByRecursion (λ other. equal_keys key other ≡ false) keys
+
+apart_live : (key : CacheKey) (slots : List SlotPair) → AreApart key (keys_of slots) →
+    AreApart key (keys_of (live_pairs slots))
+apart_live key [] apart = apart
+apart_live key (slot ∷ slots) apart = by_case slot.1.is_live (apart_live key slots apart.1)
+  where
+    by_case : (live : Bool) → AreApart key (keys_of (live_pairs slots)) →
+        AreApart key (keys_of (with_slot live slot (live_pairs slots)))
+    by_case true rest = (apart.0, rest)
+    by_case false rest = rest
+
+pub distinct_live : (slots : List SlotPair) → IsDistinct equal_keys (keys_of slots) →
+    HaveOwnKeys (live_pairs slots)
+unfolding IsDistinct
+distinct_live [] distinct = distinct
+distinct_live (slot ∷ slots) distinct = by_case slot.1.is_live (distinct_live slots distinct.1)
+  where
+    by_case : (live : Bool) → IsDistinct equal_keys (keys_of (live_pairs slots)) →
+        IsDistinct equal_keys (keys_of (with_slot live slot (live_pairs slots)))
+    by_case true rest = (apart_live slot.0 slots distinct.0, rest)
+    by_case false rest = rest
+
+-- ---- the slot of a key
+
+pub absent_live : (key : CacheKey) (slots : List SlotPair) →
+    lookup (equal_keys key) slots ≡ None → has_key key (live_pairs slots) ≡ false
+absent_live key [] none = refl
+absent_live key (slot ∷ slots) none =
+    by_case (equal_keys key slot.0) slot.1.is_live refl none (absent_live key slots)
+  where
+    by_case : (here live : Bool) → equal_keys key slot.0 ≡ here →
+        cond here (Some slot.1) (lookup (equal_keys key) slots) ≡ None →
+        (lookup (equal_keys key) slots ≡ None → has_key key (live_pairs slots) ≡ false) →
+        has_key key (with_slot live slot (live_pairs slots)) ≡ false
+    by_case true live is gone rest = absurd (none-some slot.1 (sym gone))
+    by_case false true is gone rest =
+        ap (λ b. b || has_key key (live_pairs slots)) is ∙ rest gone
+    by_case false false is gone rest = rest gone
+
+apart_absent : (key : CacheKey) (slots : List SlotPair) → AreApart key (keys_of slots) →
+    lookup (equal_keys key) slots ≡ None
+apart_absent key [] apart = refl
+apart_absent key (slot ∷ slots) apart =
+    ap (λ b. cond b (Some slot.1) (lookup (equal_keys key) slots)) apart.0
+    ∙ apart_absent key slots apart.1
+
+pub found_live : (key : CacheKey) (slots : List SlotPair) (found : Slot) →
+    IsDistinct equal_keys (keys_of slots) → lookup (equal_keys key) slots ≡ Some found →
+    has_key key (live_pairs slots) ≡ found.is_live
+unfolding IsDistinct
+found_live key [] found distinct is = absurd (none-some found is)
+found_live key (slot ∷ slots) found distinct is =
+    by_case (equal_keys key slot.0) slot.1.is_live refl refl is
+    (found_live key slots found distinct.1)
+  where
+    here_is : equal_keys key slot.0 ≡ true → lookup (equal_keys key) slots ≡ None
+    here_is same = apart_absent key slots
+        (subst (λ k. AreApart k (keys_of slots)) (sym (equal_keys_same key slot.0 same)) distinct.0)
+
+    by_case : (here live : Bool) → equal_keys key slot.0 ≡ here → slot.1.is_live ≡ live →
+        cond here (Some slot.1) (lookup (equal_keys key) slots) ≡ Some found →
+        (lookup (equal_keys key) slots ≡ Some found
+        → has_key key (live_pairs slots) ≡ found.is_live) →
+        has_key key (with_slot live slot (live_pairs slots)) ≡ found.is_live
+    by_case true true same lives here rest =
+        ap (λ b. b || has_key key (live_pairs slots)) same
+        ∙ sym lives ∙ ap (λ (s : Slot). s.is_live) (same_Some slot.1 found here)
+    by_case true false same lives here rest =
+        absent_live key slots (here_is same)
+        ∙ sym lives ∙ ap (λ (s : Slot). s.is_live) (same_Some slot.1 found here)
+    by_case false true apart lives later rest =
+        ap (λ b. b || has_key key (live_pairs slots)) apart ∙ rest later
+    by_case false false apart lives later rest = rest later
+
+-- the slot at this place is the one that has the key
+pub record IsFound (key : CacheKey) (place : ℕ) (slots : List SlotPair) : Type 0 where
+  pub pair : SlotPair
+  pub at : slice_get slots place ≡ Some pair
+  pub passes : equal_keys key pair.0 ≡ true
+  pub value : lookup (equal_keys key) slots ≡ Some pair.1
+
+first_found : (key : CacheKey) (slots : List SlotPair) →
+    position_or_len (equal_keys key) (keys_of slots) < length slots →
+    IsFound key (position_or_len (equal_keys key) (keys_of slots)) slots
+first_found key [] within = absurd (omega arith)
+first_found key (slot ∷ slots) within =
+    by_case (equal_keys key slot.0) refl within (first_found key slots)
+  where
+    later : ℕ
+    later = position_or_len (equal_keys key) (keys_of slots)
+
+    by_case : (here : Bool) → equal_keys key slot.0 ≡ here →
+        cond (not here) (1 + later) 0 < length (slot ∷ slots) →
+        (later < length slots → IsFound key later slots) →
+        IsFound key (cond (not here) (1 + later) 0) (slot ∷ slots)
+    by_case true is less rest = record {
+      pair = slot;
+      at = refl;
+      passes = is;
+      value = ap (λ b. cond b (Some slot.1) (lookup (equal_keys key) slots)) is;
+    }
+    by_case false is less rest =
+        let found = rest (omega (arith, less)) in
+        let next : 1 + later ≡ suc later = omega arith in record {
+          pair = found.pair;
+          at = ap (slice_get (slot ∷ slots)) next ∙ found.at;
+          passes = found.passes;
+          value = ap (λ b. cond b (Some slot.1) (lookup (equal_keys key) slots)) is ∙ found.value;
+        }
+
+pub found_at : (key : CacheKey) (place : ℕ) (slots : List SlotPair) →
+    position (equal_keys key) (keys_of slots) ≡ Some place → IsFound key place slots
+found_at key place slots is =
+    let found = Found-position (equal_keys key) slots place is in
+    subst (λ n. IsFound key n slots) found.or_len
+    (first_found key slots (omega (arith, found.or_len, found.within)))
+
+-- a slot of a key that no live one has is dead
+pub found_dead : (key : CacheKey) (place : ℕ) (slots : List SlotPair) →
+    IsFound key place slots → IsDistinct equal_keys (keys_of slots) →
+    has_key key (live_pairs slots) ≡ false → slice_get (flags_of slots) place ≡ Some false
+found_dead key place slots found distinct absent =
+    slice_get-map is_live slots place ∙ ap (option_map is_live) found.at
+    ∙ ap Some (sym (found_live key slots found.pair.1 distinct found.value) ∙ absent)
+
+-- ---- another key for a dead slot
+
+pub put_last : {X : Type 0} (xs : List X) (y : X) (i : ℕ) (d : X) → i < length xs →
+    swap_remove (xs ++ y ∷ []) i d ≡ set xs i y
+put_last xs y i d within =
+    let len : length (xs ++ y ∷ []) - 1 ≡ length xs = omega (arith, length_push xs y) in
+    ap (λ n. take n (set (xs ++ y ∷ []) i (get_or (xs ++ y ∷ []) n d))) len
+    ∙ ap (λ z. take (length xs) (set (xs ++ y ∷ []) i z)) (get_or_push xs y d (length xs) refl)
+    ∙ ap (take (length xs)) (set-append_left xs (y ∷ []) i y within)
+    ∙ take_at (set xs i y) (y ∷ []) (length xs) (length-set xs i y)
+
+pub rekeyed_pairs : (slots : List SlotPair) (place : ℕ) (pair : SlotPair) (key : CacheKey) →
+    slice_get slots place ≡ Some pair → pair.1.is_live ≡ false →
+    live_pairs (set slots place (key, pair.1)) ≡ live_pairs slots
+rekeyed_pairs [] place pair key at dead = refl
+rekeyed_pairs (slot ∷ slots) zero pair key at dead =
+    ap (λ b. with_slot b (key, pair.1) (live_pairs slots)) dead
+    ∙ sym (ap (λ b. with_slot b slot (live_pairs slots))
+    (ap is_live (same_Some slot pair at) ∙ dead))
+rekeyed_pairs (slot ∷ slots) (suc place) pair key at dead =
+    ap (cons_option (live_pair slot)) (rekeyed_pairs slots place pair key at dead)
+
+pub rekeyed_flags : (slots : List SlotPair) (place : ℕ) (pair : SlotPair) (key : CacheKey) →
+    slice_get slots place ≡ Some pair →
+    flags_of (set slots place (key, pair.1)) ≡ flags_of slots
+rekeyed_flags [] place pair key at = refl
+rekeyed_flags (slot ∷ slots) zero pair key at =
+    ap (λ b. b ∷ flags_of slots) (sym (ap is_live (same_Some slot pair at)))
+rekeyed_flags (slot ∷ slots) (suc place) pair key at =
+    ap (λ flags. slot.1.is_live ∷ flags) (rekeyed_flags slots place pair key at)
+
+-- the dead slot at this place has another key
+pub record IsRekeyed (place : ℕ) (taken : Option SlotPair) (slots new : List SlotPair)
+    : Type 0 where
+  pub key : CacheKey
+  pub pair : SlotPair
+  pub at : slice_get slots place ≡ Some pair
+  pub dead : pair.1.is_live ≡ false
+  pub taken_is : taken ≡ Some pair
+  pub new_is : new ≡ set slots place (key, pair.1)
+
+pub rekeyed : (place : ℕ) (key : CacheKey) (slot : Slot) (taken : Option SlotPair)
+    (slots more new : List SlotPair) → slice_get (flags_of slots) place ≡ Some false →
+    slice_get (values_of slots) place ≡ Some slot → more ≡ slots ++ (key, slot) ∷ [] →
+    taken ≡ slice_get more place →
+    IfSome taken (λ pair. new ≡ swap_remove more place pair) →
+    IsRekeyed place taken slots new
+rekeyed place key slot taken slots more new dead slot_is more_is taken_is new_is =
+    by_case (slice_get slots place) refl
+  where
+    by_case : (here : Option SlotPair) → slice_get slots place ≡ here →
+        IsRekeyed place taken slots new
+    by_case None at =
+        absurd (none-some false (sym (slice_get-map is_live slots place
+        ∙ ap (option_map is_live) at) ∙ dead))
+    by_case (Some pair) at =
+        let within = slice_get_within slots place pair at in
+        let last = (key, slot) ∷ [] in
+        let is : taken ≡ Some pair = taken_is ∙ ap (λ some. slice_get some place) more_is
+        ∙ slice_get-get_or (slots ++ last) place pair
+        (omega (arith, within, length-append slots last))
+        ∙ ap Some (get_or_append_left slots last pair place within
+        ∙ get_or_from_slice_get slots place pair pair at) in
+        let same : slot ≡ pair.1 =
+        same_Some slot pair.1 (sym slot_is ∙ slice_get-map (λ (p : SlotPair). p.1) slots place
+        ∙ ap (option_map (λ (p : SlotPair). p.1)) at) in record {
+          key = key;
+          pair = pair;
+          at = at;
+          dead = same_Some (is_live pair) false (sym (slice_get-map is_live slots place
+              ∙ ap (option_map is_live) at) ∙ dead);
+          taken_is = is;
+          new_is = subst (λ some. IfSome some (λ p. new ≡ swap_remove more place p)) is new_is
+              ∙ ap (λ some. swap_remove some place pair) more_is
+              ∙ put_last slots (key, slot) place pair within
+              ∙ ap (λ s. set slots place (key, s)) same;
+        }
+
+-- slots of the same flags
+pub same_flags : (live : LiveCounts) (first : ℕ) (old new : List SlotPair) →
+    flags_of new ≡ flags_of old → AreSlots live first old → AreSlots live first new
+same_flags live first old new same are =
+    let front : flags_of (take first new) ≡ flags_of (take first old) =
+    sym (take-map is_live first new) ∙ ap (take first) same ∙ take-map is_live first old in
+    record {
+      within = omega
+          (arith, are.within, ap length same, length-map old is_live, length-map new is_live);
+      dead = λ k d less.
+          let fits : k < length (take first old) = omega (
+            arith,
+            less,
+            ap length front,
+            length-map (take first old) is_live,
+            length-map (take first new) is_live,
+          ) in
+          sym (get_or-map is_live (take first new) k d false less)
+          ∙ ap (λ flags. get_or flags k false) front
+          ∙ get_or-map is_live (take first old) k d false fits ∙ are.dead k d fits;
+      counted = subst (AreCounts live) (sym same) are.counted;
+    }
+
+-- ---- a sweep
+
+pub swept_pairs : (slots : List SlotPair) → live_pairs (filter is_live slots) ≡ live_pairs slots
+swept_pairs [] = refl
+swept_pairs (slot ∷ slots) = by_case slot.1.is_live refl (swept_pairs slots)
+  where
+    by_case : (live : Bool) → slot.1.is_live ≡ live →
+        live_pairs (filter is_live slots) ≡ live_pairs slots →
+        live_pairs (cond live (slot ∷ filter is_live slots) (filter is_live slots))
+        ≡ with_slot live slot (live_pairs slots)
+    by_case true is rest =
+        ap (λ b. with_slot b slot (live_pairs (filter is_live slots))) is
+        ∙ ap (λ pairs. (slot.0, slot.1.learnt) ∷ pairs) rest
+    by_case false is rest = rest
+
+pub swept_flags : (slots : List SlotPair) →
+    flags_of (filter is_live slots) ≡ replicate (length (filter is_live slots)) true
+swept_flags [] = refl
+swept_flags (slot ∷ slots) = by_case slot.1.is_live refl (swept_flags slots)
+  where
+    by_case : (live : Bool) → slot.1.is_live ≡ live →
+        flags_of (filter is_live slots) ≡ replicate (length (filter is_live slots)) true →
+        flags_of (cond live (slot ∷ filter is_live slots) (filter is_live slots))
+        ≡ replicate (length (cond live (slot ∷ filter is_live slots) (filter is_live slots))) true
+    by_case true is rest = λ i. is i ∷ rest i
+    by_case false is rest = rest
+
+pub swept_absent : (key : CacheKey) (slots : List SlotPair) →
+    has_key key (live_pairs slots) ≡ false →
+    lookup (equal_keys key) (filter is_live slots) ≡ None
+swept_absent key [] none = refl
+swept_absent key (slot ∷ slots) none =
+    by_case slot.1.is_live (equal_keys key slot.0) refl none (swept_absent key slots)
+  where
+    by_case : (live here : Bool) → equal_keys key slot.0 ≡ here →
+        has_key key (with_slot live slot (live_pairs slots)) ≡ false →
+        (has_key key (live_pairs slots) ≡ false
+        → lookup (equal_keys key) (filter is_live slots) ≡ None) →
+        lookup (equal_keys key) (cond live (slot ∷ filter is_live slots) (filter is_live slots))
+        ≡ None
+    by_case true true is gone rest =
+        absurd (false≢true (sym gone ∙ ap (λ b. b || has_key key (live_pairs slots)) is))
+    by_case true false is gone rest =
+        ap (λ b. cond b (Some slot.1) (lookup (equal_keys key) (filter is_live slots))) is
+        ∙ rest (sym (ap (λ b. b || has_key key (live_pairs slots)) is) ∙ gone)
+    by_case false here is gone rest = rest gone
+
+pub swept_slots : (live : LiveCounts) (slots : List SlotPair) → AreCounts live (flags_of slots) →
+    AreSlots live 0 slots
+swept_slots live slots are = record {
+  within = omega arith;
+  dead = λ k d less. absurd (omega (arith, less, length-take-le 0 slots (omega arith)));
+  counted = are;
+}
+
+pub room_of : (live : LiveCounts) (slots : List SlotPair) (places : ℕ) →
+    AreCounts live (flags_of slots) → places ≤ length slots → HaveRoom live places
+room_of live slots places are within = record {
+  blocks = omega (arith, are.blocks.room, length-map slots is_live, within);
+  groups = omega (arith, are.groups.room, length-map slots is_live, within);
+}
+
+-- ---- a push
+
+pub pushed_pairs : (slots : List SlotPair) (key : CacheKey) (learnt : Learnt) →
+    live_pairs (slots ++ (key, record { learnt = learnt; is_live = true }) ∷ [])
+    ≡ live_pairs slots ++ (key, learnt) ∷ []
+pushed_pairs slots key learnt =
+    filter_map-append live_pair slots
+    ((key, record { learnt = learnt; is_live = true }) ∷ [])
+
+pub pushed_slots : (live more : LiveCounts) (first : ℕ) (slots : List SlotPair) (key : CacheKey)
+    (learnt : Learnt) → AreSlots live first slots →
+    AreCounts more (flags_of slots ++ true ∷ []) →
+    AreSlots more first (slots ++ (key, record { learnt = learnt; is_live = true }) ∷ [])
+pushed_slots live more first slots key learnt are counts =
+    let slot : SlotPair = (key, record { learnt = learnt; is_live = true }) in
+    record {
+      within = omega (arith, are.within, length_push slots slot);
+      dead = subst (All (λ s. IsFalse (is_live s)))
+          (sym (take-append-le first slots (slot ∷ []) are.within)) are.dead;
+      counted = subst (AreCounts more) (sym (map_push is_live slots slot)) counts;
+    }

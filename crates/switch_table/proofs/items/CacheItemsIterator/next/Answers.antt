@@ -1,0 +1,20 @@
+use Rattle.std.proofs.Common.{ℕ, ◌+◌, ◌<◌, ◌≤◌, ◌^◌, subst}
+use Rattle.std.proofs.lemmas.List.Elements.{All-head, All-tail}
+use Rattle.switch_table.specs.Keys.{Pair}
+use Rattle.switch_table.specs.Queue.{HaveVersions}
+use Rattle.switch_table.proofs.items.CacheItemsIterator.next.Goals as goal
+
+abbrev IsVersioned : ℕ → Pair → Type 0
+IsVersioned shift pair = (shift ≤ pair.0.number) × (pair.0.number < shift + 2 ^ 32)
+
+pub of-requires : goal.of-requires
+of-requires c =
+    All-head (IsVersioned c.self.inside.shift) (c.in_ok-key.key, c.in_ok-key.learnt)
+    c.next.new.self
+    (subst (HaveVersions c.self.inside.shift) c.in_ok-key.ensures.steps c.self.invariant)
+
+pub invariant_of-self-2 : goal.invariant_of-self-2
+invariant_of-self-2 c =
+    All-tail (IsVersioned c.self.inside.shift) (c.in_ok-key.key, c.in_ok-key.learnt)
+    c.next.new.self
+    (subst (HaveVersions c.self.inside.shift) c.in_ok-key.ensures.steps c.self.invariant)

@@ -1,0 +1,19 @@
+use Rattle.std.proofs.Common.{true, false, arith}
+use Rattle.std.proofs.lemmas.Option.{get_or_from_slice_get, slice_get_within}
+use Rattle.switch_table.proofs.LiveLemmas.{all_taken, taken}
+use Rattle.switch_table.proofs.live.LiveCounts.take.Goals as goal
+
+pub returns : goal.returns
+returns c = λ flags are at.
+    let place = c.args.place in
+    let there = slice_get_within flags place true at in
+    let live = get_or_from_slice_get flags place true false at in
+    record {
+      all = all_taken flags c.args.self.now.all place are.all (omega arith) there live;
+      blocks =
+          taken 64 place c.index_mut-block.result.now c.args.self.now.blocks.items flags
+          (omega arith) (omega arith) there live are.blocks c.index_mut-block.ensures.value;
+      groups =
+          taken 4096 place c.index_mut-group.result.now c.args.self.now.groups.items flags
+          (omega arith) (omega arith) there live are.groups c.index_mut-group.ensures.value;
+    }

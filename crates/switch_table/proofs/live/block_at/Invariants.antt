@@ -1,0 +1,8 @@
+use Rattle.std.proofs.Common.{◌≡◌, ◌+◌, take}
+use Rattle.std.specs.List.{sum}
+use Rattle.switch_table.proofs.live.block_at.Given as goal
+
+-- so many came before this block
+abbrev pub invariant-loop-count : goal.invariant-loop-count
+invariant-loop-count l =
+    (l.block ≡ l.count-index) × (sum (take l.block l.counts) + l.left ≡ l.before)

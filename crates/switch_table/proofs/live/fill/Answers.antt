@@ -1,0 +1,10 @@
+use Rattle.std.proofs.Common.{◌*◌, ◌≤◌, sym, subst, arith}
+use Rattle.switch_table.proofs.LiveLemmas.{filled}
+use Rattle.switch_table.proofs.live.fill.Goals as goal
+
+pub returns : goal.returns
+returns c =
+    filled c.args.size c.args.places c.loop-count.count-items
+    (subst (λ n. c.args.places ≤ c.args.size * n) (sym c.loop-count.auto.count-items)
+    c.requires.room)
+    (λ k less. c.loop-count.invariant.1 k (omega arith))

@@ -1,0 +1,9 @@
+use Rattle.std.proofs.Common.{subst, sym}
+use Rattle.switch_table.specs.Live.{AreBlocks}
+use Rattle.switch_table.proofs.LiveLemmas.{grown}
+use Rattle.switch_table.proofs.live.reach.Goals as goal
+
+pub loop-counts-preserved : goal.loop-counts-preserved
+loop-counts-preserved c = λ size flags are.
+    subst (λ counts. AreBlocks size counts flags) (sym c.in_ok-push.ensures.items)
+    (grown size c.loop-counts.counts.items flags (c.loop-counts.invariant size flags are))

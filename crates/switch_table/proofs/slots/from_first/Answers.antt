@@ -1,0 +1,6 @@
+use Rattle.switch_table.specs.Keys.{equal_keys}
+use Rattle.switch_table.proofs.slots.from_first.Goals as goal
+
+pub returns-clause-unique : goal.returns-clause-unique
+unfolding equal_keys
+returns-clause-unique c = c.len.ensures.unique

@@ -1,0 +1,22 @@
+use Rattle.std.proofs.Common.{rules, ◌≡◌, ◌∙◌, ap, filter, length, replicate, subst, sym, true}
+use Rattle.indexmap.proofs.CallerLemmas.{filter-RetainsPairs}
+use Rattle.switch_table.specs.Live.{AreCounts}
+use Rattle.switch_table.specs.Slots.{flags_of, is_live}
+use Rattle.switch_table.proofs.SlotPushLemmas.{swept_flags}
+use Rattle.switch_table.proofs.slots.sweep.Goals as goal
+use Rattle.switch_table.proofs.slots.sweep.Goals.{After-retain}
+
+kept : (c : After-retain) → c.retain.new.self.entries ≡ filter is_live c.args.map.now.entries
+kept c =
+    filter-RetainsPairs _ is_live _ (λ k v b w g called. (search rules, search rules, search rules))
+    _ _ c.retain.ensures.filtered
+
+pub returns-clause-slots : goal.returns-clause-slots
+returns-clause-slots c = kept (goal.at.returns-clause-slots c).After-retain
+
+pub returns-clause-counts : goal.returns-clause-counts
+returns-clause-counts c =
+    let left = kept (goal.at.returns-clause-counts c).After-retain in
+    subst (AreCounts c.fill.new.self)
+    (ap (λ n. replicate n true) (c.len.ensures.len ∙ ap length left)
+    ∙ sym (swept_flags c.args.map.now.entries) ∙ ap flags_of (sym left)) c.fill.ensures

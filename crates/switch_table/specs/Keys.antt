@@ -1,0 +1,63 @@
+-- Cache entries as a map holds them: what was learnt, under a key.
+use Rattle.std.specs.Prelude.{ℕ, ◌+◌, ◌-◌, Bool, not, ◌&&◌, ◌==◌, List, map, bit_and}
+use Rattle.std.specs.List.{IsDistinct, list_any}
+use Rattle.std.specs.Map.{keys_of}
+use Rattle.ternary.specs.Meets.{word_eq}
+use Rattle.ternary.specs.Word.{WordValue}
+use Rattle.switch_table.specs.Carried.{meets_any}
+use Rattle.switch_table.specs.declared.cache.CacheEntry.{CacheEntry}
+use Rattle.switch_table.specs.declared.key.CacheKey.{CacheKey}
+use Rattle.switch_table.specs.declared.key.Learnt.{Learnt}
+
+abbrev pub Pair : Type 0
+Pair = CacheKey × Learnt
+
+-- the key of an entry, where so much is added to its version
+abbrev pub key_of : ℕ → CacheEntry → CacheKey
+key_of shift entry = record { number = entry.version + shift; word = entry.word }
+
+abbrev pub learnt_of : CacheEntry → Learnt
+learnt_of entry =
+    record { rule = entry.rule; action = entry.action; message = entry.message }
+
+abbrev pub pair_of : ℕ → CacheEntry → Pair
+pair_of shift entry = (key_of shift entry, learnt_of entry)
+
+-- the entry of a pair, where so much was added to its version
+abbrev pub entry_of : ℕ → Pair → CacheEntry
+entry_of shift pair = record {
+  version = pair.0.number - shift;
+  word = pair.0.word;
+  rule = pair.1.rule;
+  action = pair.1.action;
+  message = pair.1.message;
+}
+
+abbrev pub entries_of : ℕ → List Pair → List CacheEntry
+entries_of shift pairs = map (entry_of shift) pairs
+
+unfoldable pub equal_keys : CacheKey → CacheKey → Bool
+equal_keys a b = (a.number == b.number) && word_eq a.word b.word
+
+-- no two pairs have one key
+abbrev pub HaveOwnKeys : List Pair → Type 0
+HaveOwnKeys pairs = IsDistinct equal_keys (keys_of pairs)
+
+abbrev pub has_key : CacheKey → List Pair → Bool
+has_key key pairs = list_any (λ pair. equal_keys key pair.0) pairs
+
+-- the key of this number whose word has this one's mask and holds the header
+abbrev pub key_under : ℕ → ℕ → WordValue → CacheKey
+key_under number header mask = record {
+  number = number;
+  word = record { value = bit_and header mask.mask; mask = mask.mask };
+}
+
+-- the key is such a one, of one of these masks
+abbrev pub is_hit : ℕ → ℕ → List WordValue → CacheKey → Bool
+is_hit number header masks key =
+    list_any (λ mask. equal_keys (key_under number header mask) key) masks
+
+-- the key is of this number, and its word meets no touched word
+abbrev pub is_over : ℕ → List WordValue → CacheKey → Bool
+is_over number touched key = (key.number == number) && not (meets_any touched key.word)

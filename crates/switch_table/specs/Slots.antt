@@ -1,0 +1,33 @@
+-- Pairs of a cache among dead ones: the slots of a map.
+use Rattle.std.specs.Prelude.{ℕ, ◌≤◌, Bool, false, if◌then◌else◌, Option, Some, None, List, length, map, take, filter_map, All, IsFalse}
+use Rattle.switch_table.specs.Keys.{Pair}
+use Rattle.switch_table.specs.Live.{AreCounts}
+use Rattle.switch_table.specs.declared.key.CacheKey.{CacheKey}
+use Rattle.switch_table.specs.declared.key.Slot.{Slot}
+use Rattle.switch_table.specs.declared.live.LiveCounts.{LiveCounts}
+
+abbrev pub SlotPair : Type 0
+SlotPair = CacheKey × Slot
+
+-- the pair of a live slot
+abbrev pub live_pair : SlotPair → Option Pair
+live_pair slot = if slot.1.is_live then Some (slot.0, slot.1.learnt) else None
+
+abbrev pub live_pairs : List SlotPair → List Pair
+live_pairs slots = filter_map live_pair slots
+
+abbrev pub is_live : SlotPair → Bool
+is_live slot = slot.1.is_live
+
+abbrev pub flags_of : List SlotPair → List Bool
+flags_of slots = map is_live slots
+
+-- the slot once it is dead
+abbrev pub killed : SlotPair → SlotPair
+killed slot = (slot.0, record slot.1 { is_live = false })
+
+-- the slots before `first` are dead, and the live ones are counted
+pub record AreSlots (live : LiveCounts) (first : ℕ) (slots : List SlotPair) : Type 0 where
+  pub within : first ≤ length slots
+  pub dead : All (λ slot. IsFalse (is_live slot)) (take first slots)
+  pub counted : AreCounts live (flags_of slots)

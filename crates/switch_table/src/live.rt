@@ -1,0 +1,148 @@
+ghost use Rattle.std.specs.Prelude.{ℕ, ◌≡◌, ◌<◌, ◌≤◌, ◌+◌, ◌*◌, ◌^◌, ◌++◌, ◌∷◌, [], true, false, Bool, List, Some, OnOk, length, take, drop, set, replicate, slice_get, slice_index, sum};
+ghost use Rattle.switch_table.specs.Live.{AreBlocks, AreCounts, HaveRoom, count_set};
+
+use std::alloc::{AllocError, Global};
+
+/// So many places are a block.
+pub const BLOCK: usize = 64;
+
+// So many blocks are a group.
+const GROUP: usize = 64;
+
+/// How many places of a list are live: in all, of each block, and of each group of blocks.
+///
+/// Contracts speak of the flags of the places: `AreCounts` says that these are their counts.
+#[derive(Drop)]
+pub struct LiveCounts {
+    all: usize,
+    blocks: Vec<u32>,
+    groups: Vec<u32>,
+}
+
+impl LiveCounts {
+    /// The counts of no places.
+    pub fn new(alloc: Global) -> LiveCounts
+        ensures { AreCounts result [] }
+    {
+        LiveCounts {
+            all: 0,
+            blocks: Vec::new(alloc),
+            groups: Vec::new(alloc),
+        }
+    }
+
+    /// How many are live in all.
+    pub fn all(&self) -> usize
+        ensures { result ≡ self.now.all }
+    {
+        self.all
+    }
+
+    /// Makes room for so many places.
+    ///
+    /// # Errors
+    /// Want of memory alone; the counts are those of the same places then.
+    pub fn make_room(&mut self, places: usize) -> Result<(), AllocError>
+        ensures kept { (flags : List Bool) → AreCounts self.old flags → AreCounts self.new flags }
+        ensures room { OnOk result (HaveRoom self.new places) }
+    {
+        reach(&mut self.blocks, places.div_ceil(BLOCK))?;
+        reach(&mut self.groups, places.div_ceil(BLOCK * GROUP))
+    }
+
+    /// A live place comes behind so many.
+    pub fn add(&mut self, place: usize)
+        requires room { HaveRoom self.old (place + 1) }
+        requires fits { place < 2 ^ 63 }
+        ensures { (flags : List Bool) → AreCounts self.old flags → length flags ≡ place →
+            AreCounts self.new (flags ++ true ∷ []) }
+    {
+        let block = &mut self.blocks[place / BLOCK];
+        *block = block.wrapping_add(1);
+        let group = &mut self.groups[place / (BLOCK * GROUP)];
+        *group = group.wrapping_add(1);
+        self.all = self.all.wrapping_add(1);
+    }
+
+    /// This place, which was live, is dead.
+    pub fn take(&mut self, place: usize)
+        requires { HaveRoom self.old (place + 1) }
+        ensures { (flags : List Bool) → AreCounts self.old flags →
+            slice_get flags place ≡ Some true → AreCounts self.new (set flags place false) }
+    {
+        let block = &mut self.blocks[place / BLOCK];
+        *block = block.wrapping_sub(1);
+        let group = &mut self.groups[place / (BLOCK * GROUP)];
+        *group = group.wrapping_sub(1);
+        self.all = self.all.wrapping_sub(1);
+    }
+
+    /// There are so many places, all of them live.
+    pub fn fill(&mut self, places: usize)
+        requires { HaveRoom self.old places }
+        ensures { AreCounts self.new (replicate places true) }
+    {
+        fill(&mut self.blocks, BLOCK, places);
+        fill(&mut self.groups, BLOCK * GROUP, places);
+        self.all = places;
+    }
+
+    /// The block of the live place that has so many live ones before it, and how many of these are
+    /// in that block.
+    pub fn block_of(&self, before: usize) -> (usize, usize)
+        ensures { (flags : List Bool) → AreCounts self.now flags → before < count_set flags →
+            (count_set (take (64 * result.0) flags) + result.1 ≡ before)
+            × (result.1 < count_set (take 64 (drop (64 * result.0) flags))) }
+    {
+        let (group, left) = block_at(&self.groups, before);
+        let start = self.blocks.len().min(group.saturating_mul(GROUP));
+        let (_, later) = self.blocks.split_at(start);
+        let (block, rest) = block_at(later, left);
+        (start + block, rest)
+    }
+}
+
+// Adds counts of nothing until there are so many.
+fn reach(counts: &mut Vec<u32>, len: usize) -> Result<(), AllocError>
+    ensures kept { (size : ℕ) (flags : List Bool) → AreBlocks size counts.old.items flags →
+        AreBlocks size counts.new.items flags }
+    ensures room { OnOk result (len ≤ length counts.new.items) }
+{
+    while counts.len() < len {
+        counts.push(0)?;
+    }
+    Ok(())
+}
+
+// Counts so many live places, in blocks of this size.
+fn fill(counts: &mut [u32], size: usize, places: usize)
+    requires size { (0 < size) × (size ≤ 4096) }
+    requires room { places ≤ size * length counts.old }
+    ensures { AreBlocks size counts.new (replicate places true) }
+{
+    let mut left = places;
+    for count in counts {
+        let here = left.min(size);
+        *count = here as u32;
+        left -= here;
+    }
+}
+
+// Where so many come to an end as one goes over the counts, and how many are left there.
+fn block_at(counts: &[u32], before: usize) -> (usize, usize)
+    ensures within { result.0 ≤ length counts.now }
+    ensures before { sum (take result.0 counts.now) + result.1 ≡ before }
+    ensures found { result.0 < length counts.now → result.1 < slice_index counts.now result.0 }
+{
+    let mut left = before;
+    let mut block = 0;
+    for count in counts {
+        let here = *count as usize;
+        if left < here {
+            break;
+        }
+        left -= here;
+        block += 1;
+    }
+    (block, left)
+}

@@ -1,0 +1,302 @@
+ghost use Rattle.std.specs.Prelude.{◌≡◌, ◌<◌, ◌≤◌, ◌++◌, ◌∷◌, ◌&&◌, [], false, List, None, Some, OnOk, OnErr, IfOk, IsFalse, IsTrue, drop, length, find, filter, map, option_map, set, remove, nat_le, slice_get};
+ghost use Rattle.indexmap.specs.IndexMap.{IsUnique, get};
+ghost use Rattle.std.specs.List.{position_or_len};
+ghost use Rattle.switch_table.specs.Keys.{HaveOwnKeys, equal_keys, has_key, is_hit, is_over, key_under};
+ghost use Rattle.switch_table.specs.Live.{AreCounts, IsNthSet, count_set};
+ghost use Rattle.switch_table.specs.Slots.{AreSlots, SlotPair, flags_of, is_live, killed, live_pairs};
+
+use crate::items::SlotItems;
+use crate::key::{CacheKey, Learnt, Slot};
+use crate::live::{BLOCK, LiveCounts};
+use crate::over::{are_over, is_over};
+use indexmap::IndexMap;
+use indexmap::map::Slice;
+use std::alloc::{AllocError, Global};
+use std::marker::Model;
+use ternary::Word;
+
+/// What was learnt, each under its own key, in the order in which it came. Contracts see the list.
+///
+/// A map has it in this order. A slot that goes stays as a dead one, so that none moves, until there
+/// are 64 more dead ones than live ones. The counts of live ones lead to the place of one. So each
+/// call takes constant time over many calls but those that go over all.
+#[derive(Drop)]
+pub struct Slots {
+    map: IndexMap<CacheKey, Slot>,
+    live: LiveCounts,
+    // All slots before this one are dead.
+    first: usize,
+}
+
+// So many more dead than live slots may there be.
+const MOST_DEAD: usize = 64;
+
+impl Model for Slots {
+    ghost use Rattle.std.specs.Prelude.{List};
+    ghost use Rattle.switch_table.specs.Keys.{Pair};
+    ghost use Rattle.switch_table.specs.Slots.{AreSlots, live_pairs};
+
+    ghost Value = { List Pair };
+
+    ghost view = { λ s. live_pairs s.map.entries };
+
+    ghost invariant = { λ s. AreSlots s.live s.first s.map.entries };
+}
+
+impl Slots {
+    pub fn new(alloc: Global) -> Slots
+        ensures { result ≡ [] }
+    {
+        Slots {
+            map: IndexMap::new(alloc),
+            live: LiveCounts::new(alloc),
+            first: 0,
+        }
+    }
+
+    pub fn allocator(&self) -> Global {
+        *self.map.allocator()
+    }
+
+    pub fn len(&self) -> usize
+        ensures len { result ≡ length self.now }
+        ensures distinct { HaveOwnKeys self.now }
+    {
+        // The map is asked because it says that its keys are distinct.
+        let slots = self.map.len();
+        self.live.all().min(slots)
+    }
+
+    /// Whether the key is there.
+    pub fn contains(&self, key: &CacheKey) -> bool
+        ensures { result ≡ has_key key.now self.now }
+    {
+        match self.map.get_index_of(key) {
+            Some(place) => self.map[place].is_live,
+            None => false,
+        }
+    }
+
+    /// Puts this last, under a key that is not there.
+    pub fn push(&mut self, key: CacheKey, learnt: Learnt) -> Result<(), AllocError>
+        requires { IsFalse (has_key key self.old) }
+        ensures ok { OnOk result (self.new ≡ self.old ++ (key, learnt) ∷ []) }
+        ensures err { OnErr result (self.new ≡ self.old) }
+    {
+        release_key(&mut self.map, &mut self.live, &mut self.first, &key)?;
+        let place = self.map.len();
+        self.live.make_room(place + 1)?;
+        let slot = Slot {
+            learnt,
+            is_live: true,
+        };
+        self.map.insert(key, slot)?;
+        self.live.add(place);
+        Ok(())
+    }
+
+    /// Takes out what stands at this place, if there is any.
+    pub fn remove(&mut self, place: usize) -> Option<(CacheKey, Learnt)>
+        ensures pair { result ≡ slice_get self.old place }
+        ensures rest { self.new ≡ remove self.old place }
+    {
+        if place >= self.len() {
+            return None;
+        }
+        let at = place_of_live(&self.map, &self.live, self.first, place);
+        let pair = pair_at(&self.map, at);
+        kill(&mut self.map, at);
+        self.live.take(at);
+        if place == 0 {
+            self.first = at;
+        }
+        if self.map.len() - self.live.all() > self.live.all() + MOST_DEAD {
+            self.first = 0;
+            sweep(&mut self.map, &mut self.live);
+        }
+        pair
+    }
+
+    /// Keeps those of this number or a higher one.
+    pub fn keep_from(&mut self, number: u64)
+        ensures { self.new ≡ filter (λ pair. nat_le number pair.0.number) self.old }
+    {
+        self.map
+            .retain(|key, slot| slot.is_live && number <= key.number);
+        self.live.fill(self.map.len());
+        self.first = 0;
+    }
+
+    /// Keeps those of this number whose words meet none of these. Where that is so of all, no slot
+    /// is written.
+    pub fn keep_over(&mut self, number: u64, touched: &[Word])
+        ensures { self.new ≡ filter (λ pair. is_over number touched.now pair.0) self.old }
+    {
+        let slots = from_first(&self.map, self.first);
+        if !are_over(slots.keys().as_slice(), number, touched) {
+            self.map
+                .retain(|key, slot| slot.is_live && is_over(key, number, touched));
+            self.live.fill(self.map.len());
+            self.first = 0;
+        }
+    }
+
+    /// A copy of each, in order.
+    pub fn iter(&self) -> SlotItems<'_>
+        ensures pairs { result ≡ self.now }
+        ensures distinct { HaveOwnKeys self.now }
+    {
+        SlotItems::new(from_first(&self.map, self.first).iter())
+    }
+
+    /// The first whose key has this number and, under one of these masks, the bits of the header.
+    pub fn first_hit(&self, number: u64, header: u128, masks: &[Word]) -> Option<(CacheKey, Learnt)>
+        ensures { result ≡ find (λ pair. is_hit number header masks.now pair.0) self.now }
+    {
+        let mut least = self.map.len();
+        for mask in masks {
+            least = least.min(place_under(&self.map, number, header, mask));
+        }
+        pair_at(&self.map, least)
+    }
+}
+
+// The slots from this place on. The map's length is asked for what it says of the keys.
+fn from_first(map: &IndexMap<CacheKey, Slot>, first: usize) -> Slice<'_, CacheKey, Slot>
+    requires { first ≤ length map.now.entries }
+    ensures slots { result ≡ drop first map.now.entries }
+    ensures unique { IsUnique equal_keys map.now }
+{
+    let (_, rest) = map.as_slice().split_at(first.min(map.len()));
+    rest
+}
+
+// The key of the slot at this place, and what it holds.
+fn pair_at(map: &IndexMap<CacheKey, Slot>, place: usize) -> Option<(CacheKey, Learnt)>
+    ensures { result ≡ option_map (λ slot. (slot.0, slot.1.learnt))
+        (slice_get map.now.entries place) }
+{
+    let (key, slot) = map.get_index(place)?;
+    Some((*key, slot.learnt))
+}
+
+// The place of the live slot whose key has this number and the bits of the header under this mask,
+// or the number of slots.
+fn place_under(map: &IndexMap<CacheKey, Slot>, number: u64, header: u128, mask: &Word) -> usize
+    ensures { result ≡ position_or_len (λ slot. equal_keys (key_under number header mask.now) slot.0
+        && is_live slot) map.now.entries }
+{
+    let bits = mask.mask();
+    let word = Word::new(header & bits, bits).unwrap();
+    let key = CacheKey { number, word };
+    match map.get_full(&key) {
+        Some((place, _, slot)) => { if slot.is_live { place } else { map.len() } }
+        None => map.len(),
+    }
+}
+
+// The place of the live slot that has so many live ones before it. All slots before `first` are
+// dead.
+fn place_of_live(
+    map: &IndexMap<CacheKey, Slot>,
+    live: &LiveCounts,
+    first: usize,
+    before: usize,
+) -> usize
+    requires slots { AreSlots live.now first map.now.entries }
+    requires some { before < count_set (flags_of map.now.entries) }
+    ensures { IsNthSet before result (flags_of map.now.entries) }
+{
+    let slots = map.as_slice();
+    let (start, left) = if before == 0 {
+        (first, 0)
+    } else {
+        let (block, left) = live.block_of(before);
+        (block * BLOCK, left)
+    };
+    let (_, rest) = slots.split_at(start);
+    start + nth_live(rest.values().as_slice(), left)
+}
+
+// The same in a list of slots; their number where there is none.
+fn nth_live(slots: &[Slot], before: usize) -> usize
+    ensures within { result ≤ length slots.now }
+    ensures found { let flags = map (λ slot. slot.is_live) slots.now in
+        before < count_set flags → IsNthSet before result flags }
+{
+    let mut left = before;
+    for (place, slot) in slots.iter().enumerate() {
+        if slot.is_live {
+            if left == 0 {
+                return place;
+            }
+            left -= 1;
+        }
+    }
+    slots.len()
+}
+
+// Has the slot at this place be dead.
+fn kill(map: &mut IndexMap<CacheKey, Slot>, place: usize)
+    ensures { (slot : SlotPair) → slice_get map.old.entries place ≡ Some slot →
+        map.new.entries ≡ set map.old.entries place (killed slot) }
+{
+    if let Some(slot) = map.get_index_mut(place) {
+        slot.is_live = false;
+    }
+}
+
+// Sees to it that no slot has this key, which no live one has.
+fn release_key(
+    map: &mut IndexMap<CacheKey, Slot>,
+    live: &mut LiveCounts,
+    first: &mut usize,
+    key: &CacheKey,
+) -> Result<(), AllocError>
+    requires slots { AreSlots live.old first.old map.old.entries }
+    requires absent { IsFalse (has_key key.now (live_pairs map.old.entries)) }
+    ensures slots { AreSlots live.new first.new map.new.entries }
+    ensures pairs { live_pairs map.new.entries ≡ live_pairs map.old.entries }
+    ensures gone { OnOk result (get equal_keys map.new key.now ≡ None) }
+{
+    let Some(dead) = map.get_index_of(key) else {
+        return Ok(());
+    };
+    if !vacate(map, dead)? {
+        *first = 0;
+        sweep(map, live);
+    }
+    Ok(())
+}
+
+// Gives the dead slot at this place a key that no version and shift make, and answers `true`. Where
+// that key is there, changes nothing and answers `false`: it never is, which isn't proved.
+fn vacate(map: &mut IndexMap<CacheKey, Slot>, place: usize) -> Result<bool, AllocError>
+    requires { slice_get (flags_of map.old.entries) place ≡ Some false }
+    ensures pairs { live_pairs map.new.entries ≡ live_pairs map.old.entries }
+    ensures flags { flags_of map.new.entries ≡ flags_of map.old.entries }
+    ensures gone { IfOk result (λ gone. IsTrue gone → (pair : SlotPair) →
+        slice_get map.old.entries place ≡ Some pair → get equal_keys map.new pair.0 ≡ None) }
+{
+    let key = CacheKey {
+        number: u64::MAX - place as u64,
+        word: Word::any(),
+    };
+    if map.contains_key(&key) {
+        return Ok(false);
+    }
+    let slot = map[place];
+    map.insert(key, slot)?;
+    map.swap_remove_index(place);
+    Ok(true)
+}
+
+// Takes the dead slots out.
+fn sweep(map: &mut IndexMap<CacheKey, Slot>, live: &mut LiveCounts)
+    requires { AreCounts live.old (flags_of map.old.entries) }
+    ensures slots { map.new.entries ≡ filter is_live map.old.entries }
+    ensures counts { AreCounts live.new (flags_of map.new.entries) }
+{
+    map.retain(|_, slot| slot.is_live);
+    live.fill(map.len());
+}
