@@ -276,6 +276,9 @@ CACHES = {
     "expiries of the last entry": lambda n: cached(
         n // 2, (f"expire,s1,{k - 1}" for k in falling(n // 2))
     ),
+    "expiries of the entry in the middle": lambda n: cached(
+        n // 2, (f"expire,s1,{k // 2}" for k in falling(n // 2))
+    ),
     "expiries of no entry": lambda n: play(["expire,s1,0"] * n),
     "packets, no entry is theirs": lambda n: cached(n // 2, packets(n // 2)),
     "packets, the last entry is theirs": lambda n: cached(n // 2, [corner(n // 2 - 1)] * (n // 2)),
@@ -283,6 +286,10 @@ CACHES = {
         behind_each(map(corner, range(n // 3)), "drain", "flush"),
         lines(network(2, PAIR, cache=65_536)),
         [corners()],
+    ),
+    "expire, packet, drain, flush: it comes again": lambda n: cached(
+        n // 5,
+        (row for k in range(n // 5) for row in ("expire,s1,0", corner(k), "drain", "flush")),
     ),
     "expire, deliver, deliver: a full cache": ((7_000, 70_000), going_round),
 }

@@ -621,13 +621,22 @@ CARRY = """#![tactic(auto)]
 use anyhow::Result;
 use policy_rules::Action;
 use std::alloc::AllocError;
+use std::env;
 use switch_table::{Cache, CacheEntry, Touched};
 use ternary::Word;
 
+fn number(text: Option<String>) -> u32 {
+    text.and_then(|text| text.parse().ok()).unwrap_or(0)
+}
+
 fn main(rt: HostRuntime) -> Result<()> {
-    let mut cache = Cache::new(rt.alloc(), 4096);
-    for host in 0..4096u32 {
-        // From one host of 10.0.0.0/20.
+    let mut args = env::args(&rt)?.skip(1);
+    let entries = number(args.next());
+    let touched = number(args.next());
+    let versions = number(args.next());
+    let mut cache = Cache::new(rt.alloc(), entries);
+    for host in 0..entries {
+        // From one host of 10.0.0.0/8.
         let value = (u128::from(0x0a000000 | host) << 72) | 6;
         if let Some(word) = Word::new(value, (0xffffffffu128 << 72) | 0xff) {
             cache.accept(1, CacheEntry {
@@ -640,13 +649,20 @@ fn main(rt: HostRuntime) -> Result<()> {
         }
     }
     let mut words = Vec::new(rt.alloc());
-    // A row of 10.0.0.0/24.
-    if let Some(word) = Word::new(0x0a0000u128 << 80, 0xffffffu128 << 80) {
-        words.push(word).map_err(AllocError::from)?;
+    for row in 0..touched {
+        // Rows of 10.0.0.0/24, and of networks that no entry is in.
+        let net = 0x0a0000u128 | u128::from(row) << 12;
+        if let Some(word) = Word::new(net << 80, 0xffffffu128 << 80) {
+            words.push(word).map_err(AllocError::from)?;
+        }
     }
-    if let Some(touched) = Touched::new(words) {
-        for version in 2..TURNSu32 {
-            CALL;
+    if let Some(words) = Touched::new(words) {
+        for version in 2..versions {
+            if touched == 0 {
+                cache.raise(1);
+            } else {
+                cache.carry(version, &words)?;
+            }
         }
     }
     println!(rt; "{}", cache.entries().count())?;
@@ -656,14 +672,15 @@ fn main(rt: HostRuntime) -> Result<()> {
 
 
 def carries(folder, turns=20_000):
-    """How many entries stay, and microseconds a call."""
+    """How many entries stay, and microseconds a call: a raise, and carries of one and two words."""
     uses = ["anyhow", "policy_rules", "switch_table", "ternary"]
-    calls = {"carry": "cache.carry(version, &touched)?", "raise": "cache.raise(1)"}
-    for name, call in calls.items():
-        text = CARRY.replace("TURNS", str(turns)).replace("CALL", call)
-        program = build(folder, f"{name}_turns", uses, text)
-        stay = subprocess.run([program], capture_output=True, text=True, check=True).stdout.strip()
-        print(f"{name}: {stay} of 4096 stay, {seconds(program) / turns * 1e6:.0f} microseconds")
+    program = build(folder, "carries", uses, CARRY, [16, 1, 3])
+    for entries in (4096, 16384):
+        for words, name in enumerate(("raise", "carry, one word", "carry, two words")):
+            args = entries, words, turns
+            said = subprocess.run([program, *map(str, args)], capture_output=True, text=True, check=True)
+            least = min(seconds(program, *args) - seconds(program, entries, words, 3) for _ in range(5))
+            print(f"{name}: {said.stdout.strip()} of {entries} stay, {least / turns * 1e6:.1f} microseconds")
 
 
 CALLS = (carries, memory, networks, routes, rules, schedules, switches, widen)
