@@ -674,13 +674,16 @@ fn main(rt: HostRuntime) -> Result<()> {
 def carries(folder, turns=20_000):
     """How many entries stay, and microseconds a call: a raise, and carries of one and two words."""
     uses = ["anyhow", "policy_rules", "switch_table", "ternary"]
-    program = build(folder, "carries", uses, CARRY, [16, 1, 3])
+    program = build(folder, "carries", uses, CARRY, ["16", "1", "3"])
     for entries in (4096, 16384):
         for words, name in enumerate(("raise", "carry, one word", "carry, two words")):
-            args = entries, words, turns
-            said = subprocess.run([program, *map(str, args)], capture_output=True, text=True, check=True)
-            least = min(seconds(program, *args) - seconds(program, entries, words, 3) for _ in range(5))
-            print(f"{name}: {said.stdout.strip()} of {entries} stay, {least / turns * 1e6:.1f} microseconds")
+            command = [program, str(entries), str(words), "3"]
+            stay = subprocess.run(command, capture_output=True, text=True, check=True).stdout.strip()
+            least = min(
+                seconds(program, entries, words, turns) - seconds(program, entries, words, 3)
+                for _ in range(5)
+            )
+            print(f"{name}: {stay} of {entries} stay, {least / turns * 1e6:.1f} microseconds")
 
 
 CALLS = (carries, memory, networks, routes, rules, schedules, switches, widen)
