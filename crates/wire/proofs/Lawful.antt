@@ -72,21 +72,13 @@ rule_lawful : IsLawful rule
 unfolding rule
 rule_lawful = as_type_lawful _ _ (λ p fits. refl) (λ r fits. refl) (word_lawful ⊠ n4_lawful ⊠ rule_name_lawful ⊠ action_lawful)
 
-touched_count_lawful : IsLawful touched_count
-unfolding touched_count
-touched_count_lawful = such_that_lawful _ n1_lawful
-
 touched_lawful : IsLawful touched
-unfolding touched
-touched_lawful = list_lawful touched_count_lawful word_lawful
-
-target_count_lawful : IsLawful target_count
-unfolding target_count
-target_count_lawful = such_that_lawful _ n1_lawful
+unfolding touched touched_count
+touched_lawful = list_lawful (such_that_lawful _ n1_lawful) word_lawful
 
 targets_lawful : IsLawful targets
-unfolding targets
-targets_lawful = list_lawful target_count_lawful switch_lawful
+unfolding targets target_count
+targets_lawful = list_lawful (such_that_lawful _ n1_lawful) switch_lawful
 
 region_lawful : IsLawful region
 unfolding region

@@ -27,6 +27,10 @@ n16 =
     as_type (λ (halves : ℕ × ℕ). halves.0 * 2 ^ 64 + halves.1) (λ n. (n / 2 ^ 64, n % 2 ^ 64))
     (n8 ⊗ n8)
 
+-- how many values follow: a byte within bounds
+abbrev pub count_within : ℕ → ℕ → Format ℕ
+count_within least most = such_that (λ n. nat_le least n && nat_le n most) n1
+
 -- ---- switches, words, rules
 
 -- the number of a switch is below 64
@@ -78,7 +82,7 @@ touched = list_of touched_count word
 
 -- one to four switches
 unfoldable pub target_count : Format ℕ
-target_count = such_that (λ n. nat_le 1 n && nat_le n 4) n1
+target_count = count_within 1 4
 
 unfoldable pub targets : Format (List ℕ)
 targets = list_of target_count switch

@@ -1,5 +1,6 @@
 -- What reading from bytes gives, and what writing leaves.
 use Rattle.std.specs.Prelude.{◌≡◌, ℕ, true, List, ◌++◌, Option, Some, None, Result, Ok, Err}
+use Rattle.std.specs.List.{flat_map, list_all}
 use Rattle.base.specs.Refusals.{IfRefused}
 use Rattle.base.specs.declared.error.Failure.{Failure}
 use Rattle.wire.specs.declared.error.Malformed.{Malformed}
@@ -21,6 +22,12 @@ Reads f bytes result rest = Gives (λ x. x) (f.read bytes) result rest
 pub record AppendsForm {A : Type 0} (f : Format A) (x : A) (before after : List ℕ) : Type 0 where
   pub fits : f.fits x ≡ true
   pub bytes : after ≡ before ++ f.spell x
+
+-- each of the values has a spelling, and these stand at the end of the new bytes
+pub record AppendsItems {A : Type 0} (f : Format A) (xs : List A) (before after : List ℕ)
+    : Type 0 where
+  pub fits : list_all f.fits xs ≡ true
+  pub bytes : after ≡ before ++ flat_map f.spell xs
 
 -- the same of a body's fields
 pub record AppendsFields (b : Body) (before after : List ℕ) : Type 0 where

@@ -3,7 +3,7 @@ ghost use Rattle.wire.specs.Fields as form;
 ghost use Rattle.wire.specs.Reading.{AppendsForm, Reads};
 
 use crate::error::{Malformed, WireError};
-use crate::list::read_items;
+use crate::list::{put_items, read_items};
 use crate::reader::Reader;
 use crate::writer::{put_n1, put_n4, put_n16};
 use policy_rules::{Action, Targets};
@@ -99,26 +99,25 @@ pub(crate) fn put_action(out: &mut Vec<u8>, action: Action) -> Result<(), AllocE
     }
 }
 
-// How many words a change touches: at most 16.
-#[tactic(auto, unfolding(crate::specs::Fields::touched_count))]
-fn read_touched_count(reader: &mut Reader) -> Result<u32, WireError>
-    ensures read { Reads form.touched_count reader.old result reader.new }
-    ensures few { IfOk result (λ count. count ≤ 16) }
+// How many values follow: a byte from `least` to `most`.
+fn read_count(reader: &mut Reader, least: u8, most: u8) -> Result<usize, WireError>
+    ensures read { Reads (form.count_within least most) reader.old result reader.new }
+    ensures within { IfOk result (λ count. (least ≤ count) × (count ≤ most)) }
 {
     let count = reader.n1()?;
-    if count <= 16 {
-        Ok(u32::from(count))
+    if least <= count && count <= most {
+        Ok(usize::from(count))
     } else {
         Err(WireError::Refused(Malformed))
     }
 }
 
-#[tactic(auto, unfolding(crate::specs::Fields::touched))]
+#[tactic(auto, unfolding(crate::specs::Fields::touched, crate::specs::Fields::touched_count))]
 pub(crate) fn read_touched(reader: &mut Reader) -> Result<Touched, WireError>
     ensures { Reads form.touched reader.old result reader.new }
 {
-    let count = read_touched_count(reader)?;
-    let words = read_items(reader, count)?;
+    let count = read_count(reader, 0, 16)?;
+    let words = read_items(reader, count as u32)?;
     match Touched::new(words) {
         Some(touched) => Ok(touched),
         None => Err(WireError::Refused(Malformed)),
@@ -131,31 +130,14 @@ pub(crate) fn put_touched(out: &mut Vec<u8>, touched: &Touched) -> Result<(), Al
 {
     let words = touched.words();
     put_n1(out, words.len() as u8)?;
-    for word in words {
-        put_word(out, word)?;
-    }
-    Ok(())
+    put_items(words, out)
 }
 
-// How many targets there are: 1 to 4.
-#[tactic(auto, unfolding(crate::specs::Fields::target_count))]
-fn read_target_count(reader: &mut Reader) -> Result<usize, WireError>
-    ensures read { Reads form.target_count reader.old result reader.new }
-    ensures some { IfOk result (λ count. (1 ≤ count) × (count ≤ 4)) }
-{
-    let count = reader.n1()?;
-    if 1 <= count && count <= 4 {
-        Ok(usize::from(count))
-    } else {
-        Err(WireError::Refused(Malformed))
-    }
-}
-
-#[tactic(auto, unfolding(crate::specs::Fields::targets))]
+#[tactic(auto, unfolding(crate::specs::Fields::targets, crate::specs::Fields::target_count))]
 pub(crate) fn read_targets(reader: &mut Reader) -> Result<Targets, WireError>
     ensures { Reads form.targets reader.old result reader.new }
 {
-    let count = read_target_count(reader)?;
+    let count = read_count(reader, 1, 4)?;
     let mut switches = [0; 4];
     for place in 0..count {
         switches[place] = read_switch(reader)?;

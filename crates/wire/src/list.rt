@@ -1,6 +1,6 @@
 ghost use Rattle.std.specs.Prelude.{◌<◌, ◌^◌, length, All, OnOk};
 ghost use Rattle.wire.specs.Format.{Format, list_of, read_items};
-ghost use Rattle.wire.specs.Reading.{Reads, Gives, AppendsForm};
+ghost use Rattle.wire.specs.Reading.{Reads, Gives, AppendsForm, AppendsItems};
 ghost use Rattle.wire.specs.Fields.{n4};
 
 use crate::error::WireError;
@@ -49,6 +49,18 @@ pub(crate) fn read_list<T: Part>(reader: &mut Reader) -> Result<Vec<T>, WireErro
     read_items(reader, count)
 }
 
+// The parts alone: their count stands before them.
+pub(crate) fn put_items<T: Part>(items: &[T], out: &mut Vec<u8>) -> Result<(), AllocError>
+    requires { All T.needs items.now }
+    ensures { OnOk result (AppendsItems T.format items.now out.old.items out.new.items) }
+{
+    for item in items {
+        item.put(out)?;
+    }
+    Ok(())
+}
+
+#[tactic(auto, unfolding(crate::specs::Format::list_of))]
 pub(crate) fn put_list<T: Part>(items: &[T], out: &mut Vec<u8>) -> Result<(), AllocError>
     requires few { length items.now < 2 ^ 32 }
     requires each { All T.needs items.now }
@@ -56,8 +68,5 @@ pub(crate) fn put_list<T: Part>(items: &[T], out: &mut Vec<u8>) -> Result<(), Al
 {
     put_n4(out, items.len() as u32)?;
     out.reserve(items.len().saturating_mul(LEAST_OF_PART))?;
-    for item in items {
-        item.put(out)?;
-    }
-    Ok(())
+    put_items(items, out)
 }

@@ -2,16 +2,16 @@ use Rattle.std.proofs.Common.{◌≡◌, ◌<◌, None, length, take, refl, ◌�
 use Rattle.std.proofs.lemmas.List.{take_more_set, length-set}
 use Rattle.std.proofs.lemmas.Result.{err_from_is_err_and}
 use Rattle.base.specs.Refusals.{IfRefused}
-use Rattle.wire.specs.Fields.{switch, targets}
+use Rattle.wire.specs.Fields.{switch, target_count, targets}
 use Rattle.wire.specs.Format.{read_items}
 use Rattle.wire.proofs.Items.{goes_on, stops, is_done}
 use Rattle.wire.proofs.fields.read_targets.Goals as goal
 
 pub returns-in_err-switches : goal.returns-in_err-switches
-unfolding targets
+unfolding targets target_count
 returns-in_err-switches c =
     let p = err_from_is_err_and c.from_residual-in_err-switches.result c.from_residual-in_err-switches.ensures.1 in
-    let read = read_items switch c.in_ok-count.count c.read_target_count.new.reader in
+    let read = read_items switch c.in_ok-count.count c.read_count.new.reader in
     let refused : IfRefused (λ _. read ≡ None) c.in_err-switches.field-0.0 =
     stops switch (take c.loop-place.place c.loop-place.switches) c.in_ok-count.count c.loop-place.place c.loop-place.reader
     read c.in_err-switches.field-0.0 c.loop-place-test.true c.in_err-switches.ensures c.loop-place.invariant.so_far in
@@ -28,16 +28,16 @@ loop-place-preserved c =
       so_far = rw (take_more_set switches place c.in_ok-switches.field-0 below)
           (goes_on switch (take place switches) c.in_ok-count.count place c.loop-place.reader
           c.in_ok-switches.field-0 c.read_switch.new.reader
-          (read_items switch c.in_ok-count.count c.read_target_count.new.reader)
+          (read_items switch c.in_ok-count.count c.read_count.new.reader)
           c.loop-place-test.true c.in_ok-switches.ensures c.loop-place.invariant.so_far);
     }
 
 pub returns-in-Some : goal.returns-in-Some
-unfolding targets
+unfolding targets target_count
 returns-in-Some c =
     let switches = c.loop-place.switches in
     let count = c.in_ok-count.count in
-    let read = read_items switch count c.read_target_count.new.reader in
+    let read = read_items switch count c.read_count.new.reader in
     let all : c.loop-place.place ≡ count = omega arith in
     let done = is_done switch (take c.loop-place.place switches) count c.loop-place.place c.loop-place.reader
     read c.loop-place-test.false c.loop-place.invariant.so_far in

@@ -7,6 +7,6 @@ use Rattle.wire.proofs.fields.read_touched.Goals as goal
 pub returns-in-None : goal.returns-in-None
 returns-in-None c =
     let count : length c.in_ok-words.words.items ≡ c.in_ok-count.count =
-    items_count word c.in_ok-count.count c.read_touched_count.new.reader
+    items_count word c.in_ok-count.count c.read_count.new.reader
     c.in_ok-words.words.items c.read_items.new.reader c.in_ok-words.ensures in
-    absurd (omega (arith, count, c.in_ok-count.ensures.few, c.in-None.ensures.none.0 refl))
+    absurd (omega (arith, count, c.in_ok-count.ensures.within.1, c.in-None.ensures.none.0 refl))
