@@ -1,6 +1,6 @@
 -- What proofs above cite of lists and options of any kind.
-use Rattle.std.proofs.Common.{◌≡◌, ℕ, ◌+◌, ◌≤◌, Bool, true, false, cond, not, Option, Some, None, is_some, List, [], ◌∷◌, ◌++◌, count_by, filter, find, refl, true≢false, arith}
-use Rattle.std.specs.List.{AllByRecursion}
+use Rattle.std.proofs.Common.{◌≡◌, ℕ, suc, ◌+◌, ◌≤◌, Bool, true, false, cond, not, Option, Some, None, is_some, List, [], ◌∷◌, ◌++◌, Contains, count_by, filter, filter_map, find, length, refl, true≢false, arith}
+use Rattle.std.specs.List.{AllByRecursion, cons_option}
 use Rattle.std.proofs.lemmas.List.Sums.{sum_by-cons}
 use Rattle.std.proofs.lemmas.List.Filters.{sum_by-filter_both}
 
@@ -35,3 +35,18 @@ pub count-filter-le : {X : Type 0} (test kept : X → Bool) (xs : List X)
     → count_by test (filter kept xs) ≤ count_by test xs
 count-filter-le test kept xs =
     omega (arith, sum_by-filter_both kept (λ x. not (kept x)) (λ x. refl) (λ x. cond (test x) 1 0) xs)
+
+pub length-filter_map : {X Y : Type 0} (f : X → Option Y) (xs : List X)
+    → length (filter_map f xs) ≤ length xs
+length-filter_map f [] = omega arith
+length-filter_map {Y = Y} f (x ∷ xs) = by_made (f x) (length-filter_map f xs)
+  where
+    by_made : (o : Option Y) → length (filter_map f xs) ≤ length xs
+        → length (cons_option o (filter_map f xs)) ≤ length (x ∷ xs)
+    by_made None less = omega (arith, less)
+    by_made (Some y) less = omega (arith, less)
+
+pub in_cons_option : {X : Type 0} (first : Option X) (rest : List X) (x : X) → Contains rest x
+    → Contains (cons_option first rest) x
+in_cons_option None rest x there = there
+in_cons_option (Some y) rest x (k, within, is) = (suc k, omega (arith, within), is)

@@ -1,5 +1,5 @@
-//! What all other crates stand on: why a call gives no value, lists and shared values as other
-//! crates hold them, and sets of small numbers.
+//! Why a call gives no value; lists and shared values, as other crates hold them; and sets of small
+//! numbers.
 //!
 //! `Failure` says what a call refuses, by a type of its own with its message, or want of memory;
 //! `?` makes one of a failure of memory. A reader of a text refuses `InRow` of its refusals. A

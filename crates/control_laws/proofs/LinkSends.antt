@@ -12,6 +12,7 @@ use Rattle.ctrl_msg.specs.declared.message.Message.{Message}
 use Rattle.failover.specs.Adverts.{held_advert}
 use Rattle.base.specs.Masks.{has, switches}
 use Rattle.base.proofs.CallerLemmas.{mask_of_lt}
+use Rattle.base.proofs.ListLemmas.{length-filter_map}
 use Rattle.net_file.specs.Net.{IsNet}
 use Rattle.net_file.specs.declared.net.LinkRow.{LinkRow}
 use Rattle.net_file.specs.Joins.{are_linked, joins}
@@ -25,7 +26,7 @@ use Rattle.update_machine.specs.Setting.{Setting}
 use Rattle.update_machine.specs.SwitchNumbers.{switches_of}
 use Rattle.update_machine.specs.LinkMasks.{near, usable_links}
 use Rattle.control_laws.proofs.NetLinks.{linked_by_mask}
-use Rattle.control_laws.proofs.Sums.{length_filter_less, length_given_less, met_once, once, pairs_few, sum_each, sum_filter, sum_plus, sum_some, sum_times}
+use Rattle.control_laws.proofs.Sums.{length_filter_less, met_once, once, pairs_few, sum_each, sum_filter, sum_plus, sum_some, sum_times}
 
 -- ---- which links change
 
@@ -154,7 +155,7 @@ unfolding held_adverts switches
 held_few setting journal s =
     omega (
       arith,
-      length_given_less (held_advert (adverts_known setting journal s)) (range_with_len 0 64),
+      length-filter_map (held_advert (adverts_known setting journal s)) (range_with_len 0 64),
       length-range_with_len 0 64,
     )
 

@@ -1,7 +1,7 @@
 -- Sums over switches, and how many pairs of switches links join.
-use Rattle.std.proofs.Common.{ℕ, zero, suc, ◌≡◌, ◌+◌, ◌*◌, ◌<◌, ◌≤◌, ◌==◌, Bool, true, false, not, ◌&&◌, ◌||◌, cond, Option, Some, None, List, [], ◌∷◌, length, get_or, refl, ap, sym, ◌∙◌, arith, inl, inr, sum_by}
-use Rattle.std.specs.Prelude.{filter, filter_map}
-use Rattle.std.specs.List.{cons_option, range_with_len}
+use Rattle.std.proofs.Common.{ℕ, zero, suc, ◌≡◌, ◌+◌, ◌*◌, ◌<◌, ◌≤◌, ◌==◌, Bool, true, false, not, ◌&&◌, ◌||◌, cond, List, [], ◌∷◌, length, get_or, refl, ap, sym, ◌∙◌, arith, inl, inr, sum_by}
+use Rattle.std.specs.Prelude.{filter}
+use Rattle.std.specs.List.{range_with_len}
 use Rattle.std.proofs.Math.Nat.{mul-add}
 use Rattle.std.proofs.lemmas.Bool.{cases_eq, eq-eqb, ne_eqb}
 use Rattle.std.proofs.lemmas.List.Filters.{sum_by-filter_both}
@@ -179,13 +179,3 @@ pairs_few (link ∷ links) n m =
 pub length_filter_less : {X : Type 0} (test : X → Bool) (xs : List X)
     → length (filter test xs) ≤ length xs
 length_filter_less test xs = omega (arith, length-filter test xs, count_by-le-length test xs)
-
-pub length_given_less : {X Y : Type 0} (gives : X → Option Y) (xs : List X)
-    → length (filter_map gives xs) ≤ length xs
-length_given_less gives [] = omega arith
-length_given_less {Y = Y} gives (x ∷ xs) = by_given (gives x) (length_given_less gives xs)
-  where
-    by_given : (o : Option Y) → length (filter_map gives xs) ≤ length xs
-        → length (cons_option o (filter_map gives xs)) ≤ length (x ∷ xs)
-    by_given None less = omega (arith, less)
-    by_given (Some y) less = omega (arith, less)

@@ -4,15 +4,9 @@ use Rattle.std.specs.List.{cons_option, filter_map, flat_map}
 use Rattle.std.specs.Option.{option_map_or}
 use Rattle.std.proofs.lemmas.List.{take_more}
 use Rattle.std.proofs.lemmas.List.Concat.{flat_map-append}
-use Rattle.std.proofs.lemmas.List.Elements.{All-weaker, filter_map-append}
+use Rattle.std.proofs.lemmas.List.Elements.{filter_map-append}
 use Rattle.std.proofs.lemmas.Bool.Decides.{nat_tests}
 use Rattle.ternary.specs.Word.{WordValue}
-use Rattle.policy_rules.specs.Applied.{IsSoundEdit, additions}
-use Rattle.policy_rules.specs.PolicyFiles.{AddsOnly}
-use Rattle.policy_rules.specs.SoundPolicies.{IsSoundRow}
-use Rattle.policy_rules.specs.declared.amendment.Edit.{Edit}
-use Rattle.policy_rules.specs.declared.amendment.Edit.TheVariants.{Remove, Add}
-use Rattle.policy_rules.proofs.CallerLemmas.{All-additions}
 use Rattle.switch_table.specs.Carried.{all_touched, few_touched}
 use Rattle.controller.specs.Touching.{AreListed, ListsMore}
 
@@ -58,15 +52,6 @@ found_all P p (y ∷ ys) x all is =
     by_test : (b : Bool) → (Some x ≡ find p ys → P x) → Some x ≡ cond b (Some y) (find p ys) → P x
     by_test true later same = let its : y ≡ x = cc in subst P its (all 0 y (omega arith))
     by_test false later same = later same
-
--- the rows that sound edits add are sound
-pub added_sound : (edits : List Edit) → All IsSoundEdit edits → All IsSoundRow (additions edits)
-added_sound edits sound =
-    All-additions IsSoundRow edits (All-weaker IsSoundEdit (AddsOnly IsSoundRow) by_edit edits sound)
-  where
-    by_edit : (edit : Edit) → IsSoundEdit edit → AddsOnly IsSoundRow edit
-    by_edit (Remove priority) sound = tt
-    by_edit (Add row) sound = sound
 
 -- ---- what is told
 

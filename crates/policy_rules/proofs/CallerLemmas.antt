@@ -1,7 +1,7 @@
 -- What proofs above cite.
 pub use Rattle.base.proofs.ListLemmas.{append_not_nil, count-filter-le, count_by-cons, each_weaker, find_same, none_from_not_some}
 pub use Rattle.policy_rules.proofs.FirstMatch.{first_match-only, first_match-scan, highest_is, one_of_priority}
-pub use Rattle.policy_rules.proofs.Changes.{All-additions, All-applied, IsPolicy-applied}
+pub use Rattle.policy_rules.proofs.Changes.{All-additions, All-applied, IsPolicy-applied, additions_sound}
 pub use Rattle.policy_rules.proofs.Counting.{filter_more, range_more}
 pub use Rattle.policy_rules.proofs.Distinct.{distinct_push}
 pub use Rattle.policy_rules.proofs.Editing.{fresh_edits}

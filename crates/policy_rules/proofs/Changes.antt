@@ -98,6 +98,7 @@ All-additions P (Add row ∷ edits) only = All-cons P row (additions edits)
     (only 0 (Add row) (omega arith))
     (All-additions P edits (λ k d within. only (suc k) d (omega arith)))
 
+-- the rows that sound edits add are sound
 pub additions_sound : (edits : List Edit) → All IsSoundEdit edits → All IsSoundRow (additions edits)
 additions_sound edits sound = All-additions IsSoundRow edits
     (All-weaker IsSoundEdit (AddsOnly IsSoundRow) by_edit edits sound)

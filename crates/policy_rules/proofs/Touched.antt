@@ -7,6 +7,7 @@ use Rattle.std.proofs.lemmas.List.Elements.{All-contains, All-contains_itself, A
 use Rattle.std.proofs.lemmas.List.Folds.{list_any_none}
 use Rattle.five_tuple.specs.Header.{IsHeader, fields_of, number_of}
 use Rattle.five_tuple.specs.declared.header.Header.{Header}
+use Rattle.base.proofs.ListLemmas.{in_cons_option}
 use Rattle.ternary.specs.Meets.{meets}
 use Rattle.ternary.specs.Word.{WordValue, holds}
 use Rattle.ternary.proofs.CallerLemmas.{held_meets}
@@ -44,11 +45,6 @@ find_there rows row priority distinct there same =
     by (Some other) (in_rows, is) =
         ap Some (one_of_priority rows distinct other row in_rows there (eqb-true _ _ is ∙ sym same))
 
-in_option : {X : Type 0} (first : Option X) (rest : List X) (x : X) → Contains rest x
-    → Contains (cons_option first rest) x
-in_option None rest x there = there
-in_option (Some y) rest x there = Contains-append_right (y ∷ []) rest x there
-
 is_removed : (rows : List Row) (row : Row) (removed : List ℕ) → HaveDistinctPriorities rows
     → Contains rows row → list_any (λ n. eqb n row.priority) removed ≡ true
     → Contains (filter_map (λ n. find (λ (x : Row). eqb x.priority n) rows) removed) row
@@ -64,7 +60,7 @@ is_removed rows row (n ∷ removed) distinct there is =
         → Contains (cons_option (find (λ (x : Row). eqb x.priority n) rows) rest) row
     by true here later = rw (find_there rows row n distinct there (sym (eqb-true _ _ here)))
         (0, omega arith, refl)
-    by false other later = in_option (find (λ (x : Row). eqb x.priority n) rows) rest row
+    by false other later = in_cons_option (find (λ (x : Row). eqb x.priority n) rows) rest row
         (later (sym (ap (λ b. b || list_any (λ n. eqb n row.priority) removed) other) ∙ is))
 
 All-removed : (P : Row → Type 0) (rows : List Row) (removed : List ℕ) → All P rows

@@ -7,6 +7,7 @@ use Rattle.std.proofs.lemmas.List.{get_or_default, map-append}
 use Rattle.std.proofs.lemmas.List.Elements.{All-cons, All-contains_itself, All-head, All-nil, All-tail, All-weaker, filter_map-append}
 use Rattle.std.proofs.lemmas.List.Folds.{Any-from_list_any, list_any-from_Any}
 use Rattle.std.proofs.lemmas.List.Kept.{AllPairs-cons}
+use Rattle.base.proofs.ListLemmas.{in_cons_option, length-filter_map}
 use Rattle.ternary.specs.Meets.{any_word}
 use Rattle.ternary.specs.Word.{WordValue}
 use Rattle.ternary.proofs.CallerLemmas.{any_covers, meets_cover}
@@ -19,17 +20,6 @@ use Rattle.switch_table.proofs.QueueLemmas.{apart-sym, has_key_of_pairs, none_be
 
 -- ---- what is left of a list
 
-length-cons_option : {X : Type 0} (first : Option X) (rest : List X) (most : ℕ) → length rest ≤ most
-    → length (cons_option first rest) ≤ suc most
-length-cons_option None rest most few = omega (arith, few)
-length-cons_option (Some x) rest most few = omega (arith, few)
-
-pub length-filter_map : {X Y : Type 0} (f : X → Option Y) (xs : List X)
-    → length (filter_map f xs) ≤ length xs
-length-filter_map f [] = omega arith
-length-filter_map f (x ∷ xs) =
-    length-cons_option (f x) (filter_map f xs) (length xs) (length-filter_map f xs)
-
 pub All-filter_map : {X Y : Type 0} (P : Y → Type 0) (f : X → Option Y) (xs : List X)
     → All (λ x. IfSome (f x) P) xs → All P (filter_map f xs)
 All-filter_map P f [] all = All-nil P
@@ -41,11 +31,6 @@ All-filter_map {X} {Y} P f (x ∷ xs) all =
         → All P (cons_option o (filter_map f xs))
     by_case None here rest = rest
     by_case (Some y) here rest = All-cons P y (filter_map f xs) here rest
-
-in_cons_option : {X : Type 0} (first : Option X) (rest : List X) (x : X) → Contains rest x
-    → Contains (cons_option first rest) x
-in_cons_option None rest x there = there
-in_cons_option (Some y) rest x (k, within, is) = (suc k, omega (arith, within), is)
 
 contains_left : {X Y : Type 0} (f : X → Option Y) (xs : List X) (x : X) (y : Y) → Contains xs x
     → f x ≡ Some y → Contains (filter_map f xs) y

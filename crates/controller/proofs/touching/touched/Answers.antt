@@ -8,14 +8,15 @@ use Rattle.policy_rules.specs.SoundPolicies.{IsSoundRow}
 use Rattle.policy_rules.specs.Touched.{removed_rows}
 use Rattle.policy_rules.specs.Words.{words_of_row}
 use Rattle.policy_rules.specs.declared.policy.Row.{Row}
+use Rattle.policy_rules.proofs.CallerLemmas.{additions_sound}
 use Rattle.switch_table.specs.Carried.{few_touched}
 use Rattle.controller.specs.Touching.{ListsMore}
-use Rattle.controller.proofs.Listing.{added_sound, lists_then, told_alike}
+use Rattle.controller.proofs.Listing.{lists_then, told_alike}
 use Rattle.controller.proofs.touching.touched.Goals as goal
 
 pub list_added-requires : goal.list_added-requires
 list_added-requires c = subst (All IsSoundRow) (sym c.added.ensures.rows)
-    (added_sound c.args.change.now c.added.ensures.amendment.sound)
+    (additions_sound c.args.change.now c.added.ensures.amendment.sound)
 
 pub returns : goal.returns
 returns c =
