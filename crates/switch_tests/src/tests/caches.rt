@@ -159,3 +159,45 @@ fn masks_lead_to_the_first_entry_of_the_list(rt: HostRuntime) -> Result<(), Fail
     assert!(rt; told_twice(&cache, 1099) == (Some(1099), Some(1099)));
     Ok(())
 }
+
+// The words of these pairs of addresses: of 0 and 1, of 2 and 3, ..
+fn pairs(alloc: Global, numbers: &[u128]) -> Result<Touched, Fail> {
+    let mut words = Vec::new(alloc);
+    for number in numbers {
+        words.push(Word::new(*number << 41, 0x7fff_ffff << 41).ok_or("word")?)?;
+    }
+    let touched = Touched::new(words).ok_or("touched")?;
+    Ok(touched)
+}
+
+// A cache of the addresses 0 to 11, as it is carried to each version, which touches these pairs.
+fn carried_by(alloc: Global, versions: &[(u32, &[u128])]) -> Result<Cache, Fail> {
+    let mut cache = of_hosts(alloc, 12)?;
+    for (version, numbers) in versions {
+        cache.carry(*version, &pairs(alloc, numbers)?)?;
+    }
+    Ok(cache)
+}
+
+/// Of twelve addresses six are in the pairs 1, 2 and 4: whether a list has all three of them, two
+/// or one, what is carried is the same. The pairs from 6 on touch nothing.
+#[test]
+fn three_words_touch_what_each_of_them_does(rt: HostRuntime) -> Result<(), Fail> {
+    let ways: [(u32, &[(u32, &[u128])]); 5] = [
+        (2, &[(2, &[4, 1, 2])]),
+        (4, &[(2, &[4]), (3, &[1]), (4, &[2])]),
+        (3, &[(2, &[2]), (3, &[4, 1])]),
+        (3, &[(2, &[6, 7, 8]), (3, &[1, 8, 4, 2])]),
+        (3, &[(2, &[1, 2]), (3, &[6, 7, 4])]),
+    ];
+    for (version, versions) in &ways {
+        let cache = carried_by(rt.alloc(), versions)?;
+        let mut left = cache.entries();
+        for message in [0, 1, 6, 7, 10, 11] {
+            let entry = left.next().ok_or("entry")?;
+            assert!(rt; (entry.version, entry.message) == (*version, message));
+        }
+        assert!(rt; left.next().is_none());
+    }
+    Ok(())
+}
