@@ -6,4 +6,6 @@
 #![tactic(auto)]
 
 #[cfg(test)]
+mod packets;
+#[cfg(test)]
 mod tests;

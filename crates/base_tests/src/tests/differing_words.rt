@@ -1,8 +1,9 @@
 //! The words of cache rules by differing bits, beside those of their definition.
 ghost use Rattle.std.specs.Prelude.{◌<◌, length};
 
+use crate::packets::web_header;
 use cache_maker::widen;
-use five_tuple::{Fields, Header};
+use five_tuple::Header;
 use policy_rules::{Action, Rule, first_hit};
 use std::test::Fail;
 use ternary::{Word, any_laws};
@@ -63,13 +64,7 @@ fn words_are_those_of_the_definition(rt: HostRuntime) -> Result<(), Fail> {
     let rules = rules().ok_or("words")?;
     for src in [0x01020304, 0x02030405] {
         for dst in [0x0a010203, 0x0a010303, 0x0a020001, 0x0b000001] {
-            let header = Header::pack(&Fields {
-                src,
-                dst,
-                sport: 5000,
-                dport: 80,
-                proto: 6,
-            });
+            let header = web_header(src, dst);
             let place = first_hit(&rules, &header).ok_or("no rule")?;
             assert!(rt;
                 widen(&header, &Word::any(), &rules, place as u32)

@@ -3,7 +3,7 @@ ghost use Rattle.std.specs.Prelude.{◌≡◌, [], ◌∷◌, false, true, IfOk}
 ghost use Rattle.ternary.specs.Meets.{any_word, fix_of};
 ghost use Rattle.switch_table.specs.Tables.{AreSoundTables};
 
-use five_tuple::{Fields, Header};
+use crate::packets::web_header;
 use policy_rules::Targets;
 use std::alloc::Global;
 use std::rc::Rc;
@@ -52,16 +52,6 @@ fn shared(alloc: Global) -> Result<Rc<Tables>, Fail>
     Ok(Rc::new(alloc, tables)?)
 }
 
-fn header(src: u32, dst: u32) -> Header {
-    Header::pack(&Fields {
-        src,
-        dst,
-        sport: 3,
-        dport: 4,
-        proto: 6,
-    })
-}
-
 // The bit of the tree's first cut, and of the first one on its low side.
 fn first_cuts(tree: &Tree) -> Option<(u32, u32)> {
     match tree {
@@ -81,9 +71,9 @@ fn regions_are_found_by_two_bits(rt: HostRuntime) -> Result<(), Fail> {
     assert!(rt; first_cuts(finder.tree()) == Some((71, 103)));
     let cache = Cache::new(alloc, 4);
     for (header, place) in [
-        (header(1, 2), 0),
-        (header(0x80000001, 2), 1),
-        (header(1, 0x80000002), 2),
+        (web_header(1, 2), 0),
+        (web_header(0x80000001, 2), 1),
+        (web_header(1, 0x80000002), 2),
     ] {
         let by_tree = part_of(&finder.lookup(&cache, &header));
         let by_scan = part_of(&lookup(&cache, &tables, &header));

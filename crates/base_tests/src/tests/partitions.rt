@@ -1,7 +1,7 @@
 //! The tree and the partitions of few rules. Those of rules that span a cut are among the worked
 //! rows of the program.
+use crate::packets::web_header;
 use cut_tree::{Tree, build};
-use five_tuple::{Fields, Header};
 use partition::{find, list};
 use policy_rules::{Policy, to_rules};
 use std::alloc::Global;
@@ -22,21 +22,12 @@ fn no_rules_make_a_leaf(rt: HostRuntime) -> Result<(), Fail> {
     Ok(())
 }
 
-// From 1.2.3.4 to 10.2.0.1, from port 5000 to port 80, of TCP.
-const FIELDS: Fields = Fields {
-    src: 0x0102_0304,
-    dst: 0x0a02_0001,
-    sport: 5000,
-    dport: 80,
-    proto: 6,
-};
-
-// The partition of the header where the policy has no row.
+// The partition of a header where the policy has no row.
 fn found(alloc: Global) -> Result<u32, Fail> {
     let policy = Policy::new(alloc, Vec::new(alloc))?;
     let rules = to_rules(alloc, &policy)?;
     let parts = list(alloc, &build(alloc, &rules, 1)?)?;
-    Ok(find(&parts, &Header::pack(&FIELDS)))
+    Ok(find(&parts, &web_header(0x0102_0304, 0x0a02_0001)))
 }
 
 #[test]

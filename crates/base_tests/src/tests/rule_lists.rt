@@ -1,9 +1,10 @@
 //! The rules of policies with known words, and lists of targets.
 ghost use Rattle.std.specs.Prelude.{◌<◌, ◌^◌, length};
 
+use crate::packets::web_header;
 use policy_rules::{
-    Action, Fields, Header, Hit, Partition, Policy, PortRange, Prefix, Proto, Row, Rule, Rules,
-    Targets, count_words, first_hit, to_rules,
+    Action, Hit, Partition, Policy, PortRange, Prefix, Proto, Row, Rule, Rules, Targets,
+    count_words, first_hit, to_rules,
 };
 use std::alloc::{AllocError, Global};
 use ternary::Word;
@@ -24,16 +25,6 @@ fn row(priority: u32, dst: Prefix, ports: (PortRange, PortRange), action: Action
         proto: Proto::Is(6),
         action,
     }
-}
-
-fn header(dst: u32) -> Header {
-    Header::pack(&Fields {
-        src: 0x0102_0304,
-        dst,
-        sport: 5000,
-        dport: 80,
-        proto: 6,
-    })
 }
 
 fn policy_of(alloc: Global, rows: &[Row]) -> Option<Policy>
@@ -93,7 +84,7 @@ const SCANNED: [(u32, Hit); 3] = [
 fn scanned(alloc: Global) -> Option<usize> {
     let policy = policy_of(alloc, &[wide_row(), web_row()])?;
     for (place, (dst, hit)) in SCANNED.iter().enumerate() {
-        if policy.scan(&header(*dst)) != *hit {
+        if policy.scan(&web_header(0x0102_0304, *dst)) != *hit {
             return Some(place);
         }
     }
@@ -126,7 +117,7 @@ fn is_listed(rules: &[Rule], place: usize, name: Option<u32>, mask: u128) -> boo
 fn listed(alloc: Global) -> Option<usize> {
     let rules = two_rules(alloc)?;
     for (place, name, mask, dst) in &LISTED {
-        let is_first = first_hit(&rules, &header(*dst)) == Some(*place);
+        let is_first = first_hit(&rules, &web_header(0x0102_0304, *dst)) == Some(*place);
         if !is_first || !is_listed(&rules, *place, *name, *mask) {
             return Some(*place);
         }

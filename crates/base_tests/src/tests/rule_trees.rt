@@ -1,7 +1,7 @@
 //! The tree over forty rules, beside the search through them.
 ghost use Rattle.std.specs.Prelude.{◌<◌, ◌^◌, IfOk, length};
 
-use five_tuple::{Fields, Header};
+use crate::packets::web_header;
 use policy_rules::{Action, Rule, first_hit};
 use std::alloc::Global;
 use std::test::Fail;
@@ -31,16 +31,6 @@ fn rule(word: Word, action: Action) -> Rule {
     }
 }
 
-fn header(dst: u32) -> Header {
-    Header::pack(&Fields {
-        src: 1,
-        dst,
-        sport: 3,
-        dport: 4,
-        proto: 6,
-    })
-}
-
 #[test]
 fn a_tree_finds_what_a_search_finds(rt: HostRuntime) -> Result<(), Fail> {
     any_laws();
@@ -49,7 +39,7 @@ fn a_tree_finds_what_a_search_finds(rt: HostRuntime) -> Result<(), Fail> {
     let tree = RuleTree::build(alloc, &rules, &Word::any())?;
     assert!(rt; matches!(&tree.root, RuleNode::Cut { .. }));
     for dst in [0x0a000001, 0x0a030201, 0x0a260000, 0x0a270000, 0x0b000000] {
-        let header = header(dst);
+        let header = web_header(1, dst);
         assert!(rt; tree.first(&rules, &header) == first_hit(&rules, &header));
     }
     Ok(())
@@ -62,6 +52,6 @@ fn few_rules_are_not_cut(rt: HostRuntime) -> Result<(), Fail> {
     let rules = [rule(Word::any(), Action::Drop)];
     let tree = RuleTree::build(alloc, &rules, &Word::any())?;
     assert!(rt; matches!(&tree.root, RuleNode::End { .. }));
-    assert!(rt; tree.first(&rules, &header(1)) == Some(0));
+    assert!(rt; tree.first(&rules, &web_header(1, 1)) == Some(0));
     Ok(())
 }
