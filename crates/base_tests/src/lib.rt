@@ -8,4 +8,6 @@
 #[cfg(test)]
 mod packets;
 #[cfg(test)]
+mod refusals;
+#[cfg(test)]
 mod tests;

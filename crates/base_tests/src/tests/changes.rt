@@ -1,4 +1,5 @@
 //! Changes of policies read from CSV text, and refused.
+use crate::refusals::first_other;
 use policy_file::{
     NoPort, PolicyError, PolicyFile, check_file_ports, is_change, read_change, read_file,
     read_policy, write_change,
@@ -120,18 +121,13 @@ fn refused(alloc: Global, rows: &str) -> Result<Option<(u32, u32)>, AllocError> 
     Ok(refusal(read_file(alloc, &text)))
 }
 
-// The same of a change with this third row.
-fn refused_third(alloc: Global, row: &str) -> Result<Option<(u32, u32)>, AllocError> {
-    let rows = format!(in alloc; "remove,7\nadd,7,any,any,any,any,any,drop\n{row}\n")?;
-    refused(alloc, rows.as_str())
-}
-
 #[test]
 fn refuses_with_code_and_row(rt: HostRuntime) {
-    for (row, code) in &REFUSED {
-        let told = refused_third(rt.alloc(), row);
-        assert!(rt; told == Ok(Some((*code, 3))), "at {row}");
-    }
+    let head = "op,priority,src,dst,sport,dport,proto,action\n\
+        remove,7\nadd,7,any,any,any,any,any,drop\n";
+    let refused_file = |alloc, text: &[u8]| refusal(read_file(alloc, text));
+    let other = first_other(rt.alloc(), (head, "\n"), 3, &REFUSED, refused_file);
+    assert_eq!(rt; other, Ok(None));
 }
 
 // 2000 edits.

@@ -2,6 +2,7 @@
 ghost use Rattle.std.specs.Prelude.{IfOk};
 ghost use Rattle.net_file.specs.Net.{IsNet};
 
+use crate::refusals::first_other;
 use net_file::{Net, NetError, is_name, read_net, solo};
 use std::alloc::{AllocError, Global};
 
@@ -59,44 +60,47 @@ fn reads_each_spelling(rt: HostRuntime) {
     }
 }
 
-// Texts, each with the code and the row of its refusal.
-const REFUSED: [(&str, u32, u32); 17] = [
-    ("", 2, 0),
-    ("switch", 1, 0),
-    ("cache = 9223372036854775808", 1, 0),
-    ("leaf_rules = true\nbackups = 4", 3, 0),
-    ("leaf_rules = 0\nbackups = 1.0", 4, 0),
-    ("backups = 4\ncache = \"1\"", 4, 0),
-    ("cache = 65537", 4, 0),
-    ("switch = []", 4, 0),
-    ("switch = 1979-05-27", 3, 0),
-    ("switch = [1]", 3, 1),
-    ("[[switch]]\nports = 1", 2, 1),
-    ("[[switch]]\nname = \"controller\"", 4, 1),
-    ("[[switch]]\nname = \"a\"\nports = [64, true]", 3, 1),
+// Texts by the row of their refusal, each with its code.
+const REFUSED: [(u32, &[(&str, u32)]); 3] = [
     (
-        "[[switch]]\nname = \"a\"\nports = [-1]\nauthority = true",
-        4,
+        0,
+        &[
+            ("", 2),
+            ("switch", 1),
+            ("cache = 9223372036854775808", 1),
+            ("leaf_rules = true\nbackups = 4", 3),
+            ("leaf_rules = 0\nbackups = 1.0", 4),
+            ("backups = 4\ncache = \"1\"", 4),
+            ("cache = 65537", 4),
+            ("switch = []", 4),
+            ("switch = 1979-05-27", 3),
+        ],
+    ),
+    (
         1,
+        &[
+            ("switch = [1]", 3),
+            ("[[switch]]\nports = 1", 2),
+            ("[[switch]]\nname = 'controller'", 4),
+            ("[[switch]]\nname = 'a'\nports = [64, true]", 3),
+            ("[[switch]]\nname = 'a'\nports = [-1]\nauthority = true", 4),
+            ("[[switch]]\nname = 'a'\nports = [1, 1]", 7),
+        ],
     ),
-    ("[[switch]]\nname = \"a\"\nports = [1, 1]", 7, 1),
     (
-        "[[switch]]\nname = \"a\"\nports = [1]\n[[switch]]\nname = \"a\"\nports = [1]",
-        6,
         2,
-    ),
-    (
-        "[[switch]]\nname = \"a\"\nports = [1]\n[[switch]]\nname = \"b\"\nports = [1]",
-        7,
-        2,
+        &[
+            ("switch = [{name='a',ports=[1]},{name='a',ports=[1]}]", 6),
+            ("switch = [{name='a',ports=[1]},{name='b',ports=[1]}]", 7),
+        ],
     ),
 ];
 
 #[test]
 fn refuses_with_code_and_row(rt: HostRuntime) {
-    for (text, code, row) in &REFUSED {
-        let told = refused(rt.alloc(), text.as_bytes());
-        assert!(rt; told == Some((*code, *row)), "at {text}");
+    for (row, cases) in &REFUSED {
+        let other = first_other(rt.alloc(), ("", ""), *row, cases, refused);
+        assert_eq!(rt; other, Ok(None));
     }
 }
 
@@ -113,18 +117,10 @@ const REFUSED_LINKS: [(&str, u32); 5] = [
     ("ends = [\"b\", \"a\"]", 9),
 ];
 
-// The code and the row of the refusal of a second link with these keys.
-fn refused_link(alloc: Global, keys: &str) -> Result<Option<(u32, u32)>, AllocError> {
-    let text = format!(in alloc; "{PAIR}{keys}\n")?;
-    Ok(refused(alloc, text.as_bytes()))
-}
-
 #[test]
 fn refuses_links(rt: HostRuntime) {
-    for (keys, code) in &REFUSED_LINKS {
-        let told = refused_link(rt.alloc(), keys);
-        assert!(rt; told == Ok(Some((*code, 102))), "at {keys}");
-    }
+    let other = first_other(rt.alloc(), (PAIR, "\n"), 102, &REFUSED_LINKS, refused);
+    assert_eq!(rt; other, Ok(None));
 }
 
 #[test]

@@ -1,4 +1,5 @@
 //! Policies read from CSV text, and refused.
+use crate::refusals::first_other;
 use policy_file::{NoPort, Policy, PolicyError, check_ports, read_policy, write_policy};
 use policy_rules::{Action, PortRange, Prefix, Proto, Row};
 use std::alloc::{AllocError, Global};
@@ -81,19 +82,11 @@ const REFUSED: [(&str, u32); 9] = [
     ("7,any,any,any,any,any,drop", 10),
 ];
 
-// The code and the row of the refusal of a policy with this second row.
-fn refused_second(alloc: Global, row: &str) -> Result<Option<(u32, u32)>, AllocError> {
-    let rows = format!(in alloc; "7,any,any,any,any,any,drop\n{row}\n")?;
-    let text = under_heading(alloc, rows.as_str())?;
-    Ok(refused(alloc, &text))
-}
-
 #[test]
 fn refuses_with_code_and_row(rt: HostRuntime) {
-    for (row, code) in &REFUSED {
-        let told = refused_second(rt.alloc(), row);
-        assert!(rt; told == Ok(Some((*code, 2))), "at {row}");
-    }
+    let head = "priority,src,dst,sport,dport,proto,action\n7,any,any,any,any,any,drop\n";
+    let other = first_other(rt.alloc(), (head, "\n"), 2, &REFUSED, refused);
+    assert_eq!(rt; other, Ok(None));
 }
 
 // 2000 rows, and what is behind them.

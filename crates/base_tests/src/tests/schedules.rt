@@ -1,4 +1,5 @@
 //! Schedules read from CSV text, and refused.
+use crate::refusals::first_other;
 use five_tuple::Fields;
 use net_file::read_net;
 use schedule::{Event, Header, Kind, ScheduleError, Step, read_kind, read_schedule};
@@ -170,16 +171,10 @@ const REFUSED: [(&str, u32); 19] = [
     ("update,2", 7),
 ];
 
-// The code and the row of the refusal of a schedule with this second row, and one policy.
-fn refused_second(alloc: Global, row: &str) -> Result<Option<(u32, u32)>, AllocError> {
-    let rows = format!(in alloc; "drain\n{row}\nskip\n")?;
-    refused_rows(alloc, rows.as_str(), 1)
-}
-
 #[test]
 fn refuses_with_code_and_row(rt: HostRuntime) {
-    for (row, code) in &REFUSED {
-        let told = refused_second(rt.alloc(), row);
-        assert!(rt; told == Ok(Some((*code, 2))), "at {row}");
-    }
+    let around = ("event,arguments\ndrain\n", "\nskip\n");
+    let refused_alone = |alloc, text: &[u8]| refused(alloc, text, 1);
+    let other = first_other(rt.alloc(), around, 2, &REFUSED, refused_alone);
+    assert_eq!(rt; other, Ok(None));
 }
