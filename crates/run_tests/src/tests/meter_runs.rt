@@ -1,11 +1,8 @@
-//! Worked runs with meters at the ports, one of a kind of the caller's own among them.
-ghost use Rattle.std.specs.Prelude.{[], length, nat_le};
-
+//! Worked runs with meters at the ports, of each kind.
 use crate::files::NO_ROW;
 use crate::runs::{ended, ends, metered, recorded, shelf_of, sink};
 use difane_cli::FlowMeter;
-use meters::{FirstN, Flows, Leaving, Meter, Recorder, Stay};
-use std::alloc::AllocError;
+use meters::{FirstN, Meter, Recorder};
 use std::test::Fail;
 
 const TWO_ROWS: &str = "priority,src,dst,sport,dport,proto,action\n\
@@ -32,42 +29,6 @@ const TWICE: &str = "row 1: packet s0 10.1.1.1 9.9.9.9 5000 80 tcp\n\
     \x20 out 2 port 3\n\
     meter port 3 notes 2\n";
 
-/// A meter of the caller's own: it leaves with its second packet.
-#[derive(Drop)]
-struct Pair {
-    port: u32,
-    held: Vec<Leaving>,
-}
-
-impl Meter for Pair {
-    ghost seen = { λ m. record {
-      port = m.port;
-      held = m.held.items;
-      is_ended = λ held. nat_le 2 (length held);
-      recorded = λ _. [];
-    } };
-
-    fn port(&self) -> u32 {
-        self.port
-    }
-
-    fn note(&mut self, leaving: &Leaving) -> Stay {
-        match self.held.push(*leaving) {
-            Ok(()) if self.held.len() >= 2 => Stay::Leave,
-            Ok(()) => Stay::Stay,
-            Err(_) => Stay::NoMemory,
-        }
-    }
-
-    fn notes(&self) -> u64 {
-        self.held.len() as u64
-    }
-
-    fn records(&self) -> Result<Flows, AllocError> {
-        Ok(Flows::new(Vec::new(*self.held.allocator())))
-    }
-}
-
 /// The first packet leaves by port 3, and is the one that its recorder has.
 #[test]
 fn recorders_tell_what_left(rt: HostRuntime) {
@@ -84,8 +45,8 @@ fn meters_leave_at_their_time(rt: HostRuntime) -> Result<(), Fail> {
     let mut meters: Vec<Box<dyn Meter>> = Vec::new(alloc);
     meters.push(Box::new(alloc, FirstN::new(alloc, 3, 1))?)?;
     meters.push(Box::new(alloc, Recorder::new(alloc, 3))?)?;
-    let held = Vec::new(alloc);
-    meters.push(Box::new(alloc, Pair { port: 3, held })?)?;
+    meters.push(Box::new(alloc, FirstN::new(alloc, 3, 2))?)?;
+    meters.push(Box::new(alloc, FlowMeter::new(alloc, 3, 1))?)?;
     let args = ["replay", "s.csv", "p.csv"];
     let files = [("s.csv", TWO_PACKETS), ("p.csv", TWO_ROWS)];
     let shelf = shelf_of(alloc, &files)?;
