@@ -2,6 +2,7 @@ mod journal_lines;
 mod loads;
 mod marks;
 mod messages;
+mod pairs;
 mod quiet_journals;
 mod replays;
 mod routes;

@@ -2,8 +2,8 @@
 ghost use Rattle.std.specs.Prelude.{IfOk};
 ghost use Rattle.net_file.specs.Net.{IsNet};
 
+use crate::tests::pairs::header;
 use failover::{Advert, Database, DownSet, Route};
-use five_tuple::{Fields, Header};
 use journal::{
     Action, Body, Cause, How, Item, Journal, Leaving, Leg, Message, PackedLeaving, Place,
     SharedLinks, SharedMessage, SharedRoute,
@@ -35,18 +35,10 @@ fn push(journal: &mut Journal, item: Item) -> Result<(), Fail> {
     Ok(())
 }
 
-const FIELDS: Fields = Fields {
-    src: 0x0102_0304,
-    dst: 0x0a02_0001,
-    sport: 5000,
-    dport: 80,
-    proto: 6,
-};
-
 fn packet_row() -> Item {
     let step = Step::Packet {
         switch: 0,
-        header: Header::pack(&FIELDS),
+        header: header(),
     };
     Item::Row { row: 1, step }
 }
@@ -55,7 +47,7 @@ fn entered() -> Item {
     Item::Entered {
         packet: 1,
         switch: 0,
-        header: Header::pack(&FIELDS),
+        header: header(),
     }
 }
 
@@ -76,7 +68,7 @@ fn decided() -> Item {
 fn left() -> Item {
     let leaving = Leaving {
         packet: 1,
-        header: Header::pack(&FIELDS),
+        header: header(),
         version: 1,
         rule: None,
     };

@@ -1,41 +1,16 @@
 //! A schedule that is read, and replayed by one call.
-ghost use Rattle.std.specs.Prelude.{IfOk};
-ghost use Rattle.net_file.specs.Net.{IsNet};
-
+use crate::tests::pairs::{DROPPED, FIRST, hopped, pair};
 use journal_text::text;
 use meters::Recorder;
-use net_file::{Net, read_net};
 use policy_rules::{Policy, PolicyFile};
 use replay::replay;
 use schedule::read_schedule;
-use std::alloc::Global;
 use std::test::Fail;
 
-/// Two switches and the link between them, of which b decides.
-const PAIR: &str = "switch = [{ name = \"a\" }, { name = \"b\", authority = 100 }]\n\
-    link = [{ ends = [\"a\", \"b\"] }]\n";
-
+/// The packet is dropped, since the policy has no row.
 const SCHEDULE: &str = "event,arguments\n\
     packet,a,1.2.3.4,10.2.0.1,5000,80,tcp\n\
     drain\n";
-
-/// The packet is dropped, since the policy has no row.
-const JOURNAL: &str = "row 1: packet a 1.2.3.4 10.2.0.1 5000 80 tcp\n\
-    \x20 entered 1 a\n\
-    \x20 tunnelled 1 v1 part 0 via a b\n\
-    row 2: hop 1\n\
-    \x20 hopped 1 b\n\
-    row 2: hop 1\n\
-    \x20 decided 1 v1 rule default drop authority b part 0\n\
-    \x20 sent 1 a cache version 1 word 00000000000000000000000000/00000000000000000000000000 \
-    rule default drop\n\
-    \x20 dropped 1\n";
-
-fn pair(alloc: Global) -> Result<Net, Fail>
-    ensures { IfOk result IsNet }
-{
-    Ok(read_net(alloc, PAIR.as_bytes())?)
-}
 
 #[test]
 fn replays_a_schedule(rt: HostRuntime) -> Result<(), Fail> {
@@ -48,6 +23,7 @@ fn replays_a_schedule(rt: HostRuntime) -> Result<(), Fail> {
     let played = replay(alloc, &net, files, &events, meters)?;
     assert!(rt; played.full.is_none() && played.meters.is_empty());
     let text = text(alloc, &played.journal, &net)?;
-    assert!(rt; text.as_slice() == JOURNAL.as_bytes());
+    let wanted = format!(in alloc; "{}{DROPPED}", hopped(alloc, 1, 1, FIRST, 1)?)?;
+    assert!(rt; text.as_slice() == wanted.as_bytes());
     Ok(())
 }
