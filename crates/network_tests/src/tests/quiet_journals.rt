@@ -21,19 +21,25 @@ fn two_switches(alloc: Global) -> Result<Net, Fail>
     Ok(read_net(alloc, text.as_bytes())?)
 }
 
-fn one_switch(alloc: Global) -> Result<Net, Fail>
-    ensures { IfOk result IsNet }
-{
-    Ok(solo(alloc)?)
+// An item of a journal in short: the number of a message, and what it says.
+#[derive(Clone, Copy)]
+enum Line {
+    /// The switch 0 is to install version 2, with so many partitions without rules.
+    Install(u32, u32),
+    /// The switch 0 is to stamp with this version, whose change touches all words or none.
+    Stamp(u32, u32, bool),
+    /// The switch 0 is told the advert of this number that the switch 1 tells in its boot.
+    Advert(u32, u32),
+    /// The switch 0 has booted.
+    Hello(u32),
+    Forgotten(u32),
+    Delivered(u32),
+    /// The switch 1 is down, or it is confirmed as that.
+    Down,
+    Over,
 }
 
-fn sent(alloc: Global, number: u32, to: Place, body: Body) -> Result<Item, Fail> {
-    let message = SharedMessage::new(alloc, Message { to, body })?;
-    Ok(Item::Sent { number, message })
-}
-
-// The message of this number is an Install of version 2, with so many partitions without rules.
-fn install(alloc: Global, number: u32, partitions: u32) -> Result<Item, Fail> {
+fn install(alloc: Global, partitions: u32) -> Result<Body, Fail> {
     let mut auth = Vec::new(alloc);
     for partition in 0..partitions {
         auth.push(Partition {
@@ -48,44 +54,76 @@ fn install(alloc: Global, number: u32, partitions: u32) -> Result<Item, Fail> {
         auth: Partitions::new(auth)?,
     };
     let tables = SharedTables::new(alloc, tables)?;
-    sent(
-        alloc,
-        number,
-        Place::Switch(0),
-        Body::Install { boot: 1, tables },
-    )
+    Ok(Body::Install { boot: 1, tables })
 }
 
-// Pushes the item; nothing more is known of the journal.
-fn push(journal: &mut Journal, item: Item) -> Result<(), Fail> {
-    journal.push(item)?;
-    Ok(())
+fn stamp(alloc: Global, version: u32, touches_all: bool) -> Result<Body, Fail> {
+    let touched = if touches_all {
+        Touched::all()
+    } else {
+        Touched::new(Vec::new(alloc)).ok_or("touched")?
+    };
+    Ok(Body::Stamp {
+        boot: 1,
+        version,
+        touched: Shared::new(alloc, touched)?,
+    })
 }
 
-// Pushes the sending of the message; nothing more is known of the journal.
-fn send(
+fn advert(seq: u32) -> Body {
+    let advert = Advert {
+        origin: 1,
+        boot: 1,
+        seq,
+        up: 1,
+    };
+    Body::Advertise { advert }
+}
+
+fn sent(alloc: Global, number: u32, to: Place, body: Body) -> Result<Item, Fail> {
+    let message = SharedMessage::new(alloc, Message { to, body })?;
+    Ok(Item::Sent { number, message })
+}
+
+fn item(alloc: Global, line: &Line) -> Result<Item, Fail> {
+    let to = Place::Switch(0);
+    match *line {
+        Line::Install(number, partitions) => sent(alloc, number, to, install(alloc, partitions)?),
+        Line::Stamp(number, version, all) => sent(alloc, number, to, stamp(alloc, version, all)?),
+        Line::Advert(number, seq) => sent(alloc, number, to, advert(seq)),
+        Line::Hello(number) => {
+            let hello = Body::Hello { switch: 0, boot: 1 };
+            sent(alloc, number, Place::Controller, hello)
+        }
+        Line::Forgotten(number) => Ok(Item::Forgotten { number }),
+        Line::Delivered(number) => Ok(Item::Delivered { number }),
+        Line::Down => Ok(Item::Down { switch: 1 }),
+        Line::Over => Ok(Item::OverNow { switch: 1 }),
+    }
+}
+
+// Whether the network is quiet behind the journal and these items, which are written to it.
+fn is_quiet_after(
     alloc: Global,
+    net: &Net,
     journal: &mut Journal,
-    number: u32,
-    to: Place,
-    body: Body,
-) -> Result<(), Fail> {
-    let item = sent(alloc, number, to, body)?;
-    push(journal, item)
-}
-
-fn is_quiet(alloc: Global, journal: &Journal, net: &Net) -> Result<bool, Fail>
+    lines: &[Line],
+) -> Result<bool, Fail>
     requires { IsNet net.now }
 {
+    for line in lines {
+        journal.push(item(alloc, line)?)?;
+    }
     Ok(quiet(alloc, journal, net)?)
 }
 
-// Whether the network is quiet once the item is pushed.
-fn is_quiet_after(alloc: Global, journal: &mut Journal, net: &Net, item: Item) -> Result<bool, Fail>
+// Whether the network waits behind the first items, and is quiet behind the others.
+fn waits_until(alloc: Global, net: &Net, first: &[Line], others: &[Line]) -> Result<bool, Fail>
     requires { IsNet net.now }
 {
-    push(journal, item)?;
-    is_quiet(alloc, journal, net)
+    let mut journal = Journal::new(alloc);
+    let waits = !is_quiet_after(alloc, net, &mut journal, first)?;
+    Ok(waits && is_quiet_after(alloc, net, &mut journal, others)?)
 }
 
 /// A switch that is down is missed until it is confirmed.
@@ -93,87 +131,52 @@ fn is_quiet_after(alloc: Global, journal: &mut Journal, net: &Net, item: Item) -
 fn crashes_are_confirmed(rt: HostRuntime) -> Result<(), Fail> {
     let alloc = rt.alloc();
     let net = two_switches(alloc)?;
-    let mut journal = Journal::new(alloc);
-    let was = is_quiet(alloc, &journal, &net)?;
-    let missed = !is_quiet_after(alloc, &mut journal, &net, Item::Down { switch: 1 })?;
-    let over = is_quiet_after(alloc, &mut journal, &net, Item::OverNow { switch: 1 })?;
-    assert!(rt; was && missed && over);
+    assert!(rt; is_quiet_after(alloc, &net, &mut Journal::new(alloc), &[])?);
+    assert!(rt; waits_until(alloc, &net, &[Line::Down], &[Line::Over])?);
     Ok(())
 }
 
-// The message of this number tells the switch 0 to stamp with the version, and what its change
-// touches.
-fn stamp(
-    alloc: Global,
-    journal: &mut Journal,
-    number: u32,
-    version: u32,
-    touched: Touched,
-) -> Result<(), Fail> {
-    let stamp = Body::Stamp {
-        boot: 1,
-        version,
-        touched: Shared::new(alloc, touched)?,
-    };
-    send(alloc, journal, number, Place::Switch(0), stamp)
-}
+// Journals of one switch that waits, and what it waits for.
+const WAITING: [(&[Line], &[Line]); 5] = [
+    // an update is answered though its first message was forgotten: it was sent again
+    (
+        &[Line::Install(1, 1), Line::Forgotten(1), Line::Install(2, 1)],
+        &[Line::Delivered(2)],
+    ),
+    (
+        &[
+            Line::Install(1, 1),
+            Line::Delivered(1),
+            Line::Stamp(2, 2, true),
+        ],
+        &[Line::Delivered(2)],
+    ),
+    // other tables of the same version don't replace those before them
+    (
+        &[Line::Install(1, 1), Line::Install(2, 2), Line::Delivered(2)],
+        &[Line::Delivered(1)],
+    ),
+    // a stamp of the same version for other words doesn't replace the one before it, but a stamp
+    // of a greater version does
+    (
+        &[
+            Line::Stamp(1, 2, false),
+            Line::Stamp(2, 2, true),
+            Line::Delivered(2),
+        ],
+        &[Line::Stamp(3, 3, true), Line::Delivered(3)],
+    ),
+    // a delivery that stands before the sending delivers nothing
+    (&[Line::Delivered(1), Line::Hello(1)], &[Line::Delivered(1)]),
+];
 
-// The first message of an update was forgotten, and sent again.
-fn push_update(alloc: Global, journal: &mut Journal) -> Result<(), Fail> {
-    push(journal, install(alloc, 1, 1)?)?;
-    push(journal, Item::Forgotten { number: 1 })?;
-    push(journal, install(alloc, 2, 1)?)
-}
-
-/// An update is answered though its first message was forgotten: it was sent again.
 #[test]
-fn updates_are_answered(rt: HostRuntime) -> Result<(), Fail> {
-    let alloc = rt.alloc();
-    let net = one_switch(alloc)?;
-    let mut journal = Journal::new(alloc);
-    push_update(alloc, &mut journal)?;
-    let waits = !is_quiet(alloc, &journal, &net)?;
-    let answered = is_quiet_after(alloc, &mut journal, &net, Item::Delivered { number: 2 })?;
-    stamp(alloc, &mut journal, 3, 2, Touched::all())?;
-    assert!(rt; waits && answered && !is_quiet(alloc, &journal, &net)?);
+fn a_switch_waits(rt: HostRuntime) -> Result<(), Fail> {
+    let net = solo(rt.alloc())?;
+    for (first, others) in &WAITING {
+        assert!(rt; waits_until(rt.alloc(), &net, first, others)?);
+    }
     Ok(())
-}
-
-// The advert of this number that the switch 1 tells in its boot is sent to the switch 0.
-fn advertise(alloc: Global, journal: &mut Journal, number: u32, seq: u32) -> Result<(), Fail> {
-    let advert = Advert {
-        origin: 1,
-        boot: 1,
-        seq,
-        up: 1,
-    };
-    send(
-        alloc,
-        journal,
-        number,
-        Place::Switch(0),
-        Body::Advertise { advert },
-    )
-}
-
-// Whether the network is quiet once two adverts of these numbers were sent, of which this message
-// was delivered and the other one forgotten.
-fn is_quiet_with(
-    alloc: Global,
-    net: &Net,
-    first: u32,
-    second: u32,
-    delivered: u32,
-) -> Result<bool, Fail>
-    requires { IsNet net.now }
-{
-    let mut journal = Journal::new(alloc);
-    advertise(alloc, &mut journal, 1, first)?;
-    advertise(alloc, &mut journal, 2, second)?;
-    let forgotten = if delivered == 1 { 2 } else { 1 };
-    push(&mut journal, Item::Forgotten { number: forgotten })?;
-    push(&mut journal, Item::Delivered { number: delivered })?;
-    is_quiet(alloc, &journal, net)
 }
 
 // The numbers of two adverts, the message that was delivered, and whether the network is quiet.
@@ -189,56 +192,17 @@ const REPLACED: [(u32, u32, u32, bool); 6] = [
 /// A newer advert, or the same, replaces one that was sent before it, and none that was sent later.
 #[test]
 fn later_adverts_replace(rt: HostRuntime) -> Result<(), Fail> {
-    let net = two_switches(rt.alloc())?;
+    let alloc = rt.alloc();
+    let net = two_switches(alloc)?;
     for (first, second, delivered, is_quiet) in &REPLACED {
-        let told = is_quiet_with(rt.alloc(), &net, *first, *second, *delivered)?;
+        let lines = [
+            Line::Advert(1, *first),
+            Line::Advert(2, *second),
+            Line::Forgotten(if *delivered == 1 { 2 } else { 1 }),
+            Line::Delivered(*delivered),
+        ];
+        let told = is_quiet_after(alloc, &net, &mut Journal::new(alloc), &lines)?;
         assert!(rt; told == *is_quiet);
     }
-    Ok(())
-}
-
-/// Other tables of the same version don't replace those before them.
-#[test]
-fn other_tables_wait(rt: HostRuntime) -> Result<(), Fail> {
-    let alloc = rt.alloc();
-    let net = one_switch(alloc)?;
-    let mut journal = Journal::new(alloc);
-    push(&mut journal, install(alloc, 1, 1)?)?;
-    push(&mut journal, install(alloc, 2, 2)?)?;
-    let waits = !is_quiet_after(alloc, &mut journal, &net, Item::Delivered { number: 2 })?;
-    let ends = is_quiet_after(alloc, &mut journal, &net, Item::Delivered { number: 1 })?;
-    assert!(rt; waits && ends);
-    Ok(())
-}
-
-/// A stamp of the same version for other words doesn't replace the one before it, but a stamp of a
-/// greater version does.
-#[test]
-fn other_stamps_wait(rt: HostRuntime) -> Result<(), Fail> {
-    let alloc = rt.alloc();
-    let net = one_switch(alloc)?;
-    let mut journal = Journal::new(alloc);
-    let nothing = Touched::new(Vec::new(alloc)).ok_or("touched")?;
-    stamp(alloc, &mut journal, 1, 2, nothing)?;
-    stamp(alloc, &mut journal, 2, 2, Touched::all())?;
-    let waits = !is_quiet_after(alloc, &mut journal, &net, Item::Delivered { number: 2 })?;
-    stamp(alloc, &mut journal, 3, 3, Touched::all())?;
-    let ends = is_quiet_after(alloc, &mut journal, &net, Item::Delivered { number: 3 })?;
-    assert!(rt; waits && ends);
-    Ok(())
-}
-
-/// A delivery that stands before the sending delivers nothing.
-#[test]
-fn deliveries_stand_behind(rt: HostRuntime) -> Result<(), Fail> {
-    let alloc = rt.alloc();
-    let net = one_switch(alloc)?;
-    let mut journal = Journal::new(alloc);
-    push(&mut journal, Item::Delivered { number: 1 })?;
-    let hello = Body::Hello { switch: 0, boot: 1 };
-    send(alloc, &mut journal, 1, Place::Controller, hello)?;
-    let waits = !is_quiet(alloc, &journal, &net)?;
-    let ends = is_quiet_after(alloc, &mut journal, &net, Item::Delivered { number: 1 })?;
-    assert!(rt; waits && ends);
     Ok(())
 }
