@@ -208,28 +208,23 @@ fn sent(
     plan: &Plan,
     call: &Call,
 ) -> Result<Vec<Seen>, Fail> {
-    match *call {
-        Call::Submit => submitted(alloc, controller, plan),
-        Call::Hello(switch, boot) => heard(rt, alloc, controller, &Body::Hello { switch, boot }),
-        Call::Installed(switch, boot, version) => {
-            let body = Body::Installed {
-                switch,
-                boot,
-                version,
-            };
-            heard(rt, alloc, controller, &body)
-        }
-        Call::Stamped(switch, boot, version) => {
-            let body = Body::Stamped {
-                switch,
-                boot,
-                version,
-            };
-            heard(rt, alloc, controller, &body)
-        }
-        Call::Over(s) => over(rt, alloc, controller, s),
-        Call::Resend(s) => resent(rt, alloc, controller, s),
-    }
+    let body = match *call {
+        Call::Submit => return submitted(alloc, controller, plan),
+        Call::Over(s) => return over(rt, alloc, controller, s),
+        Call::Resend(s) => return resent(rt, alloc, controller, s),
+        Call::Hello(switch, boot) => Body::Hello { switch, boot },
+        Call::Installed(switch, boot, version) => Body::Installed {
+            switch,
+            boot,
+            version,
+        },
+        Call::Stamped(switch, boot, version) => Body::Stamped {
+            switch,
+            boot,
+            version,
+        },
+    };
+    heard(rt, alloc, controller, &body)
 }
 
 // Makes the calls in turn, and asks that just these acts follow each.
