@@ -35,82 +35,47 @@ const NET: &str = "switch = [{ name = \"a\", ports = [3, 4], authority = 100 }]\
 
 const ONCE: &str = "event,arguments\nupdate,2\n";
 
-/// Arguments, the change, the status, the output and the line of errors. The codes of a change are
-/// asked for in their order, and a first file is refused before its rows are read.
-const ENDS: [(&[&str], &str, u8, &str, &str); 8] = [
-    (
-        &["replay", "s.csv", "p.csv", "c.csv"],
-        ABSENT_AND_TAKEN,
-        0,
-        "row 1: update 2\n  refused file 2 code 24\n",
-        "",
-    ),
-    (
-        &["replay", "s.csv", "p.csv", "c.csv"],
-        TAKEN,
-        0,
-        "row 1: update 2\n  refused file 2 code 25\n",
-        "",
-    ),
-    (
-        &["replay", "s.csv", "p.csv", "c.csv"],
-        SWAP,
-        3,
-        "",
-        "difane: input c.csv code 22 row 1\n",
-    ),
-    (
-        &["replay", "s.csv", "p.csv", "c.csv"],
-        TWICE,
-        3,
-        "",
-        "difane: input c.csv code 10 row 3\n",
-    ),
+const REPLAY: &[&str] = &["replay", "s.csv", "p.csv", "c.csv"];
+
+/// Arguments, the change, and the code and the row that the line of errors names. A first file is
+/// refused before its rows are read.
+const REFUSED: [(&[&str], &str, u8, u32); 6] = [
+    (REPLAY, SWAP, 22, 1),
+    (REPLAY, TWICE, 10, 3),
     (
         &["replay", "s.csv", "p.csv", "c.csv", "--net", "n.toml"],
         PORT_5,
-        3,
-        "",
-        "difane: input c.csv code 13 row 2\n",
+        13,
+        2,
     ),
-    (
-        &["replay", "s.csv", "c.csv", "p.csv"],
-        SWAP,
-        3,
-        "",
-        "difane: input c.csv code 23 row 0\n",
-    ),
-    (
-        &["compile", "c.csv"],
-        OTHER,
-        3,
-        "",
-        "difane: input c.csv code 1 row 0\n",
-    ),
-    (
-        &["show", "c.csv", "s0"],
-        OTHER,
-        3,
-        "",
-        "difane: input c.csv code 1 row 0\n",
-    ),
+    (&["replay", "s.csv", "c.csv", "p.csv"], SWAP, 23, 0),
+    (&["compile", "c.csv"], OTHER, 1, 0),
+    (&["show", "c.csv", "s0"], OTHER, 1, 0),
 ];
 
 #[test]
-fn refuses_changes(rt: HostRuntime) {
-    for (args, change, status, out, line) in &ENDS {
+fn refuses_files_of_changes(rt: HostRuntime) -> Result<(), Fail> {
+    let alloc = rt.alloc();
+    for (args, change, code, row) in &REFUSED {
         let files = [
             ("s.csv", ONCE),
             ("p.csv", POLICY),
             ("c.csv", *change),
             ("n.toml", NET),
         ];
-        let ran = run_over(rt.alloc(), args, &files);
-        assert!(rt; ends(ran, *status, out, line), "{out}{line}");
+        let line = format!(in alloc; "difane: input c.csv code {code} row {row}\n")?;
+        assert!(rt; ends(run_over(alloc, args, &files), 3, "", &line), "{line}");
     }
+    Ok(())
 }
 
-/// A change that adds 1,999 rows.
+/// A replay of this schedule with this change.
+fn changed<'a>(alloc: Global, schedule: &'a str, change: &'a str) -> Result<Ran, AllocError> {
+    let files = [("s.csv", schedule), ("p.csv", POLICY), ("c.csv", change)];
+    run_over(alloc, REPLAY, &files)
+}
+
+/// A change that adds 1,999 rows: one too many.
 fn adding(alloc: Global) -> Result<String, AllocError> {
     let mut text = String::from_str(alloc, "op,priority,src,dst,sport,dport,proto,action\n")?;
     for priority in 1001..3000 {
@@ -119,22 +84,16 @@ fn adding(alloc: Global) -> Result<String, AllocError> {
     Ok(text)
 }
 
-/// A replay of this schedule with this change.
-fn changed<'a>(alloc: Global, schedule: &'a str, change: &'a str) -> Result<Ran, AllocError> {
-    let files = [("s.csv", schedule), ("p.csv", POLICY), ("c.csv", change)];
-    run_over(alloc, &["replay", "s.csv", "p.csv", "c.csv"], &files)
-}
-
-/// A replay with one row too many.
-fn overfilled(alloc: Global) -> Result<Ran, AllocError> {
-    let change = adding(alloc)?;
-    changed(alloc, ONCE, change.as_str())
-}
-
+/// The codes of changes that don't fit are asked for in their order.
 #[test]
-fn leaves_at_most_2000_rows(rt: HostRuntime) {
-    let out = "row 1: update 2\n  refused file 2 code 26\n";
-    assert!(rt; ends(overfilled(rt.alloc()), 0, out, ""));
+fn refuses_changes(rt: HostRuntime) -> Result<(), Fail> {
+    let alloc = rt.alloc();
+    let many = adding(alloc)?;
+    for (change, code) in [(ABSENT_AND_TAKEN, 24), (TAKEN, 25), (many.as_str(), 26)] {
+        let out = format!(in alloc; "row 1: update 2\n  refused file 2 code {code}\n")?;
+        assert!(rt; ends(changed(alloc, ONCE, change), 0, &out, ""), "{out}");
+    }
+    Ok(())
 }
 
 const UPDATES: &str = "event,arguments\n\
