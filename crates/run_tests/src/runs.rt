@@ -35,27 +35,15 @@ pub fn metered(
     Ok((ran, finished.journal, still))
 }
 
-/// The same without meters.
-pub fn ran(
-    alloc: Global,
-    args: &[&str],
-    shelf: MemShelf,
-    out: MemSink,
-    errs: MemSink,
-) -> Result<Ran, AllocError> {
-    let (ran, _, _) = metered(alloc, args, shelf, out, errs, Vec::new(alloc))?;
-    Ok(ran)
+/// A run with these arguments over this shelf, without meters and faults of its sinks.
+pub fn ran(alloc: Global, args: &[&str], shelf: MemShelf) -> Result<Ran, AllocError> {
+    let (out, errs) = (sink(alloc), sink(alloc));
+    Ok(metered(alloc, args, shelf, out, errs, Vec::new(alloc))?.0)
 }
 
 /// A run with these arguments over these files, without meters.
 pub fn run_over(alloc: Global, args: &[&str], files: &[(&str, &str)]) -> Result<Ran, AllocError> {
-    ran(
-        alloc,
-        args,
-        shelf_of(alloc, files)?,
-        sink(alloc),
-        sink(alloc),
-    )
+    ran(alloc, args, shelf_of(alloc, files)?)
 }
 
 /// A run with these arguments over these files, with a recorder for each port as the program has

@@ -1,6 +1,6 @@
 //! The hub of a star of 64 switches, which tells all again until no more fits.
 use crate::files::DROP;
-use crate::runs::{Ran, calls, ended, ran, shelf_of};
+use crate::runs::{Ran, calls, ended, metered, shelf_of};
 use shelf::MemSink;
 use std::alloc::Global;
 use std::fmt::Write;
@@ -36,7 +36,8 @@ fn told_again(alloc: Global, rows: u32, failing_write: u64) -> Result<Ran, Fail>
     ];
     let out = MemSink::new(alloc, u64::MAX, calls(alloc, failing_write)?);
     let errs = MemSink::new(alloc, u64::MAX, Vec::new(alloc));
-    Ok(ran(alloc, &ARGS, shelf_of(alloc, &files)?, out, errs)?)
+    let shelf = shelf_of(alloc, &files)?;
+    Ok(metered(alloc, &ARGS, shelf, out, errs, Vec::new(alloc))?.0)
 }
 
 /// The hub's Hello, 64 adverts to each of 63 switches, and its Open.

@@ -1,5 +1,5 @@
 use crate::files::{NO_ROW, SAME_PRIORITY, WIDE};
-use crate::runs::{Ran, calls, ended, ends, ran};
+use crate::runs::{Ran, calls, ended, ends, metered};
 use difane_cli::{Status, write_status};
 use shelf::{MemShelf, MemSink};
 use std::alloc::{AllocError, Global};
@@ -61,7 +61,7 @@ fn played(alloc: Global, case: &Case<'_>) -> Result<Ran, AllocError> {
     let shelf = MemShelf::new(alloc, files, calls(alloc, case.failing_read)?);
     let out = MemSink::new(alloc, case.most_written, calls(alloc, case.failing_write)?);
     let errs = MemSink::new(alloc, u64::MAX, calls(alloc, case.failing_line)?);
-    ran(alloc, case.args, shelf, out, errs)
+    Ok(metered(alloc, case.args, shelf, out, errs, Vec::new(alloc))?.0)
 }
 
 const DROPPED: &str = "row 1: packet s0 10.1.1.1 9.9.9.9 5000 80 tcp\n\

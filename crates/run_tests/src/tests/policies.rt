@@ -1,6 +1,6 @@
 //! Worked runs of `replay` with several policies.
 use crate::files::{ONE_ROW, SAME_PRIORITY, WIDE};
-use crate::runs::{Ran, ends, ran, shelf_with_fault, sink};
+use crate::runs::{Ran, ends, ran, shelf_with_fault};
 use std::alloc::{AllocError, Global};
 
 const ONE_PACKET: &str = "event,arguments\npacket,s0,10.1.1.1,9.9.9.9,5000,80,tcp\n";
@@ -21,7 +21,7 @@ const FILES: [(&str, &str); 4] = [
 /// A run with these arguments; where a number isn't 0, the read of that number fails.
 fn played(alloc: Global, args: &[&str], failing_read: u64) -> Result<Ran, AllocError> {
     let shelf = shelf_with_fault(alloc, &FILES, failing_read)?;
-    ran(alloc, args, shelf, sink(alloc), sink(alloc))
+    ran(alloc, args, shelf)
 }
 
 /// Arguments, the read that fails, and how the run ends: its status, its output and its line of errors.
