@@ -12,7 +12,8 @@ doesn't say at its head that it is of this tier (MARK), or another file does; wh
 of the types declared in src/ isn't exactly of those that the first tier speaks of; where a number
 of the page is another than is counted; or where this page or docs/TRUST.md says "`name` of
 `crate/File.antt`" and no such definition stands there; or where the lines of a wrong journal are
-others there than in its law. With `--write` it writes the numbers. With
+others there than in the law of how it prints, or the facts that refuse it others than in the law of
+what refuses it. With `--write` it writes the numbers. With
 `--list` it prints each file with its lines, how many of them are reached, and what isn't.
 """
 import re
@@ -24,6 +25,7 @@ PAGE = HOME / "docs/THEOREM.md"
 TRUST = HOME / "docs/TRUST.md"
 TOP = HOME / "crates/difane_cli/src/top_call.rt"
 WRONG = HOME / "crates/wrong_journals/src/laws.rt"
+OFFICE = HOME / "crates/wrong_journals/specs/Office.antt"
 # Where the second tier begins, each with what it is about; with its crate where it shares its name.
 STOPS = {
     "IsPlay": "the exact journal",
@@ -76,6 +78,16 @@ HELD = ("HeldOnTheWay",)
 MARK = "-- First tier. "  # with this a file of the first tier begins, and no other one
 DEFINES = re.compile(r"(?:abbrev pub|unfoldable pub|pub record|pub data|pub) ([^\s:]+)")
 TOKEN = re.compile(r"[A-Za-z_][\w-]*(?:\.[A-Za-z_][\w-]*)*")
+# the facts of which a wrong journal lacks one or two, and what its law says so by
+FACT = re.compile(r"`(IsRun|HasCause|AreEntered)`")
+LINE = re.compile(r'codes " *([^"]*)"')
+PRINTS = re.compile(r"PrintsAs (\w+)\s+\((printed_\w+)?(.*?)\}", re.S)
+REFUSES = {
+    "IsNoRun": ["IsRun"],
+    "IsNoRunNorCaused": ["IsRun", "HasCause"],
+    "LacksCause": ["HasCause"],
+    "LacksRow": ["AreEntered"],
+}
 # names of fields, which are no definitions
 FIELD = re.compile(r"^  +pub [\w-]+ :|(?<=[{;] )[\w-]+ =|^ +[\w-]+ =(?= .*;$)", re.M)
 DECLARED = re.compile(r"declared\.([a-z_.]+)\.([A-Z]\w*)(?:\.The\w+)?")
@@ -293,12 +305,20 @@ def mistyped(by_source, page):
 
 
 def misprinted(page):
-    """The laws of wrong journals whose lines the page has otherwise, or not at all."""
-    rows = re.findall(r"^\| (.*?) \|.*\| `(\w+_is_refused)` \|$", page, re.M)
-    told = {law: re.findall(r"`([^`]*)`", cell) for cell, law in rows}
-    laws = re.findall(r"^pub fn (\w+_is_refused)(.*?)^\{\}", WRONG.read_text(), re.M | re.S)
-    printed = {law: re.findall(r'codes " *([^"]*)"', clauses) for law, clauses in laws}
-    return sorted(law for law in {*told, *printed} if told.get(law) != printed.get(law))
+    """The wrong journals whose lines, or the facts that refuse them, the page has otherwise than
+    the laws, or not at all."""
+    rows = re.findall(r"^\| (.*?) \|.*\| (.*?) \| `(\w+)` \|$", page, re.M)
+    told = {name: (re.findall(r"`([^`]*)`", cell), FACT.findall(by)) for cell, by, name in rows}
+    prints, refused = re.findall(r"^pub fn wrong_.*?^\{\}", WRONG.read_text(), re.M | re.S)
+    begun = re.findall(r"^(printed_\w+) =(.*?\[\])$", OFFICE.read_text(), re.M | re.S)
+    begins = {name: LINE.findall(text) for name, text in begun}
+    lines = {
+        name: begins.get(begin, []) + LINE.findall(clause)
+        for name, begin, clause in PRINTS.findall(prints)
+    }
+    judged = {name: REFUSES[kind] for kind, name in re.findall(r"\b([A-Z]\w+) (\w+)", refused)}
+    laws = {name: (lines.get(name), judged.get(name)) for name in {*lines, *judged}}
+    return sorted(name for name in {*told, *laws} if told.get(name) != laws.get(name))
 
 
 def listed(specs, by_file):

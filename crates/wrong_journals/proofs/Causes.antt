@@ -10,50 +10,14 @@ use Rattle.update_machine.specs.Causes.{HasCause, HaveCauses, IsLostRightly, Lea
 use Rattle.update_machine.specs.Links.{claim_of, is_link_up, message_of, serves}
 use Rattle.update_machine.specs.Packets.{Decision, decision_of, header_in, standing}
 use Rattle.wrong_journals.specs.Office.{office}
-use Rattle.wrong_journals.specs.Right.{decided_rightly, dropped_rightly, left_rightly, lost_rightly, stuck_rightly, updated_rightly}
-use Rattle.wrong_journals.specs.Wrong.{another_row, decided_twice, dropped_undecided, entered_unasked, half_and_half, lost_by_nothing, other_port, retired_version, stuck_beside_a_way, unknown_version}
+use Rattle.wrong_journals.specs.Right.{left_rightly, stuck_rightly}
+use Rattle.wrong_journals.specs.Wrong.{lost_by_nothing, other_port, stuck_beside_a_way}
 
 -- an item that needs no cause, and those behind it
 free : {causes : Type 0} → causes → ⊤ × causes
 free behind = (tt, behind)
 
 -- ---- journals whose items have their causes
-
-pub another_row_has_causes : HaveCauses (HasCause office) [] another_row
-another_row_has_causes = free (free (free tt))
-
-pub unknown_version_has_causes : HaveCauses (HasCause office) [] unknown_version
-unknown_version_has_causes = free (free (free tt))
-
-pub dropped_undecided_has_causes : HaveCauses (HasCause office) [] dropped_undecided
-dropped_undecided_has_causes = free (free (free tt))
-
-pub entered_unasked_has_causes : HaveCauses (HasCause office) [] entered_unasked
-entered_unasked_has_causes = free tt
-
-pub dropped_rightly_has_causes : HaveCauses (HasCause office) [] dropped_rightly
-dropped_rightly_has_causes = free (free (free (free tt)))
-
--- the submitted version has its row
-pub retired_version_has_causes : HaveCauses (HasCause office) [] retired_version
-unfolding present_step
-retired_version_has_causes = free (refl, free (free (free (free tt))))
-
-pub decided_twice_has_causes : HaveCauses (HasCause office) [] decided_twice
-unfolding present_step
-decided_twice_has_causes = free (refl, free (free (free (free tt))))
-
-pub half_and_half_has_causes : HaveCauses (HasCause office) [] half_and_half
-unfolding present_step
-half_and_half_has_causes = free (refl, free (free (free tt)))
-
-pub updated_rightly_has_causes : HaveCauses (HasCause office) [] updated_rightly
-unfolding present_step
-updated_rightly_has_causes = free (refl, free (free (free (free (free tt)))))
-
-pub decided_rightly_has_causes : HaveCauses (HasCause office) [] decided_rightly
-unfolding present_step
-decided_rightly_has_causes = free (refl, free (free (free tt)))
 
 -- the packet leaves at b
 pub left_rightly_has_causes : HaveCauses (HasCause office) [] left_rightly
@@ -70,11 +34,6 @@ left_rightly_has_causes =
       },
       tt,
     ))))))
-
--- the packet is lost by its row
-pub lost_rightly_has_causes : HaveCauses (HasCause office) [] lost_rightly
-unfolding present_step
-lost_rightly_has_causes = free (free (free (inl refl, tt)))
 
 -- no link is left to the packet
 abbrev cut_off : List Item

@@ -2,8 +2,5 @@ pub mod Following
 pub mod FirstMatches
 pub mod Moves
 pub mod NoRuns
-pub mod Entries
 pub mod Causes
 pub mod Runs
-pub mod Rightly
-pub mod Printed

@@ -1,18 +1,15 @@
 -- Journals that are no runs of the machine.
-use Rattle.std.proofs.Common.{ℕ, ◌≡◌, ◌<◌, ◌∙◌, sym, subst, refl, Some, None, List, [], ◌∷◌, arith}
+use Rattle.std.proofs.Common.{ℕ, ◌≡◌, ◌<◌, ◌∙◌, sym, subst, refl, Some, None, List, [], ◌∷◌, ◌++◌, arith}
 use Rattle.std.proofs.lemmas.Option.{none-some, same_Some}
-use Rattle.five_tuple.specs.declared.header.Header.{Header}
 use Rattle.policy_rules.specs.Policy.{IsFirstMatch}
-use Rattle.policy_rules.specs.declared.packet.How.TheVariants.{Authority}
-use Rattle.policy_rules.specs.declared.policy.Action.{Action}
 use Rattle.policy_rules.specs.declared.policy.Action.TheVariants.{Drop, Out}
 use Rattle.policy_rules.specs.declared.policy.Hit.{Hit}
 use Rattle.policy_rules.specs.declared.policy.Row.{Row}
-use Rattle.journal.specs.declared.item.Item.{Item}
 use Rattle.journal.specs.declared.item.Item.TheVariants as item
 use Rattle.steps.specs.declared.step.Step.TheVariants as step
 use Rattle.update_machine.specs.Machine.{Decides, Dropped, End, Ends, IsRun, LeftBy, Machine, MayEnd, Packet, submitted_policy}
-use Rattle.wrong_journals.specs.Office.{allowed, denied, first_policy, office, second_policy}
+use Rattle.wrong_journals.specs.Office.{allowed, denied, first_policy, gets, in_at_a, in_behind_update, office, second_policy}
+use Rattle.wrong_journals.specs.Right.{decided_rightly}
 use Rattle.wrong_journals.specs.Wrong.{another_row, decided_twice, dropped_undecided, half_and_half, other_port, retired_version, unknown_version}
 use Rattle.wrong_journals.proofs.FirstMatches.{by_100, no_first_of_denied, no_second_of_allowed}
 use Rattle.wrong_journals.proofs.Following.{move_at}
@@ -57,12 +54,6 @@ may_end old number end new packet ends known =
 
 -- ---- journals
 
-abbrev in_at_a : Header → List Item
-in_at_a header = item.Row 1 (step.Packet 0 header) ∷ item.Entered 1 0 header ∷ []
-
-abbrev gets : ℕ → Action → Item
-gets version action = item.Decided 1 version (Some 100) action (Authority 0 0)
-
 pub another_row_is_no_run : IsRun office another_row → ⊥
 another_row_is_no_run run =
     no_first_of_denied
@@ -84,22 +75,11 @@ unknown_version_is_no_run run =
     let move = move_at office (in_at_a allowed) (gets 2 Drop) [] run in
     none-some move.1.policy move.1.submitted
 
--- version 2 is there
-abbrev in_behind_update : List Item
-in_behind_update =
-    item.Row 1 (step.Update 2) ∷ item.Submitted 2 2 ∷ item.Row 2 (step.Packet 0 allowed)
-    ∷ item.Entered 1 0 allowed ∷ []
-
-abbrev decided_by_first : List Item
-decided_by_first =
-    item.Row 1 (step.Update 2) ∷ item.Submitted 2 2 ∷ item.Row 2 (step.Packet 0 allowed)
-    ∷ item.Entered 1 0 allowed ∷ gets 1 (Out 2) ∷ []
-
 pub decided_twice_is_no_run : IsRun office decided_twice → ⊥
 decided_twice_is_no_run run =
     none-some (by_100 (Out 2))
     (sym (undecided _ 1 2 (by_100 Drop) _ let_out
-    (move_at office decided_by_first (gets 2 Drop) [] run).1 refl))
+    (move_at office decided_rightly (gets 2 Drop) [] run).1 refl))
 
 pub half_and_half_is_no_run : IsRun office half_and_half → ⊥
 half_and_half_is_no_run run =
@@ -111,8 +91,7 @@ pub other_port_is_no_run : IsRun office other_port → ⊥
 other_port_is_no_run run =
     let may : Some (Out 2) ≡ Some (Out 1) =
     may_end _ 1 (LeftBy 1) _ let_out
-    (move_at office
-    (item.Row 1 (step.Packet 0 allowed) ∷ item.Entered 1 0 allowed ∷ gets 1 (Out 2) ∷ [])
+    (move_at office (in_at_a allowed ++ gets 1 (Out 2) ∷ [])
     (item.Left 1 1 (record { packet = 1; header = allowed; version = 1; rule = Some 100 }))
     [] run).1 refl in
     cc

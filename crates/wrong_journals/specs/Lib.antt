@@ -1,3 +1,4 @@
 pub mod Office
 pub mod Wrong
 pub mod Right
+pub mod Judged

@@ -1,5 +1,6 @@
--- A network of two switches with two policies, on which small journals are judged.
-use Rattle.std.specs.Prelude.{ℕ, List, [], ◌∷◌, ◌++◌, codes}
+-- A network of two switches with two policies, on which small journals are judged, and how these
+-- begin.
+use Rattle.std.specs.Prelude.{ℕ, Some, List, [], ◌∷◌, ◌++◌, codes}
 use Rattle.std.specs.List.{flat_map}
 use Rattle.five_tuple.specs.Header.{AddressBlock}
 use Rattle.five_tuple.specs.HeaderNumbers.{header_of}
@@ -7,9 +8,13 @@ use Rattle.five_tuple.specs.declared.header.Header.{Header}
 use Rattle.five_tuple.specs.declared.matching.Proto.TheVariants.{Any}
 use Rattle.net_file.specs.declared.net.Net.{Net}
 use Rattle.policy_rules.specs.declared.file.PolicyFile.TheVariants.{Whole}
+use Rattle.policy_rules.specs.declared.packet.How.TheVariants.{Authority}
 use Rattle.policy_rules.specs.declared.policy.Action.{Action}
 use Rattle.policy_rules.specs.declared.policy.Action.TheVariants.{Drop, Out}
 use Rattle.policy_rules.specs.declared.policy.Row.{Row}
+use Rattle.journal.specs.declared.item.Item.{Item}
+use Rattle.journal.specs.declared.item.Item.TheVariants as item
+use Rattle.steps.specs.declared.step.Step.TheVariants.{Packet, Update}
 use Rattle.update_machine.specs.Setting.{Setting, setting_of}
 
 -- the switch a has the port 1, and room for 100 rules; b has the port 2; a link joins them
@@ -70,6 +75,34 @@ allowed = header_to 167903233
 -- to 10.1.5.5, which it drops
 abbrev pub denied : Header
 denied = header_to 167838981
+
+-- ---- how journals begin
+
+-- a packet comes in at a
+abbrev pub in_at_a : Header → List Item
+in_at_a header = item.Row 1 (Packet 0 header) ∷ item.Entered 1 0 header ∷ []
+
+-- or does so behind an update
+abbrev pub in_behind_update : List Item
+in_behind_update =
+    item.Row 1 (Update 2) ∷ item.Submitted 2 2 ∷ item.Row 2 (Packet 0 allowed)
+    ∷ item.Entered 1 0 allowed ∷ []
+
+-- it gets rule 100 of a version at a, with this action
+abbrev pub gets : ℕ → Action → Item
+gets version action = item.Decided 1 version (Some 100) action (Authority 0 0)
+
+-- ---- in print
+
+-- an allowed packet comes in at a
+abbrev pub printed_in_at_a : List (List ℕ)
+printed_in_at_a = codes "row 1: packet a 1.2.3.4 10.2.0.1 5000 80 tcp" ∷ codes "  entered 1 a" ∷ []
+
+-- or does so behind an update
+abbrev pub printed_behind_update : List (List ℕ)
+printed_behind_update =
+    codes "row 1: update 2" ∷ codes "  submitted file 2 version 2"
+    ∷ codes "row 2: packet a 1.2.3.4 10.2.0.1 5000 80 tcp" ∷ codes "  entered 1 a" ∷ []
 
 -- these lines, each with its line feed
 abbrev pub text_of : List (List ℕ) → List ℕ

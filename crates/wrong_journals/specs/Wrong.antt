@@ -1,87 +1,58 @@
--- Ten wrong journals, each with the events of its schedule.
-use Rattle.std.specs.Prelude.{Some, List, [], ◌∷◌}
+-- Ten wrong journals.
+use Rattle.std.specs.Prelude.{Some, List, [], ◌∷◌, ◌++◌}
 use Rattle.failover.specs.Links.{no_links}
 use Rattle.policy_rules.specs.declared.packet.Cause.TheVariants.{NoRoute}
-use Rattle.policy_rules.specs.declared.packet.How.TheVariants.{Authority}
 use Rattle.policy_rules.specs.declared.packet.Leg.TheVariants.{Exit}
 use Rattle.policy_rules.specs.declared.policy.Action.TheVariants.{Drop, Out}
 use Rattle.journal.specs.declared.item.Item.{Item}
 use Rattle.journal.specs.declared.item.Item.TheVariants as item
-use Rattle.steps.specs.declared.step.Event.{Event}
-use Rattle.steps.specs.declared.step.Event.TheVariants.{One}
 use Rattle.steps.specs.declared.step.Step.TheVariants.{Packet, Update}
-use Rattle.wrong_journals.specs.Office.{allowed, denied}
-
--- ---- schedules
-
--- one packet comes in at a
-abbrev pub one_allowed : List Event
-one_allowed = One (Packet 0 allowed) ∷ []
-
-abbrev pub one_denied : List Event
-one_denied = One (Packet 0 denied) ∷ []
-
--- the second policy is submitted, and then a packet comes in at a
-abbrev pub one_updated : List Event
-one_updated = One (Update 2) ∷ One (Packet 0 allowed) ∷ []
+use Rattle.wrong_journals.specs.Office.{allowed, denied, gets, in_at_a, in_behind_update}
 
 -- ---- decisions
 
 -- a packet that row 200 drops is let out by row 100
 abbrev pub another_row : List Item
-another_row =
-    item.Row 1 (Packet 0 denied) ∷ item.Entered 1 0 denied
-    ∷ item.Decided 1 1 (Some 100) (Out 2) (Authority 0 0) ∷ []
+another_row = in_at_a denied ++ gets 1 (Out 2) ∷ []
 
 -- a packet is decided by version 1, which was retired before it came in
 abbrev pub retired_version : List Item
 retired_version =
     item.Row 1 (Update 2) ∷ item.Submitted 2 2 ∷ item.Retired 1 ∷ item.Row 2 (Packet 0 allowed)
-    ∷ item.Entered 1 0 allowed ∷ item.Decided 1 1 (Some 100) (Out 2) (Authority 0 0) ∷ []
+    ∷ item.Entered 1 0 allowed ∷ gets 1 (Out 2) ∷ []
 
 -- a packet is decided by version 2, which was never submitted
 abbrev pub unknown_version : List Item
-unknown_version =
-    item.Row 1 (Packet 0 allowed) ∷ item.Entered 1 0 allowed
-    ∷ item.Decided 1 2 (Some 100) Drop (Authority 0 0) ∷ []
+unknown_version = in_at_a allowed ++ gets 2 Drop ∷ []
 
 -- a packet is decided by version 1, and then by version 2
 abbrev pub decided_twice : List Item
-decided_twice =
-    item.Row 1 (Update 2) ∷ item.Submitted 2 2 ∷ item.Row 2 (Packet 0 allowed)
-    ∷ item.Entered 1 0 allowed ∷ item.Decided 1 1 (Some 100) (Out 2) (Authority 0 0)
-    ∷ item.Decided 1 2 (Some 100) Drop (Authority 0 0) ∷ []
+decided_twice = in_behind_update ++ gets 1 (Out 2) ∷ gets 2 Drop ∷ []
 
 -- a packet gets the rule of version 2, but the action that version 1 has there
 abbrev pub half_and_half : List Item
-half_and_half =
-    item.Row 1 (Update 2) ∷ item.Submitted 2 2 ∷ item.Row 2 (Packet 0 allowed)
-    ∷ item.Entered 1 0 allowed ∷ item.Decided 1 2 (Some 100) (Out 2) (Authority 0 0) ∷ []
+half_and_half = in_behind_update ++ gets 2 (Out 2) ∷ []
 
 -- ---- ends
 
 -- a packet that is to leave by port 2 leaves by port 1
 abbrev pub other_port : List Item
 other_port =
-    item.Row 1 (Packet 0 allowed) ∷ item.Entered 1 0 allowed
-    ∷ item.Decided 1 1 (Some 100) (Out 2) (Authority 0 0)
+    in_at_a allowed ++ gets 1 (Out 2)
     ∷ item.Left 1 1 (record { packet = 1; header = allowed; version = 1; rule = Some 100 }) ∷ []
 
 -- a packet is dropped that no version decided
 abbrev pub dropped_undecided : List Item
-dropped_undecided =
-    item.Row 1 (Packet 0 allowed) ∷ item.Entered 1 0 allowed ∷ item.Dropped 1 ∷ []
+dropped_undecided = in_at_a allowed ++ item.Dropped 1 ∷ []
 
 -- a packet is lost, without a row that loses it and without a crash
 abbrev pub lost_by_nothing : List Item
-lost_by_nothing = item.Row 1 (Packet 0 allowed) ∷ item.Entered 1 0 allowed ∷ item.Lost 1 ∷ []
+lost_by_nothing = in_at_a allowed ++ item.Lost 1 ∷ []
 
 -- a packet that is to leave by port 2 of b is stuck at a, which knows the link to b
 abbrev pub stuck_beside_a_way : List Item
 stuck_beside_a_way =
-    item.Row 1 (Packet 0 allowed) ∷ item.Entered 1 0 allowed
-    ∷ item.Decided 1 1 (Some 100) (Out 2) (Authority 0 0)
-    ∷ item.Stuck 1 0 NoRoute (Exit 2) no_links ∷ []
+    in_at_a allowed ++ gets 1 (Out 2) ∷ item.Stuck 1 0 NoRoute (Exit 2) no_links ∷ []
 
 -- ---- entries
 

@@ -12,9 +12,4 @@
 
 mod laws;
 
-pub use laws::{
-    another_row_is_refused, decided_twice_is_refused, dropped_undecided_is_refused,
-    entered_unasked_is_refused, half_and_half_is_refused, lost_by_nothing_is_refused,
-    other_port_is_refused, retired_version_is_refused, right_journals_hold,
-    stuck_beside_a_way_is_refused, unknown_version_is_refused,
-};
+pub use laws::{right_journals_hold, wrong_journals_are_refused, wrong_journals_print};

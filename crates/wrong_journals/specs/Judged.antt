@@ -1,0 +1,54 @@
+-- What the headline says of a journal, and how it prints.
+use Rattle.std.specs.Prelude.{◌≡◌, ℕ, Bool, true, false, None, List, [], ◌∷◌}
+use Rattle.journal.specs.declared.item.Item.{Item}
+use Rattle.journal.specs.declared.item.Item.TheVariants as item
+use Rattle.journal_text.specs.Lines.{journal_text}
+use Rattle.steps.specs.declared.step.Event.{Event}
+use Rattle.steps.specs.declared.step.Event.TheVariants.{One}
+use Rattle.update_machine.specs.Causes.{HasCause, HaveCauses}
+use Rattle.update_machine.specs.Folds.{all_given}
+use Rattle.update_machine.specs.Machine.{IsRun}
+use Rattle.packet_laws.specs.Entries.{AreEntered, rows_played}
+use Rattle.wrong_journals.specs.Office.{office, text_of, two_switches}
+
+-- the journal prints as these lines
+abbrev pub PrintsAs : List Item → List (List ℕ) → Type 0
+PrintsAs journal lines = journal_text two_switches journal ≡ text_of lines
+
+-- a schedule of the rows of a journal
+abbrev pub event_in : Item → List Event
+event_in (item.Row row step) = One step ∷ []
+event_in _ = []
+
+abbrev pub events_in : List Item → List Event
+events_in journal = all_given event_in journal
+
+-- the fact holds, or it fails
+abbrev pub Holds : Bool → Type 0 → Type 0
+Holds true fact = fact
+Holds false fact = ¬ fact
+
+-- whether the journal is a run of the machine, its ends have their causes, and its rows and entries
+-- are those of the schedule, all of which was played
+pub record IsJudged (is_run has_causes is_entered : Bool) (journal : List Item) : Type 0 where
+  pub run : Holds is_run (IsRun office journal)
+  pub causes : Holds has_causes (HaveCauses (HasCause office) [] journal)
+  pub entered : Holds is_entered (AreEntered (rows_played None (events_in journal)) journal)
+
+-- all three hold
+abbrev pub IsRight : List Item → Type 0
+IsRight journal = IsJudged true true true journal
+
+-- one fails, and the other two hold
+abbrev pub IsNoRun : List Item → Type 0
+IsNoRun journal = IsJudged false true true journal
+
+abbrev pub LacksCause : List Item → Type 0
+LacksCause journal = IsJudged true false true journal
+
+abbrev pub LacksRow : List Item → Type 0
+LacksRow journal = IsJudged true true false journal
+
+-- two fail, and its rows and entries are the schedule's
+abbrev pub IsNoRunNorCaused : List Item → Type 0
+IsNoRunNorCaused journal = IsJudged false false true journal
