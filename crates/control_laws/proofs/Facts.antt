@@ -58,6 +58,15 @@ have_front cause before [] ys have = tt
 have_front cause before (x ∷ xs) ys have =
     (have.0, have_front cause (before ++ x ∷ []) xs ys have.1)
 
+-- and the others theirs
+pub have_rest : (cause : List Item → Item → Type 0) (before xs ys : List Item)
+    → HaveCauses cause before (xs ++ ys) → HaveCauses cause (before ++ xs) ys
+have_rest cause before [] ys have =
+    subst (λ j. HaveCauses cause j ys) (sym (append-nil before)) have
+have_rest cause before (x ∷ xs) ys have =
+    subst (λ j. HaveCauses cause j ys) (append_assoc before (x ∷ []) xs)
+    (have_rest cause (before ++ x ∷ []) xs ys have.1)
+
 -- items with this cause keep the fact
 abbrev pub AreKept : (List Item → Item → Type 0) → (List Item → Type 0) → Type 0
 AreKept cause fact = (before : List Item) (item : Item) → cause before item → fact before

@@ -43,21 +43,18 @@ pub fn installs_are_planned()
 {}
 
 /// A switch is told to stamp with a version only once it acknowledged its tables in its boot, and
-/// only with a version that is current or was.
+/// only with a version that is current or was. A member acknowledged each version from the one at
+/// which it was opened to the current one, and a switch that serves stamps at least with what it is
+/// known to stamp with.
 pub fn stamps_are_acked_first()
-    ensures { HoldsAlways (λ setting journal. HaveCauses (IsAckedFirst setting) [] journal) }
+    ensures told { HoldsAlways (λ setting journal. HaveCauses (IsAckedFirst setting) [] journal) }
+    ensures members { HoldsAlways (λ setting journal. MembersAcknowledged setting journal) }
 {}
 
 /// Whoever is told to stamp with a version is told what the change of that version touches: the
 /// words of the rows that it removes and adds, as the journal has them.
 pub fn stamps_say_what_is_touched()
     ensures { HoldsAlways (λ setting journal. StampsSayTouched setting journal) }
-{}
-
-/// A member acknowledged each version from the one at which it was opened to the current one, and a
-/// switch that serves stamps at least with what it is known to stamp with.
-pub fn members_acknowledged()
-    ensures { HoldsAlways (λ setting journal. MembersAcknowledged setting journal) }
 {}
 
 /// The current version is there; retired versions are below it and below the acknowledged stamp of

@@ -35,6 +35,7 @@ use Rattle.control_laws.proofs.Newest.{own_on}
 use Rattle.control_laws.proofs.OwnAdverts.{AdvertGoesOn, same_near}
 use Rattle.convergence_laws.specs.News.{IsAsNew}
 use Rattle.convergence_laws.proofs.Givens.{HasNews, HaveNews, IsHad, IsOther, IsStill, as_new_itself, given_grows, news_on, sends_tell, stills_news}
+use Rattle.convergence_laws.proofs.Near.{near_both}
 use Rattle.convergence_laws.proofs.Lists.{IsIn, all_in, in_either, in_filter, in_filter_map, in_flat_map, in_left, in_map, in_range, in_right}
 
 -- ---- the newest advert that a switch holds
@@ -301,6 +302,14 @@ ends_there setting journal s neighbour net is = record {
       ∙ near_linked setting journal s neighbour is);
   other = links.below setting.net s neighbour net (near_linked setting journal s neighbour is);
 }
+
+-- and back from there
+pub near_back : (setting : Setting) (journal : List Item) (s neighbour : ℕ) → IsNet setting.net
+    → IsTrue (has (near setting journal s) neighbour)
+    → IsTrue (has (near setting journal neighbour) s)
+near_back setting journal s neighbour net is =
+    let there = (ends_there setting journal s neighbour net is).one in
+    near_both setting journal s neighbour (omega (arith, there, net.few_switches)) is
 
 -- what a switch tells of an advert that it has: that one, or one that is as new
 record TellsAsNew (messages : List Message) (to : ℕ) (than : Advert) : Type 0 where

@@ -24,11 +24,10 @@ use Rattle.control_laws.specs.Adverts.{OwnAreNewest}
 use Rattle.control_laws.proofs.NetLinks.{ends_serve, own_origin}
 use Rattle.convergence_laws.specs.Converged.{LeadsOver, Reaches}
 use Rattle.convergence_laws.specs.News.{IsAsNew}
-use Rattle.convergence_laws.proofs.Changed.{AreEnds, ends_there, newest_held}
+use Rattle.convergence_laws.proofs.Changed.{AreEnds, ends_there, near_back, newest_held}
 use Rattle.convergence_laws.proofs.Floods.{known_given}
 use Rattle.convergence_laws.proofs.Givens.{HasNews, IsGiven, IsHad, IsToldTo, as_new_itself, as_new_through}
 use Rattle.convergence_laws.proofs.Lists.{IsIn, in_filter_map}
-use Rattle.convergence_laws.proofs.Near.{near_both}
 use Rattle.convergence_laws.proofs.News.{Spread}
 use Rattle.convergence_laws.proofs.Received.{IsGot, got, heard_in_boot}
 use Rattle.convergence_laws.proofs.Sendings.{IsInOrder, caused_traced}
@@ -151,8 +150,7 @@ edge_holds setting journal are at next origin small up linked holds = by_place (
     ends = ends_there setting journal at next are.net linked
 
     back : IsTrue (has (near setting journal next) at)
-    back = near_both setting journal at next
-        (omega (arith, ends.one, are.net.few_switches)) linked
+    back = near_back setting journal at next are.net linked
 
     up_at : IsTrue (is_up journal at)
     up_at = serving_up setting journal are at (ends_serve setting journal at next linked).0

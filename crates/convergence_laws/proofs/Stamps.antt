@@ -26,7 +26,7 @@ use Rattle.update_machine.specs.Touched.{touched_by}
 use Rattle.control_laws.specs.ItemCauses.{HasItemCause}
 use Rattle.control_laws.proofs.Reached.{behind_piece}
 use Rattle.control_laws.proofs.ControllerBlocks.{settling_have}
-use Rattle.control_laws.proofs.Facts.{AreKept, Both, fact_on, have_both}
+use Rattle.control_laws.proofs.Facts.{AreKept, Both, fact_on, have_both, have_rest}
 use Rattle.control_laws.proofs.Grown.{current_more, known_more, over_more}
 use Rattle.control_laws.proofs.Sends.{each, each_map}
 use Rattle.control_laws.proofs.Sent.{sends_any}
@@ -237,15 +237,6 @@ current_stamps setting now have = by_test (nat_lt (current_mark now) (next_curre
         (append_assoc now (item.Current version ∷ [])
         (send_items (now ++ item.Current version ∷ []) stamps))
         (raised_stamps setting now version)
-
--- the causes of the second part are those behind the first
-pub have_rest : (cause : List Item → Item → Type 0) (before xs ys : List Item)
-    → HaveCauses cause before (xs ++ ys) → HaveCauses cause (before ++ xs) ys
-have_rest cause before [] ys have =
-    subst (λ j. HaveCauses cause j ys) (sym (append-nil before)) have
-have_rest cause before (x ∷ xs) ys have =
-    subst (λ j. HaveCauses cause j ys) (append_assoc before (x ∷ []) xs)
-    (have_rest cause (before ++ x ∷ []) xs ys have.1)
 
 settling_stamps : (setting : Setting) (now : List Item) → HaveStamps setting now
     → HaveStamps setting (now ++ settling setting now)

@@ -29,17 +29,15 @@ use Rattle.update_machine.specs.Setting.{Setting}
 use Rattle.update_machine.specs.Versions.{plan_at}
 use Rattle.update_machine.specs.Ways.{changes_found, found_down, targets_in, targets_of}
 use Rattle.update_machine.proofs.CallerLemmas.{folded_append, have_first, links_keep, policies_keep}
-use Rattle.control_laws.proofs.Facts.{AreKept, fact_on, have_front}
+use Rattle.control_laws.proofs.Facts.{AreKept, fact_on, have_front, have_rest}
 use Rattle.control_laws.proofs.Grown.{boot_more, heard_more, up_more}
 use Rattle.control_laws.proofs.Traffic.{KnowsNoRoute}
 use Rattle.convergence_laws.specs.Converged.{AreUnusable, Reaches}
 use Rattle.convergence_laws.specs.Stuck.{GetStuckApart}
-use Rattle.convergence_laws.proofs.Changed.{ends_there}
-use Rattle.convergence_laws.proofs.Converged.{AreQuiet, small_of}
+use Rattle.convergence_laws.proofs.Changed.{near_back}
+use Rattle.convergence_laws.proofs.Converged.{AreQuiet}
 use Rattle.convergence_laws.proofs.KnownLinks.{quiet_converged}
-use Rattle.convergence_laws.proofs.Near.{near_both}
 use Rattle.convergence_laws.proofs.Plain.{HasOthers, IsAside, others_have}
-use Rattle.convergence_laws.proofs.Stamps.{have_rest}
 use Rattle.convergence_laws.proofs.Walks.{Walk, Walks, hop_walk, packet_walk}
 
 -- ---- steps of other kinds make no packet stuck
@@ -143,8 +141,7 @@ unusable_more setting journal net down x y unusable none a b linked =
     not_it (inr ends) =
         clashes (subst (λ k. IsTrue (has (near setting journal x) k)) ends.0
         (subst (λ k. IsTrue (has (near setting journal k) a)) ends.1
-        (near_both setting journal a b
-        (small_of setting net a (ends_there setting journal a b net linked).one) linked)))
+        (near_back setting journal a b net linked)))
 
     by_link : (c : Bool) → has_link (with_link down x y) a b ≡ c
         → IsFalse (has_link (with_link down x y) a b)

@@ -1,5 +1,5 @@
 -- What the steps of packets write once a packet came in: no switch, link, policy or mark changes.
-use Rattle.std.proofs.Common.{ℕ, ◌≡◌, List, [], ◌∷◌, refl, ◌∙◌}
+use Rattle.std.proofs.Common.{ℕ, ◌≡◌, List, [], ◌∷◌, refl, ◌∙◌, rules}
 use Rattle.std.specs.Prelude.{⊤, IsFalse, IsTrue}
 use Rattle.five_tuple.specs.declared.header.Header.{Header}
 use Rattle.journal.specs.declared.item.Item.{Item}
@@ -62,25 +62,14 @@ pub passes_walks : (setting : Setting) (before : List Item) (next : Item)
     → Passes setting before next → Walks setting before next
 passes_walks setting before (item.Stuck i s cause leg down) passes = passes
 passes_walks setting before (item.FoundDown i one two) passes = passes
-passes_walks setting before (item.Delivered number) passes = absurd passes
-passes_walks setting before (item.LinkIs one two up) passes = absurd passes
-passes_walks setting before (item.Down s) passes = absurd passes
-passes_walks setting before (item.Booted s boot) passes = absurd passes
-passes_walks setting before (item.Opened s version) passes = absurd passes
-passes_walks setting before (item.Submitted file version) passes = absurd passes
-passes_walks setting before _ passes = tt
+passes_walks setting before _ passes = search rules
 
 passes_controller : (setting : Setting) (before : List Item) (next : Item)
     → Passes setting before next → IsFalse (concerns_controller before next)
 passes_controller setting before (item.Sent number message) passes =
     rule_cases before (λ to body. IsFalse (is_opening body))
     (λ s version word rule action there ingress. refl) message.to message.body passes
-passes_controller setting before (item.Delivered number) passes = absurd passes
-passes_controller setting before (item.OverNow s) passes = absurd passes
-passes_controller setting before (item.Submitted file version) passes = absurd passes
-passes_controller setting before (item.Current version) passes = absurd passes
-passes_controller setting before (item.Retired version) passes = absurd passes
-passes_controller setting before _ passes = refl
+passes_controller setting before _ passes = search rules
 
 passes_policies : (setting : Setting) (before : List Item) (next : Item)
     → Passes setting before next → IsFalse (concerns_policies before next)

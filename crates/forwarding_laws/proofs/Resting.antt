@@ -5,7 +5,7 @@ use Rattle.net_file.specs.Net.{IsNet}
 use Rattle.update_machine.specs.Quiet.{IsQuiet}
 use Rattle.update_machine.specs.Setting.{IsSetting, Setting}
 use Rattle.convergence_laws.specs.Converged.{HasConverged}
-use Rattle.convergence_laws.specs.Exports.{HoldsAtEnds}
+use Rattle.convergence_laws.proofs.CallerLemmas.{HoldsAtEnds}
 use Rattle.convergence_laws.specs.Stuck.{GetStuckApart}
 use Rattle.convergence_laws.specs.Updated.{IsUpdated}
 use Rattle.packet_laws.specs.Between.{HoldsBetween, steps_played}

@@ -6,7 +6,7 @@ use Rattle.net_file.specs.Net.{IsNet}
 use Rattle.journal.specs.declared.item.Item.{Item}
 use Rattle.update_machine.specs.Setting.{Setting}
 use Rattle.convergence_laws.specs.Converged.{LeadsOver, Reaches}
-use Rattle.convergence_laws.proofs.CallerLemmas.{ends_there, near_both, small_of}
+use Rattle.convergence_laws.proofs.CallerLemmas.{near_back}
 
 turn_round : (setting : Setting) (journal : List Item) → IsNet setting.net → (there at target : ℕ)
     (rest : List ℕ) → LeadsOver setting journal there at rest
@@ -16,11 +16,7 @@ turn_round setting journal net there at target [] leads reaches =
 turn_round setting journal net there at target (next ∷ rest) leads reaches =
     turn_round setting journal net there next target rest leads.1 (record {
       rest = at ∷ reaches.rest;
-      leads = (
-        near_both setting journal at next
-            (small_of setting net at (ends_there setting journal at next net leads.0).one) leads.0,
-        reaches.leads,
-      );
+      leads = (near_back setting journal at next net leads.0, reaches.leads);
     })
 
 pub apart_from : (setting : Setting) (journal : List Item) → IsNet setting.net → (from at : ℕ)

@@ -19,7 +19,7 @@ use Rattle.update_machine.specs.Setting.{Setting}
 use Rattle.update_machine.specs.Versions.{stamp_of}
 use Rattle.update_machine.proofs.CallerLemmas.{folded_append}
 use Rattle.update_machine.specs.Touched.{touched_by}
-use Rattle.packet_laws.specs.Untouched.{IsToldStamp}
+use Rattle.packet_laws.specs.Amended.{IsToldStamp}
 
 -- the entry of a cache rule
 abbrev pub entry_of : ℕ → ℕ → WordValue → Option ℕ → Action → CacheEntry

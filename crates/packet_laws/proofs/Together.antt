@@ -14,9 +14,8 @@ use Rattle.control_laws.specs.Heard.{AcksHold, InstallsArePlanned}
 use Rattle.control_laws.specs.Serving.{ServingHold}
 use Rattle.control_laws.specs.Planned.{TablesArePlanned}
 use Rattle.control_laws.specs.Touched.{StampsSayTouched}
-use Rattle.packet_laws.specs.Amended.{ChangesLeaveOthers}
+use Rattle.packet_laws.specs.Amended.{ChangesLeaveOthers, UntouchedStay}
 use Rattle.packet_laws.specs.Travelling.{RulesAreRight}
-use Rattle.packet_laws.specs.Untouched.{UntouchedStay}
 use Rattle.packet_laws.specs.Whole.{KeepVersionsWhole}
 
 -- what always holds, holds where a journal is reached

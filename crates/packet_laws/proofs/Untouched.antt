@@ -17,7 +17,7 @@ use Rattle.update_machine.specs.Touched.{touched_by}
 use Rattle.update_machine.specs.Versions.{stamp_of}
 use Rattle.update_machine.proofs.CallerLemmas.{folded_append}
 use Rattle.packet_laws.specs.Rules.{IsRightEntry}
-use Rattle.packet_laws.specs.Untouched.{IsToldStamp, UntouchedStay}
+use Rattle.packet_laws.specs.Amended.{IsToldStamp, UntouchedStay}
 use Rattle.packet_laws.proofs.AllKept.{Before, all_kept, cached_on}
 use Rattle.packet_laws.proofs.Growing.{grows}
 use Rattle.packet_laws.proofs.Rests.{IsWayItem, switches_of_all}

@@ -1,6 +1,8 @@
 -- An amendment changes only what it touches: a header that none of its rows matches keeps its first
 -- match, and each packet with that header is decided by it, under the version before or the new one.
-use Rattle.std.specs.Prelude.{ℕ, ◌≡◌, ◌+◌, ◌⊎◌, Some, Ok, List, All, IsFalse}
+-- It takes from a cache no rule that it doesn't touch.
+use Rattle.std.specs.Prelude.{ℕ, ◌≡◌, ◌+◌, ◌⊎◌, Some, Ok, List, All, IsFalse, ◌<◌, [], ◌∷◌, ◌++◌, Any, Contains}
+use Rattle.ctrl_msg.specs.declared.message.Body.TheVariants.{Stamp}
 use Rattle.five_tuple.specs.Header.{fields_of}
 use Rattle.five_tuple.specs.declared.header.Header.{Header}
 use Rattle.policy_rules.specs.Applied.{applied}
@@ -10,9 +12,20 @@ use Rattle.policy_rules.specs.Touched.{touched_rows}
 use Rattle.policy_rules.specs.declared.amendment.Edit.{Edit}
 use Rattle.policy_rules.specs.declared.policy.Hit.{Hit}
 use Rattle.policy_rules.specs.declared.policy.Row.{Row}
+use Rattle.switch_table.specs.Carried.{meets_any}
+use Rattle.switch_table.specs.declared.cache.CacheEntry.{CacheEntry}
+use Rattle.ternary.specs.Word.{WordValue}
 use Rattle.journal.specs.declared.item.Item.{Item}
+use Rattle.journal.specs.declared.item.Item.TheVariants as item
 use Rattle.update_machine.specs.Packets.{Decision, decision_of, header_in}
 use Rattle.update_machine.specs.Setting.{Setting, policy_in}
+use Rattle.update_machine.specs.Boots.{body_to_switch}
+use Rattle.update_machine.specs.Caches.{cache_of}
+use Rattle.update_machine.specs.Touched.{touched_by}
+use Rattle.update_machine.specs.Versions.{stamp_of}
+use Rattle.packet_laws.specs.Rules.{IsRightEntry}
+
+-- ---- headers
 
 -- the policy of the version behind this one is what a change makes of this one's; and none of the
 -- rows that the change removes, and none that it adds, matches the header
@@ -54,3 +67,28 @@ abbrev pub ChangesLeaveOthers : Setting → List Item → Type 0
 ChangesLeaveOthers setting journal = (version : ℕ) (header : Header)
     → LeavesHeader setting journal version header
     → AreDecidedAlike setting journal version header
+
+-- ---- cache rules
+
+-- the cache has a rule of this version for the word of the entry, which decides each header of it as
+-- the version's policy does
+abbrev pub HasUnder : Setting → List Item → ℕ → ℕ → CacheEntry → Type 0
+HasUnder setting journal s version entry =
+    Any (λ kept. (kept.version ≡ version) × ((kept.word ≡ entry.word)
+    × IsRightEntry setting journal kept)) (cache_of setting journal s).entries
+
+-- the delivery of this message tells the switch, in this boot, to stamp with a version
+abbrev pub IsToldStamp : List Item → ℕ → ℕ → ℕ → ℕ → List WordValue → Type 0
+IsToldStamp before s number boot version touched =
+    body_to_switch before s number ≡ Some (Stamp boot version touched)
+
+-- as the stamp of a switch rises to a version, because it is told so, each rule of the version
+-- before whose word meets nothing that the version's change touches is there under that version
+abbrev pub UntouchedStay : Setting → List Item → Type 0
+UntouchedStay setting before =
+    (s number boot version : ℕ) (touched : List WordValue) (entry : CacheEntry)
+    → IsToldStamp before s number boot version touched
+    → stamp_of before s < version → Contains (cache_of setting before s).entries entry
+    → entry.version + 1 ≡ version
+    → IsFalse (meets_any (touched_by setting before version) entry.word)
+    → HasUnder setting (before ++ item.Delivered number ∷ []) s version entry

@@ -1,5 +1,5 @@
 -- The definitions by which the laws of this crate speak, passed on from the files that define them.
-pub use Rattle.packet_laws.specs.Amended.{ChangesLeaveOthers}
+pub use Rattle.packet_laws.specs.Amended.{ChangesLeaveOthers, UntouchedStay}
 pub use Rattle.packet_laws.specs.Arriving.{PacketsArrive}
 pub use Rattle.packet_laws.specs.Between.{HoldsBetween}
 pub use Rattle.packet_laws.specs.Drains.{drain_left}
@@ -12,6 +12,5 @@ pub use Rattle.packet_laws.specs.Routes.{finding_count, hops_on_route, most_rout
 pub use Rattle.packet_laws.specs.Stops.{GoesOrStops}
 pub use Rattle.packet_laws.specs.StrongCauses.{StrongCause}
 pub use Rattle.packet_laws.specs.Travelling.{PacketsTravel, RulesAreRight}
-pub use Rattle.packet_laws.specs.Untouched.{UntouchedStay}
 pub use Rattle.packet_laws.specs.WayCauses.{WayCause}
 pub use Rattle.packet_laws.specs.Whole.{KeepVersionsWhole}

@@ -7,7 +7,6 @@ pub mod Rest
 pub mod Between
 pub mod KeptFacts
 pub mod Travelling
-pub mod Untouched
 pub mod Amended
 pub mod StrongCauses
 pub mod Arriving

@@ -12,9 +12,8 @@ use Rattle.control_laws.specs.Heard.{AcksHold, InstallsArePlanned}
 use Rattle.control_laws.specs.Serving.{ServingHold}
 use Rattle.control_laws.specs.Planned.{TablesArePlanned}
 use Rattle.control_laws.specs.Touched.{StampsSayTouched}
-use Rattle.packet_laws.specs.Amended.{ChangesLeaveOthers}
+use Rattle.packet_laws.specs.Amended.{ChangesLeaveOthers, UntouchedStay}
 use Rattle.packet_laws.specs.Travelling.{RulesAreRight}
-use Rattle.packet_laws.specs.Untouched.{UntouchedStay}
 
 pub record KeepVersionsWhole (setting : Setting) (journal : List Item) : Type 0 where
   -- each item of switches and of the controller was written for its cause: what is sent to a boot

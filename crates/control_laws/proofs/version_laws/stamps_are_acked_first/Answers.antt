@@ -1,6 +1,6 @@
 use Rattle.control_laws.proofs.Pieces.{always}
-use Rattle.control_laws.proofs.Marks.{acked_first}
+use Rattle.control_laws.proofs.Marks.{acked_first, acknowledged}
 use Rattle.control_laws.proofs.version_laws.stamps_are_acked_first.Goals as goal
 
 pub returns : goal.returns
-returns c = always _ acked_first
+returns c = record { told = always _ acked_first; members = always _ acknowledged }
