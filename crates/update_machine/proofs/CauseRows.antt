@@ -1,18 +1,17 @@
 -- The causes of packets' ends and of what fails, computed.
-use Rattle.std.proofs.Common.{ℕ, ◌≡◌, Bool, false, true, nat_le, inl, inr, Some, List, [], ◌∷◌, refl, subst, arith}
+use Rattle.std.proofs.Common.{ℕ, ◌≡◌, Bool, false, true, nat_le, inl, inr, List, [], ◌∷◌, refl, subst, arith}
 use Rattle.std.specs.Prelude.{⊤, IsTrue, take}
 use Rattle.std.proofs.lemmas.Bool.{cases_eq, leb-true}
 use Rattle.std.proofs.lemmas.Bool.Decides.{nat_tests}
 use Rattle.std.proofs.lemmas.List.Elements.{All-from_recursion}
 use Rattle.policy_rules.specs.declared.policy.Action.TheVariants.{Out}
-use Rattle.policy_rules.specs.declared.packet.How.TheVariants as how
 use Rattle.policy_rules.specs.declared.packet.Leg.TheVariants as leg
 use Rattle.steps.specs.declared.step.Step.TheVariants as step
 use Rattle.journal.specs.declared.item.Item.{Item}
 use Rattle.journal.specs.declared.item.Item.TheVariants as item
 use Rattle.update_machine.specs.Causes.{AreTargets, HasCause, HaveCauses, Leads, is_open, present_step}
 use Rattle.update_machine.proofs.Enclosed.{ends_within}
-use Rattle.update_machine.proofs.Examples.{all_dropped, all_to, any_word, leaving, on, one, open_net, ring, shielded}
+use Rattle.update_machine.proofs.Examples.{all_dropped, all_to, any_word, on, one, open_net, ring}
 use Rattle.update_machine.proofs.LinkRows.{round}
 use Rattle.update_machine.specs.Links.{claim_of, is_link_up, serves, message_of}
 use Rattle.update_machine.specs.Setting.{file_of, policy_in}
@@ -22,26 +21,6 @@ use Rattle.ternary.specs.Word.{holds}
 -- an item that needs no cause, and those behind it
 free : {causes : Type 0} → causes → ⊤ × causes
 free behind = (tt, behind)
-
--- a packet leaves by the port of the switch where it is decided
-pub left_has_cause :
-    HaveCauses (HasCause shielded) []
-    (item.Entered 1 0 one ∷ item.Hopped 1 1
-    ∷ item.Decided 1 1 (Some 100) (Out 2) (how.Authority 1 0)
-    ∷ item.Left 1 2 (leaving 1 one 1 (Some 100)) ∷ [])
-unfolding standing header_in decision_of
-left_has_cause =
-    free (free (free (
-      record {
-        switch = 1;
-        stands = refl;
-        has_port = refl;
-        number = refl;
-        header = refl;
-        decided = refl;
-      },
-      tt,
-    )))
 
 -- in the ring a packet finds two links down, and is stuck at the second one
 abbrev behind : List Item
