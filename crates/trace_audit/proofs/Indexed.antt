@@ -5,7 +5,7 @@ use Rattle.std.proofs.lemmas.Bool.{and_cases, and_parts, both_ways, cases_eq, ca
 use Rattle.std.proofs.lemmas.List.{length-replicate, length-set, length_push, take_more}
 use Rattle.std.proofs.lemmas.List.Elements.{All-filter, All-head, Contains-append_right, Contains-push_cases, filter_passes}
 use Rattle.std.proofs.lemmas.Nat.{shr_split}
-use Rattle.std.proofs.lemmas.Option.{get_or_from_slice_get, same_Some, slice_get-get_or, slice_get_within}
+use Rattle.std.proofs.lemmas.Option.{get_or_from_slice_get, same_Some, slice_get-get_or, slice_get_read, slice_get_within}
 use Rattle.five_tuple.specs.Header.{AddressBlock, fields_of, prefix_matches, proto_matches, range_matches}
 use Rattle.five_tuple.specs.SoundFields.{IsAddressBlock}
 use Rattle.five_tuple.specs.Texts.{block_round}
@@ -283,39 +283,45 @@ falls : (rows : List Row) (slot place : ℕ) (next : Option ℕ) → IsLastBefor
 falls rows slot place None is = omega arith
 falls rows slot place (Some other) is = omega (arith, is.1)
 
--- the next one is before it
-pub walk_falls : (rows : List Row) (place : ℕ) (row : Row) (at next : Option ℕ) (index : Index)
-    → IsIndexOf rows index → at ≡ Some place → slice_get rows place ≡ Some row
-    → slice_get index.earlier.items place ≡ Some next → places_left next < places_left at
-walk_falls rows place row at next index is e here there =
-    subst (λ (now : Option ℕ). places_left next < places_left now) (sym e)
-    (falls rows (slot_of_row row) place next (is.earlier place row next here there))
+-- where the next one to look at was read, and its row
+module _ {rows : List Row} {slot : ℕ} {fields : Fields} {first hit : Hit} {at : Option ℕ}
+    (walked : IsWalked rows slot fields first hit at) {index : Index} (is : IsIndexOf rows index)
+    {place : ℕ} (now : at ≡ Some place) {row : Row} (here : row ≡ get_or rows place row)
+    {next : Option ℕ} (there : next ≡ get_or index.earlier.items place next) where
+  walked_now : IsWalked rows slot fields first hit (Some place)
+  walked_now = subst (IsWalked rows slot fields first hit) now walked
 
-module _ (rows : List Row) (slot : ℕ) (fields : Fields) (first hit : Hit) where
-  -- the row is there
-  pub walk_within : (place : ℕ) → IsWalked rows slot fields first hit (Some place)
-      → place < length rows
-  walk_within place w = slice_get_within rows place w.last.0 w.last.2
+  within : place < length rows
+  within = let w = walked_now in slice_get_within rows place w.last.0 w.last.2
 
-  pub walk_on : (place : ℕ) (row : Row) (next : Option ℕ) (better : Hit) (index : Index)
-      → IsIndexOf rows index → slice_get rows place ≡ Some row
-      → slice_get index.earlier.items place ≡ Some next → better ≡ better_of row fields hit
-      → IsWalked rows slot fields first hit (Some place)
+  own_row : slice_get rows place ≡ Some row
+  own_row = slice_get_read rows (length rows) place row refl within here
+
+  before : IsLastBefore rows (slot_of_row row) place next
+  before = is.earlier place row next own_row
+      (slice_get_read index.earlier.items (length rows) place next (sym is.places) within there)
+
+  -- the one behind it is before it
+  pub walk_falls : places_left next < places_left at
+  walk_falls = subst (λ (o : Option ℕ). places_left next < places_left o) (sym now)
+      (falls rows (slot_of_row row) place next before)
+
+  pub walk_on : {better : Hit} → better ≡ better_of row fields hit
       → IsWalked rows slot fields first better next
-  walk_on place row next better index is here there e w =
-      let same : w.last.0 ≡ row = same_Some w.last.0 row (sym w.last.2 ∙ here) in
+  walk_on e =
+      let w = walked_now in
+      let same : w.last.0 ≡ row = same_Some w.last.0 row (sym w.last.2 ∙ own_row) in
       let own : slot_of_row row ≡ slot = ap slot_of_row (sym same) ∙ w.last.3 in
       subst (λ h. IsWalked rows slot fields first h next) (sym e) (
       record {
         bound = place;
-        last = subst (λ n. IsLastBefore rows n place next) own
-            (is.earlier place row next here there);
-        matching = λ m. better_matching row fields hit rows (contains_at rows place row here)
+        last = subst (λ n. IsLastBefore rows n place next) own before;
+        matching = λ m. better_matching row fields hit rows (contains_at rows place row own_row)
             (w.matching m);
         kept = λ other reached. better_kept row fields hit other (w.kept other reached);
         reached = λ k other above got lies matches. elim (cases_eq k place) [
           | inl at ↦
-              let one = one_item rows place k row other here at got in
+              let one = one_item rows place k row other own_row at got in
               subst (IsReached (better_of row fields hit)) one
               (better_reached row fields hit
               (subst (λ (r : Row). row_matches r fields ≡ true) (sym one) matches))
@@ -328,15 +334,16 @@ module _ (rows : List Row) (slot : ℕ) (fields : Fields) (first hit : Hit) wher
       }
       )
 
-  pub walk_ends : IsWalked rows slot fields first hit None → IsBetter rows slot fields first hit
-  walk_ends w = record {
-    matching = w.matching;
-    kept = w.kept;
-    reached = λ k row got lies matches. elim (cases_lt k w.bound) [
-      | inl less ↦ absurd (w.last k row (omega arith) less got lies)
-      | inr beyond ↦ w.reached k row beyond got lies matches
-    ];
-  }
+pub walk_ends : (rows : List Row) (slot : ℕ) (fields : Fields) (first hit : Hit)
+    → IsWalked rows slot fields first hit None → IsBetter rows slot fields first hit
+walk_ends rows slot fields first hit w = record {
+  matching = w.matching;
+  kept = w.kept;
+  reached = λ k row got lies matches. elim (cases_lt k w.bound) [
+    | inl less ↦ absurd (w.last k row (omega arith) less got lies)
+    | inr beyond ↦ w.reached k row beyond got lies matches
+  ];
+}
 
 -- ---- one shape after another
 

@@ -9,7 +9,7 @@ use Rattle.policy_rules.specs.declared.policy.Action.{Action}
 use Rattle.policy_rules.specs.declared.policy.Action.TheVariants as action
 use Rattle.policy_rules.specs.declared.policy.Hit.{Hit}
 use Rattle.policy_rules.specs.declared.policy.Row.{Row}
-use Rattle.update_machine.specs.Machine.{End, Ends, Dropped, LeftBy, Lost, Stuck, Machine, Packet}
+use Rattle.update_machine.specs.Machine.{End, Ends, Dropped, LeftBy, Lost, Stuck, Machine, Packet, with_packet}
 use Rattle.trace_audit.specs.Decided.{AreJustified, DecidesOther, EntersOther, HasDecision, HasEntered, IsBetween, IsDecidedOnce, IsJustified, IsMark, IsWaiting, RetiresUpTo, all_told, policies_from, policies_told, policies_with, with_told}
 use Rattle.trace_audit.specs.Reading.{AreGood, Follows, Line, Open, Reads, State, Whole, first_state, newest_policy, policy_by}
 use Rattle.trace_audit.specs.Told.{Told}
@@ -205,6 +205,27 @@ known_at files ts packets i o e known = subst (IsPacketIf files ts i) e (known i
 
 module _ (files : List PolicyFile) (ts : List Told) (old new : State) (known : IsKnown files ts old)
   where
+    still_waits : (t : Told) → new.pending ≡ old.pending → IsBetween t
+        → IsWaitingIf (ts ++ t ∷ []) new.pending
+    still_waits t same between = subst (IsWaitingIf (ts ++ t ∷ [])) (sym same)
+        (waits_on_if ts t old.pending between known.waits)
+
+    -- behind what only puts a packet
+    after_put : (t : Told) (i : ℕ) (p : Packet) → new.machine ≡ with_packet old.machine i p
+        → policies_with files old.machine.policies t ≡ old.machine.policies
+        → RetiresUpTo old.machine.mark t → IsWaitingIf (ts ++ t ∷ []) new.pending
+        → ((j : ℕ) → (j ≡ i → ⊥) → IsOfOther j t) → IsPacketIf files (ts ++ t ∷ []) i (Some p)
+        → IsKnown files (ts ++ t ∷ []) new
+    after_put t i p after same below waits other here = record {
+      policies = policies_on files ts t old.machine.policies new.machine.policies known.policies
+          (ap (λ (m : Machine). m.policies) after ∙ sym same);
+      mark = subst (λ (m : Machine). IsMark (ts ++ t ∷ []) m.mark) (sym after)
+          (mark_on ts t old.machine.mark below known.mark);
+      waits = waits;
+      packets = puts_packet files ts t old.machine.packets new.machine.packets i p
+          (ap (λ (m : Machine). m.packets) after) other known.packets here;
+    }
+
     after_row : (header : Option Header) → Follows files old (told.Row header) new
         → IsKnown files (ts ++ told.Row header ∷ []) new
     after_row header f = subst (IsKnown files (ts ++ told.Row header ∷ [])) (sym f) (record {
@@ -219,30 +240,24 @@ module _ (files : List PolicyFile) (ts : List Told) (old new : State) (known : I
     after_entered : (i : ℕ) → Follows files old (told.Entered i) new
         → IsKnown files (ts ++ told.Entered i ∷ []) new
     after_entered i f =
+        let t = told.Entered i in
         let none : IsPacketIf files ts i None =
         known_at files ts old.machine.packets i None f.2.unknown known.packets in
-        record {
-          policies = policies_on files ts (told.Entered i) old.machine.policies new.machine.policies
-              known.policies (ap (λ (m : Machine). m.policies) f.2.after);
-          mark = subst (λ (m : Machine). IsMark (ts ++ told.Entered i ∷ []) m.mark) (sym f.2.after)
-              (mark_on ts (told.Entered i) old.machine.mark tt known.mark);
-          waits = subst (IsWaitingIf (ts ++ told.Entered i ∷ [])) (sym f.3) tt;
-          packets = puts_packet files ts (told.Entered i) old.machine.packets new.machine.packets i
-              (record { header = f.0; entry_mark = old.machine.mark; decision = None; end = None })
-              (ap (λ (m : Machine). m.packets) f.2.after)
-              (λ j apart. (λ same. apart (sym same), tt)) known.packets (
-                record {
-                  before = ts;
-                  after = [];
-                  entry = refl;
-                  none_before = none.0;
-                  none_after = All-nil (EntersOther i);
-                  own_row = subst (IsWaitingIf ts) f.1 known.waits;
-                  own_mark = known.mark;
-                },
-                All-push (DecidesOther i) ts (told.Entered i) none.1 tt,
-              );
-        }
+        after_put t i
+        (record { header = f.0; entry_mark = old.machine.mark; decision = None; end = None })
+        f.2.after refl tt (subst (IsWaitingIf (ts ++ t ∷ [])) (sym f.3) tt)
+        (λ j apart. (λ same. apart (sym same), tt)) (
+          record {
+            before = ts;
+            after = [];
+            entry = refl;
+            none_before = none.0;
+            none_after = All-nil (EntersOther i);
+            own_row = subst (IsWaitingIf ts) f.1 known.waits;
+            own_mark = known.mark;
+          },
+          All-push (DecidesOther i) ts t none.1 tt,
+        )
 
     after_submitted : (file version : ℕ) → Follows files old (told.Submitted file version) new
         → IsKnown files (ts ++ told.Submitted file version ∷ []) new
@@ -254,8 +269,7 @@ module _ (files : List PolicyFile) (ts : List Told) (old new : State) (known : I
               ∙ submits_next files old.machine.policies file version f.0.policy f.0.newest f.0.there);
           mark = subst (λ (m : Machine). IsMark (ts ++ t ∷ []) m.mark) (sym f.0.after)
               (mark_on ts t old.machine.mark tt known.mark);
-          waits = subst (IsWaitingIf (ts ++ t ∷ [])) (sym f.2)
-              (waits_on_if ts t old.pending tt known.waits);
+          waits = still_waits t f.2 tt;
           packets = keeps_packets files ts t old.machine.packets new.machine.packets
               (ap (λ (m : Machine). m.packets) f.0.after) (λ i. (tt, tt)) known.packets;
         }
@@ -275,8 +289,7 @@ module _ (files : List PolicyFile) (ts : List Told) (old new : State) (known : I
                 (omega arith);
             retired = inr (Contains-push ts t);
           });
-          waits = subst (IsWaitingIf (ts ++ t ∷ [])) (sym f.1)
-              (waits_on_if ts t old.pending tt known.waits);
+          waits = still_waits t f.1 tt;
           packets = keeps_packets files ts t old.machine.packets new.machine.packets
               (ap (λ (m : Machine). m.packets) f.0.after) (λ i. (tt, tt)) known.packets;
         }
@@ -290,41 +303,31 @@ module _ (files : List PolicyFile) (ts : List Told) (old new : State) (known : I
         let k : IsPacketIf files ts i (Some d.packet) =
         known_at files ts old.machine.packets i (Some d.packet) d.entered known.packets in
         let none : All (DecidesOther i) ts = subst (IsDecidedIf files ts i) d.undecided k.1 in
-        record {
-          policies = policies_on files ts t old.machine.policies new.machine.policies known.policies
-              (ap (λ (m : Machine). m.policies) d.after);
-          mark = subst (λ (m : Machine). IsMark (ts ++ t ∷ []) m.mark) (sym d.after)
-              (mark_on ts t old.machine.mark tt known.mark);
-          waits = subst (IsWaitingIf (ts ++ t ∷ [])) (sym f.3)
-              (waits_on_if ts t old.pending tt known.waits);
-          packets = puts_packet files ts t old.machine.packets new.machine.packets i
-              (record d.packet { decision = Some f.0 })
-              (ap (λ (m : Machine). m.packets) d.after) (λ j apart. (tt, λ same. apart (sym same)))
-              known.packets (
-                entered_on ts t i d.packet.header d.packet.entry_mark tt k.0,
-                record {
-                  before = ts;
-                  after = [];
-                  version = version;
-                  rule_text = rule;
-                  action_text = action;
-                  decision = refl;
-                  none_before = none;
-                  none_after = All-nil (DecidesOther i);
-                  header = d.packet.header;
-                  mark = d.packet.entry_mark;
-                  entered = k.0;
-                  above_mark = d.not_retired;
-                  policy = d.policy;
-                  submitted = subst (λ (ps : List (List Row)). slice_get ps (version - 1) ≡ Some d.policy)
-                      known.policies d.submitted;
-                  hit = f.0;
-                  first_match = d.first_match;
-                  printed = f.1;
-                  acts = refl;
-                },
-              );
-        }
+        after_put t i (record d.packet { decision = Some f.0 }) d.after refl tt (still_waits t f.3 tt)
+        (λ j apart. (tt, λ same. apart (sym same))) (
+          entered_on ts t i d.packet.header d.packet.entry_mark tt k.0,
+          record {
+            before = ts;
+            after = [];
+            version = version;
+            rule_text = rule;
+            action_text = action;
+            decision = refl;
+            none_before = none;
+            none_after = All-nil (DecidesOther i);
+            header = d.packet.header;
+            mark = d.packet.entry_mark;
+            entered = k.0;
+            above_mark = d.not_retired;
+            policy = d.policy;
+            submitted = subst (λ (ps : List (List Row)). slice_get ps (version - 1) ≡ Some d.policy)
+                known.policies d.submitted;
+            hit = f.0;
+            first_match = d.first_match;
+            printed = f.1;
+            acts = refl;
+          },
+        )
 
     after_ended : (i : ℕ) (end : End) → Follows files old (told.Ended i end) new
         → IsKnown files (ts ++ told.Ended i end ∷ []) new
@@ -333,18 +336,8 @@ module _ (files : List PolicyFile) (ts : List Told) (old new : State) (known : I
         let e = f.0 in
         let k : IsPacketIf files ts i (Some e.packet) =
         known_at files ts old.machine.packets i (Some e.packet) e.entered known.packets in
-        record {
-          policies = policies_on files ts t old.machine.policies new.machine.policies known.policies
-              (ap (λ (m : Machine). m.policies) e.after);
-          mark = subst (λ (m : Machine). IsMark (ts ++ t ∷ []) m.mark) (sym e.after)
-              (mark_on ts t old.machine.mark tt known.mark);
-          waits = subst (IsWaitingIf (ts ++ t ∷ [])) (sym f.1)
-              (waits_on_if ts t old.pending tt known.waits);
-          packets = puts_packet files ts t old.machine.packets new.machine.packets i
-              (record e.packet { end = Some end })
-              (ap (λ (m : Machine). m.packets) e.after) (λ j apart. (tt, tt)) known.packets
-              (packet_on files ts t i (Some e.packet) (tt, tt) k);
-        }
+        after_put t i (record e.packet { end = Some end }) e.after refl tt (still_waits t f.1 tt)
+        (λ j apart. (tt, tt)) (packet_on files ts t i (Some e.packet) (tt, tt) k)
 
     after_nothing : Follows files old told.Nothing new → IsKnown files (ts ++ told.Nothing ∷ []) new
     after_nothing f = subst (IsKnown files (ts ++ told.Nothing ∷ [])) (sym f) (record {

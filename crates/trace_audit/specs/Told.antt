@@ -1,6 +1,6 @@
 -- What a line of a printed trace tells, by its first words. A line is cut at each single
 -- blank, so that two blanks make an empty word. A number is decimal, without sign or leading zero.
-use Rattle.std.specs.Prelude.{ℕ, ◌≡◌, ◌==◌, ◌&&◌, ◌||◌, nat_le, not, if◌then◌else◌, Bool, false, MatchOption, Option, Some, None, option_map, List, [], ◌∷◌, take, drop, codes, bytes_eq}
+use Rattle.std.specs.Prelude.{ℕ, ◌≡◌, ◌==◌, ◌&&◌, ◌||◌, ◌⊎◌, nat_le, not, if◌then◌else◌, Bool, false, MatchOption, Option, Some, None, option_map, List, [], ◌∷◌, take, drop, codes, bytes_eq}
 use Rattle.std.specs.List.{list_all, list_any}
 use Rattle.std.specs.Option.{option_map_or}
 use Rattle.std.specs.Borrow.{Bor}
@@ -47,6 +47,11 @@ is_word word = list_all (λ b. not (b == 32)) word
 -- the first word is taken, and said is whether it passes
 abbrev pub TakesNext : List (List ℕ) → (List ℕ → Bool) → List (List ℕ) → Bool → Type 0
 TakesNext old passes new said = (next : List ℕ) × (old ≡ next ∷ new) × (said ≡ passes next)
+
+-- none or more than one
+abbrev pub IsNoSingle : List (List ℕ) → Type 0
+IsNoSingle words = (words ≡ []) ⊎ ((one : List ℕ) × (two : List ℕ) × (more : List (List ℕ))
+    × (words ≡ one ∷ two ∷ more))
 
 -- of a packet, a file or a version
 abbrev pub number_of_word : List ℕ → Option ℕ

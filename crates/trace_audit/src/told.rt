@@ -81,19 +81,15 @@ fn is_row_number(word: &[u8]) -> bool
 
 // ---- rows
 
-fn read_packet_row<'a>(row: &[u8], words: Words<'a>) -> Option<Told<'a>>
+fn read_packet_row<'a>(row: &[u8], mut words: Words<'a>) -> Option<Told<'a>>
     ensures { option_map told_seen result ≡ packet_row_told row.now words.entry }
 {
-    let mut words = words;
     let switch = words.next()?;
     let src = words.next()?;
     let dst = words.next()?;
     let sport = words.next()?;
     let dport = words.next()?;
-    let proto = words.next()?;
-    if words.next().is_some() {
-        return None;
-    }
+    let proto = words.last()?;
     if !is_row_number(row) || !is_name(switch) {
         return None;
     }
@@ -101,10 +97,9 @@ fn read_packet_row<'a>(row: &[u8], words: Words<'a>) -> Option<Told<'a>>
     Some(Told::Row(Some(Header::pack(&fields))))
 }
 
-fn read_row<'a>(words: Words<'a>) -> Option<Told<'a>>
+fn read_row<'a>(mut words: Words<'a>) -> Option<Told<'a>>
     ensures { option_map told_seen result ≡ row_told words.entry }
 {
-    let mut words = words;
     let row = words.next()?;
     match words.next_is(b"packet".as_slice()) {
         Some(true) => read_packet_row(row, words),
@@ -114,29 +109,24 @@ fn read_row<'a>(words: Words<'a>) -> Option<Told<'a>>
 
 // ---- moves
 
-fn read_entered<'a>(words: Words<'a>) -> Option<Told<'a>>
+fn read_entered<'a>(mut words: Words<'a>) -> Option<Told<'a>>
     ensures { option_map told_seen result ≡ entered_told words.entry }
 {
-    let mut words = words;
     let packet = words.next()?;
-    let switch = words.next()?;
-    if words.next().is_some() || !is_name(switch) {
+    let switch = words.last()?;
+    if !is_name(switch) {
         return None;
     }
     Some(Told::Entered(number(packet)?))
 }
 
-fn read_submitted<'a>(words: Words<'a>) -> Option<Told<'a>>
+fn read_submitted<'a>(mut words: Words<'a>) -> Option<Told<'a>>
     ensures { option_map told_seen result ≡ submitted_told words.entry }
 {
-    let mut words = words;
     let first = words.next()?;
     let file = words.next()?;
     let second = words.next()?;
-    let version = words.next()?;
-    if words.next().is_some() {
-        return None;
-    }
+    let version = words.last()?;
     if first != b"file".as_slice() || second != b"version".as_slice() {
         return None;
     }
@@ -149,18 +139,13 @@ fn read_submitted<'a>(words: Words<'a>) -> Option<Told<'a>>
 fn read_retired<'a>(words: Words<'a>) -> Option<Told<'a>>
     ensures { option_map told_seen result ≡ retired_told words.entry }
 {
-    let mut words = words;
-    let version = words.next()?;
-    if words.next().is_some() {
-        return None;
-    }
-    Some(Told::Retired(number(version)?))
+    let version = number(words.last()?)?;
+    Some(Told::Retired(version))
 }
 
-fn read_decided<'a>(words: Words<'a>) -> Option<Told<'a>>
+fn read_decided<'a>(mut words: Words<'a>) -> Option<Told<'a>>
     ensures { option_map told_seen result ≡ decided_told words.entry }
 {
-    let mut words = words;
     let packet = words.next()?;
     let version = words.next()?;
     let is_rule = words.next_is(b"rule".as_slice())?;
@@ -181,23 +166,17 @@ fn read_decided<'a>(words: Words<'a>) -> Option<Told<'a>>
 fn read_ended<'a>(end: End, words: Words<'a>) -> Option<Told<'a>>
     ensures { option_map told_seen result ≡ ended_told (end_seen end) words.entry }
 {
-    let mut words = words;
-    let packet = words.next()?;
-    if words.next().is_some() {
-        return None;
-    }
-    let packet = number(packet)?;
+    let packet = number(words.last()?)?;
     Some(Told::Ended { packet, end })
 }
 
-fn read_left<'a>(words: Words<'a>) -> Option<Told<'a>>
+fn read_left<'a>(mut words: Words<'a>) -> Option<Told<'a>>
     ensures { option_map told_seen result ≡ left_told words.entry }
 {
-    let mut words = words;
     let packet = words.next()?;
     let word = words.next()?;
-    let port = words.next()?;
-    if words.next().is_some() || word != b"port".as_slice() {
+    let port = words.last()?;
+    if word != b"port".as_slice() {
         return None;
     }
     let packet = number(packet)?;
@@ -208,10 +187,9 @@ fn read_left<'a>(words: Words<'a>) -> Option<Told<'a>>
     })
 }
 
-fn read_stuck<'a>(words: Words<'a>) -> Option<Told<'a>>
+fn read_stuck<'a>(mut words: Words<'a>) -> Option<Told<'a>>
     ensures { option_map told_seen result ≡ stuck_told words.entry }
 {
-    let mut words = words;
     let packet = words.next()?;
     let _more = words.next()?;
     let packet = number(packet)?;
@@ -224,19 +202,17 @@ fn read_stuck<'a>(words: Words<'a>) -> Option<Told<'a>>
 // ---- lines
 
 // Any bytes behind a blank.
-fn read_any<'a>(words: Words<'a>) -> Option<Told<'a>>
+fn read_any<'a>(mut words: Words<'a>) -> Option<Told<'a>>
     ensures { option_map told_seen result ≡ any_told words.entry }
 {
-    let mut words = words;
     let _more = words.next()?;
     Some(Told::Nothing)
 }
 
 // Nothing more.
-fn read_alone<'a>(words: Words<'a>) -> Option<Told<'a>>
+fn read_alone<'a>(mut words: Words<'a>) -> Option<Told<'a>>
     ensures { option_map told_seen result ≡ alone_told words.entry }
 {
-    let mut words = words;
     match words.next() {
         None => Some(Told::Nothing),
         Some(_) => None,
@@ -308,10 +284,9 @@ fn read_item<'a>(word: &[u8], words: Words<'a>) -> Option<Told<'a>>
 
 // An item, behind its two blanks. Those that each packet has are tried first.
 #[tactic(auto, unfolding(crate::specs::Told::item_told))]
-fn read_known_item<'a>(words: Words<'a>) -> Option<Told<'a>>
+fn read_known_item<'a>(mut words: Words<'a>) -> Option<Told<'a>>
     ensures { option_map told_seen result ≡ indented_told ([] ∷ words.entry) }
 {
-    let mut words = words;
     if words.take(b"decided".as_slice()) {
         return read_decided(words);
     }
@@ -326,10 +301,9 @@ fn read_known_item<'a>(words: Words<'a>) -> Option<Told<'a>>
 }
 
 // An item stands behind two blanks.
-fn read_indented<'a>(words: Words<'a>) -> Option<Told<'a>>
+fn read_indented<'a>(mut words: Words<'a>) -> Option<Told<'a>>
     ensures { option_map told_seen result ≡ indented_told words.entry }
 {
-    let mut words = words;
     let second = words.next()?;
     let word = words.next()?;
     if !second.is_empty() {
@@ -351,10 +325,9 @@ pub(crate) fn read_line<'a>(line: &'a [u8]) -> Option<Told<'a>>
 }
 
 // What a line tells, by its words.
-fn read_words<'a>(words: Words<'a>) -> Option<Told<'a>>
+fn read_words<'a>(mut words: Words<'a>) -> Option<Told<'a>>
     ensures { option_map told_seen result ≡ told_by words.entry }
 {
-    let mut words = words;
     let first = words.next()?;
     if first == b"row".as_slice() {
         read_row(words)

@@ -1,5 +1,5 @@
 ghost use Rattle.std.specs.Prelude.{◌≡◌, ◌∷◌, ◌==◌, ◌||◌, [], IfNone, IfSome, IsTrue, List, MatchBool, bytes_eq, position, ℕ};
-ghost use Rattle.trace_audit.specs.Told.{IsCut, TakesNext, is_word, words_of};
+ghost use Rattle.trace_audit.specs.Told.{IsCut, IsNoSingle, TakesNext, is_word, words_of};
 
 use memchr::memchr;
 use std::marker::Model;
@@ -118,6 +118,19 @@ impl<'a> Words<'a> {
                 Some(rest)
             }
         }
+    }
+
+    /// The next word, where it is the last one.
+    #[inline(always)]
+    pub fn last(mut self) -> Option<&'a [u8]>
+        ensures some { IfSome result (λ word. self.entry ≡ word.now ∷ []) }
+        ensures none { IfNone result (IsNoSingle self.entry) }
+    {
+        let word = self.next()?;
+        if self.has_more() {
+            return None;
+        }
+        Some(word)
     }
 
     /// Takes the next word where it is this one and words stand behind it, and says whether it is.
