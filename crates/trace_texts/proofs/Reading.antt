@@ -130,47 +130,35 @@ takes_small setting old new first takes most small =
 abbrev versions_with : Machine → List Item → ℕ
 versions_with now items = length now.policies + count_of is_submission items
 
-as_many : (old new : Machine) (first : Item) (items : List Item) (n : ℕ)
-    → cond (is_submission first) 1 0 ≡ n → length new.policies ≡ length old.policies + n
-    → versions_with new items ≡ versions_with old (first ∷ items)
-as_many old new first items n is more =
-    omega (arith, is, more, sum_by-cons (λ x. cond (is_submission x) 1 0) first items)
+-- a version more behind a submission, and as many as before behind anything else
+module _ (setting : Setting) (old new : Machine) where
+  as_many : {after : Machine} → new ≡ after → length new.policies ≡ length after.policies + 0
+  as_many {after} e =
+      let same : length new.policies ≡ length after.policies =
+      ap (λ (m : Machine). length m.policies) e in
+      omega (arith, same)
 
-same_many : (old new : Machine) → new.policies ≡ old.policies
-    → length new.policies ≡ length old.policies + 0
-same_many old new same =
-    let e : length new.policies ≡ length old.policies = ap (λ (ps : List (List Row)). length ps) same in
-    omega (arith, e)
+  grows : (first : Item) → Takes setting old first new
+      → length new.policies ≡ length old.policies + cond (is_submission first) 1 0
+  grows (item.Submitted file version) takes =
+      ap (λ (m : Machine). length m.policies) takes.after
+      ∙ length-append old.policies (takes.policy ∷ [])
+  grows (item.Entered packet switch header) takes = as_many takes.after
+  grows (item.Retired version) takes = as_many takes.after
+  grows (item.Decided packet version rule action how) takes = as_many takes.after
+  grows (item.Dropped packet) takes = as_many takes.after
+  grows (item.Left packet port leaving) takes = as_many takes.after
+  grows (item.Lost packet) takes = as_many takes.after
+  grows (item.Stuck packet switch cause leg down) takes = as_many takes.after
+  grows first takes = as_many takes
 
-takes_many : (setting : Setting) (old new : Machine) (first : Item) (items : List Item)
-    → Takes setting old first new → versions_with new items ≡ versions_with old (first ∷ items)
-takes_many setting old new (item.Submitted file version) items takes =
-    as_many old new (item.Submitted file version) items 1 refl
-    (ap (λ (m : Machine). length m.policies) takes.after
-    ∙ length-append old.policies (takes.policy ∷ []))
-takes_many setting old new (item.Entered packet switch header) items takes =
-    as_many old new (item.Entered packet switch header) items 0 refl
-    (same_many old new (ap (λ (m : Machine). m.policies) takes.after))
-takes_many setting old new (item.Retired version) items takes =
-    as_many old new (item.Retired version) items 0 refl
-    (same_many old new (ap (λ (m : Machine). m.policies) takes.after))
-takes_many setting old new (item.Decided packet version rule action how) items takes =
-    as_many old new (item.Decided packet version rule action how) items 0 refl
-    (same_many old new (ap (λ (m : Machine). m.policies) takes.after))
-takes_many setting old new (item.Dropped packet) items takes =
-    as_many old new (item.Dropped packet) items 0 refl
-    (same_many old new (ap (λ (m : Machine). m.policies) takes.after))
-takes_many setting old new (item.Left packet port leaving) items takes =
-    as_many old new (item.Left packet port leaving) items 0 refl
-    (same_many old new (ap (λ (m : Machine). m.policies) takes.after))
-takes_many setting old new (item.Lost packet) items takes =
-    as_many old new (item.Lost packet) items 0 refl
-    (same_many old new (ap (λ (m : Machine). m.policies) takes.after))
-takes_many setting old new (item.Stuck packet switch cause leg down) items takes =
-    as_many old new (item.Stuck packet switch cause leg down) items 0 refl
-    (same_many old new (ap (λ (m : Machine). m.policies) takes.after))
-takes_many setting old new first items takes =
-    as_many old new first items 0 refl (same_many old new (ap (λ (m : Machine). m.policies) takes))
+  takes_many : (first : Item) (items : List Item) → Takes setting old first new
+      → versions_with new items ≡ versions_with old (first ∷ items)
+  takes_many first items takes = omega (
+    arith,
+    grows first takes,
+    sum_by-cons (λ x. cond (is_submission x) 1 0) first items,
+  )
 
 -- the row of a step of the network
 abbrev pub IsOwnRow : Net → StepRow → Type 0

@@ -121,6 +121,15 @@ words_two text next n m =
     words_next (with_number text n) next (decimal m)
     ∙ ap (λ ws. ws ++ words_of (next ++ decimal m)) (words_number text n)
 
+-- the second behind these words
+words_both : (text words : List ℕ) (n m : ℕ)
+    → words_of (two_text text n (32 ∷ (words ++ 32 ∷ [])) m)
+    ≡ (words_of text ++ decimal n ∷ []) ++ (words_of words ++ decimal m ∷ [])
+words_both text words n m =
+    words_two text (words ++ 32 ∷ []) n m
+    ∙ behind (words_of text ++ decimal n ∷ []) (words_of ((words ++ 32 ∷ []) ++ decimal m))
+    (words_of words ++ decimal m ∷ []) (words_number words m)
+
 row_words : (row : ℕ) (step : List ℕ)
     → words_of ((decimal row ++ codes ": ") ++ step) ≡ (decimal row ++ 58 ∷ []) ∷ words_of step
 row_words row step =
@@ -270,44 +279,23 @@ module _ (laws : TextLaws) (net : Net) (sound : IsNet net) where
       ≡ Some (told.Submitted file version)
   unfolding told_of item_told
   submitted_line_told file version some few =
-      ap told_by (words_two (codes "  submitted file") (codes "version ") file version
-      ∙ behind (words_of (codes "  submitted file") ++ decimal file ∷ [])
-      (codes "version" ∷ words_of (decimal version)) (codes "version" ∷ decimal version ∷ [])
-      (ap (λ (ws : List (List ℕ)). codes "version" ∷ ws)
-      (one_word (decimal version) (number_word version))))
+      ap told_by (words_both (codes "  submitted file") (codes "version") file version)
       ∙ pair_both told.Submitted _ _ file version (number file some) (number version few)
 
-  retired_line_told : (version : ℕ) → version ≤ max_number
-      → told_of (with_number (codes "  retired") version) ≡ Some (told.Retired version)
-  unfolding told_of item_told
-  retired_line_told version most =
-      ap told_by (words_number (codes "  retired") version)
-      ∙ ap (option_map told.Retired) (number version most)
-
-  dropped_line_told : (packet : ℕ) → packet ≤ max_number
-      → told_of (with_number (codes "  dropped") packet) ≡ Some (told.Ended packet Dropped)
-  unfolding told_of item_told
-  dropped_line_told packet most =
-      ap told_by (words_number (codes "  dropped") packet)
-      ∙ ap (option_map (λ i. told.Ended i Dropped)) (number packet most)
-
-  lost_line_told : (packet : ℕ) → packet ≤ max_number
-      → told_of (with_number (codes "  lost") packet) ≡ Some (told.Ended packet Lost)
-  unfolding told_of item_told
-  lost_line_told packet most =
-      ap told_by (words_number (codes "  lost") packet)
-      ∙ ap (option_map (λ i. told.Ended i Lost)) (number packet most)
+  -- of one number alone
+  number_line_told : (text : List ℕ) (tells : ℕ → Told) (n : ℕ) → n ≤ max_number
+      → told_by (words_of text ++ decimal n ∷ []) ≡ option_map tells (number_of_word (decimal n))
+      → told_of (with_number text n) ≡ Some (tells n)
+  unfolding told_of
+  number_line_told text tells n most is =
+      ap told_by (words_number text n) ∙ is ∙ ap (option_map tells) (number n most)
 
   left_line_told : (packet port : ℕ) → packet ≤ max_number → port ≤ 4294967295
       → told_of (two_text (codes "  out") packet (codes " port ") port)
       ≡ Some (told.Ended packet (LeftBy port))
   unfolding told_of item_told
   left_line_told packet port most small =
-      ap told_by (words_two (codes "  out") (codes "port ") packet port
-      ∙ behind (words_of (codes "  out") ++ decimal packet ∷ [])
-      (codes "port" ∷ words_of (decimal port)) (codes "port" ∷ decimal port ∷ [])
-      (ap (λ (ws : List (List ℕ)). codes "port" ∷ ws)
-      (one_word (decimal port) (number_word port))))
+      ap told_by (words_both (codes "  out") (codes "port") packet port)
       ∙ pair_both (λ i p. told.Ended i (LeftBy p)) _ _ packet port (number packet most)
       (laws.number 4294967295 port small (omega (arith, small)))
 
@@ -409,12 +397,15 @@ module _ (laws : TextLaws) (net : Net) (sound : IsNet net) where
   line_told (item.Row row step) is = row_line_told row step is
   line_told (item.Entered packet switch header) is = entered_line_told packet switch is.0 is.1
   line_told (item.Submitted file version) is = submitted_line_told file version is.0 is.1
-  line_told (item.Retired version) is = retired_line_told version is
+  line_told (item.Retired version) is =
+      number_line_told (codes "  retired") told.Retired version is refl
   line_told (item.Decided packet version rule action how) is =
       decided_line_told packet version rule action how is.0 is.1
   line_told (item.Left packet port leaving) is = left_line_told packet port is.0 is.1
-  line_told (item.Dropped packet) is = dropped_line_told packet is
-  line_told (item.Lost packet) is = lost_line_told packet is
+  line_told (item.Dropped packet) is =
+      number_line_told (codes "  dropped") (λ i. told.Ended i Dropped) packet is refl
+  line_told (item.Lost packet) is =
+      number_line_told (codes "  lost") (λ i. told.Ended i Lost) packet is refl
   line_told (item.Stuck packet switch cause leg down) is =
       stuck_line_told packet switch (cause_text cause) is
   line_told (item.Closed packet switch) is =
