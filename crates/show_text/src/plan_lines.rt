@@ -1,5 +1,4 @@
 ghost use Rattle.std.specs.Prelude.{◌≡◌, ◌≤◌, ◌<◌, ◌^◌, ◌++◌, OnOk, length};
-ghost use Rattle.lines.specs.Sizes.{IsAction, IsNumber, IsRule};
 ghost use Rattle.show_text.specs.Text.{with_line_feed, part_text, region_text, rule_lines, rule_text_of, targets_text};
 ghost use Rattle.lines.specs.Pushes.{line_with};
 
@@ -41,12 +40,11 @@ pub fn push_targets(entry: &mut Line, net: &Net, targets: &Targets)
     push_names(entry, net, targets.items());
 }
 
-// Adds what a rule's line says.
-#[tactic(auto, using(lines::proofs::CallerLemmas::pushed_append))]
-fn push_rule_text(entry: &mut Line, rule: &Rule)
-    ensures text { entry.new ≡ line_with entry.old (rule_text_of rule.now) }
-    ensures of_type { IsNumber rule.now.rank × IsRule rule.now.rule × IsAction rule.now.action }
+// Makes the line that of a rule.
+fn set_rule(entry: &mut Line, rule: &Rule)
+    ensures { entry.new ≡ with_line_feed (rule_text_of rule.now) }
 {
+    entry.clear();
     entry.push("  rank ");
     entry.push_number(u64::from(rule.rank));
     entry.push(" rule ");
@@ -55,15 +53,6 @@ fn push_rule_text(entry: &mut Line, rule: &Rule)
     push_word(entry, &rule.word);
     entry.push(" ");
     push_action(entry, rule.action);
-}
-
-// Makes the line that of a rule.
-#[tactic(auto, using(lines::proofs::CallerLemmas::pushed_append, lines::proofs::CallerLemmas::pushed_whole, crate::proofs::Sizes::rule_fits))]
-fn set_rule(entry: &mut Line, rule: &Rule)
-    ensures { entry.new ≡ with_line_feed (rule_text_of rule.now) }
-{
-    entry.clear();
-    push_rule_text(entry, rule);
     entry.push("\n");
 }
 
