@@ -1,4 +1,5 @@
 -- What a sink gained by the lines of a journal.
+use Rattle.std.specs.Prelude.{⊤, ◌≢◌, Err, IsErrOf, IsTrue, Result}
 use Rattle.std.proofs.Common.{ℕ, ◌≡◌, ◌+◌, ◌<◌, ◌≤◌, ◌==◌, Bool, true, false, Option, None, Some, List, [], ◌∷◌, ◌++◌, length, take, drop, get_or, refl, ap, subst, ◌∙◌, sym, arith, append-nil, append_assoc, length-append}
 use Rattle.std.proofs.lemmas.Grind.{flat_map-append}
 use Rattle.std.proofs.lemmas.List.{take-append-drop, take-append-le, take_all, take_more}
@@ -7,8 +8,10 @@ use Rattle.journal_text.specs.Gathered.{IsHeld}
 use Rattle.journal_text.specs.Lines.{item_line, journal_text}
 use Rattle.lines.specs.Pushes.{line_with}
 use Rattle.net_file.specs.declared.net.Net.{Net}
-use Rattle.shelf.specs.Sink.{with_gained, GainedPart}
-use Rattle.shelf.specs.SinkWrites.{IsGathered}
+use Rattle.shelf.specs.Sink.{GainedPart, Rose, SinkState, with_gained}
+use Rattle.shelf.specs.SinkWrites.{IsAfterWrite, IsGathered}
+use Rattle.shelf.specs.declared.output.SinkError.{SinkError}
+use Rattle.shelf.specs.declared.output.SinkError.TheVariants.{Failed, NoMemory}
 
 abbrev line_of : Net → Item → List ℕ
 line_of net item = item_line net item ++ 10 ∷ []
@@ -75,6 +78,35 @@ held_nothing text before now later waiting line all piece is same gathered = rec
   whole = sym (append-nil text);
 }
 
+abbrev fails : SinkError → Result (⊤) SinkError
+fails error = Err error
+
+-- an error as the lines up to an item were to be gathered, and no fault was counted before
+pub gathers_no_more : (net : Net) {items journal : List Item} (i : ℕ) (takes_memory : Bool)
+    (first old new : SinkState) (error : SinkError) {waiting line piece : List ℕ} → items ≡ journal
+    → IsHeld (journal_text net (take i items)) first.bytes old.bytes waiting line
+    → old.faults ≡ first.faults → piece ≡ line
+    → ((text : List ℕ) (before : Option (List ℕ)) → IsGathered text before old.bytes waiting
+    → GainedPart before (text ++ piece) new.bytes)
+    → old.faults ≤ new.faults → (fails error ≢ Err Failed → new.faults ≡ old.faults)
+    → (IsErrOf (fails error) Failed → Rose old.faults new.faults)
+    → (IsErrOf (fails error) NoMemory → IsTrue takes_memory)
+    → IsAfterWrite (journal_text net journal) takes_memory first new (fails error)
+gathers_no_more net {items} i takes_memory first old new error all is none same part faults calm
+    failed no_memory = rw (← all) (
+    record {
+      whole = tt;
+      part = part_upto net items i first.bytes new.bytes
+          (subst (λ (text : List ℕ). GainedPart first.bytes text new.bytes)
+          (ap (λ l. is.front ++ l) same ∙ sym is.whole)
+          (part is.front first.bytes is.gathered));
+      faults = omega (arith, none, faults);
+      calm = λ not. calm not ∙ none;
+      failed = λ f. omega (arith, none, failed f);
+      no_memory = no_memory;
+    }
+    )
+
 -- a text that is held whole behind a line
 pub held_whole : (line text : List ℕ) → length line + length text ≤ 2048
     → line_with line text ≡ line ++ text
@@ -90,9 +122,9 @@ no_items net (item ∷ items) none = absurd (some (item_line net item) none)
     some [] e = cc e
     some (c ∷ cs) e = cc e
 
-pub some_items : (net : Net) (items : List Item) (none : Bool) → none ≡ (length items == 0)
-    → none ≡ false → journal_text net items ≡ [] → ⊥
-some_items net items none is not_none nothing =
-    let empty : (length items == 0) ≡ true =
-    ap (λ (list : List Item). length list == 0) (no_items net items nothing) in
+pub some_items : (net : Net) {items journal : List Item} {none : Bool} → items ≡ journal
+    → none ≡ (length items == 0) → none ≡ false → journal_text net journal ≡ [] → ⊥
+some_items net {items} same is not_none nothing =
+    let empty : (length items == 0) ≡ true = ap (λ (list : List Item). length list == 0)
+    (no_items net items (ap (journal_text net) same ∙ nothing)) in
     cc (sym empty ∙ sym is ∙ not_none)

@@ -1,8 +1,6 @@
-ghost use Rattle.std.specs.Prelude.{◌≡◌, ◌≢◌, ◌≤◌, [], List, Option, ℕ, IsErrOf, IsTrue, OnErr, OnOk, length};
+ghost use Rattle.std.specs.Prelude.{◌≡◌, []};
 ghost use Rattle.net_file.specs.Net.{IsNet};
-ghost use Rattle.journal_text.specs.Gathered.{IsHeld};
 ghost use Rattle.journal_text.specs.Lines.{journal_text};
-ghost use Rattle.shelf.specs.Sink.{GainedPart, Rose};
 ghost use Rattle.shelf.specs.SinkWrites.{IsAfterWrite};
 
 use crate::items::push_line;
@@ -32,43 +30,16 @@ pub fn write_text<K: Sink>(journal: &Journal, net: &Net, sink: &mut K) -> Result
         return block.finish(sink);
     }
     for item in items {
-        match make_room(&mut line, &mut block, sink) {
-            Ok(()) => {}
-            Err(error) => return Err(error),
+        if line.bytes().len() > ROOMY_BYTES {
+            match block.push(line.bytes(), sink) {
+                Ok(()) => line.clear(),
+                Err(error) => return Err(error),
+            }
         }
         push_line(&mut line, net, item);
     }
     match block.push(line.bytes(), sink) {
         Ok(()) => block.finish(sink),
-        Err(error) => Err(error),
-    }
-}
-
-// Lets the block take the lines that are held, unless there is room for one more behind them.
-fn make_room<K: Sink>(line: &mut Line, block: &mut Block, sink: &mut K) -> Result<(), SinkError>
-    ensures room { OnOk result (length line.new ≤ 800) }
-    ensures held { (text : List ℕ) (before : Option (List ℕ))
-        → IsHeld text before (K.state sink.old).bytes block.old line.old
-        → OnOk result (IsHeld text before (K.state sink.new).bytes block.new line.new) }
-    ensures part { (text : List ℕ) (before : Option (List ℕ))
-        → IsHeld text before (K.state sink.old).bytes block.old line.old
-        → OnErr result (GainedPart before text (K.state sink.new).bytes) }
-    ensures faults { (K.state sink.old).faults ≤ (K.state sink.new).faults }
-    ensures calm { result ≢ Err SinkError.Failed
-        → (K.state sink.new).faults ≡ (K.state sink.old).faults }
-    ensures failed { IsErrOf result SinkError.Failed
-        → Rose (K.state sink.old).faults (K.state sink.new).faults }
-    ensures no_memory { IsErrOf result SinkError.NoMemory → IsTrue K.takes_memory }
-{
-    let held = line.bytes();
-    if held.len() <= ROOMY_BYTES {
-        return Ok(());
-    }
-    match block.push(held, sink) {
-        Ok(()) => {
-            line.clear();
-            Ok(())
-        }
         Err(error) => Err(error),
     }
 }

@@ -1,61 +1,70 @@
-use Rattle.std.proofs.Common.{ℕ, List, ◌++◌, ◌∙◌, ap, sym, subst, take, arith}
-use Rattle.shelf.specs.Sink.{GainedPart}
-use Rattle.journal_text.specs.Lines.{journal_text}
-use Rattle.journal_text.proofs.Gains.{part_upto, some_items}
+use Rattle.std.proofs.Common.{◌≡◌, ◌∙◌, ◌∷◌, ◌++◌, [], take}
+use Rattle.journal_text.specs.Gathered.{IsHeld}
+use Rattle.journal_text.specs.Lines.{item_line, journal_text}
+use Rattle.journal_text.proofs.Gains.{gathers_no_more, held_more, held_nothing, lines_more, some_items}
+use Rattle.journal_text.proofs.write.write_text.Goals.{then-bytes-gt-ROOMY_BYTES+in-Ok, else-bytes-gt-ROOMY_BYTES}
 use Rattle.journal_text.proofs.write.write_text.Goals as goal
 
 pub returns-in-Err-clause-after : goal.returns-in-Err-clause-after
 returns-in-Err-clause-after g c =
-    let net = c.args.net.now in
-    let items = c.items-items.result.now in
-    let place = c.loop-item.item-index in
-    let before = (g.K.Sink.state c.args.sink.now).bytes in
-    let now = (g.K.Sink.state c.make_room.new.sink).bytes in
-    let so_far = c.loop-item.invariant in
     let errs = c.in-Err.ensures in
-    record {
-      whole = tt;
-      part = rw (← c.items-items.ensures) (part_upto net items place before now
-          (errs.part (journal_text net (take place items)) before so_far.held));
-      faults = omega (arith, so_far.faults, errs.faults);
-      calm = λ not. errs.calm not ∙ so_far.faults;
-      failed = λ is. omega (arith, so_far.faults, errs.failed is);
-      no_memory = errs.no_memory;
-    }
+    gathers_no_more c.args.net.now c.loop-item.item-index g.K.Sink.takes_memory
+    (g.K.Sink.state c.args.sink.now) (g.K.Sink.state c.loop-item.sink)
+    (g.K.Sink.state c.push.new.sink) c.in-Err.error c.items-items.ensures
+    c.loop-item.invariant.held c.loop-item.invariant.faults
+    c.bytes-then-bytes-gt-ROOMY_BYTES.ensures.held errs.part errs.faults errs.calm errs.failed
+    errs.no_memory
 
 pub returns-in-Err-push-clause-after : goal.returns-in-Err-push-clause-after
 returns-in-Err-push-clause-after g c =
+    let errs = c.in-Err-push.ensures in
+    gathers_no_more c.args.net.now c.loop-item.item-index g.K.Sink.takes_memory
+    (g.K.Sink.state c.args.sink.now) (g.K.Sink.state c.loop-item.sink)
+    (g.K.Sink.state c.push-2.new.sink) c.in-Err-push.error c.items-items.ensures
+    c.loop-item.invariant.held c.loop-item.invariant.faults c.bytes-2.ensures.held errs.part
+    errs.faults errs.calm errs.failed errs.no_memory
+
+pub loop-item-preserved : goal.loop-item-preserved
+loop-item-preserved g c =
     let net = c.args.net.now in
     let items = c.items-items.result.now in
-    let place = c.loop-item.item-index in
-    let before = (g.K.Sink.state c.args.sink.now).bytes in
-    let now = (g.K.Sink.state c.push.new.sink).bytes in
-    let so_far = c.loop-item.invariant in
-    let held = so_far.held in
-    let errs = c.in-Err-push.ensures in
+    let first = g.K.Sink.state c.args.sink.now in
+    let old = g.K.Sink.state c.loop-item.sink in
+    let now = g.K.Sink.state c.if-bytes-gt-ROOMY_BYTES.sink in
+    let text = journal_text net (take c.loop-item.item-index items) in
+    let item = c.item-item.result in
+    let is = c.loop-item.invariant in
+    let kept : IsHeld text first.bytes now.bytes c.if-bytes-gt-ROOMY_BYTES.block
+    c.if-bytes-gt-ROOMY_BYTES.line × (now.faults ≡ first.faults) =
+    elim c.if-bytes-gt-ROOMY_BYTES.branch [
+      | then-bytes-gt-ROOMY_BYTES+in-Ok w ↦ rw (w.sink-is, w.block-is, w.line-is, w.clear.ensures) (
+        held_nothing text first.bytes old.bytes (g.K.Sink.state w.push.new.sink).bytes
+            c.loop-item.block c.loop-item.line w.push.new.self
+            w.bytes-then-bytes-gt-ROOMY_BYTES.result.now is.held
+            w.bytes-then-bytes-gt-ROOMY_BYTES.ensures.held
+            (w.in-Ok.ensures.gathered is.held.front first.bytes is.held.gathered),
+        w.in-Ok.ensures.calm (λ e. cc) ∙ is.faults,
+      )
+      | else-bytes-gt-ROOMY_BYTES w ↦
+          rw (w.sink-is, w.block-is, w.line-is) (is.held, is.faults)
+    ] in
     record {
-      whole = tt;
-      part = rw (← c.items-items.ensures) (part_upto net items place before now
-          (subst (λ (text : List ℕ). GainedPart before text now)
-          (ap (λ (line : List ℕ). held.front ++ line) c.bytes.ensures.held ∙ sym held.whole)
-          (errs.part held.front before held.gathered)));
-      faults = omega (arith, so_far.faults, errs.faults);
-      calm = λ not. errs.calm not ∙ so_far.faults;
-      failed = λ is. omega (arith, so_far.faults, errs.failed is);
-      no_memory = errs.no_memory;
+      held = rw (
+        c.push_line.ensures,
+        lines_more net items c.loop-item.item-index item c.loop-item-test.true c.item-item.is,
+      ) (held_more text (item_line net item ++ 10 ∷ []) first.bytes now.bytes
+          c.if-bytes-gt-ROOMY_BYTES.block c.if-bytes-gt-ROOMY_BYTES.line kept.0);
+      faults = kept.1;
     }
 
 pub returns-in-Err-clause-no_text : goal.returns-in-Err-clause-no_text
 returns-in-Err-clause-no_text g c = λ none.
-    absurd (some_items c.args.net.now c.items-items.result.now c.is_empty.result c.is_empty.ensures
-    c.if-is_empty.false (ap (journal_text c.args.net.now) c.items-items.ensures ∙ none))
+    absurd (some_items c.args.net.now c.items-items.ensures c.is_empty.ensures c.if-is_empty.false none)
 
 pub returns-in-Ok-push-clause-no_text : goal.returns-in-Ok-push-clause-no_text
 returns-in-Ok-push-clause-no_text g c = λ none.
-    absurd (some_items c.args.net.now c.items-items.result.now c.is_empty.result c.is_empty.ensures
-    c.if-is_empty.false (ap (journal_text c.args.net.now) c.items-items.ensures ∙ none))
+    absurd (some_items c.args.net.now c.items-items.ensures c.is_empty.ensures c.if-is_empty.false none)
 
 pub returns-in-Err-push-clause-no_text : goal.returns-in-Err-push-clause-no_text
 returns-in-Err-push-clause-no_text g c = λ none.
-    absurd (some_items c.args.net.now c.items-items.result.now c.is_empty.result c.is_empty.ensures
-    c.if-is_empty.false (ap (journal_text c.args.net.now) c.items-items.ensures ∙ none))
+    absurd (some_items c.args.net.now c.items-items.ensures c.is_empty.ensures c.if-is_empty.false none)
