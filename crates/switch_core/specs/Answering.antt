@@ -21,7 +21,7 @@ use Rattle.switch_core.specs.Answers as arrival
 use Rattle.switch_core.specs.declared.answers.Arrived.{Arrived}
 use Rattle.switch_core.specs.declared.answers.Entered.{Entered}
 use Rattle.switch_core.specs.declared.packet.Packet.{Packet}
-use Rattle.switch_core.specs.Deciding.{by_entry, by_rule, rule_for_cache, place_of_first, own_part, part_numbered, rule_in}
+use Rattle.switch_core.specs.Deciding.{by_entry, by_rule, packet_with, rule_for_cache, place_of_first, own_part, part_numbered, rule_in}
 use Rattle.switch_core.specs.Ends.{Site, next_of, set_out}
 use Rattle.switch_core.specs.State.{SwitchValue, held_tables, holds_version, serves, stamp_tables}
 
@@ -70,12 +70,7 @@ CanLookUp s = IsTrue (serves s) → IsTrue (holds_version s s.stamp)
 
 -- a packet that comes in at this switch, and met no link
 abbrev pub incoming_packet : SwitchValue → ℕ → Header → Packet
-incoming_packet s number header = record {
-  number = number;
-  header = header;
-  ingress = s.number;
-  down = no_links;
-}
+incoming_packet s number header = packet_with number header s.number no_links
 
 -- closed exactly where the switch doesn't serve
 unfoldable pub admitted : SwitchValue → Site → Packet → Option Answer
@@ -94,12 +89,7 @@ enter_answer s site packet = entry_of (admitted s site packet)
 
 -- the packet that a tunnel carries
 abbrev pub packet_of : TunnelValue → Packet
-packet_of t = record {
-  number = t.packet;
-  header = t.header;
-  ingress = t.ingress;
-  down = t.down;
-}
+packet_of t = packet_with t.packet t.header t.ingress t.down
 
 -- on a leg of a version whose tables the switch has, the leg's partition is one of its own and has
 -- the header
