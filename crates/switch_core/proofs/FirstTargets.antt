@@ -1,6 +1,5 @@
 -- A route to one switch is the route to any targets of which it is the first.
 use Rattle.std.proofs.Common.{ℕ, ◌≡◌, ◌<◌, List, [], ◌∷◌, Option, Some, None, length, get_or, arith}
-use Rattle.std.specs.Prelude.{IfOk, IfSome, Result, Ok, Err}
 use Rattle.failover.specs.declared.advert.Advert.{Advert}
 use Rattle.failover.specs.Links.{known_links}
 use Rattle.failover.specs.Routes.{first_route, route_of, route_to}
@@ -22,13 +21,3 @@ to_any adverts from near (target ∷ others) down route d some is =
         ] ≡ Some route
     by_found (Some r) is = is
     by_found None is = absurd cc
-
-pub found_to_any : {E : Type 0} (adverts : List (Option Advert)) (from near : ℕ)
-    (targets down : List ℕ) (d : ℕ) (r : Result (Option (List ℕ)) E) → 0 < length targets
-    → IfOk r (λ found. IfSome found (λ route.
-    route_of adverts from (get_or targets 0 d ∷ []) near down ≡ Some route))
-    → IfOk r (λ found. IfSome found (λ route. route_of adverts from targets near down ≡ Some route))
-found_to_any adverts from near targets down d (Ok (Some route)) some is =
-    to_any adverts from near targets down route d some is
-found_to_any adverts from near targets down d (Ok None) some is = is
-found_to_any adverts from near targets down d (Err e) some is = is

@@ -14,32 +14,10 @@ use tunnel::Tunnel;
 
 impl Switch {
     /// The route of a packet that sets out here on this leg, to the first of its targets that it
-    /// reaches, and found these links down, if any. No tunnel is made for it.
+    /// reaches, and found these links down, if any. No tunnel is made for it, and those that found
+    /// none down share their route.
     ///
     /// `near` has a bit for each switch to which there is a usable link.
-    ///
-    /// # Errors
-    /// Why there is none.
-    pub fn way(
-        &self,
-        near: u64,
-        down: Option<&DownSet>,
-        leg: Leg,
-        targets: &Targets,
-    ) -> Result<Route, Cause>
-        ensures { (number : ℕ) (header : HeaderValue) (ingress : ℕ) → set_out self.now near
-            (packet_with number header ingress (unwrap_or (option_copied down.entry) no_links))
-            leg targets.now ≡ begun_by
-            (packet_with number header ingress (unwrap_or (option_copied down.entry) no_links))
-            leg targets.now result }
-    {
-        match down {
-            None => self.way_past(near, &DownSet::empty(), leg, targets),
-            Some(links) => self.way_past(near, links, leg, targets),
-        }
-    }
-
-    /// The same, shared by the packets that take it and found no link down.
     ///
     /// # Errors
     /// Want of memory alone. Why there is none is inside.
@@ -60,59 +38,23 @@ impl Switch {
             leg targets.now way) }
         ensures same { self.new ≡ self.old }
     {
-        if down.is_none() {
-            let number = self.number;
-            if let Some(route) = self.database.to_first(alloc, number, targets, near)? {
-                return Ok(Ok(route));
-            }
+        let number = self.number;
+        match self.database.to_first(alloc, number, targets, near, down)? {
+            None => Ok(Err(self.no_way(near, down, &leg, targets))),
+            Some(route) => Ok(Ok(route)),
         }
-        self.own_way(alloc, near, down, leg, targets)
     }
 
-    // The same, of a route of its own.
+    // Why there is none past these links.
     #[cold]
     #[inline(never)]
-    fn own_way(
-        &self,
-        alloc: Global,
-        near: u64,
-        down: Option<&DownSet>,
-        leg: Leg,
-        targets: &Targets,
-    ) -> Result<Result<Shared<Route>, Cause>, AllocError>
-        ensures { IfOk result (λ way. (number : ℕ) (header : HeaderValue) (ingress : ℕ) →
-            set_out self.now near
-            (packet_with number header ingress (unwrap_or (option_copied down.entry) no_links))
-            leg targets.now ≡ begun_by
-            (packet_with number header ingress (unwrap_or (option_copied down.entry) no_links))
-            leg targets.now way) }
+    fn no_way(&self, near: u64, down: Option<&DownSet>, leg: &Leg, targets: &Targets) -> Cause
+        ensures { result ≡ cause_of self.now near
+            (unwrap_or (option_copied down.entry) no_links) leg.now targets.now }
     {
-        match self.way(near, down, leg, targets) {
-            Err(cause) => Ok(Err(cause)),
-            Ok(route) => Ok(Ok(Shared::new(alloc, route)?)),
-        }
-    }
-
-    // Past these links.
-    #[tactic(auto, unfolding(crate::specs::Ends::set_out))]
-    fn way_past(
-        &self,
-        near: u64,
-        down: &DownSet,
-        leg: Leg,
-        targets: &Targets,
-    ) -> Result<Route, Cause>
-        ensures { (number : ℕ) (header : HeaderValue) (ingress : ℕ) →
-            set_out self.now near (packet_with number header ingress down.now) leg targets.now
-            ≡ begun_by (packet_with number header ingress down.now) leg targets.now result }
-    {
-        match self
-            .database
-            .database()
-            .route(self.number, targets, near, down)
-        {
-            None => Err(self.cause(near, down, &leg, targets)),
-            Some(route) => Ok(route),
+        match down {
+            None => self.cause(near, &DownSet::empty(), leg, targets),
+            Some(links) => self.cause(near, links, leg, targets),
         }
     }
 
@@ -120,6 +62,7 @@ impl Switch {
     ///
     /// # Errors
     /// Why there is none.
+    #[tactic(auto, unfolding(crate::specs::Ends::set_out))]
     pub(crate) fn set_out(
         &self,
         near: u64,
@@ -129,9 +72,10 @@ impl Switch {
     ) -> Result<Tunnel, Cause>
         ensures { result ≡ set_out self.now near packet.now leg targets.now }
     {
-        match self.way_past(near, &packet.down, leg, targets) {
-            Err(cause) => Err(cause),
-            Ok(route) => Ok(Tunnel::begin(
+        let database = self.database.database();
+        match database.route(self.number, targets, near, &packet.down) {
+            None => Err(self.cause(near, &packet.down, &leg, targets)),
+            Some(route) => Ok(Tunnel::begin(
                 packet.number,
                 packet.header,
                 packet.ingress,

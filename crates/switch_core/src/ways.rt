@@ -1,4 +1,5 @@
-ghost use Rattle.std.specs.Prelude.{◌≡◌, ◌∷◌, [], All, IfOk, IfSome, Some};
+ghost use Rattle.std.specs.Prelude.{◌≡◌, ◌∷◌, [], All, IfOk, IfSome, Some, unwrap_or};
+ghost use Rattle.std.specs.Option.{option_copied};
 ghost use Rattle.failover.specs.Exports.{after_hearing, is_news, no_adverts, no_links, route_of};
 ghost use Rattle.switch_core.specs.Ways.{IsWayBy};
 
@@ -76,8 +77,8 @@ impl Ways {
         self.database = Database::empty();
     }
 
-    /// A route to the first of the targets, where no link was found down, shared by those who asked
-    /// for it; `None` where none leads there.
+    /// A route to the first of the targets that is reached past these links, where any were found
+    /// down; `None` where none leads there. Where none was, those who ask for it share it.
     ///
     /// # Errors
     /// Want of memory alone.
@@ -87,16 +88,19 @@ impl Ways {
         from: u32,
         targets: &Targets,
         near: u64,
+        down: Option<&DownSet>,
     ) -> Result<Option<Shared<Route>>, AllocError>
-        ensures route { IfOk result (λ found. IfSome found (λ route.
-            route_of self.old from targets.now near no_links ≡ Some route)) }
+        ensures route { IfOk result (λ found. found ≡ route_of self.old from targets.now near
+            (unwrap_or (option_copied down.entry) no_links)) }
         ensures same { self.new ≡ self.old }
     {
-        let target = targets.items()[0];
-        if let Some(route) = self.kept_way(from, target, near) {
+        if let Some(links) = down {
+            return self.own_way(alloc, from, targets, near, links);
+        }
+        if let Some(route) = self.kept_way(from, targets.items()[0], near) {
             return Ok(Some(route.clone()?));
         }
-        self.find_way(alloc, from, target, near)
+        self.find_way(alloc, from, targets, near)
     }
 
     // The route that is kept, if one is.
@@ -112,25 +116,26 @@ impl Ways {
         None
     }
 
-    // A route that wasn't kept, which is kept from now on.
+    // A route that wasn't kept, and is from now on where it leads to the first target of all.
     #[cold]
     #[inline(never)]
     fn find_way(
         &mut self,
         alloc: Global,
         from: u32,
-        target: u32,
+        targets: &Targets,
         near: u64,
     ) -> Result<Option<Shared<Route>>, AllocError>
-        ensures route { IfOk result (λ found. IfSome found (λ route.
-            route_of self.old from (target ∷ []) near no_links ≡ Some route)) }
+        ensures route { IfOk result (λ found. found ≡ route_of self.old from targets.now near
+            no_links) }
         ensures same { self.new ≡ self.old }
     {
+        let target = targets.items()[0];
         let alone = Targets::new(&[target]).unwrap();
-        let Some(route) = self.database.route(from, &alone, near, &DownSet::empty()) else {
-            return Ok(None);
+        let down = DownSet::empty();
+        let Some(route) = self.own_way(alloc, from, &alone, near, &down)? else {
+            return self.own_way(alloc, from, targets, near, &down);
         };
-        let route = Shared::new(alloc, route)?;
         if self.kept.len() >= MOST {
             self.kept.clear();
         }
@@ -141,5 +146,24 @@ impl Ways {
             route: route.clone()?,
         })?;
         Ok(Some(route))
+    }
+
+    // A route past these links, which no other packet shares yet.
+    #[cold]
+    #[inline(never)]
+    fn own_way(
+        &self,
+        alloc: Global,
+        from: u32,
+        targets: &Targets,
+        near: u64,
+        down: &DownSet,
+    ) -> Result<Option<Shared<Route>>, AllocError>
+        ensures { IfOk result (λ found. found ≡ route_of self.now from targets.now near down.now) }
+    {
+        match self.database.route(from, targets, near, down) {
+            None => Ok(None),
+            Some(route) => Ok(Some(Shared::new(alloc, route)?)),
+        }
     }
 }

@@ -1,22 +1,18 @@
 use Rattle.std.proofs.Common.{◌≡◌, ◌∙◌, ap, sym, subst, Some, List, ℕ}
-use Rattle.std.specs.Prelude.{IfOk, IfSome}
+use Rattle.std.specs.Option.{option_copied}
+use Rattle.std.specs.Prelude.{unwrap_or}
 use Rattle.failover.specs.Links.{no_links}
 use Rattle.failover.specs.Routes.{route_of}
-use Rattle.switch_core.proofs.FirstTargets.{found_to_any, to_any}
+use Rattle.switch_core.proofs.FirstTargets.{to_any}
 use Rattle.switch_core.proofs.ways.Ways.to_first.Goals as goal
 
-pub returns-in-Some-clause-route : goal.returns-in-Some-clause-route
-returns-in-Some-clause-route c =
-    subst (λ (targets : List ℕ). route_of c.args.self.now c.args.from targets c.args.near no_links
-    ≡ Some c.in-Some.route.now) c.items.ensures.list
-    (to_any c.args.self.now c.args.from c.args.near c.items.result.now no_links
-    c.in-Some.route.now _ (rw c.items.ensures.list c.items.ensures.some) c.in-Some.ensures)
-    ∙ ap Some (sym c.in_ok-clone.ensures.cases)
-
-pub returns-clause-route : goal.returns-clause-route
-returns-clause-route c =
-    subst (λ (targets : List ℕ). IfOk c.find_way.result (λ found. IfSome found (λ route.
-    route_of c.args.self.now c.args.from targets c.args.near no_links ≡ Some route)))
-    c.items.ensures.list
-    (found_to_any c.args.self.now c.args.from c.args.near c.items.result.now no_links _
-    c.find_way.result (rw c.items.ensures.list c.items.ensures.some) c.find_way.ensures.route)
+pub returns-in-Some-kept_way-clause-route : goal.returns-in-Some-kept_way-clause-route
+returns-in-Some-kept_way-clause-route c =
+    let route = c.in-Some-kept_way.route.now in
+    ap Some c.in_ok-clone.ensures.cases
+    ∙ sym (subst (λ (targets : List ℕ). route_of c.args.self.now c.args.from targets c.args.near
+    no_links ≡ Some route) c.items.ensures.list
+    (to_any c.args.self.now c.args.from c.args.near c.items.result.now no_links route _
+    (rw c.items.ensures.list c.items.ensures.some) c.in-Some-kept_way.ensures))
+    ∙ ap (λ links. route_of c.args.self.now c.args.from c.args.targets.now c.args.near
+    (unwrap_or links no_links)) (ap option_copied (sym c.in_default.is))
