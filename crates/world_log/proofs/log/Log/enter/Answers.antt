@@ -10,8 +10,7 @@ use Rattle.travelling.specs.Travelling.{Standing}
 use Rattle.world_log.specs.Packets.{coming_in}
 use Rattle.world_log.specs.Writing.{LogAfter, arrived_flight, arrived_items, arrived_posts, entered_items, entered_posts, entered_flight, packet_standing}
 use Rattle.world_log.specs.declared.log.Log.{Log}
-use Rattle.world_log.proofs.Logs.{log_behind, log_failed}
-use Rattle.world_log.proofs.Writing.{part_none}
+use Rattle.world_log.proofs.Logs.{log_behind, log_unwritten}
 use Rattle.world_log.proofs.log.Log.enter.Goals as goal
 
 -- what is written of a packet, where its switch is closed or says this of it
@@ -50,8 +49,7 @@ returns-in-None-clause-log c =
 
 pub returns-in_err-push-in-Some-clause-log : goal.returns-in_err-push-in-Some-clause-log
 returns-in_err-push-in-Some-clause-log c =
-    log_failed c.from_residual.result _ _ _ _ _ _ c.from_residual.ensures.0
-    (part_none _ _ _ c.in_err-push-in-Some.ensures.unchanged)
+    log_unwritten c.from_residual.ensures.0 c.in_err-push-in-Some.ensures.unchanged
 
 pub returns-in_ok-push-in-Some-clause-log : goal.returns-in_ok-push-in-Some-clause-log
 returns-in_ok-push-in-Some-clause-log c =

@@ -15,8 +15,8 @@ use Rattle.tunnel.specs.Tunnel.{TunnelValue}
 use Rattle.update_machine.specs.Messages.{sent_from}
 use Rattle.world_log.specs.Writing.{LogAfter, arrived_flight, arrived_items, arrived_posts, cache_message, messages_in, packet_standing, set_item, set_flight}
 use Rattle.world_log.proofs.Going.{sought, way_is}
-use Rattle.world_log.proofs.Logs.{log_ends, log_failed}
-use Rattle.world_log.proofs.Writing.{both_written, part_first, part_none}
+use Rattle.world_log.proofs.Logs.{log_ends, log_failed, log_unwritten}
+use Rattle.world_log.proofs.Writing.{both_written, part_first}
 use Rattle.world_log.proofs.log.Log.settle.Goals as goal
 
 pub returns-in-Out-clause-log : goal.returns-in-Out-clause-log
@@ -34,8 +34,7 @@ returns-in-Out-clause-log c =
 
 pub returns-in_err-push-in-Decided-clause-log : goal.returns-in_err-push-in-Decided-clause-log
 returns-in_err-push-in-Decided-clause-log c =
-    log_failed c.from_residual.result _ _ _ _ _ _ c.from_residual.ensures.0
-    (part_none _ _ _ c.in_err-push-in-Decided.ensures.unchanged)
+    log_unwritten c.from_residual.ensures.0 c.in_err-push-in-Decided.ensures.unchanged
 
 pub returns-in_err-send_rule-in-Decided-clause-log : goal.returns-in_err-send_rule-in-Decided-clause-log
 returns-in_err-send_rule-in-Decided-clause-log c =
@@ -77,8 +76,7 @@ returns-in_ok-send_rule-in-Decided-clause-log c =
 
 pub returns-in_err-way-in-Seek-clause-log : goal.returns-in_err-way-in-Seek-clause-log
 returns-in_err-way-in-Seek-clause-log c =
-    log_failed c.from_residual-in_err-way-in-Seek.result _ _ _ _ _ _
-    c.from_residual-in_err-way-in-Seek.ensures.0 (part_none _ _ _ refl)
+    log_unwritten c.from_residual-in_err-way-in-Seek.ensures.0 refl
 
 pub returns-in_ok-way-in-Seek-clause-log : goal.returns-in_ok-way-in-Seek-clause-log
 returns-in_ok-way-in-Seek-clause-log c =

@@ -1,14 +1,11 @@
 use Rattle.std.proofs.Common.{None, [], ◌∷◌, refl, subst}
 use Rattle.journal.specs.declared.item.Item.TheVariants as item
 use Rattle.world_log.specs.Writing.{LogAfter}
-use Rattle.world_log.proofs.Logs.{log_failed}
-use Rattle.world_log.proofs.Writing.{part_none}
+use Rattle.world_log.proofs.Logs.{log_unwritten}
 use Rattle.world_log.proofs.log.Log.stuck.Goals as goal
 
 pub returns-in_err-down : goal.returns-in_err-down
-returns-in_err-down c =
-    log_failed c.from_residual.result _ _ _ _ _ _ c.from_residual.ensures.0
-    (part_none _ _ _ refl)
+returns-in_err-down c = log_unwritten c.from_residual.ensures.0 refl
 
 pub returns : goal.returns
 returns c =
