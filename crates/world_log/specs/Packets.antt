@@ -1,21 +1,23 @@
 -- What becomes of the journal and of the packets on their way as a packet comes in or moves on.
-use Rattle.std.specs.Prelude.{ℕ, Option, Some, None, List, [], ◌∷◌, ◌++◌}
+use Rattle.std.specs.Prelude.{ℕ, ◌≡◌, ◌+◌, ◌-◌, ◌^◌, ◌<◌, IsSomeAnd, IsTrue, Option, Some, None, List, [], ◌∷◌, ◌++◌, length, Result, OnOk}
 use Rattle.message_bag.specs.Posts.{Post}
 use Rattle.failover.specs.Links.{no_links}
 use Rattle.five_tuple.specs.declared.header.Header.{Header}
 use Rattle.journal.specs.declared.item.Item.{Item}
 use Rattle.journal.specs.declared.item.Item.TheVariants as item
 use Rattle.net_file.specs.declared.ports.Ports.{Ports}
-use Rattle.switch_core.specs.Answering.{admitted, incoming_packet, received}
+use Rattle.switch_core.specs.Answering.{CanLookUp, IsAtAuthority, admitted, incoming_packet, received}
 use Rattle.switch_core.specs.Ends.{around}
-use Rattle.switch_core.specs.Moving.{link_found_down, hop_answer}
-use Rattle.switch_core.specs.State.{SwitchValue, call_counted}
+use Rattle.switch_core.specs.Moving.{StandsAt, link_found_down, hop_answer}
+use Rattle.switch_core.specs.State.{SwitchValue, call_counted, serves}
 use Rattle.switch_core.specs.Answers.{Answer}
+use Rattle.switch_core.specs.declared.site.Site as given
 use Rattle.switch_core.specs.declared.answers.HopEnd.{HopEnd}
 use Rattle.switch_core.specs.declared.answers.HopEnd.TheVariants as hop
 use Rattle.tunnel.specs.Moves.{next}
-use Rattle.travelling.specs.Travelling.{Flight, Standing, standing_at}
-use Rattle.world_log.specs.Writing.{arrived_items, arrived_posts, arrived_flight}
+use Rattle.travelling.specs.Travelling.{Flight, Standing, flight, standing_at}
+use Rattle.world_log.specs.Writing.{LogAfter, arrived_items, arrived_posts, arrived_flight}
+use Rattle.world_log.specs.declared.log.Log.{Log}
 
 -- a packet that comes in at a switch
 abbrev pub coming_in : ℕ → Header → ℕ → Standing
@@ -103,3 +105,33 @@ hop_flight s near ports t =
 
 abbrev pub hopped_switch : SwitchValue → ℕ → Flight → SwitchValue
 hopped_switch s near t = ended_switch (call_counted s) (hop_answer s near t.tunnel).end
+
+-- ---- what a hop needs, and all that it makes of a log
+
+-- the packet of this number stands at the switch, which can be asked of it, and can decide it if it
+-- arrives there; and the log has room for a message
+pub record MayGoOn (log : Log) (packet : ℕ) (s : SwitchValue) (near : ℕ) : Type 0 where
+  pub known : IsSomeAnd (flight log.travelling packet) (λ t. t.tunnel.packet ≡ packet)
+  pub here : (t : Flight) → flight log.travelling packet ≡ Some t
+      → StandsAt s t.tunnel.route t.tunnel.place
+  pub serving : IsTrue (serves s)
+  pub stamped : CanLookUp s
+  pub authority : (t : Flight) → flight log.travelling packet ≡ Some t
+      → (hop_answer s near t.tunnel).end ≡ hop.Arrive
+      → IsAtAuthority s t.tunnel.header t.tunnel.leg
+  pub ingress : (t : Flight) → flight log.travelling packet ≡ Some t → t.tunnel.ingress < 64
+  pub few : length log.bag < 2 ^ 32 - 1
+
+-- what its hop wrote and posted, where it is then, and that its switch was asked so often
+pub record HasHopped {T E : Type 0} (result : Result T E) (packet : ℕ) (before : SwitchValue)
+    (near : ℕ) (ports : Ports) (old : Log) (after : SwitchValue) (new : Log) (t : Flight)
+    : Type 0 where
+  pub log : LogAfter result (hop_written (length old.bag + 1) before near ports t)
+      (hop_posts before near ports t) packet (hop_flight before near ports t) old new
+  pub counted : OnOk result (after ≡ hopped_switch before near t)
+
+-- so it is with the packet of this number, where the switch was put to it at this site
+abbrev pub Hops : {T E : Type 0} → Result T E → ℕ → SwitchValue → given.Site → Log → SwitchValue
+    → Log → Type 0
+Hops result packet before site old after new = (t : Flight) → flight old.travelling packet ≡ Some t
+    → HasHopped result packet before site.near site.ports.now old after new t

@@ -1,12 +1,11 @@
-ghost use Rattle.std.specs.Prelude.{◌≡◌, ◌+◌, ◌-◌, ◌^◌, ◌<◌, ◌++◌, [], ◌∷◌, Some, IfOk, IsSome, IsSomeAnd, IsTrue, OnOk, OnErr, length, map};
+ghost use Rattle.std.specs.Prelude.{◌≡◌, ◌+◌, ◌-◌, ◌^◌, ◌<◌, ◌++◌, [], ◌∷◌, Some, IfOk, IsSomeAnd, OnOk, OnErr, length, map};
 ghost use Rattle.message_bag.specs.Posts.{new_post};
-ghost use Rattle.switch_core.specs.Exports.{CanLookUp, IsAtAuthority, StandsAt, answer_of, cached_by, call_counted, hop_answer, link_found_down, next_of, serves, site_of};
-ghost use Rattle.switch_core.specs.declared.answers.HopEnd.TheVariants.{Arrive};
-ghost use Rattle.travelling.specs.Travelling.{Flight, flight, standing_kept, travels_by};
+ghost use Rattle.switch_core.specs.Exports.{CanLookUp, answer_of, cached_by, call_counted, link_found_down, next_of, site_of};
+ghost use Rattle.travelling.specs.Travelling.{flight, standing_kept, travels_by};
 ghost use Rattle.journal.specs.declared.item.Item.TheVariants.{Rerouted};
 ghost use Rattle.tunnel.specs.Moves.{next};
 ghost use Rattle.update_machine.specs.Exports.{sent_from};
-ghost use Rattle.world_log.specs.Packets.{coming_in, entry, hop_posts, hop_flight, hop_written, hopped_switch};
+ghost use Rattle.world_log.specs.Packets.{Hops, MayGoOn, coming_in, entry};
 ghost use Rattle.world_log.specs.Writing.{LogAfter, arrived_items, arrived_posts, arrived_flight, cache_message, decided_flight, end_item, entered_items, entered_posts, entered_flight, messages_in, packet_standing};
 
 use crate::log::{Log, leaves};
@@ -89,33 +88,17 @@ impl Log {
         switch: &mut Switch,
         site: Site,
     ) -> Result<(), AllocError>
-        requires known { IsSomeAnd (flight self.old.travelling packet)
-            (λ t. t.tunnel.packet ≡ packet) }
-        requires here { (t : Flight) → flight self.old.travelling packet ≡ Some t
-            → StandsAt switch.old t.tunnel.route t.tunnel.place }
-        requires serving { IsTrue (serves switch.old) }
-        requires stamped { CanLookUp switch.old }
-        requires authority { (t : Flight) → flight self.old.travelling packet ≡ Some t
-            → (hop_answer switch.old site.near t.tunnel).end ≡ Arrive
-            → IsAtAuthority switch.old t.tunnel.header t.tunnel.leg }
-        requires ingress { (t : Flight) → flight self.old.travelling packet ≡ Some t
-            → t.tunnel.ingress < 64 }
-        requires few { length self.old.bag < 2 ^ 32 - 1 }
-        ensures log { (t : Flight) → flight self.old.travelling packet ≡ Some t
-            → LogAfter result
-            (hop_written (length self.old.bag + 1) switch.old site.entry.near
-            site.entry.ports.now t)
-            (hop_posts switch.old site.entry.near site.entry.ports.now t) packet
-            (hop_flight switch.old site.entry.near site.entry.ports.now t)
-            self.old self.new }
-        ensures counted { (t : Flight) → flight self.old.travelling packet ≡ Some t
-            → OnOk result (switch.new ≡ hopped_switch switch.old site.entry.near t) }
+        requires { MayGoOn self.old packet switch.old site.near }
+        ensures { Hops result packet switch.old site.entry self.old switch.new self.new }
     {
         let kept = self.travelling.look(packet).unwrap();
         let route = kept.route();
         let place = kept.place();
         match switch.pass(route, place, site.near) {
-            None => self.go_around(alloc, packet, switch, site),
+            None => {
+                let other = route.items()[place as usize + 1];
+                self.go_around(alloc, packet, other, switch, site)
+            }
             Some(Some(next)) => self.move_on(packet, place + 1, next),
             Some(None) => {
                 let leg = kept.leg();
@@ -132,40 +115,23 @@ impl Log {
         }
     }
 
-    // `hop` where a link is found down, by a copy of the packet's tunnel. The compiler clears the
-    // room of this copy wherever the function's code stands, so it isn't inlined into the common way.
+    // `hop` where the link to this switch is found down, by a copy of the packet's tunnel. The
+    // compiler clears the room of this copy wherever the function's code stands, so it isn't inlined
+    // into the common way.
     #[cold]
     #[inline(never)]
     fn go_around(
         &mut self,
         alloc: Global,
         packet: u32,
+        other: u32,
         switch: &mut Switch,
         site: Site,
     ) -> Result<(), AllocError>
-        requires known { IsSomeAnd (flight self.old.travelling packet)
-            (λ t. t.tunnel.packet ≡ packet) }
-        requires here { (t : Flight) → flight self.old.travelling packet ≡ Some t
-            → StandsAt switch.old t.tunnel.route t.tunnel.place }
-        requires serving { IsTrue (serves switch.old) }
-        requires stamped { CanLookUp switch.old }
-        requires authority { (t : Flight) → flight self.old.travelling packet ≡ Some t
-            → (hop_answer switch.old site.near t.tunnel).end ≡ Arrive
-            → IsAtAuthority switch.old t.tunnel.header t.tunnel.leg }
-        requires ingress { (t : Flight) → flight self.old.travelling packet ≡ Some t
-            → t.tunnel.ingress < 64 }
+        requires may { MayGoOn self.old packet switch.old site.near }
         requires blocked { IsSomeAnd (flight self.old.travelling packet)
-            (λ t. IsSome (link_found_down site.near (next t.tunnel))) }
-        requires few { length self.old.bag < 2 ^ 32 - 1 }
-        ensures log { (t : Flight) → flight self.old.travelling packet ≡ Some t
-            → LogAfter result
-            (hop_written (length self.old.bag + 1) switch.old site.entry.near
-            site.entry.ports.now t)
-            (hop_posts switch.old site.entry.near site.entry.ports.now t) packet
-            (hop_flight switch.old site.entry.near site.entry.ports.now t)
-            self.old self.new }
-        ensures counted { (t : Flight) → flight self.old.travelling packet ≡ Some t
-            → OnOk result (switch.new ≡ hopped_switch switch.old site.entry.near t) }
+            (λ t. link_found_down site.near (next t.tunnel) ≡ Some other) }
+        ensures { Hops result packet switch.old site.entry self.old switch.new self.new }
     {
         let kept = self.travelling.look(packet).unwrap();
         let version = kept.version();
@@ -174,7 +140,6 @@ impl Log {
         let mut tunnel = kept.tunnel();
         let hop = switch.hop(&mut tunnel, site.near);
         let here = switch.number();
-        let other = hop.found.unwrap();
         self.journal.push(Item::FoundDown {
             packet,
             one: here,

@@ -2,13 +2,14 @@
 use Rattle.std.proofs.Common.{ℕ, ◌≡◌, ◌+◌, ◌++◌, ◌∷◌, ◌<◌, [], Option, Some, None, List, ap, length, refl, subst, sym, ◌∙◌}
 use Rattle.std.specs.Option.{option_copied}
 use Rattle.std.specs.Prelude.{IsErr, IsSomeAnd, Result, slice_get}
+use Rattle.std.proofs.lemmas.Result.{on_ok_weaker}
 use Rattle.journal.specs.declared.item.Item.{Item}
 use Rattle.journal.specs.declared.item.Item.TheVariants as item
 use Rattle.message_bag.specs.Posts.{Post}
 use Rattle.policy_rules.specs.declared.packet.Leg.{Leg}
 use Rattle.switch_core.specs.Answering.{IsAtAuthority, arrived_on}
 use Rattle.switch_core.specs.Ends.{around}
-use Rattle.switch_core.specs.Moving.{StandsAt, hop_answer}
+use Rattle.switch_core.specs.Moving.{StandsAt, hop_answer, link_found_down}
 use Rattle.switch_core.specs.State.{SwitchValue, call_counted}
 use Rattle.switch_core.proofs.OnWay.{hop_ends, hop_stays}
 use Rattle.switch_core.specs.declared.answers.HopEnd.{HopEnd}
@@ -16,32 +17,32 @@ use Rattle.switch_core.specs.declared.answers.HopEnd.TheVariants as hop
 use Rattle.travelling.specs.Travelling.{Flight, Standing, WithOne, standing_at, standing_kept, flight}
 use Rattle.tunnel.specs.Moves.{next}
 use Rattle.tunnel.specs.Tunnel.{TunnelValue}
-use Rattle.world_log.specs.Packets.{ended_flight, ended_items, ended_posts, hop_posts, hop_flight, hop_written, turned_items}
+use Rattle.world_log.specs.Packets.{HasHopped, ended_flight, ended_items, ended_posts, ended_switch, turned_items}
 use Rattle.world_log.specs.Writing.{LogAfter, arrived_items, arrived_posts, arrived_flight, packet_standing}
 use Rattle.world_log.specs.declared.log.Log.{Log}
 use Rattle.world_log.proofs.Hopping.{SamePacket, authority_counted, hopped_same}
 use Rattle.world_log.proofs.Logs.{log_failed, log_one}
-use Rattle.world_log.proofs.Passing.{IsMet, arrival_log, met_log, met_turned, of_kept, placed, settled_log, stood}
-use Rattle.world_log.proofs.Writing.{both_written}
+use Rattle.world_log.proofs.Passing.{IsMet, arrival_log, met_log, met_switch, met_turned, of_kept, placed, settled_log, stood}
+use Rattle.world_log.proofs.Writing.{both_written, none_ok}
 use Rattle.world_log.proofs.log.Log.go_around.Goals as goal
-use Rattle.world_log.proofs.log.Log.go_around.Goals.{After-unwrap-other}
+use Rattle.world_log.proofs.log.Log.go_around.Goals.{After-number-here}
 
 pub hop-hop-requires-clause-here : goal.hop-hop-requires-clause-here
 hop-hop-requires-clause-here c =
     stood c.args.switch.now (flight c.args.self.now.travelling c.args.packet)
     c.unwrap-kept.result.now c.tunnel-tunnel.result
     (sym (ap option_copied c.unwrap-kept.ensures) ∙ c.look.ensures) c.tunnel-tunnel.ensures
-    c.requires.here
+    c.requires.may.here
 
 -- the packet in flight
-abbrev its_flight : After-unwrap-other → Flight
+abbrev its_flight : After-number-here → Flight
 its_flight c = record {
   tunnel = c.tunnel-tunnel.result;
   version = c.version-version.result;
   rule = c.rule-rule.result;
 }
 
-its : (c : After-unwrap-other) → ◌≡◌ {A = Option Flight} (Some (its_flight c))
+its : (c : After-number-here) → ◌≡◌ {A = Option Flight} (Some (its_flight c))
     (flight c.args.self.now.travelling c.args.packet)
 its c =
     let kept = c.unwrap-kept.result.now in
@@ -50,63 +51,64 @@ its c =
     ∙ ap (λ r. Some (record kept { rule = r })) c.rule-rule.ensures
     ∙ sym (ap option_copied c.unwrap-kept.ensures) ∙ c.look.ensures
 
-met : (c : After-unwrap-other) (end : HopEnd) → c.hop-hop.result.end ≡ end
+met : (c : After-number-here) (end : HopEnd) → c.hop-hop.result.end ≡ end
     → IsMet c.args.switch.now c.args.site.near (its_flight c) c.args.packet
-    c.number-here.result c.unwrap-other.result end c.hop-hop.new.t
+    c.number-here.result c.args.other end c.hop-hop.new.t
 met c end is = record {
   same = subst (λ o. IsSomeAnd o (λ (t : Flight). t.tunnel.packet ≡ c.args.packet))
-      (sym (its c)) c.requires.known;
+      (sym (its c)) c.requires.may.known;
   at = c.number-here.ensures.number ∙ ap (λ (w : SwitchValue). w.number) c.hop-hop.ensures.after;
-  found = sym c.hop-hop.ensures.found ∙ c.unwrap-other.ensures;
+  found = subst (λ o. IsSomeAnd o (λ (t : Flight).
+      link_found_down c.args.site.near (next t.tunnel) ≡ Some c.args.other)) (sym (its c))
+      c.requires.blocked;
   ends = sym is ∙ c.hop-hop.ensures.end;
   moves = c.hop-hop.ensures.tunnel;
 }
 
 -- it is the same packet behind the switch's move
-same : (c : After-unwrap-other) → SamePacket (its_flight c).tunnel
+same : (c : After-number-here) → SamePacket (its_flight c).tunnel
     (hop_answer c.args.switch.now c.args.site.near (its_flight c).tunnel).tunnel
 same c = hopped_same c.args.switch.now c.args.site.near (its_flight c).tunnel
 
-packet_is : (c : After-unwrap-other) → c.hop-hop.new.t.packet ≡ c.args.packet
+packet_is : (c : After-number-here) → c.hop-hop.new.t.packet ≡ c.args.packet
 packet_is c = ap (λ (u : TunnelValue). u.packet) c.hop-hop.ensures.tunnel ∙ (same c).packet
     ∙ (met c c.hop-hop.result.end refl).same
 
-leg_was : (c : After-unwrap-other) → c.leg-leg.result ≡ (its_flight c).tunnel.leg
+leg_was : (c : After-number-here) → c.leg-leg.result ≡ (its_flight c).tunnel.leg
 leg_was c = c.leg-leg.ensures
     ∙ ap (λ (u : TunnelValue). u.leg) (sym c.tunnel-tunnel.ensures)
 
-leg_is : (c : After-unwrap-other) → c.leg-leg.result ≡ c.hop-hop.new.t.leg
+leg_is : (c : After-number-here) → c.leg-leg.result ≡ c.hop-hop.new.t.leg
 leg_is c = leg_was c
     ∙ sym (ap (λ (u : TunnelValue). u.leg) c.hop-hop.ensures.tunnel ∙ (same c).leg)
 
 -- what was written up to its new route
-rerouted : (c : After-unwrap-other) (old begun new : List Item)
-    → begun ≡ old ++ item.FoundDown c.args.packet c.number-here.result c.unwrap-other.result ∷ []
+rerouted : (c : After-number-here) (old begun new : List Item)
+    → begun ≡ old ++ item.FoundDown c.args.packet c.number-here.result c.args.other ∷ []
     → new ≡ begun ++ item.Rerouted c.hop-hop.new.t.packet c.hop-hop.new.t.route ∷ []
-    → new ≡ old ++ item.FoundDown c.args.packet c.number-here.result c.unwrap-other.result
+    → new ≡ old ++ item.FoundDown c.args.packet c.number-here.result c.args.other
     ∷ item.Rerouted c.args.packet c.hop-hop.new.t.route ∷ []
 rerouted c old begun new first grown =
     both_written old begun new
-    (item.FoundDown c.args.packet c.number-here.result c.unwrap-other.result ∷ [])
+    (item.FoundDown c.args.packet c.number-here.result c.args.other ∷ [])
     (item.Rerouted c.args.packet c.hop-hop.new.t.route ∷ []) first
     (grown ∙ ap (λ k. begun ++ item.Rerouted k c.hop-hop.new.t.route ∷ []) (packet_is c))
 
 -- ---- what is written of it
 
-abbrev Written : After-unwrap-other → {T E : Type 0} → Result T E → Log → Flight → Type 0
-Written c r now t =
-    let s = c.args.switch.now in
-    let near = c.args.site.near in
-    let ports = c.args.site.ports.now in
-    LogAfter r (hop_written (length c.args.self.now.bag + 1) s near ports t)
-    (hop_posts s near ports t) c.args.packet (hop_flight s near ports t) c.args.self.now now
+abbrev Written : After-number-here → {T E : Type 0} → Result T E → SwitchValue → Log → Flight
+    → Type 0
+Written c r after now t =
+    HasHopped r c.args.packet c.args.switch.now c.args.site.near c.args.site.ports.now
+    c.args.self.now after now t
 
 -- the items of its turn, and then those of its end
-goes_on : (c : After-unwrap-other) {T E : Type 0} (r : Result T E) (end : HopEnd) (mid now : Log)
-    → c.hop-hop.result.end ≡ end
+goes_on : (c : After-number-here) {T E : Type 0} (r : Result T E) (end : HopEnd) (mid now : Log)
+    (after : SwitchValue) → c.hop-hop.result.end ≡ end
     → mid.journal ≡ c.args.self.now.journal ++ turned_items c.args.packet c.number-here.result
-    (Some c.unwrap-other.result) end c.hop-hop.new.t.route
+    (Some c.args.other) end c.hop-hop.new.t.route
     → mid.bag ≡ c.args.self.now.bag → mid.travelling ≡ c.args.self.now.travelling
+    → after ≡ ended_switch (call_counted c.args.switch.now) end
     → let s = call_counted c.args.switch.now in
     let near = c.args.site.near in
     let ports = c.args.site.ports.now in
@@ -115,33 +117,38 @@ goes_on : (c : After-unwrap-other) {T E : Type 0} (r : Result T E) (end : HopEnd
     (ended_posts s near ports u end) c.args.packet (ended_flight s near ports u end) mid now
     → (t : Flight)
     → ◌≡◌ {A = Option Flight} (flight c.args.self.now.travelling c.args.packet) (Some t)
-    → Written c r now t
-goes_on c r end mid now is grown same_bag same log =
-    of_kept (Written c r now) _ (its_flight c) (its c)
-    (met_log r c.args.switch.now c.args.site.near c.args.site.ports.now (its_flight c)
-    (length c.args.self.now.bag + 1) c.args.packet c.number-here.result c.unwrap-other.result end
-    c.hop-hop.new.t c.args.self.now mid now (met c end is) grown same_bag same log)
+    → Written c r after now t
+goes_on c r end mid now after is grown same_bag same asked log =
+    of_kept (Written c r after now) _ (its_flight c) (its c) (record {
+      log = met_log r c.args.switch.now c.args.site.near c.args.site.ports.now (its_flight c)
+          (length c.args.self.now.bag + 1) c.args.packet c.number-here.result c.args.other end
+          c.hop-hop.new.t c.args.self.now mid now (met c end is) grown same_bag same log;
+      counted = on_ok_weaker r (λ _. asked ∙ met_switch c.args.switch.now c.args.site.near
+          (its_flight c) end (met c end is).ends) log.written;
+    })
 
 -- memory runs out behind those of its turn
-fails : (c : After-unwrap-other) {T E : Type 0} (r : Result T E) (end : HopEnd) (now : Log)
-    → IsErr r → c.hop-hop.result.end ≡ end
+fails : (c : After-number-here) {T E : Type 0} (r : Result T E) (end : HopEnd) (now : Log)
+    (after : SwitchValue) → IsErr r → c.hop-hop.result.end ≡ end
     → now.journal ≡ c.args.self.now.journal ++ turned_items c.args.packet c.number-here.result
-    (Some c.unwrap-other.result) end c.hop-hop.new.t.route
+    (Some c.args.other) end c.hop-hop.new.t.route
     → (t : Flight)
     → ◌≡◌ {A = Option Flight} (flight c.args.self.now.travelling c.args.packet) (Some t)
-    → Written c r now t
-fails c r end now failed is grown =
-    of_kept (Written c r now) _ (its_flight c) (its c)
-    (log_failed r _ _ c.args.packet _ c.args.self.now now failed
-    (met_turned c.args.switch.now c.args.site.near c.args.site.ports.now (its_flight c)
-    (length c.args.self.now.bag + 1) c.args.packet c.number-here.result c.unwrap-other.result end
-    c.hop-hop.new.t c.args.self.now.journal now.journal (met c end is) grown))
+    → Written c r after now t
+fails c r end now after failed is grown =
+    of_kept (Written c r after now) _ (its_flight c) (its c) (record {
+      log = log_failed r _ _ c.args.packet _ c.args.self.now now failed
+          (met_turned c.args.switch.now c.args.site.near c.args.site.ports.now (its_flight c)
+          (length c.args.self.now.bag + 1) c.args.packet c.number-here.result c.args.other end
+          c.hop-hop.new.t c.args.self.now.journal now.journal (met c end is) grown);
+      counted = none_ok _ r failed;
+    })
 
 -- ---- there is no other route
 
-pub returns-in_ok-at-in-Stuck-clause-log : goal.returns-in_ok-at-in-Stuck-clause-log
-returns-in_ok-at-in-Stuck-clause-log c =
-    let before = (goal.at.returns-in_ok-at-in-Stuck-clause-log c).After-unwrap-other in
+pub returns-in_ok-at-in-Stuck : goal.returns-in_ok-at-in-Stuck
+returns-in_ok-at-in-Stuck c =
+    let before = (goal.at.returns-in_ok-at-in-Stuck c).After-number-here in
     let s = c.args.switch.now in
     let tunnel = c.hop-hop.new.t in
     let begun : Log = record c.args.self.now { journal = c.push.new.self } in
@@ -149,8 +156,8 @@ returns-in_ok-at-in-Stuck-clause-log c =
     let stuck : ℕ → ℕ → Leg → Type 0 = λ k here leg. LogAfter c.stuck.result
     (item.Stuck tunnel.packet here c.in-Stuck.cause leg tunnel.down ∷ []) [] k None begun
     c.stuck.new.self in
-    goes_on before c.stuck.result (hop.Stuck c.in-Stuck.cause) begun c.stuck.new.self c.in-Stuck.is
-    c.in_ok-push.ensures.pushed refl refl
+    goes_on before c.stuck.result (hop.Stuck c.in-Stuck.cause) begun c.stuck.new.self
+    c.hop-hop.new.self c.in-Stuck.is c.in_ok-push.ensures.pushed refl refl c.hop-hop.ensures.after
     (subst (λ k. stuck k s.number tunnel.leg) (packet_is before)
     (subst (λ leg. stuck tunnel.packet s.number leg) (leg_is before)
     (subst (λ here. stuck tunnel.packet here c.leg-leg.result) is.at
@@ -160,20 +167,20 @@ returns-in_ok-at-in-Stuck-clause-log c =
 
 -- ---- it moves on along another route
 
-pub returns-in_err-put-in-Move-clause-log : goal.returns-in_err-put-in-Move-clause-log
-returns-in_err-put-in-Move-clause-log c =
-    let before = (goal.at.returns-in_err-put-in-Move-clause-log c).After-unwrap-other in
+pub returns-in_err-put-in-Move : goal.returns-in_err-put-in-Move
+returns-in_err-put-in-Move c =
+    let before = (goal.at.returns-in_err-put-in-Move c).After-number-here in
     fails before c.from_residual-in_err-put-in-Move.result (hop.Move c.in-Move.next) (record {
       journal = c.reroute.new.self.journal;
       travelling = c.put.new.self;
       bag = c.reroute.new.self.bag;
-    }) c.from_residual-in_err-put-in-Move.ensures.0 c.in-Move.is
+    }) c.hop-hop.new.self c.from_residual-in_err-put-in-Move.ensures.0 c.in-Move.is
     (rerouted before c.args.self.now.journal c.push.new.self c.reroute.new.self.journal
     c.in_ok-push.ensures.pushed c.in_ok-kept-in-Move.ensures.written)
 
-pub returns-in_ok-put-in-Move-clause-log : goal.returns-in_ok-put-in-Move-clause-log
-returns-in_ok-put-in-Move-clause-log c =
-    let before = (goal.at.returns-in_ok-put-in-Move-clause-log c).After-unwrap-other in
+pub returns-in_ok-put-in-Move : goal.returns-in_ok-put-in-Move
+returns-in_ok-put-in-Move c =
+    let before = (goal.at.returns-in_ok-put-in-Move c).After-number-here in
     let r = c.push-in-Move.result in
     let u : Flight = record (its_flight before) { tunnel = c.hop-hop.new.t } in
     let mid : Log = c.reroute.new.self in
@@ -182,10 +189,10 @@ returns-in_ok-put-in-Move-clause-log c =
       travelling = c.put.new.self;
       bag = c.reroute.new.self.bag;
     } in
-    goes_on before r (hop.Move c.in-Move.next) mid now c.in-Move.is
+    goes_on before r (hop.Move c.in-Move.next) mid now c.hop-hop.new.self c.in-Move.is
     (rerouted before c.args.self.now.journal c.push.new.self mid.journal
     c.in_ok-push.ensures.pushed c.in_ok-kept-in-Move.ensures.written)
-    c.reroute.ensures.unsent c.reroute.ensures.travelling
+    c.reroute.ensures.unsent c.reroute.ensures.travelling c.hop-hop.ensures.after
     (subst (λ k. LogAfter r (item.Hopped k c.in-Move.next ∷ []) [] c.args.packet (Some u) mid now)
     (sym (packet_is before))
     (log_one r (item.Hopped c.args.packet c.in-Move.next) c.args.packet (Some u) mid now
@@ -195,17 +202,17 @@ returns-in_ok-put-in-Move-clause-log c =
 
 -- ---- or it is at its end
 
-pub returns-in_err-at-in-Arrive-clause-log : goal.returns-in_err-at-in-Arrive-clause-log
-returns-in_err-at-in-Arrive-clause-log c =
-    let before = (goal.at.returns-in_err-at-in-Arrive-clause-log c).After-unwrap-other in
+pub returns-in_err-at-in-Arrive : goal.returns-in_err-at-in-Arrive
+returns-in_err-at-in-Arrive c =
+    let before = (goal.at.returns-in_err-at-in-Arrive c).After-number-here in
     let now : Log = c.reroute-in-Arrive.new.self in
     fails before c.from_residual-in_err-at-in-Arrive.result hop.Arrive now
-    c.from_residual-in_err-at-in-Arrive.ensures.0 c.in-Arrive.is
+    c.hop-hop.new.self c.from_residual-in_err-at-in-Arrive.ensures.0 c.in-Arrive.is
     (rerouted before c.args.self.now.journal c.push.new.self now.journal
     c.in_ok-push.ensures.pushed c.in_ok-kept-in-Arrive.ensures.written)
 
 -- where it arrives its switch is asked at the end of its route
-still : (c : After-unwrap-other) → c.hop-hop.result.end ≡ hop.Arrive
+still : (c : After-number-here) → c.hop-hop.result.end ≡ hop.Arrive
     → StandsAt c.args.switch.now c.hop-hop.new.t.route c.hop-hop.new.t.place
 still c arrives =
     subst (λ (u : TunnelValue). StandsAt c.args.switch.now u.route u.place)
@@ -214,11 +221,11 @@ still c arrives =
     (stood c.args.switch.now (flight c.args.self.now.travelling c.args.packet)
     c.unwrap-kept.result.now c.tunnel-tunnel.result
     (sym (ap option_copied c.unwrap-kept.ensures) ∙ c.look.ensures) c.tunnel-tunnel.ensures
-    c.requires.here) (sym c.hop-hop.ensures.end ∙ arrives))
+    c.requires.may.here) (sym c.hop-hop.ensures.end ∙ arrives))
 
 pub receive-verdict-requires-clause-here : goal.receive-verdict-requires-clause-here
 receive-verdict-requires-clause-here c =
-    let before = (goal.at.receive-verdict-requires-clause-here c).After-unwrap-other in
+    let before = (goal.at.receive-verdict-requires-clause-here c).After-number-here in
     let kept = c.in_ok-kept-in-Arrive.ensures.kept in
     subst (λ w. StandsAt w c.route.result.now c.place.result)
     (sym c.hop-hop.ensures.after)
@@ -239,7 +246,7 @@ receive-verdict-requires-clause-last c =
 
 pub receive-verdict-requires-clause-authority : goal.receive-verdict-requires-clause-authority
 receive-verdict-requires-clause-authority c =
-    let before = (goal.at.receive-verdict-requires-clause-authority c).After-unwrap-other in
+    let before = (goal.at.receive-verdict-requires-clause-authority c).After-number-here in
     let t = its_flight before in
     let s = c.args.switch.now in
     let header : c.in_ok-at-in-Arrive.at.header ≡ t.tunnel.header =
@@ -251,21 +258,21 @@ receive-verdict-requires-clause-authority c =
     (subst (λ h. IsAtAuthority (call_counted s) h c.leg-leg.result) (sym header)
     (subst (IsAtAuthority (call_counted s) t.tunnel.header) (sym (leg_was before))
     (authority_counted s t.tunnel.header t.tunnel.leg
-    (c.requires.authority t (sym (its before)) (sym c.hop-hop.ensures.end ∙ c.in-Arrive.is)))))
+    (c.requires.may.authority t (sym (its before)) (sym c.hop-hop.ensures.end ∙ c.in-Arrive.is)))))
 
 pub settle-requires-clause-ingress : goal.settle-requires-clause-ingress
 settle-requires-clause-ingress c =
-    let before = (goal.at.settle-requires-clause-ingress c).After-unwrap-other in
+    let before = (goal.at.settle-requires-clause-ingress c).After-number-here in
     let ingress : c.in_ok-at-in-Arrive.at.ingress ≡ (its_flight before).tunnel.ingress =
     ap (λ (a : Standing). a.ingress) c.in_ok-at-in-Arrive.ensures.at
     ∙ ap (λ (k : Flight). k.tunnel.ingress) c.in_ok-kept-in-Arrive.ensures.kept
     ∙ ap (λ (u : TunnelValue). u.ingress) c.hop-hop.ensures.tunnel ∙ (same before).ingress in
     subst (λ i. i < 64) (sym ingress)
-    (c.requires.ingress (its_flight before) (sym (its before)))
+    (c.requires.may.ingress (its_flight before) (sym (its before)))
 
-pub returns-in_ok-at-in-Arrive-clause-log : goal.returns-in_ok-at-in-Arrive-clause-log
-returns-in_ok-at-in-Arrive-clause-log c =
-    let before = (goal.at.returns-in_ok-at-in-Arrive-clause-log c).After-unwrap-other in
+pub returns-in_ok-at-in-Arrive : goal.returns-in_ok-at-in-Arrive
+returns-in_ok-at-in-Arrive c =
+    let before = (goal.at.returns-in_ok-at-in-Arrive c).After-number-here in
     let s = c.args.switch.now in
     let near = c.args.site.near in
     let ports = c.args.site.ports.now in
@@ -288,10 +295,12 @@ returns-in_ok-at-in-Arrive-clause-log c =
     packet (arrived_flight at.version at.rule
     (arrived_on w (around near ports) (packet_standing (standing_kept at)) c.leg-leg.result))
     mid now in
-    goes_on before r hop.Arrive mid now c.in-Arrive.is
+    goes_on before r hop.Arrive mid now c.settle.new.switch c.in-Arrive.is
     (rerouted before c.args.self.now.journal c.push.new.self mid.journal
     c.in_ok-push.ensures.pushed c.in_ok-kept-in-Arrive.ensures.written)
     c.reroute-in-Arrive.ensures.unsent c.reroute-in-Arrive.ensures.travelling
+    (c.settle.ensures.same ∙ c.receive-verdict.ensures.after
+    ∙ ap call_counted c.hop-hop.ensures.after)
     (arrival_log r n (call_counted s) near ports u (standing_kept at) at.version at.rule
     c.leg-leg.result c.args.packet mid now stands
     (says.version ∙ ap (λ (k : Flight). k.version) kept)

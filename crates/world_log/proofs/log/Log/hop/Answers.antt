@@ -1,7 +1,7 @@
 -- A packet goes on as it is kept.
 use Rattle.std.proofs.Common.{ℕ, ◌≡◌, ◌+◌, Option, Some, None, ap, length, subst, sym, true, ◌∙◌}
 use Rattle.std.specs.Option.{option_copied}
-use Rattle.std.specs.Prelude.{IsSomeAnd, OnOk, slice_get}
+use Rattle.std.specs.Prelude.{IsSomeAnd, slice_get}
 use Rattle.std.proofs.lemmas.Result.{on_ok_weaker}
 use Rattle.switch_core.specs.Answering.{IsAtAuthority, arrived_on}
 use Rattle.switch_core.specs.Ends.{around}
@@ -10,7 +10,7 @@ use Rattle.switch_core.specs.State.{SwitchValue, call_counted}
 use Rattle.switch_core.specs.declared.answers.HopEnd.TheVariants.{Arrive}
 use Rattle.travelling.specs.Travelling.{Flight, Standing, standing_at, standing_kept, flight}
 use Rattle.tunnel.specs.Moves.{next}
-use Rattle.world_log.specs.Packets.{hop_posts, hop_flight, hop_written, hopped_switch}
+use Rattle.world_log.specs.Packets.{HasHopped}
 use Rattle.world_log.specs.Writing.{LogAfter, arrived_items, arrived_posts, arrived_flight, packet_standing}
 use Rattle.world_log.proofs.Hopping.{authority_counted}
 use Rattle.world_log.proofs.Passing.{IsPassed, arrival_log, free_hop, move_log, of_kept, passed_by, passed_log, passed_switch, passed_to, placed, settled_log}
@@ -50,37 +50,26 @@ pass-requires-clause-here c =
 
 -- ---- it moves on
 
-pub returns-in-Some-Some-clause-log : goal.returns-in-Some-Some-clause-log
-returns-in-Some-Some-clause-log c =
-    let before = (goal.at.returns-in-Some-Some-clause-log c).After-pass in
+pub returns-in-Some-Some : goal.returns-in-Some-Some
+returns-in-Some-Some c =
+    let before = (goal.at.returns-in-Some-Some c).After-pass in
     let k = c.unwrap-kept.result.now in
     let s = c.args.switch.now in
     let near = c.args.site.near in
     let ports = c.args.site.ports.now in
+    let self = c.args.self.now in
     let other = c.in-Some-Some.next in
     let on = onward before (Some other) (c.in-Some-Some.is ∙ ap Some c.in-Some-Some.field-0-is) in
-    of_kept (λ t. LogAfter c.move_on.result
-    (hop_written (length c.args.self.now.bag + 1) s near ports t)
-    (hop_posts s near ports t) c.args.packet (hop_flight s near ports t)
-    c.args.self.now c.move_on.new.self) _ k (its before)
-    (move_log c.move_on.result s near ports k (length c.args.self.now.bag + 1)
-    c.args.packet (c.place-place.result + 1) other
-    (flight c.args.self.now.travelling c.args.packet) c.args.self.now
-    c.move_on.new.self (its before) (number before)
-    (ap (λ place. place + 1) c.place-place.ensures.place) on.0 on.1 c.move_on.ensures)
-
-pub returns-in-Some-Some-clause-counted : goal.returns-in-Some-Some-clause-counted
-returns-in-Some-Some-clause-counted c =
-    let before = (goal.at.returns-in-Some-Some-clause-counted c).After-pass in
-    let k = c.unwrap-kept.result.now in
-    let s = c.args.switch.now in
-    let near = c.args.site.near in
-    let other = c.in-Some-Some.next in
-    let on = onward before (Some other) (c.in-Some-Some.is ∙ ap Some c.in-Some-Some.field-0-is) in
-    of_kept (λ t. OnOk c.move_on.result (c.pass.new.self ≡ hopped_switch s near t)) _ k
-    (its before) (on_ok_weaker c.move_on.result (λ _. on.2
-    ∙ sym (passed_switch s near c.args.site.ports.now k (Some other) on.0 on.1))
-    c.move_on.ensures.written)
+    of_kept (HasHopped c.move_on.result c.args.packet s near ports self c.pass.new.self
+    c.move_on.new.self) _ k (its before) (record {
+      log = move_log c.move_on.result s near ports k (length self.bag + 1)
+          c.args.packet (c.place-place.result + 1) other
+          (flight self.travelling c.args.packet) self
+          c.move_on.new.self (its before) (number before)
+          (ap (λ place. place + 1) c.place-place.ensures.place) on.0 on.1 c.move_on.ensures;
+      counted = on_ok_weaker c.move_on.result (λ _. on.2
+          ∙ sym (passed_switch s near ports k (Some other) on.0 on.1)) c.move_on.ensures.written;
+    })
 
 -- ---- it is at the end of its route
 
@@ -122,14 +111,15 @@ receive-verdict-requires-clause-authority c =
     (authority_counted s k.tunnel.header k.tunnel.leg
     (c.requires.authority k (sym (its before)) (ended before last)))))
 
-pub returns-in_ok-at-in-Some-None-clause-log : goal.returns-in_ok-at-in-Some-None-clause-log
-returns-in_ok-at-in-Some-None-clause-log c =
-    let before = (goal.at.returns-in_ok-at-in-Some-None-clause-log c).After-pass in
+pub returns-in_ok-at-in-Some-None : goal.returns-in_ok-at-in-Some-None
+returns-in_ok-at-in-Some-None c =
+    let before = (goal.at.returns-in_ok-at-in-Some-None c).After-pass in
     let k = c.unwrap-kept.result.now in
     let s = c.args.switch.now in
     let near = c.args.site.near in
     let ports = c.args.site.ports.now in
-    let n = length c.args.self.now.bag + 1 in
+    let self = c.args.self.now in
+    let n = length self.bag + 1 in
     let on = onward before None (c.in-Some-None.is ∙ ap Some c.in-Some-None.field-0-is) in
     let at = c.in_ok-at-in-Some-None.at in
     let says = c.in_ok-at-in-Some-None.ensures in
@@ -142,31 +132,20 @@ returns-in_ok-at-in-Some-None-clause-log c =
     (arrived_on w (around near ports) (packet_standing (standing_kept at)) c.leg-leg.result))
     packet (arrived_flight at.version at.rule
     (arrived_on w (around near ports) (packet_standing (standing_kept at)) c.leg-leg.result))
-    c.args.self.now c.settle.new.self in
-    of_kept (λ t. LogAfter c.settle.result (hop_written n s near ports t)
-    (hop_posts s near ports t) c.args.packet (hop_flight s near ports t)
-    c.args.self.now c.settle.new.self) _ k (its before)
-    (passed_log s near ports k c.settle.result n c.args.packet None c.args.self.now
-    c.settle.new.self on.0 on.1
-    (arrival_log c.settle.result n (call_counted s) near ports k (standing_kept at) at.version
-    at.rule c.leg-leg.result c.args.packet c.args.self.now c.settle.new.self
-    (says.at ∙ ap (λ n. standing_at n k) here) says.version says.rule c.leg-leg.ensures
-    (subst (P (call_counted s)) (ap (λ (a : Standing). a.packet) says.at ∙ number before)
-    (subst (λ w. P w at.packet) on.2
-    (settled_log c.settle.result n (standing_kept at) at.version at.rule at.packet c.args.self.now
-    c.settle.new.self _ _ (c.receive-verdict.ensures.answer (around near ports) at.packet
-    (standing_kept at).down) c.settle.ensures.log)))))
-
-pub returns-in_ok-at-in-Some-None-clause-counted :
-    goal.returns-in_ok-at-in-Some-None-clause-counted
-returns-in_ok-at-in-Some-None-clause-counted c =
-    let before = (goal.at.returns-in_ok-at-in-Some-None-clause-counted c).After-pass in
-    let k = c.unwrap-kept.result.now in
-    let s = c.args.switch.now in
-    let near = c.args.site.near in
-    let on = onward before None (c.in-Some-None.is ∙ ap Some c.in-Some-None.field-0-is) in
-    of_kept (λ t. OnOk c.settle.result (c.settle.new.switch ≡ hopped_switch s near t)) _ k
-    (its before) (on_ok_weaker c.settle.result (λ _. c.settle.ensures.same ∙ c.receive-verdict.ensures.after
-    ∙ ap call_counted on.2
-    ∙ sym (passed_switch s near c.args.site.ports.now k None on.0 on.1))
-    c.settle.ensures.log.written)
+    self c.settle.new.self in
+    of_kept (HasHopped c.settle.result c.args.packet s near ports self c.settle.new.switch
+    c.settle.new.self) _ k (its before) (record {
+      log = passed_log s near ports k c.settle.result n c.args.packet None self
+          c.settle.new.self on.0 on.1
+          (arrival_log c.settle.result n (call_counted s) near ports k (standing_kept at) at.version
+          at.rule c.leg-leg.result c.args.packet self c.settle.new.self
+          (says.at ∙ ap (λ n. standing_at n k) here) says.version says.rule c.leg-leg.ensures
+          (subst (P (call_counted s)) (ap (λ (a : Standing). a.packet) says.at ∙ number before)
+          (subst (λ w. P w at.packet) on.2
+          (settled_log c.settle.result n (standing_kept at) at.version at.rule at.packet self
+          c.settle.new.self _ _ (c.receive-verdict.ensures.answer (around near ports) at.packet
+          (standing_kept at).down) c.settle.ensures.log))));
+      counted = on_ok_weaker c.settle.result (λ _. c.settle.ensures.same
+          ∙ c.receive-verdict.ensures.after ∙ ap call_counted on.2
+          ∙ sym (passed_switch s near ports k None on.0 on.1)) c.settle.ensures.log.written;
+    })
