@@ -66,7 +66,8 @@ pub returns : goal.returns
 returns c = λ before row begins.
     let self = c.args.self.now in
     let its = sym c.look.ensures ∙ ap option_copied c.in-Some.is in
-    let log = c.hop.ensures.log c.in-Some.kept.now its in
+    let hopped = c.hop.ensures c.in-Some.kept.now its in
+    let log = hopped.log in
     goes_quiet begins
     (files_stay refl refl) _ (plane_stays refl refl refl)
     (hop_is self before row c.args.packet c.in-Some.kept.now c.here.result
@@ -76,4 +77,4 @@ returns c = λ before row begins.
     (hops_refine self before row c.args.packet c.in-Some.kept.now c.here.result
     c.index_mut.result.now begins.ready its c.here.ensures.here c.index_mut.ensures.value
     c.hop.result c.hop.new.switch c.hop.new.self.travelling c.hop.new.self.bag
-    (c.hop.ensures.counted c.in-Some.kept.now its) log.travels log.posted)
+    hopped.counted log.travels log.posted)
