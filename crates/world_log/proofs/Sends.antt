@@ -1,6 +1,6 @@
 -- What messages and acts write, one part after another.
 use Rattle.std.proofs.Common.{ℕ, ◌≡◌, ◌+◌, ◌<◌, ◌≤◌, List, [], ◌∷◌, ◌++◌, refl, ap, sym, ◌∙◌, length, length-append, append-nil, append_assoc, get_or, map, subst, arith}
-use Rattle.std.specs.Prelude.{All}
+use Rattle.std.specs.Prelude.{All, IsErr, Result}
 use Rattle.std.proofs.lemmas.List.{get_or-append-add, get_or-map, get_or_append_left, length-map, map-append}
 use Rattle.message_bag.specs.Posts.{Post, new_post}
 use Rattle.controller.specs.declared.sends.Act.{Act}
@@ -10,30 +10,10 @@ use Rattle.message_bag.specs.Feeding.{HasShortSpelling}
 use Rattle.journal.specs.declared.item.Item.{Item}
 use Rattle.journal.specs.declared.item.Item.TheVariants as item
 use Rattle.update_machine.specs.Messages.{sent_from}
-use Rattle.world_log.specs.Sending.{IsSpelled, act_item, act_items, act_post, act_posts, number_after}
+use Rattle.world_log.specs.Sending.{HasNoted, IsSpelled, MayNote, act_item, act_items, act_post, act_posts, number_after}
 use Rattle.world_log.specs.Writing.{IsPart}
-use Rattle.world_log.proofs.Writing.{both_written, part_of_first, part_of_rest}
-
-pub sent_append : (number : ℕ) (first later : List Message)
-    → sent_from number (first ++ later)
-    ≡ sent_from number first ++ sent_from (number + length first) later
-unfolding sent_from
-sent_append number [] later = ap (λ n. sent_from n later) (omega arith)
-sent_append number (message ∷ first) later =
-    ap (λ items. item.Sent number message ∷ items)
-    (sent_append (number + 1) first later
-    ∙ ap (λ n. sent_from (number + 1) first ++ sent_from n later) (omega arith))
-
-pub sent_one : (number : ℕ) (message : Message)
-    → sent_from number (message ∷ []) ≡ item.Sent number message ∷ []
-unfolding sent_from
-sent_one number message = refl
-
-pub sent_none : (number : ℕ) → sent_from number [] ≡ []
-unfolding sent_from
-sent_none number = refl
-
--- ---- acts
+use Rattle.world_log.specs.declared.log.Log.{Log}
+use Rattle.world_log.proofs.Writing.{both_written, none_ok, on_err, part_of_first, part_of_rest}
 
 number_on : (number : ℕ) (one : Act) → number_after number one ≡ number + length (act_post one)
 number_on number (act.Current version) = omega arith
@@ -108,64 +88,7 @@ holds_next P all first later one parts holds =
     (holds (length first + 0) one
     (omega (arith, ap length parts, length-append first (one ∷ later))))
 
--- the first messages are posted, behind this journal and these posts
-pub record AreSent (journal : List Item) (bag : List Post) (messages : List Message)
-    (now : List Item) (posts : List Post) : Type 0 where
-  pub written : now ≡ journal ++ sent_from (length bag + 1) messages
-  pub posted : posts ≡ bag ++ map new_post messages
-
-pub sent_begun : (journal : List Item) (bag : List Post) → AreSent journal bag [] journal bag
-sent_begun journal bag = record {
-  written = sym (append-nil journal) ∙ ap (λ items. journal ++ items)
-      (sym (sent_none (length bag + 1)));
-  posted = sym (append-nil bag);
-}
-
-module _ (journal now : List Item) (bag posts : List Post) (first : List Message)
-    (so : AreSent journal bag first now posts) where
-  pub sent_more : (after : List Item) (later : List Post) (one : Message)
-      → after ≡ now ++ item.Sent (length posts + 1) one ∷ []
-      → later ≡ posts ++ new_post one ∷ [] → AreSent journal bag (first ++ one ∷ []) after later
-  sent_more after later one sent post =
-      let number : length posts + 1 ≡ length bag + 1 + length first =
-      omega (
-        arith,
-        ap length so.posted,
-        length-append bag (map new_post first),
-        length-map first new_post,
-      ) in record {
-        written = both_written journal now after (sent_from (length bag + 1) first)
-            (item.Sent (length posts + 1) one ∷ []) so.written sent
-            ∙ ap (λ items. journal ++ (sent_from (length bag + 1) first ++ items))
-            (sym (sent_one (length posts + 1) one) ∙ ap (λ n. sent_from n (one ∷ [])) number)
-            ∙ ap (λ items. journal ++ items)
-            (sym (sent_append (length bag + 1) first (one ∷ [])));
-        posted = both_written bag posts later (map new_post first) (new_post one ∷ []) so.posted
-            post
-            ∙ ap (λ more. bag ++ more) (sym (map-append new_post first (one ∷ [])));
-      }
-
-  pub sent_part : (rest messages : List Message) → first ++ rest ≡ messages
-      → IsPart journal (sent_from (length bag + 1) messages) now
-  sent_part rest messages all = record {
-    written = sent_from (length bag + 1) first;
-    rest = sent_from (length bag + 1 + length first) rest;
-    split = ap (sent_from (length bag + 1)) (sym all) ∙ sent_append (length bag + 1) first rest;
-    grown = so.written;
-  }
-
-  pub sent_few : (rest messages : List Message) (one : Message) → first ++ one ∷ rest ≡ messages
-      → length posts < length bag + length messages
-  sent_few rest messages one all = omega (
-    arith,
-    ap length so.posted,
-    length-append bag (map new_post first),
-    length-map first new_post,
-    ap length all,
-    length-append first (one ∷ rest),
-  )
-
--- the first acts are done
+-- the first acts are done, behind this journal and these posts
 pub record AreDone (journal : List Item) (bag : List Post) (acts : List Act)
     (now : List Item) (posts : List Post) : Type 0 where
   pub written : now ≡ journal ++ act_items (length bag + 1) acts
@@ -221,6 +144,32 @@ module _ (journal now : List Item) (bag posts : List Post) (first : List Act)
         length-append (act_post one) (act_posts rest),
       )
 
+-- memory ran out where a part was written
+pub noting_failed : {T E : Type 0} (r : Result T E) (acts : List Act) (old new : Log) → IsErr r
+    → IsPart old.journal (act_items (length old.bag + 1) acts) new.journal
+    → new.travelling ≡ old.travelling → HasNoted r acts old new
+noting_failed r acts old new failed part same = record {
+  written = none_ok _ r failed;
+  posted = none_ok _ r failed;
+  part = on_err r part;
+  travelling = same;
+}
+
+-- ---- what is noted, each as an act
+
+module _ {A : Type 0} (act : A → Act) (first : List A) where
+  pub acts_of : (rest all : List A) → first ++ rest ≡ all → map act first ++ map act rest ≡ map act all
+  acts_of rest all parts = sym (map-append act first rest) ∙ ap (map act) parts
+
+  pub noted_more : (journal now : List Item) (bag posts : List Post)
+      → AreDone journal bag (map act first) now posts → (after : List Item) (later : List Post)
+      (one : A) → after ≡ now ++ act_item (length posts + 1) (act one) ∷ []
+      → later ≡ posts ++ act_post (act one)
+      → AreDone journal bag (map act (first ++ one ∷ [])) after later
+  noted_more journal now bag posts so after later one done post =
+      subst (λ acts. AreDone journal bag acts after later) (sym (map-append act first (one ∷ [])))
+      (done_more journal now bag posts (map act first) so after later (act one) done post)
+
 -- ---- messages, and then acts
 
 -- if the acts are spelled, the messages of the first ones are
@@ -237,11 +186,26 @@ messages_spelled messages later all = λ k d within.
       length-append (map act.Post messages) later,
     )))
 
-pub later_spelled : (first later : List Act) → All IsSpelled (first ++ later)
-    → All IsSpelled later
-later_spelled first later all = λ k d within.
-    subst IsSpelled (get_or-append-add first later k d)
-    (all (length first + k) d (omega (arith, within, length-append first later)))
+-- what may be done may be done one part after another
+module _ (bag : List Post) (first later : List Act) (may : MayNote bag (first ++ later)) where
+  counted : length (act_posts (first ++ later))
+      ≡ length (act_posts first) + length (act_posts later)
+  counted = ap length (posts_append first later)
+      ∙ length-append (act_posts first) (act_posts later)
+
+  pub may_first : MayNote bag first
+  may_first = record {
+    few = omega (arith, may.few, counted);
+    spelled = λ k d within. subst IsSpelled (get_or_append_left first later d k within)
+        (may.spelled k d (omega (arith, within, length-append first later)));
+  }
+
+  pub may_later : (posts : List Post) → posts ≡ bag ++ act_posts first → MayNote posts later
+  may_later posts posted = record {
+    few = omega (arith, may.few, counted, ap length posted, length-append bag (act_posts first));
+    spelled = λ k d within. subst IsSpelled (get_or-append-add first later k d)
+        (may.spelled (length first + k) d (omega (arith, within, length-append first later)));
+  }
 
 -- messages alone
 pub sent_as_acts : (number : ℕ) (messages : List Message)
@@ -258,14 +222,14 @@ posts_as_acts [] = refl
 posts_as_acts (message ∷ messages) = ap (λ posts. new_post message ∷ posts) (posts_as_acts messages)
 
 -- messages are acts too
-pub sent_done : (journal now : List Item) (bag posts : List Post) (messages : List Message)
-    → now ≡ journal ++ sent_from (length bag + 1) messages → posts ≡ bag ++ map new_post messages
-    → AreDone journal bag (map act.Post messages) now posts
-sent_done journal now bag posts messages sent post = record {
-  written = sent
-      ∙ ap (λ items. journal ++ items) (sym (sent_as_acts (length bag + 1) messages));
-  posted = post ∙ ap (λ more. bag ++ more) (sym (posts_as_acts messages));
-}
+pub spelled_as_acts : (messages : List Message) → All HasShortSpelling messages
+    → All IsSpelled (map act.Post messages)
+spelled_as_acts [] all = λ k d within. absurd (omega (arith, within))
+spelled_as_acts (message ∷ messages) all = λ k d within.
+    let inside : k < length (message ∷ messages) =
+    omega (arith, within, length-map (message ∷ messages) act.Post) in
+    subst IsSpelled (sym (get_or-map act.Post (message ∷ messages) k message d inside))
+    (all k message inside)
 
 module _ (journal now : List Item) (bag posts : List Post) (first later : List Act)
     (so : AreDone journal bag first now posts) where

@@ -1,5 +1,5 @@
 -- Messages that are sent one after another, and what a controller does, as items of the journal.
-use Rattle.std.specs.Prelude.{⊤, ℕ, ◌+◌, ◌^◌, ◌<◌, List, [], ◌∷◌, ◌++◌, length, All}
+use Rattle.std.specs.Prelude.{⊤, ℕ, ◌≡◌, ◌+◌, ◌^◌, ◌<◌, List, [], ◌∷◌, ◌++◌, length, All, Result, OnErr, OnOk}
 use Rattle.message_bag.specs.Posts.{Post, new_post}
 use Rattle.controller.specs.declared.sends.Act.{Act}
 use Rattle.controller.specs.declared.sends.Act.TheVariants as act
@@ -7,6 +7,8 @@ use Rattle.ctrl_msg.specs.declared.message.Message.{Message}
 use Rattle.message_bag.specs.Feeding.{HasShortSpelling}
 use Rattle.journal.specs.declared.item.Item.{Item}
 use Rattle.journal.specs.declared.item.Item.TheVariants as item
+use Rattle.world_log.specs.Writing.{IsPart}
+use Rattle.world_log.specs.declared.log.Log.{Log}
 
 -- where the next message has this number
 abbrev pub act_item : ℕ → Act → Item
@@ -49,3 +51,12 @@ IsSpelled _ = ⊤
 pub record MayNote (bag : List Post) (acts : List Act) : Type 0 where
   pub few : length bag + length (act_posts acts) < 2 ^ 32
   pub spelled : All IsSpelled acts
+
+-- what it makes of a log; where memory ran out, a part of the items is written
+pub record HasNoted {T E : Type 0} (result : Result T E) (acts : List Act) (old new : Log)
+    : Type 0 where
+  pub written : OnOk result (new.journal ≡ old.journal ++ act_items (length old.bag + 1) acts)
+  pub posted : OnOk result (new.bag ≡ old.bag ++ act_posts acts)
+  pub part : OnErr result
+      (IsPart old.journal (act_items (length old.bag + 1) acts) new.journal)
+  pub travelling : new.travelling ≡ old.travelling

@@ -1,9 +1,10 @@
 //! Messages that are sent one after another, and what the controller does, written into the log.
 ghost use Rattle.std.specs.Prelude.{◌≡◌, ◌+◌, ◌^◌, ◌<◌, ◌++◌, ◌∷◌, [], OnOk, OnErr, length, map};
 ghost use Rattle.message_bag.specs.Posts.{new_post};
+ghost use Rattle.controller.specs.declared.sends.Act.{Act as ActValue};
 ghost use Rattle.controller.specs.declared.sends.Act.TheVariants.{Post};
 ghost use Rattle.update_machine.specs.Messages.{sent_from};
-ghost use Rattle.world_log.specs.Sending.{IsSpelled, MayNote, MaySend, act_item, act_items, act_post, act_posts};
+ghost use Rattle.world_log.specs.Sending.{HasNoted, IsSpelled, MayNote, MaySend, act_item, act_post};
 ghost use Rattle.world_log.specs.Writing.{IsPart};
 
 use crate::log::Log;
@@ -26,10 +27,7 @@ impl Log {
             (sent_from (length self.old.bag + 1) messages.items) self.new.journal) }
         ensures travelling { self.new.travelling ≡ self.old.travelling }
     {
-        for message in messages {
-            self.send(alloc, message)?;
-        }
-        Ok(())
+        self.note_each(alloc, messages)
     }
 
     /// The controller does this, one after another.
@@ -38,17 +36,9 @@ impl Log {
     /// Want of memory alone; a part of the items is written then.
     pub fn note_acts(&mut self, alloc: Global, acts: Vec<Act>) -> Result<(), AllocError>
         requires { MayNote self.old.bag acts.items }
-        ensures written { OnOk result (self.new.journal
-            ≡ self.old.journal ++ act_items (length self.old.bag + 1) acts.items) }
-        ensures posted { OnOk result (self.new.bag ≡ self.old.bag ++ act_posts acts.items) }
-        ensures part { OnErr result (IsPart self.old.journal
-            (act_items (length self.old.bag + 1) acts.items) self.new.journal) }
-        ensures travelling { self.new.travelling ≡ self.old.travelling }
+        ensures { HasNoted result acts.items self.old self.new }
     {
-        for act in acts {
-            self.note_act(alloc, act)?;
-        }
-        Ok(())
+        self.note_each(alloc, acts)
     }
 
     /// The messages are sent, and then the controller does this.
@@ -62,32 +52,56 @@ impl Log {
         acts: Vec<Act>,
     ) -> Result<(), AllocError>
         requires { MayNote self.old.bag (map Post messages.items ++ acts.items) }
-        ensures written { OnOk result (self.new.journal ≡ self.old.journal
-            ++ act_items (length self.old.bag + 1) (map Post messages.items ++ acts.items)) }
-        ensures posted { OnOk result (self.new.bag
-            ≡ self.old.bag ++ act_posts (map Post messages.items ++ acts.items)) }
-        ensures part { OnErr result (IsPart self.old.journal (act_items (length self.old.bag + 1)
-            (map Post messages.items ++ acts.items)) self.new.journal) }
-        ensures travelling { self.new.travelling ≡ self.old.travelling }
+        ensures { HasNoted result (map Post messages.items ++ acts.items) self.old self.new }
     {
-        self.send_all(alloc, messages)?;
+        self.note_each(alloc, messages)?;
         self.note_acts(alloc, acts)
     }
 
-    // One mark rises, or one message is sent.
-    fn note_act(&mut self, alloc: Global, act: Act) -> Result<(), AllocError>
-        requires few { length self.old.bag + length (act_post act) < 2 ^ 32 }
-        requires spelled { IsSpelled act }
-        ensures written { OnOk result (self.new.journal
-            ≡ self.old.journal ++ act_item (length self.old.bag + 1) act ∷ []) }
-        ensures posted { OnOk result (self.new.bag ≡ self.old.bag ++ act_post act) }
-        ensures unwritten { OnErr result (self.new.journal ≡ self.old.journal) }
-        ensures travelling { self.new.travelling ≡ self.old.travelling }
+    // These are done, one after another.
+    fn note_each<T: Noted>(&mut self, alloc: Global, all: Vec<T>) -> Result<(), AllocError>
+        requires { MayNote self.old.bag (map T.act all.items) }
+        ensures { HasNoted result (map T.act all.items) self.old self.new }
     {
-        match act {
-            Act::Current(version) => self.journal.push(Item::Current { version }),
-            Act::Retired(version) => self.journal.push(Item::Retired { version }),
-            Act::Post(message) => self.send(alloc, message),
+        for one in all {
+            one.note(self, alloc)?;
+        }
+        Ok(())
+    }
+}
+
+// What is written into a log as something that the controller does.
+trait Noted: Drop {
+    /// What it does.
+    ghost act: { Self → ActValue };
+
+    /// It is done: one mark rises, or one message is sent.
+    fn note(self, log: &mut Log, alloc: Global) -> Result<(), AllocError>
+        requires few { length log.old.bag + length (act_post (act self)) < 2 ^ 32 }
+        requires spelled { IsSpelled (act self) }
+        ensures written { OnOk result (log.new.journal
+            ≡ log.old.journal ++ act_item (length log.old.bag + 1) (act self) ∷ []) }
+        ensures posted { OnOk result (log.new.bag ≡ log.old.bag ++ act_post (act self)) }
+        ensures unwritten { OnErr result (log.new.journal ≡ log.old.journal) }
+        ensures travelling { log.new.travelling ≡ log.old.travelling };
+}
+
+impl Noted for Message {
+    ghost act = { Post };
+
+    fn note(self, log: &mut Log, alloc: Global) -> Result<(), AllocError> {
+        log.send(alloc, self)
+    }
+}
+
+impl Noted for Act {
+    ghost act = { λ act. act };
+
+    fn note(self, log: &mut Log, alloc: Global) -> Result<(), AllocError> {
+        match self {
+            Act::Current(version) => log.journal.push(Item::Current { version }),
+            Act::Retired(version) => log.journal.push(Item::Retired { version }),
+            Act::Post(message) => log.send(alloc, message),
         }
     }
 }
