@@ -19,7 +19,7 @@ pub enum Place {
 }
 
 /// What a message says. The first six are for a switch, the others for the controller.
-#[derive(Debug, Drop)]
+#[derive(Clone, Debug, Drop)]
 pub enum Body {
     /// In this boot, keep these tables beside those of other versions.
     Install {
@@ -123,71 +123,6 @@ impl Body {
             Body::Hello { .. } | Body::Installed { .. } | Body::Stamped { .. } => true,
             _ => false,
         }
-    }
-}
-
-impl Clone for Body {
-    ghost is_clone = { λ body copy. copy ≡ body };
-
-    fn clone(&self) -> Result<Body, AllocError> {
-        let copy = match self {
-            Body::Install { boot, tables } => Body::Install {
-                boot: *boot,
-                tables: tables.clone()?,
-            },
-            Body::OpenAt { boot, version } => Body::OpenAt {
-                boot: *boot,
-                version: *version,
-            },
-            Body::Stamp {
-                boot,
-                version,
-                touched,
-            } => Body::Stamp {
-                boot: *boot,
-                version: *version,
-                touched: touched.clone()?,
-            },
-            Body::Collect { boot, version } => Body::Collect {
-                boot: *boot,
-                version: *version,
-            },
-            Body::CacheRule {
-                version,
-                word,
-                rule,
-                action,
-            } => Body::CacheRule {
-                version: *version,
-                word: *word,
-                rule: *rule,
-                action: *action,
-            },
-            Body::Advertise { advert } => Body::Advertise { advert: *advert },
-            Body::Hello { switch, boot } => Body::Hello {
-                switch: *switch,
-                boot: *boot,
-            },
-            Body::Installed {
-                switch,
-                boot,
-                version,
-            } => Body::Installed {
-                switch: *switch,
-                boot: *boot,
-                version: *version,
-            },
-            Body::Stamped {
-                switch,
-                boot,
-                version,
-            } => Body::Stamped {
-                switch: *switch,
-                boot: *boot,
-                version: *version,
-            },
-        };
-        Ok(copy)
     }
 }
 
