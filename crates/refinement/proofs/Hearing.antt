@@ -139,6 +139,21 @@ hears_tables s w stamp collected boot all others tables =
     by_mark past is = rw is (by_came past (over_mark past is) came ∙ same past is
         ∙ by_held past held)
 
+-- at the greater of a stamp and a version, by whether the version is greater
+at_greater : (f : ℕ → Bool → SwitchValue) (stamp version : ℕ)
+    → f (max stamp version) (nat_lt stamp version)
+    ≡ (if nat_lt stamp version then f version true else f stamp false)
+at_greater f stamp version = by_test (nat_lt stamp version) refl
+  where
+    by_test : (b : Bool) → nat_lt stamp version ≡ b
+        → f (max stamp version) b ≡ (if b then f version true else f stamp false)
+    by_test true is =
+        let greater : max stamp version ≡ version = grind (arith, nat_tests) in
+        ap (λ after. f after true) greater
+    by_test false is =
+        let least : max stamp version ≡ stamp = grind (arith, nat_tests) in
+        ap (λ after. f after false) least
+
 -- a greater stamp raises the cache
 hears_stamp : (s : ℕ) (w : SwitchFacts) (stamp collected version : ℕ) (tables : List Tables)
     (others : List (Option Advert))
@@ -147,23 +162,16 @@ hears_stamp : (s : ℕ) (w : SwitchFacts) (stamp collected version : ℕ) (table
     }) (max stamp version) collected tables others
     ≡ raised_to (filled s w stamp collected tables others) version
 unfolding raised_to
-hears_stamp s w stamp collected version tables others = by_test (nat_lt stamp version) refl
+hears_stamp s w stamp collected version tables others =
+    ap (by (max stamp version)) rises ∙ at_greater by stamp version
   where
-    by_test : (b : Bool) → nat_lt stamp version ≡ b
-        → filled s (record w {
-          cache = raised_from stamp (max stamp version) w.cache;
-        }) (max stamp version) collected tables others
-        ≡ (if nat_lt stamp version
-        then filled s (record w { cache = after_raise version w.cache }) version collected tables
-        others
-        else filled s w stamp collected tables others)
-    by_test true is =
-        let greater : max stamp version ≡ version = grind (arith, nat_tests) in
-        rw (greater, is) refl
-    by_test false is =
-        let least : max stamp version ≡ stamp = grind (arith, nat_tests) in
-        let same : nat_lt stamp stamp ≡ false = grind (arith, nat_tests) in
-        rw (least, is, same) refl
+    by : ℕ → Bool → SwitchValue
+    by after rises = filled s (record w {
+      cache = if rises then after_raise after w.cache else w.cache;
+    }) after collected tables others
+
+    rises : nat_lt stamp (max stamp version) ≡ nat_lt stamp version
+    rises = grind (arith, nat_tests)
 
 -- .. or carries it, past what is touched
 hears_told : (s : ℕ) (w : SwitchFacts) (stamp collected version : ℕ) (touched : List WordValue)
@@ -174,22 +182,9 @@ hears_told : (s : ℕ) (w : SwitchFacts) (stamp collected version : ℕ) (touche
     ≡ stamped_with (filled s w stamp collected tables others) version touched
 unfolding stamped_with
 hears_told s w stamp collected version touched tables others =
-    by_test (nat_lt stamp version) refl
-  where
-    by_test : (b : Bool) → nat_lt stamp version ≡ b
-        → filled s (record w {
-          cache = carried_from touched stamp version w.cache;
-        }) (max stamp version) collected tables others
-        ≡ (if nat_lt stamp version
-        then filled s (record w { cache = after_carry version touched w.cache }) version collected
-        tables others
-        else filled s w stamp collected tables others)
-    by_test true is =
-        let greater : max stamp version ≡ version = grind (arith, nat_tests) in
-        rw (greater, is) refl
-    by_test false is =
-        let least : max stamp version ≡ stamp = grind (arith, nat_tests) in
-        rw (least, is) refl
+    at_greater (λ after rises. filled s (record w {
+      cache = if rises then after_carry version touched w.cache else w.cache;
+    }) after collected tables others) stamp version
 
 -- an advert of another switch is heard beside the own one
 hears_beside : (others : List (Option Advert)) (own : Option Advert) (s : ℕ) (advert : Advert)
