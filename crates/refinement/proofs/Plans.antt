@@ -5,15 +5,13 @@ use Rattle.std.specs.List.{range_with_len}
 use Rattle.std.proofs.lemmas.Bool.Decides.{nat_tests}
 use Rattle.std.proofs.lemmas.List.FromFn.{map-range_with_len_more}
 use Rattle.std.specs.Option.{option_map_or}
-use Rattle.policy_rules.specs.declared.policy.Row.{Row}
-use Rattle.partition.specs.Plan.{Hosted}
 use Rattle.journal.specs.declared.item.Item.{Item}
 use Rattle.update_machine.specs.Laws.{ControllerKeeps}
 use Rattle.update_machine.specs.Marks.{current_mark}
 use Rattle.update_machine.specs.Numbers.{VersionsAreNumbered}
 use Rattle.update_machine.specs.Setting.{Setting}
 use Rattle.update_machine.specs.Settling.{settling, versions_from_current}
-use Rattle.update_machine.specs.Versions.{policy_at, version_count, plan_at}
+use Rattle.update_machine.specs.Versions.{version_count}
 use Rattle.update_machine.proofs.CallerLemmas.{plan_stays, policy_stays, touched_stays}
 use Rattle.update_machine.specs.Touched.{touched_by}
 use Rattle.control_laws.proofs.Versions.{caused_numbered}
@@ -29,7 +27,6 @@ use Rattle.refinement.proofs.KeptController.{marks_on}
 use Rattle.refinement.proofs.Picked.{filter_made}
 use Rattle.refinement.proofs.Settled.{AreCaused, settles_so}
 use Rattle.refinement.proofs.Newest.{find_kept, is_of}
-use Rattle.ternary.specs.Word.{WordValue}
 use Rattle.switch_table.specs.Carried.{all_touched}
 
 -- ---- numbers of a range
@@ -93,20 +90,12 @@ planned_on : (setting : Setting) (before items : List Item) (v : ℕ) → AreCau
     → v < current_mark before + (version_count before + 1 - current_mark before)
     → plan_to_keep setting before v ≡ plan_to_keep setting (before ++ items) v
 planned_on setting before items v have above below =
-    ap (λ policy. of policy (plan_at setting before v) (touched_by setting before v))
-    (sym (policy_stays setting before items v numbers last))
-    ∙ ap (λ hosted. of (policy_at setting (before ++ items) v) hosted (touched_by setting before v))
-    (sym (plan_stays setting before items v numbers last))
-    ∙ ap (of (policy_at setting (before ++ items) v) (plan_at setting (before ++ items) v))
-    (sym (touched_stays setting before items v numbers last))
+    rw (
+      policy_stays setting before items v numbers last,
+      plan_stays setting before items v numbers last,
+      touched_stays setting before items v numbers last,
+    ) refl
   where
-    of : List Row → List Hosted → List WordValue → KeptPlan
-    of policy hosted touched = record {
-      version = v;
-      plan = record { policy = policy; hosted = hosted };
-      touched = touched;
-    }
-
     numbers : VersionsAreNumbered before
     numbers = caused_numbered setting before have
 

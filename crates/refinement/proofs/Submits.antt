@@ -4,8 +4,6 @@ use Rattle.std.specs.Prelude.{IsOk, filter}
 use Rattle.std.proofs.lemmas.Bool.{eq-eqb, ne_eqb}
 use Rattle.journal.specs.declared.item.Item.{Item}
 use Rattle.journal.specs.declared.item.Item.TheVariants as item
-use Rattle.partition.specs.Plan.{Hosted}
-use Rattle.policy_rules.specs.declared.policy.Row.{Row}
 use Rattle.steps.specs.declared.step.Step.{Step}
 use Rattle.steps.specs.declared.step.Step.TheVariants.{Update}
 use Rattle.update_machine.specs.Marks as machine
@@ -190,19 +188,12 @@ module _ (setting : Setting) (before : List Item) (row file : ℕ) (old new : Co
       number here_of.policy
 
   kept_is : kept ≡ plan_to_keep setting now version
-  kept_is = ap (λ policy. make policy plan.hosted touched) (sym own.0)
-      ∙ ap (λ hosted. make (policy_at setting now version) hosted touched)
-      (sym (own.1 ∙ ap hosted_in of.hosted))
-      ∙ ap (make (policy_at setting now version) (plan_at setting now version))
-      (here_of.touches ∙ sym (next_touched_is setting here file version
-      (caused_numbered setting here here_have) number))
-    where
-      make : List Row → List Hosted → List WordValue → KeptPlan
-      make policy hosted words = record {
-        version = version;
-        plan = record { policy = policy; hosted = hosted };
-        touched = words;
-      }
+  kept_is = rw (
+    own.0,
+    own.1 ∙ ap hosted_in of.hosted,
+    next_touched_is setting here file version (caused_numbered setting here here_have) number
+        ∙ sym here_of.touches,
+  ) refl
 
   now_plans : old.plans ++ kept ∷ [] ≡ map (plan_to_keep setting now) (versions_from_current now)
   now_plans = plans_pushed setting here (item.Submitted file version ∷ []) old.plans kept here_have
