@@ -4,9 +4,8 @@ use Rattle.std.specs.Prelude.{⊤, ◌||◌, IsFalse, is_some, nat_lt, option_ma
 use Rattle.std.specs.Option.{option_and_then, option_or}
 use Rattle.std.proofs.lemmas.Bool.Decides.{nat_tests}
 use Rattle.std.proofs.lemmas.Option.{slice_get_within}
-use Rattle.message_bag.specs.Deliveries.{delivered_status, forgotten_status}
 use Rattle.message_bag.specs.Numbered.{item_numbered, with_changed}
-use Rattle.message_bag.specs.Posts.{Post, posted_frames, frames_posted, is_post_deliverable, new_post, remembered_frames, with_delivered, with_forgotten, with_status}
+use Rattle.message_bag.specs.Posts.{Post, posted_frames, frames_posted, is_post_deliverable, new_post, remembered_frames, with_delivered, with_forgotten}
 use Rattle.message_bag.proofs.Numbered.{length_changed, numbered_changed, numbered_pushed}
 use Rattle.ctrl_msg.specs.declared.message.Message.{Message}
 use Rattle.journal.specs.declared.item.Item.{Item}
@@ -235,16 +234,12 @@ bag_flagged change k before posts item apart untold unsent flags posted_it bag =
 pub bag_delivered : (before : List Item) (posts : List Post) (k : ℕ) → k ≤ length posts
     → BagGoesOn before posts (item.Delivered k) (with_delivered posts k)
 bag_delivered before posts k =
-    bag_flagged (with_status delivered_status) k before posts (item.Delivered k) (λ n apart. apart)
-    refl
-    refl (λ m. rw (eq-eqb k k refl) refl)
+    bag_flagged _ k before posts _ (λ n apart. apart) refl refl (λ m. rw (eq-eqb k k refl) refl)
 
 pub bag_forgotten : (before : List Item) (posts : List Post) (k : ℕ) → k ≤ length posts
     → BagGoesOn before posts (item.Forgotten k) (with_forgotten posts k)
 bag_forgotten before posts k =
-    bag_flagged (with_status forgotten_status) k before posts (item.Forgotten k) (λ n apart. apart)
-    refl
-    refl (λ m. rw (eq-eqb k k refl) refl)
+    bag_flagged _ k before posts _ (λ n apart. apart) refl refl (λ m. rw (eq-eqb k k refl) refl)
 
 -- ---- items of packets
 
