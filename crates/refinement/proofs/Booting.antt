@@ -45,7 +45,7 @@ use Rattle.travelling.specs.Travelling.{Flights}
 use Rattle.refinement.proofs.Delivering.{nothing_happens}
 use Rattle.refinement.proofs.GoneSwitches.{up_as}
 use Rattle.refinement.proofs.Known.{reached_known}
-use Rattle.refinement.proofs.OneItem.{grown}
+use Rattle.refinement.proofs.OneItem.{WroteOne}
 use Rattle.refinement.proofs.Posting.{bag_on}
 use Rattle.refinement.proofs.Switches.{switch_is, switch_there}
 use Rattle.refinement.proofs.Told.{refines_told}
@@ -80,9 +80,7 @@ module _ (control : Control) (setting : Setting) (journal : List Item)
       ∙ own_up
 
   pub up_already : own.is_up ≡ true
-      → (piece setting journal row (Restart s) ≡ item.Row row (Restart s) ∷ nothing)
-      × RefineJournal setting (grown journal row (Restart s) item.Nothing) switches before count
-      control
+      → WroteOne setting journal row (Restart s) item.Nothing switches before count control
   unfolding piece restart_items
   up_already up =
       nothing_happens control setting journal switches before count row (Restart s) refines may

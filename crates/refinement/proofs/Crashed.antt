@@ -42,7 +42,7 @@ use Rattle.travelling.specs.Travelling.{Flights, WithoutAt, numbers_at, flight}
 use Rattle.refinement.proofs.ActItems.{SparesActs, acts_apart, acts_unnamed}
 use Rattle.refinement.proofs.Delivering.{nothing_happens}
 use Rattle.refinement.proofs.Losses.{losts_apart, losts_bring_none, losts_no_rows, flight_lost}
-use Rattle.refinement.proofs.OneItem.{grown}
+use Rattle.refinement.proofs.OneItem.{WroteOne, grown}
 use Rattle.refinement.proofs.Posting.{bag_on}
 use Rattle.refinement.proofs.Standing.{among, among_numbers, numbers_are}
 use Rattle.refinement.proofs.Switches.{switch_is}
@@ -103,8 +103,7 @@ pub stays_down : (control : Control) (setting : Setting) (journal : List Item)
     → RefineJournal setting journal switches before count control
     → IsStep setting.net (length setting.files) (Crash s)
     → own ≡ get_or switches s own → own.is_up ≡ false
-    → (piece setting journal row (Crash s) ≡ item.Row row (Crash s) ∷ item.Nothing ∷ [])
-    × RefineJournal setting (grown journal row (Crash s) item.Nothing) switches before count control
+    → WroteOne setting journal row (Crash s) item.Nothing switches before count control
 unfolding RefineJournal switch_of
 stays_down control setting journal switches before count row s own refines may own_at down =
     nothing_happens control setting journal switches before count row (Crash s) refines may

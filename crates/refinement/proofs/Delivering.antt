@@ -20,7 +20,7 @@ use Rattle.update_machine.proofs.CallerLemmas.{message_keeps}
 use Rattle.refinement.specs.Refinement.{RefineJournal, Control}
 use Rattle.refinement.specs.Bags.{IsBagOf, post_in}
 use Rattle.travelling.specs.Travelling.{Flights}
-use Rattle.refinement.proofs.OneItem.{grown, refines_one}
+use Rattle.refinement.proofs.OneItem.{WroteOne, refines_one}
 use Rattle.refinement.proofs.Posting.{bag_forgotten, bag_on, some_within}
 use Rattle.refinement.proofs.Refining.{switches_stay}
 
@@ -92,8 +92,7 @@ pub nothing_happens : (control : Control) (setting : Setting) (journal : List It
     → IsStep setting.net (length setting.files) step
     → ((q : ℕ) → IsFalse (concerns_calls q journal (item.Row row step)))
     → piece setting journal row step ≡ item.Row row step ∷ nothing
-    → (piece setting journal row step ≡ item.Row row step ∷ nothing)
-    × RefineJournal setting (grown journal row step item.Nothing) switches before count control
+    → WroteOne setting journal row step item.Nothing switches before count control
 unfolding RefineJournal
 nothing_happens control setting journal switches before count row step refines may uncalled is = (
   is,
@@ -122,8 +121,7 @@ module _ (control : Control) (setting : Setting) (journal : List Item)
       (deliverable_as journal control.posts n refines.bag ∙ is)
 
   pub forgotten_refines : is_post_deliverable control.posts n ≡ true
-      → (piece setting journal row (Forget n) ≡ first ∷ one ∷ [])
-      × RefineJournal setting (grown journal row (Forget n) one) switches before count
+      → WroteOne setting journal row (Forget n) one switches before count
       (record control { posts = with_forgotten control.posts n })
   unfolding RefineJournal
   forgotten_refines there =
@@ -139,9 +137,7 @@ module _ (control : Control) (setting : Setting) (journal : List Item)
 
   -- no such message may be forgotten
   pub unforgotten : is_post_deliverable control.posts n ≡ false
-      → (piece setting journal row (Forget n) ≡ first ∷ nothing)
-      × RefineJournal setting (grown journal row (Forget n) item.Nothing) switches before count
-      control
+      → WroteOne setting journal row (Forget n) item.Nothing switches before count control
   unforgotten none =
       nothing_happens control setting journal switches before count row (Forget n) refines may
       (λ q. refl) (piece_by false none)

@@ -19,7 +19,7 @@ use Rattle.update_machine.specs.Setting.{Setting}
 use Rattle.refinement.specs.Refinement.{RefineJournal, Control}
 use Rattle.refinement.specs.Bags.{IsBagOf}
 use Rattle.travelling.specs.Travelling.{Flights}
-use Rattle.refinement.proofs.OneItem.{WritesOne, grown, refines_one}
+use Rattle.refinement.proofs.OneItem.{WritesOne, WroteOne, grown, refines_one}
 use Rattle.refinement.proofs.Posting.{bag_on}
 use Rattle.refinement.proofs.Switches.{switch_is, switch_there}
 use Rattle.refinement.proofs.Refining.{one_changes}
@@ -131,9 +131,7 @@ pub expired_refines : (control : Control) (setting : Setting) (journal : List It
     → IsStep setting.net (length setting.files) (Expire s place)
     → own ≡ get_or switches s own → changed ≡ entry_expired own place
     → found ≡ option_map (λ entry. entry.message) (slice_get own.cache.entries place)
-    → (piece setting journal row (Expire s place)
-    ≡ item.Row row (Expire s place) ∷ expired_item s place found ∷ [])
-    × RefineJournal setting (grown journal row (Expire s place) (expired_item s place found))
+    → WroteOne setting journal row (Expire s place) (expired_item s place found)
     (set switches s changed) before count control
 unfolding RefineJournal
 expired_refines control setting journal switches before count row s place own changed found refines

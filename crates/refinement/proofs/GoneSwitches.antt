@@ -27,7 +27,7 @@ use Rattle.travelling.specs.Travelling.{Flights}
 use Rattle.refinement.proofs.ActItems.{written_is}
 use Rattle.refinement.proofs.Delivering.{nothing_happens}
 use Rattle.refinement.proofs.Known.{reached_known}
-use Rattle.refinement.proofs.OneItem.{grown}
+use Rattle.refinement.proofs.OneItem.{WroteOne}
 use Rattle.refinement.proofs.Posting.{bag_on}
 use Rattle.refinement.proofs.Switches.{switch_is, switch_known}
 use Rattle.refinement.proofs.Told.{refines_told}
@@ -49,9 +49,7 @@ module _ (control : Control) (setting : Setting) (journal : List Item)
       (sym (switch_is control setting journal switches before count s own refines may own_at))
 
   pub still_up : own.is_up ≡ true
-      → (piece setting journal row (Confirm s) ≡ item.Row row (Confirm s) ∷ nothing)
-      × RefineJournal setting (grown journal row (Confirm s) item.Nothing) switches before count
-      control
+      → WroteOne setting journal row (Confirm s) item.Nothing switches before count control
   unfolding piece confirm_items
   still_up up =
       let rowed : List Item = journal ++ item.Row row (Confirm s) ∷ [] in

@@ -45,7 +45,7 @@ use Rattle.world_log.proofs.Sends.{posts_as_acts, sent_as_acts}
 use Rattle.refinement.proofs.ActItems.{written_is}
 use Rattle.refinement.proofs.Delivering.{deliverable_as, nothing_happens, sent_as}
 use Rattle.refinement.proofs.Known.{reached_known}
-use Rattle.refinement.proofs.OneItem.{grown}
+use Rattle.refinement.proofs.OneItem.{WroteOne, grown}
 use Rattle.refinement.proofs.Posting.{bag_delivered, bag_on, within_posts}
 use Rattle.refinement.proofs.Told.{IsTold, refines_told}
 use Rattle.refinement.proofs.Refining.{links_stay, one_changes, up_stay}
@@ -83,9 +83,7 @@ pub undelivered : (control : Control) (setting : Setting) (journal : List Item)
     → RefineJournal setting journal switches before count control
     → IsStep setting.net (length setting.files) (Deliver n)
     → is_post_deliverable control.posts n ≡ false
-    → (piece setting journal row (Deliver n) ≡ item.Row row (Deliver n) ∷ nothing)
-    × RefineJournal setting (grown journal row (Deliver n) item.Nothing) switches before count
-    control
+    → WroteOne setting journal row (Deliver n) item.Nothing switches before count control
 unfolding RefineJournal
 undelivered control setting journal switches before count row n refines may none =
     nothing_happens control setting journal switches before count row (Deliver n) refines may

@@ -1,5 +1,5 @@
 -- A hop of a packet on its way keeps the tie of a world to its journal.
-use Rattle.std.proofs.Common.{ℕ, ◌≡◌, ◌+◌, ◌<◌, ◌==◌, Bool, true, false, ◌&&◌, if◌then◌else◌, List, [], ◌∷◌, ◌++◌, refl, ap, sym, subst, ◌∙◌, length, get_or, set, arith, eq-eqb, eqb-true}
+use Rattle.std.proofs.Common.{ℕ, ◌≡◌, ◌+◌, ◌<◌, ◌==◌, Bool, true, false, ◌&&◌, if◌then◌else◌, List, ◌∷◌, ◌++◌, refl, ap, sym, subst, ◌∙◌, length, get_or, set, arith, eq-eqb, eqb-true}
 use Rattle.std.specs.Prelude.{is_some}
 use Rattle.std.proofs.lemmas.Bool.Decides.{nat_tests}
 use Rattle.std.proofs.lemmas.List.{length-set}
@@ -26,6 +26,7 @@ use Rattle.refinement.proofs.Asking.{known_of}
 use Rattle.refinement.proofs.Known.{Known}
 use Rattle.refinement.proofs.Later.{hop_sends}
 use Rattle.refinement.proofs.Delivering.{nothing_happens}
+use Rattle.refinement.proofs.OneItem.{WroteOne}
 use Rattle.refinement.proofs.Losing.{travels_as}
 use Rattle.refinement.proofs.Posting.{SendFrom, posts_in}
 use Rattle.refinement.proofs.Refining.{Steps, numbered, one_changes, packets_are, switches_are, refines_more}
@@ -132,10 +133,7 @@ pub hop_left : (control : Control) (setting : Setting) (journal : List Item)
     → RefineJournal setting journal switches before count control
     → IsStep setting.net (length setting.files) (Hop i)
     → is_some (flight before i) ≡ false
-    → (piece setting journal row (Hop i) ≡ item.Row row (Hop i) ∷ item.Nothing ∷ [])
-    × RefineJournal setting (journal ++ item.Row row (Hop i) ∷ item.Nothing ∷ []) switches before
-    count
-    control
+    → WroteOne setting journal row (Hop i) item.Nothing switches before count control
 unfolding RefineJournal
 hop_left control setting journal switches before count row i refines may resting =
     let off : travels journal i ≡ false =

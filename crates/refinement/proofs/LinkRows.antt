@@ -38,7 +38,7 @@ use Rattle.refinement.specs.Linking.{AreRelinked, SetsLink, all_adverts_sent, li
 use Rattle.refinement.specs.Refinement.{RefineJournal, Control, is_up_link, up_links}
 use Rattle.travelling.specs.Travelling.{Flights}
 use Rattle.refinement.proofs.Delivering.{nothing_happens}
-use Rattle.refinement.proofs.OneItem.{grown}
+use Rattle.refinement.proofs.OneItem.{WroteOne}
 use Rattle.refinement.proofs.Posting.{bag_on}
 use Rattle.refinement.proofs.LinksChange.{LinksChange, change_piece, change_may, unmoved, change_refines}
 use Rattle.world_log.specs.Sending.{MaySend}
@@ -222,8 +222,7 @@ module _ (control : Control) (setting : Setting) (journal : List Item)
 
   -- nothing happens where it is so already
   pub same_refines : beq (has (get_or control.links one 0) two) up ≡ true
-      → (piece setting journal row step ≡ item.Row row step ∷ nothing)
-      × RefineJournal setting (grown journal row step item.Nothing) switches before count control
+      → WroteOne setting journal row step item.Nothing switches before count control
   same_refines same =
       nothing_happens control setting journal switches before count row step refines may
       (λ q. uncalled journal q row one two up) (link_piece setting journal row one two up

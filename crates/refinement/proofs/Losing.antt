@@ -18,7 +18,7 @@ use Rattle.refinement.specs.Flights.{flight_in}
 use Rattle.travelling.specs.Travelling.{Flights, WithOne, flight}
 use Rattle.refinement.proofs.Known.{Known, reached_known, flight_stays}
 use Rattle.refinement.proofs.Delivering.{nothing_happens}
-use Rattle.refinement.proofs.OneItem.{grown}
+use Rattle.refinement.proofs.OneItem.{WroteOne}
 use Rattle.refinement.proofs.Refining.{switches_stay, refines_silent}
 use Rattle.refinement.proofs.FactsAlong.{flight_along}
 
@@ -111,8 +111,7 @@ module _ (control : Control) (setting : Setting) (journal : List Item)
   -- and of a packet that doesn't travel nothing happens
   pub not_lost : IsStep setting.net (length setting.files) (Lose i)
       → is_some (flight before i) ≡ false
-      → (piece setting journal row (Lose i) ≡ item.Row row (Lose i) ∷ nothing)
-      × RefineJournal setting (grown journal row (Lose i) item.Nothing) switches before count control
+      → WroteOne setting journal row (Lose i) item.Nothing switches before count control
   not_lost may resting =
       nothing_happens control setting journal switches before count row (Lose i) refines may
       (λ q. refl) (lose_piece setting journal row i

@@ -24,6 +24,13 @@ use Rattle.refinement.proofs.Refining.{links_stay, refines_taken, up_stay}
 abbrev pub grown : List Item → ℕ → Step → Item → List Item
 grown journal row step one = journal ++ item.Row row step ∷ one ∷ []
 
+-- the step wrote this one item, and behind it the parts refine the journal
+abbrev pub WroteOne : Setting → List Item → ℕ → Step → Item → List SwitchValue → Flights → ℕ
+    → Control → Type 0
+WroteOne setting journal row step one switches before count control =
+    (piece setting journal row step ≡ item.Row row step ∷ one ∷ [])
+    × RefineJournal setting (grown journal row step one) switches before count control
+
 -- what the step writes, and what the switches and the messages are behind it
 pub record WritesOne (setting : Setting) (journal : List Item) (row : ℕ) (step : Step) (one : Item)
     (switches others : List SwitchValue) (posts : List Post) : Type 0 where

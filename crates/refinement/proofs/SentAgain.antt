@@ -24,7 +24,7 @@ use Rattle.update_machine.specs.Adverts.{held_adverts}
 use Rattle.update_machine.specs.Boots.{boot_of, is_up}
 use Rattle.update_machine.specs.Deliveries.{advert_to, switches_in}
 use Rattle.update_machine.specs.LinkMasks.{near}
-use Rattle.update_machine.specs.Pieces.{nothing, piece, resent_by_switch}
+use Rattle.update_machine.specs.Pieces.{piece, resent_by_switch}
 use Rattle.update_machine.specs.Setting.{Setting}
 use Rattle.update_machine.proofs.CallerLemmas.{near_stays}
 use Rattle.refinement.specs.Linking.{adverts_again}
@@ -36,7 +36,7 @@ use Rattle.travelling.specs.Travelling.{Flights}
 use Rattle.refinement.proofs.ActItems.{written_is}
 use Rattle.refinement.proofs.Delivering.{nothing_happens}
 use Rattle.refinement.proofs.Known.{reached_known}
-use Rattle.refinement.proofs.OneItem.{grown}
+use Rattle.refinement.proofs.OneItem.{WroteOne}
 use Rattle.refinement.proofs.Posting.{bag_on}
 use Rattle.refinement.proofs.Switches.{switch_is, switch_known}
 use Rattle.refinement.proofs.Told.{refines_told}
@@ -145,9 +145,7 @@ module _ (control : Control) (setting : Setting) (journal : List Item)
   -- ---- nothing is sent
 
   pub silent : (length acts == 0) ≡ true
-      → (piece setting journal row (Resend s) ≡ item.Row row (Resend s) ∷ nothing)
-      × RefineJournal setting (grown journal row (Resend s) item.Nothing) switches before count
-      control
+      → WroteOne setting journal row (Resend s) item.Nothing switches before count control
   unfolding RefineJournal
   silent none =
       nothing_happens control setting journal switches before count row (Resend s) refines may
