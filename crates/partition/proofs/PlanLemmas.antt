@@ -12,7 +12,7 @@ use Rattle.cut_tree.specs.Shape.{Shape, End, Node, leaf_count, leaves_of}
 use Rattle.cut_tree.proofs.CallerLemmas.{tree_defined}
 use Rattle.net_file.specs.Net.{IsNet}
 use Rattle.net_file.specs.declared.net.Net.{Net}
-use Rattle.placement.specs.Placement.{IsPlacement, MeetsPlacement, load_before, placement_of}
+use Rattle.placement.specs.Placement.{IsPlacement, MeetsPlacement, placement_of}
 use Rattle.placement.proofs.CallerLemmas.{first_there, placement_meets}
 use Rattle.ternary.specs.Word.{WordValue}
 use Rattle.ternary.specs.Meets.{any_word, fix_of}
@@ -111,8 +111,7 @@ targets_there net sizes targets placement =
     let hosted = placement.hosted i (omega (arith, within, placement.number)) in
     All-weaker (λ s. s < length (rooms_of net)) (λ s. s < length net.switches)
     (λ s here. omega (arith, here, length-map net.switches (λ row. row.room)))
-    _ (first_there (load_before sizes targets i) (load_before sizes targets i) (rooms_of net)
-    (get_or sizes i 0) (1 + net.backups) _ hosted))
+    _ (first_there _ _ (rooms_of net) (get_or sizes i 0) (1 + net.backups) _ hosted))
 
 -- pairs of these partitions with these targets are a plan
 zip_holds : (rows : List Row) (net : Net) (tree : Shape) (targets : List (List ℕ)) → IsPolicy rows

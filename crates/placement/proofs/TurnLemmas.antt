@@ -1,17 +1,18 @@
 -- Partitions in turn, whatever loads they weigh: what a turn keeps, that turns end in a placement
 -- or in a refusal, that there is one of these, and that no switch is given more than its room.
-use Rattle.std.proofs.Common.{ℕ, ◌≡◌, ◌≢◌, ◌∙◌, ◌+◌, ◌<◌, ◌≤◌, Bool, true, false, cond, eqb, ltb, ◌&&◌, List, [], ◌∷◌, ◌++◌, length, filter, take, drop, replicate, get_or, set, refl, ap, sym, subst, inl, inr, arith, length-set, append_assoc}
-use Rattle.std.specs.List.{AllByRecursion, list_any, range_with_len, sum_by}
+use Rattle.std.proofs.Common.{ℕ, ◌≡◌, ◌≢◌, ◌∙◌, ◌+◌, ◌<◌, ◌≤◌, Bool, true, false, cond, eqb, ◌&&◌, List, [], ◌∷◌, ◌++◌, length, filter, take, drop, replicate, get_or, set, refl, ap, sym, subst, inl, inr, arith, length-set, append_assoc}
+use Rattle.std.specs.List.{AllByRecursion, list_any, range_with_len, sum, sum_by}
 use Rattle.std.proofs.Math.Path.{fun_ext}
 use Rattle.std.proofs.lemmas.Bool.{cases_Bool, cases_eq, cases_lt, false≢true, false_from_ne_true}
 use Rattle.std.proofs.lemmas.Bool.Decides.{nat_tests}
 use Rattle.std.proofs.lemmas.Grind.{common_steps}
 use Rattle.std.proofs.lemmas.List.{append-nil, drop_all, get_or_past, get_or-set_other, get_or-set_same, same_lists, get_or_default, take_all}
 use Rattle.std.proofs.lemmas.List.Elements.{filter_agree, recursion_from_All}
-use Rattle.std.proofs.lemmas.List.Sums.{sum_by-cons, sum_by-append, sum_by_push}
+use Rattle.std.proofs.lemmas.List.FromFn.{fill_by_all}
+use Rattle.std.proofs.lemmas.List.Sums.{sum-map, sum_by-cons, sum_by-append, sum_by-le-sum_by, sum_by_push}
 use Rattle.policy_rules.proofs.CallerLemmas.{each_weaker}
 use Rattle.placement.specs.Order.{in_order}
-use Rattle.placement.specs.Placement.{is_earlier, targets_at, with_room, AreFirst}
+use Rattle.placement.specs.Placement.{is_earlier, sum_before, targets_at, with_room, AreFirst, AreHosted, HasDueTargets, IsRefused, TurnRule}
 use Rattle.placement.proofs.OrderLemmas.{Rises, one_of, one_of-same, one_of-other, count, count-range-le, count-range_within, range-within, sum-in_order, rises-in_order, each_from_count}
 use Rattle.placement.proofs.FirstLemmas.{among_holds, earlier_order, first_along, first_room, same_first, room_for_first}
 
@@ -115,22 +116,6 @@ earlier-within sizes o p earlier within =
 
 -- ---- what the earlier partitions put on a switch
 
--- how partitions take their turns: by falling keys; each puts its size on all of its targets, and
--- its key on some of them
-pub record TurnRule : Type 0 where
-  pub keys : List ℕ
-  pub sizes : List ℕ
-  pub loaded : List ℕ → List ℕ
-  pub rooms : List ℕ
-  pub backups : ℕ
-
--- the sum of the numbers of the earlier partitions that put theirs on the switch
-abbrev pub sum_before : (List ℕ → List ℕ) → List ℕ → List ℕ → List (List ℕ) → ℕ → ℕ → ℕ
-sum_before chosen keys numbers placement p s =
-    sum_by (λ o. get_or numbers o 0)
-    (filter (λ o. is_earlier keys o p && list_any (eqb s) (chosen (targets_at placement o)))
-    (range_with_len 0 (length keys)))
-
 -- the sum of the numbers of these partitions, as far as they put theirs on the switch
 abbrev pub sum_among : (List ℕ → List ℕ) → List ℕ → List (List ℕ) → List ℕ → ℕ → ℕ
 sum_among chosen numbers placement done s =
@@ -226,38 +211,18 @@ running_sum chosen keys numbers P done p left split s =
 
 -- ---- one turn
 
--- the partition has the targets that its turn gives it
-abbrev pub IsDue : TurnRule → List (List ℕ) → ℕ → Type 0
-IsDue t P p =
-    AreFirst (sum_before (λ xs. xs) t.keys t.sizes P p) (sum_before t.loaded t.keys t.keys P p)
-    t.rooms (get_or t.sizes p 0) (1 + t.backups) (targets_at P p)
-
--- each partition has its targets
-pub record AreHosted (t : TurnRule) (placement : List (List ℕ)) : Type 0 where
-  pub number : length placement ≡ length t.keys
-  pub hosted : (p : ℕ) → p < length t.keys → IsDue t placement p
-
--- the earlier ones have their targets, and this one finds too few
-pub record IsRefused (t : TurnRule) (p : ℕ) : Type 0 where
-  pub there : p < length t.keys
-  pub placement : List (List ℕ)
-  pub earlier : (o : ℕ) → o < length t.keys → is_earlier t.keys o p ≡ true → IsDue t placement o
-  pub fewer : length
-      (with_room (sum_before (λ xs. xs) t.keys t.sizes placement p) t.rooms (get_or t.sizes p 0))
-      < 1 + t.backups
-
 -- the partitions of the turns so far have their targets
 pub record TakenTurns (t : TurnRule) (placement : List (List ℕ)) (done left : List ℕ) : Type 0 where
   pub split : turns t.keys ≡ done ++ left
   pub number : length placement ≡ length t.keys
-  pub hosted : AllByRecursion (IsDue t placement) done
+  pub hosted : AllByRecursion (HasDueTargets t placement) done
 
 pub taken_none : (t : TurnRule) (placement : List (List ℕ)) → length placement ≡ length t.keys
     → TakenTurns t placement [] (turns t.keys)
 taken_none t placement len = record { split = refl; number = len; hosted = tt }
 
 hosted-set : (t : TurnRule) (P : List (List ℕ)) (p q : ℕ) (targets : List ℕ)
-    → is_earlier t.keys q p ≡ true → IsDue t P q → IsDue t (set P p targets) q
+    → is_earlier t.keys q p ≡ true → HasDueTargets t P q → HasDueTargets t (set P p targets) q
 hosted-set t P p q targets earlier hosted =
     let later : is_earlier t.keys p q ≡ false = false_from_ne_true _
     (λ flipped. not_both t.keys q p earlier flipped) in
@@ -278,7 +243,7 @@ taken_more t P done p left targets taken first =
     let parts = split_of t.keys done p left taken.split in
     let within : p < length P = omega (arith, parts.within, taken.number) in
     let never = (earlier_order t.keys).never p in
-    let here : IsDue t (set P p targets) p =
+    let here : HasDueTargets t (set P p targets) p =
     first_along _ _ _ _ t.rooms (get_or t.sizes p 0) (1 + t.backups) _ _
     (sym (sums-set (λ xs. xs) t.keys t.sizes P p p targets never))
     (sym (sums-set t.loaded t.keys t.keys P p p targets never))
@@ -286,12 +251,12 @@ taken_more t P done p left targets taken first =
     record {
       split = taken.split ∙ sym (append_assoc done (p ∷ []) left);
       number = length-set P p targets ∙ taken.number;
-      hosted = each-append (IsDue t (set P p targets)) done (p ∷ [])
+      hosted = each-append (HasDueTargets t (set P p targets)) done (p ∷ [])
           (both done parts.before taken.hosted) (here, tt);
     }
   where
     both : (xs : List ℕ) → AllByRecursion (λ o. is_earlier t.keys o p ≡ true) xs
-        → AllByRecursion (IsDue t P) xs → AllByRecursion (IsDue t (set P p targets)) xs
+        → AllByRecursion (HasDueTargets t P) xs → AllByRecursion (HasDueTargets t (set P p targets)) xs
     both [] earlier hosted = tt
     both (x ∷ xs) earlier hosted =
         (hosted-set t P p x targets earlier.0 hosted.0, both xs earlier.1 hosted.1)
@@ -307,7 +272,7 @@ taken_all t P done taken =
     let whole : turns t.keys ≡ done = taken.split ∙ append-nil done in
     record {
       number = taken.number;
-      hosted = λ p within. each_from_count (IsDue t P) p done taken.hosted
+      hosted = λ p within. each_from_count (HasDueTargets t P) p done taken.hosted
           (subst (λ xs. 0 < count p xs) whole (in_turns t.keys p within));
     }
 
@@ -320,7 +285,7 @@ taken_refused t P done p left taken fewer =
     record {
       there = parts.within;
       placement = P;
-      earlier = λ o within earlier. each_from_count (IsDue t P) o done taken.hosted
+      earlier = λ o within earlier. each_from_count (HasDueTargets t P) o done taken.hosted
           (parts.others o within earlier);
       fewer = fewer;
     }
@@ -438,6 +403,30 @@ loaded_refused t held loads P done p left loaded fewer =
     (subst (λ f. length (with_room f t.rooms (get_or t.sizes p 0)) < 1 + t.backups)
     (held_before t held loads P done p left loaded) fewer)
 
+-- what a switch carries before a turn, and the key of this one, are within the sum of all
+pub carried-room : (t : TurnRule) (held loads : List ℕ) (P : List (List ℕ)) (done : List ℕ)
+    (p : ℕ) (left : List ℕ) → Loaded t held loads P done (p ∷ left) → (s : ℕ)
+    → get_or loads s 0 + get_or t.keys p 0 ≤ sum t.keys
+carried-room t held loads P done p left loaded s =
+    let key : ℕ → ℕ = λ o. get_or t.keys o 0 in
+    let put : ℕ → ℕ = λ o. cond (list_any (eqb s) (t.loaded (targets_at P o))) (key o) 0 in
+    omega (
+      arith,
+      loaded.loads_is s,
+      sum_by-le-sum_by put key done
+          (λ o. part_le (list_any (eqb s) (t.loaded (targets_at P o))) (key o)),
+      sum_by-append key done (p ∷ left),
+      sum_by-cons key p left,
+      ap (sum_by key) loaded.taken.split,
+      sum-in_order key (is_earlier t.keys) (range_with_len 0 (length t.keys)),
+      sum-map key (range_with_len 0 (length t.keys)),
+      ap sum (fill_by_all key t.keys (length t.keys) 0 refl (λ k within. refl)),
+    )
+  where
+    part_le : (b : Bool) (n : ℕ) → cond b n 0 ≤ n
+    part_le true n = omega arith
+    part_le false n = omega arith
+
 -- ---- one placement
 
 -- two placements give these partitions the same targets
@@ -454,8 +443,8 @@ agree_next chosen keys numbers P Q done p left split agree =
     done agree (parts.others o (earlier-within keys o p earlier parts.within) earlier))
 
 agree_from : (t : TurnRule) (P Q : List (List ℕ)) (now done left : List ℕ)
-    → turns t.keys ≡ done ++ (now ++ left) → Agree P Q done → AllByRecursion (IsDue t P) now
-    → AllByRecursion (IsDue t Q) now → Agree P Q (done ++ now)
+    → turns t.keys ≡ done ++ (now ++ left) → Agree P Q done → AllByRecursion (HasDueTargets t P) now
+    → AllByRecursion (HasDueTargets t Q) now → Agree P Q (done ++ now)
 agree_from t P Q [] done left split agree p q = subst (Agree P Q) (sym (append-nil done)) agree
 agree_from t P Q (x ∷ xs) done left split agree p q =
     let held = agree_next (λ xs. xs) t.keys t.sizes P Q done x (xs ++ left) split agree in
@@ -481,7 +470,7 @@ each_within P sizes all (x ∷ xs) within = (
 
 pub same_hosted : (t : TurnRule) (P Q : List (List ℕ)) → AreHosted t P → AreHosted t Q → P ≡ Q
 same_hosted t P Q p q =
-    let due = λ (R : List (List ℕ)) (r : AreHosted t R). each_within (IsDue t R) t.keys r.hosted
+    let due = λ (R : List (List ℕ)) (r : AreHosted t R). each_within (HasDueTargets t R) t.keys r.hosted
     (turns t.keys) (turns-within t.keys) in
     let agree = agree_from t P Q (turns t.keys) [] [] (sym (append-nil (turns t.keys))) tt
     (due P p) (due Q q) in
@@ -493,14 +482,14 @@ same_hosted t P Q p q =
 
 -- a partition that is refused has no targets in any placement of the earlier ones
 refused_clash : (t : TurnRule) (p : ℕ) → IsRefused t p → (Q : List (List ℕ))
-    → ((o : ℕ) → o < length t.keys → is_earlier t.keys o p ≡ true → IsDue t Q o) → IsDue t Q p → ⊥
+    → ((o : ℕ) → o < length t.keys → is_earlier t.keys o p ≡ true → HasDueTargets t Q o) → HasDueTargets t Q p → ⊥
 refused_clash t p refused Q earlier due =
     let cut = split_at p (turns t.keys) (in_turns t.keys p refused.there) in
     let parts = split_of t.keys cut.0 p cut.1 cut.2 in
     let within : (z : ℕ) → 0 < count z cut.0 → z < length t.keys = λ z there. turns-within t.keys z
     (omega (arith, ap (count z) cut.2, sum_by-append (one_of z) cut.0 (p ∷ cut.1))) in
     let all = λ (R : List (List ℕ)) (r : (o : ℕ) → o < length t.keys
-    → is_earlier t.keys o p ≡ true → IsDue t R o). each_both R r cut.0 parts.before within in
+    → is_earlier t.keys o p ≡ true → HasDueTargets t R o). each_both R r cut.0 parts.before within in
     let agree = agree_from t refused.placement Q cut.0 [] (p ∷ cut.1) cut.2 tt
     (all refused.placement refused.earlier) (all Q earlier) in
     let held = agree_next (λ xs. xs) t.keys t.sizes refused.placement Q cut.0 p cut.1 cut.2 agree in
@@ -512,9 +501,9 @@ refused_clash t p refused Q earlier due =
     omega (arith, room, fewer)
   where
     each_both : (R : List (List ℕ))
-        → ((o : ℕ) → o < length t.keys → is_earlier t.keys o p ≡ true → IsDue t R o)
+        → ((o : ℕ) → o < length t.keys → is_earlier t.keys o p ≡ true → HasDueTargets t R o)
         → (xs : List ℕ) → AllByRecursion (λ o. is_earlier t.keys o p ≡ true) xs
-        → ((z : ℕ) → 0 < count z xs → z < length t.keys) → AllByRecursion (IsDue t R) xs
+        → ((z : ℕ) → 0 < count z xs → z < length t.keys) → AllByRecursion (HasDueTargets t R) xs
     each_both R all [] before within = tt
     each_both R all (x ∷ xs) before within = (
       all x (within x (omega (arith, sum_by-cons (one_of x) x xs, one_of-same x))) before.0,
@@ -549,7 +538,7 @@ hosted_or_refused t p Q placement refused = refused_clash t p refused Q
 
 -- one more turn leaves each switch within its room
 fits_more : (t : TurnRule) (P : List (List ℕ)) (done : List ℕ) (p : ℕ) (left : List ℕ) (s : ℕ)
-    → turns t.keys ≡ done ++ p ∷ left → IsDue t P p
+    → turns t.keys ≡ done ++ p ∷ left → HasDueTargets t P p
     → sum_among (λ xs. xs) t.sizes P done s ≤ get_or t.rooms s 0
     → sum_among (λ xs. xs) t.sizes P (done ++ p ∷ []) s ≤ get_or t.rooms s 0
 fits_more t P done p left s split due fits =
@@ -581,7 +570,7 @@ fits_more t P done p left s split due fits =
         omega (arith, sum_by_push put done p, here, fits)
 
 fits_from : (t : TurnRule) (P : List (List ℕ)) (now done : List ℕ) (s : ℕ)
-    → turns t.keys ≡ done ++ now → AllByRecursion (IsDue t P) now
+    → turns t.keys ≡ done ++ now → AllByRecursion (HasDueTargets t P) now
     → sum_among (λ xs. xs) t.sizes P done s ≤ get_or t.rooms s 0
     → sum_among (λ xs. xs) t.sizes P (done ++ now) s ≤ get_or t.rooms s 0
 fits_from t P [] done s split due fits =
@@ -597,7 +586,7 @@ fits_from t P (x ∷ xs) done s split due fits =
 pub hosted_fits : (t : TurnRule) (P : List (List ℕ)) → AreHosted t P → (s : ℕ)
     → sum_among (λ xs. xs) t.sizes P (range_with_len 0 (length t.keys)) s ≤ get_or t.rooms s 0
 hosted_fits t P hosted s =
-    let due = each_within (IsDue t P) t.keys hosted.hosted (turns t.keys) (turns-within t.keys) in
+    let due = each_within (HasDueTargets t P) t.keys hosted.hosted (turns t.keys) (turns-within t.keys) in
     let put : ℕ → ℕ = λ o. cond (list_any (eqb s) (targets_at P o)) (get_or t.sizes o 0) 0 in
     omega (
       arith,

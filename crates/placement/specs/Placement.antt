@@ -6,6 +6,8 @@ use Rattle.std.specs.Prelude.{ℕ, ◌≡◌, ◌+◌, ◌<◌, Bool, ◌&&◌, 
 use Rattle.std.specs.List.{list_any, range_with_len}
 use Rattle.placement.specs.Order.{in_order}
 use Rattle.placement.specs.declared.NoRoom.{NoRoom}
+use Rattle.placement.specs.declared.turns.Load.{Load}
+use Rattle.placement.specs.declared.turns.Load.TheVariants as load
 
 -- ---- which partition comes first, and what the switches hold then
 
@@ -21,13 +23,13 @@ targets_at placement partition = slice_index_or placement partition []
 abbrev pub is_target : List (List ℕ) → ℕ → ℕ → Bool
 is_target placement partition switch = list_any (nat_eq switch) (targets_at placement partition)
 
--- the load of a switch before a partition: the sum of the sizes of the earlier partitions whose
--- targets contain it
-unfoldable pub load_before : List ℕ → List (List ℕ) → ℕ → ℕ → ℕ
-load_before sizes placement partition switch =
-    let held = λ (other : ℕ).
-    is_earlier sizes other partition && is_target placement other switch in
-    sum_by (slice_index sizes) (filter held (range_with_len 0 (length sizes)))
+-- the sum of these numbers over the earlier partitions that load the switch: those among whose
+-- loaded targets it is
+abbrev pub sum_before : (List ℕ → List ℕ) → List ℕ → List ℕ → List (List ℕ) → ℕ → ℕ → ℕ
+sum_before loaded keys numbers placement partition switch =
+    let loads = λ (other : ℕ).
+    is_earlier keys other partition && list_any (nat_eq switch) (loaded (targets_at placement other)) in
+    sum_by (slice_index numbers) (filter loads (range_with_len 0 (length keys)))
 
 -- ---- which switches a partition goes to
 
@@ -54,30 +56,70 @@ pub record AreFirst (held load : ℕ → ℕ) (rooms : List ℕ) (size count : �
       → IsFalse (list_any (nat_eq other) targets)
       → All (λ s. IsTrue (is_lighter load s other)) targets
 
--- ---- a placement, and why there is none
+-- ---- partitions in turn
 
--- the partition has the targets that its turn gives it: one and the backups
-abbrev pub HasDueTargets : List ℕ → List ℕ → ℕ → List (List ℕ) → ℕ → Type 0
-HasDueTargets sizes rooms backups placement partition =
-    let load = load_before sizes placement partition in
-    AreFirst load load rooms (slice_index sizes partition) (1 + backups)
-    (targets_at placement partition)
+-- how partitions take their turns: by falling keys, then by number. Each puts its size on all of its
+-- targets, and its key on those that it loads
+pub record TurnRule : Type 0 where
+  pub keys : List ℕ
+  pub sizes : List ℕ
+  pub loaded : List ℕ → List ℕ
+  pub rooms : List ℕ
+  pub backups : ℕ
+
+-- of a partition's targets those that it loads
+abbrev pub loaded_by : Load → List ℕ → List ℕ
+loaded_by load.OnAll targets = targets
+loaded_by load.OnFirst targets = take 1 targets
+
+abbrev pub turn_rule : Load → List ℕ → List ℕ → List ℕ → ℕ → TurnRule
+turn_rule load keys sizes rooms backups = record {
+  keys = keys;
+  sizes = sizes;
+  loaded = loaded_by load;
+  rooms = rooms;
+  backups = backups;
+}
+
+-- the partition has the targets that its turn gives it: one and the backups, by what they hold and
+-- carry then
+abbrev pub HasDueTargets : TurnRule → List (List ℕ) → ℕ → Type 0
+HasDueTargets t placement partition =
+    AreFirst (sum_before (λ targets. targets) t.keys t.sizes placement partition)
+    (sum_before t.loaded t.keys t.keys placement partition) t.rooms
+    (slice_index t.sizes partition) (1 + t.backups) (targets_at placement partition)
 
 -- each partition has its targets
-pub record IsPlacement (sizes rooms : List ℕ) (backups : ℕ) (placement : List (List ℕ))
-    : Type 0 where
-  pub number : length placement ≡ length sizes
-  pub hosted : (partition : ℕ) → partition < length sizes
-      → HasDueTargets sizes rooms backups placement partition
+pub record AreHosted (t : TurnRule) (placement : List (List ℕ)) : Type 0 where
+  pub number : length placement ≡ length t.keys
+  pub hosted : (partition : ℕ) → partition < length t.keys → HasDueTargets t placement partition
 
 -- the earlier partitions have their targets, and for this one too few switches have room
-pub record LacksRoom (sizes rooms : List ℕ) (backups : ℕ) (partition : ℕ) : Type 0 where
-  pub there : partition < length sizes
+pub record IsRefused (t : TurnRule) (partition : ℕ) : Type 0 where
+  pub there : partition < length t.keys
   pub placement : List (List ℕ)
-  pub earlier : (other : ℕ) → other < length sizes → IsTrue (is_earlier sizes other partition)
-      → HasDueTargets sizes rooms backups placement other
-  pub fewer : (let load = load_before sizes placement partition in
-      length (with_room load rooms (slice_index sizes partition)) < 1 + backups)
+  pub earlier : (other : ℕ) → other < length t.keys → IsTrue (is_earlier t.keys other partition)
+      → HasDueTargets t placement other
+  pub fewer : (let held = sum_before (λ targets. targets) t.keys t.sizes placement partition in
+      length (with_room held t.rooms (slice_index t.sizes partition)) < 1 + t.backups)
+
+-- ---- a placement, and why there is none
+
+-- by falling size; a partition loads each of its targets with its size
+abbrev pub placing : List ℕ → List ℕ → ℕ → TurnRule
+placing sizes rooms backups = turn_rule load.OnAll sizes sizes rooms backups
+
+abbrev pub IsPlacement : List ℕ → List ℕ → ℕ → List (List ℕ) → Type 0
+IsPlacement sizes rooms backups placement = AreHosted (placing sizes rooms backups) placement
+
+abbrev pub LacksRoom : List ℕ → List ℕ → ℕ → ℕ → Type 0
+LacksRoom sizes rooms backups partition = IsRefused (placing sizes rooms backups) partition
+
+-- the load of a switch before a partition: the sum of the sizes of the earlier partitions whose
+-- targets contain it
+unfoldable pub load_before : List ℕ → List (List ℕ) → ℕ → ℕ → ℕ
+load_before sizes placement partition switch =
+    sum_before (λ targets. targets) sizes sizes placement partition switch
 
 -- ---- the one placement
 

@@ -6,7 +6,7 @@
 //! says that there is one such placement at most, and that the function which definitions of plans
 //! use gives it.
 //!
-//! `by_falling`, `by_load`, `front` and `add_load` make one turn, for whatever loads are weighed.
+//! `Load::take_turns` gives the targets for whatever loads are weighed.
 #![tactic(auto)]
 
 mod turns;
@@ -19,7 +19,7 @@ use base::Failure;
 use policy_rules::Targets;
 use std::alloc::Global;
 use thiserror::Error;
-pub use turns::{add_load, by_falling, by_load, front, number_at, widened};
+pub use turns::{Load, widened};
 
 /// Why partitions have no placement: too few switches have room for this one, counted from 0. It
 /// is the first such one, by falling size and then by number.
@@ -55,23 +55,8 @@ pub fn place(
     ensures refused { IfErr result (IfRefused
         (RefusesPlacement sizes.now rooms.now backups)) }
 {
-    let none_yet = Targets::new(&[0]).unwrap();
-    let mut placement = vec![in alloc; none_yet; sizes.len()]?;
-    let mut loads = vec![in alloc; 0; rooms.len()]?;
     let wide = widened(alloc, sizes)?;
-    let order = by_falling(alloc, &wide)?;
-    for partition in &order {
-        let size = number_at(&wide, *partition);
-        let switches = by_load(alloc, &loads, &loads, rooms, size)?;
-        let Some(targets) = front(&switches, backups) else {
-            return Err(Failure::Refused(NoRoom {
-                partition: *partition,
-            }));
-        };
-        add_load(&mut loads, targets.items(), size);
-        placement[*partition as usize] = targets;
-    }
-    Ok(placement)
+    Load::OnAll.take_turns(alloc, &wide, &wide, rooms, backups)
 }
 
 /// The defined placement: it meets the relation on loads, or names the partition that is refused,

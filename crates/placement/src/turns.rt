@@ -1,17 +1,83 @@
-ghost use Rattle.std.specs.Prelude.{ℕ, ◌≡◌, ◌+◌, ◌<◌, ◌≤◌, ◌^◌, length, slice_index, take, All, AllPairs, MatchOption, IfOk, IfSome, if◌then◌else◌, nat_eq};
+ghost use Rattle.std.specs.Prelude.{ℕ, ◌≡◌, ◌+◌, ◌<◌, ◌≤◌, ◌^◌, length, slice_index, sum, take, All, AllPairs, MatchOption, IfOk, IfErr, IfSome, if◌then◌else◌, nat_eq};
 ghost use Rattle.std.specs.List.{list_any, range_with_len};
+ghost use Rattle.base.specs.Refusals.{IfRefused};
 ghost use Rattle.placement.specs.Order.{in_order};
-ghost use Rattle.placement.specs.Placement.{is_earlier, is_lighter, has_room, with_room};
+ghost use Rattle.placement.specs.Placement.{AreHosted, IsRefused, is_earlier, is_lighter, has_room, loaded_by, turn_rule, with_room};
 
+use crate::NoRoom;
+use base::Failure;
 use policy_rules::Targets;
 use std::alloc::{AllocError, Global};
 use std::cmp::Reverse;
 
-/// The places of these numbers, by falling number and then by place.
-///
-/// # Errors
-/// Want of memory alone.
-pub fn by_falling(alloc: Global, numbers: &[u64]) -> Result<Vec<u32>, AllocError>
+/// Which of its targets a partition loads by its key, where partitions take turns.
+#[derive(Clone, Copy)]
+pub enum Load {
+    OnAll,
+    OnFirst,
+}
+
+impl Load {
+    /// The targets of partitions of these keys and of these sizes, in rules, on switches of these
+    /// rooms, in rules: for each partition an authority switch and so many backups.
+    ///
+    /// Partitions come by falling key, then by number. Each goes to the switches of least load, and
+    /// then of least number, among those whose room holds it beside the partitions that they have.
+    ///
+    /// # Errors
+    /// `NoRoom` with the first partition, by falling key and then by number, that finds fewer
+    /// switches than it needs.
+    pub fn take_turns(
+        self,
+        alloc: Global,
+        keys: &[u64],
+        sizes: &[u64],
+        rooms: &[u32],
+        backups: u32,
+    ) -> Result<Vec<Targets>, Failure<NoRoom>>
+        requires partitions { length keys.now < 2 ^ 32 }
+        requires switches { length rooms.now ≤ 64 }
+        requires backups { backups ≤ 3 }
+        requires small { sum keys.now < 2 ^ 64 }
+        ensures hosted { IfOk result (λ targets.
+            AreHosted (turn_rule self keys.now sizes.now rooms.now backups) targets.items) }
+        ensures refused { IfErr result (IfRefused (λ lack.
+            IsRefused (turn_rule self keys.now sizes.now rooms.now backups) lack.partition)) }
+    {
+        let none_yet = Targets::new(&[0]).unwrap();
+        let mut placement = vec![in alloc; none_yet; keys.len()]?;
+        let mut held = vec![in alloc; 0; rooms.len()]?;
+        let mut loads = vec![in alloc; 0; rooms.len()]?;
+        let order = by_falling(alloc, keys)?;
+        for partition in &order {
+            let size = number_at(sizes, *partition);
+            let key = number_at(keys, *partition);
+            let switches = by_load(alloc, &held, &loads, rooms, size)?;
+            let Some(targets) = front(&switches, backups) else {
+                return Err(Failure::Refused(NoRoom {
+                    partition: *partition,
+                }));
+            };
+            add_load(&mut held, targets.items(), size);
+            add_load(&mut loads, self.loaded(&targets), key);
+            placement[*partition as usize] = targets;
+        }
+        Ok(placement)
+    }
+
+    // Those of a partition's targets that it loads.
+    fn loaded(self, targets: &Targets) -> &[u32]
+        ensures { result.now ≡ loaded_by self targets.now }
+    {
+        match self {
+            Load::OnAll => targets.items(),
+            Load::OnFirst => &targets.items()[..1],
+        }
+    }
+}
+
+// The places of these numbers, by falling number and then by place.
+fn by_falling(alloc: Global, numbers: &[u64]) -> Result<Vec<u32>, AllocError>
     requires { length numbers.now < 2 ^ 32 }
     ensures { IfOk result (λ order.
         order.items ≡ in_order (is_earlier numbers.now) (range_with_len 0 (length numbers.now))) }
@@ -21,12 +87,9 @@ pub fn by_falling(alloc: Global, numbers: &[u64]) -> Result<Vec<u32>, AllocError
     Ok(order)
 }
 
-/// The switches that have room for so many rules above those that they hold, by load and then by
-/// number.
-///
-/// # Errors
-/// Want of memory alone.
-pub fn by_load(
+// The switches that have room for so many rules above those that they hold, by load and then by
+// number.
+fn by_load(
     alloc: Global,
     held: &[u64],
     loads: &[u64],
@@ -44,8 +107,8 @@ pub fn by_load(
     Ok(switches)
 }
 
-/// The first of these switches, one and so many backups; `None` exactly where they are fewer.
-pub fn front(switches: &[u32], backups: u32) -> Option<Targets>
+// The first of these switches, one and so many backups; `None` exactly where they are fewer.
+fn front(switches: &[u32], backups: u32) -> Option<Targets>
     requires { backups ≤ 3 }
     ensures targets { IfSome result (λ targets. targets ≡ take (1 + backups) switches.now) }
     ensures enough { MatchOption result (length switches.now < 1 + backups)
@@ -58,8 +121,8 @@ pub fn front(switches: &[u32], backups: u32) -> Option<Targets>
     Targets::new(&switches[..count])
 }
 
-/// Adds so much to the loads of these switches.
-pub fn add_load(loads: &mut [u64], targets: &[u32], more: u64)
+// Adds so much to the loads of these switches.
+fn add_load(loads: &mut [u64], targets: &[u32], more: u64)
     requires there { All (λ s. s < length loads.old) targets.now }
     requires fits { All (λ s. slice_index loads.old s + more < 2 ^ 64) targets.now }
     requires distinct { AllPairs (λ a b. a ≡ b → ⊥) targets.now }
@@ -71,8 +134,8 @@ pub fn add_load(loads: &mut [u64], targets: &[u32], more: u64)
     }
 }
 
-/// The number at this place, or 0 past the end.
-pub fn number_at(numbers: &[u64], place: u32) -> u64
+// The number at this place, or 0 past the end.
+fn number_at(numbers: &[u64], place: u32) -> u64
     ensures { result ≡ slice_index numbers.now place }
 {
     numbers.get(place as usize).copied().unwrap_or(0)

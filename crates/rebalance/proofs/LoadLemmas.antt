@@ -1,6 +1,6 @@
 -- What switches carry under a placement: the bound holds of each placement that fits, and running
 -- sums come to the traffic.
-use Rattle.std.proofs.Common.{ℕ, zero, suc, ◌≡◌, ◌≢◌, ◌∙◌, ◌+◌, ◌*◌, ◌<◌, ◌≤◌, ◌||◌, Bool, true, false, cond, eqb, not, List, [], ◌∷◌, length, map, filter, take, get_or, set, refl, ap, sym, inl, inr, arith, zero-add, All}
+use Rattle.std.proofs.Common.{ℕ, zero, suc, ◌≡◌, ◌≢◌, ◌∙◌, ◌+◌, ◌*◌, ◌<◌, ◌≤◌, ◌||◌, Bool, true, false, cond, eqb, not, List, [], ◌∷◌, length, map, take, get_or, set, refl, ap, sym, inl, inr, arith, zero-add, All}
 use Rattle.std.specs.Prelude.{max}
 use Rattle.std.specs.Int.{div_ceil}
 use Rattle.std.specs.List.{AllByRecursion, fold, list_any, range_with_len, sum, sum_by}
@@ -13,7 +13,7 @@ use Rattle.std.proofs.lemmas.List.Sums.{sum_by-le-sum_by, sum_by_push}
 use Rattle.policy_rules.proofs.CallerLemmas.{range_more}
 use Rattle.placement.specs.Placement.{is_target, targets_at}
 use Rattle.placement.proofs.CallerLemmas.{each_by_count, range-within, sum-filter, sum_none}
-use Rattle.rebalance.specs.Loads.{Fits, bound, greatest, greatest_traffic, is_primary, rules_at, traffic, usable_rooms}
+use Rattle.rebalance.specs.Loads.{Fits, bound, greatest, greatest_traffic, is_primary, traffic, usable_rooms}
 use Rattle.rebalance.proofs.Sums.{most-each, most-le, passing-le, places-le, share-le, shared-le, sum-le, sum-places, sum-scaled, term-le}
 
 -- ---- the traffic of a switch

@@ -1,5 +1,5 @@
 -- Sums over the numbers of partitions and of switches, and the greatest of numbers.
-use Rattle.std.proofs.Common.{ℕ, zero, suc, ◌≡◌, ◌∙◌, ◌+◌, ◌*◌, ◌<◌, ◌≤◌, Bool, true, false, cond, eqb, List, [], ◌∷◌, length, filter, get_or, refl, ap, sym, inl, inr, arith, add-one, zero-add}
+use Rattle.std.proofs.Common.{ℕ, zero, suc, ◌≡◌, ◌∙◌, ◌+◌, ◌*◌, ◌<◌, ◌≤◌, Bool, true, false, cond, List, [], ◌∷◌, length, filter, get_or, refl, ap, inl, inr, arith, add-one, zero-add}
 use Rattle.std.specs.Prelude.{max}
 use Rattle.std.specs.List.{AllByRecursion, fold, range_with_len, sum, sum_by}
 use Rattle.std.proofs.Math.Nat.{mul-le-mul_left}

@@ -1,52 +1,23 @@
 -- The spread of partitions over switches by how much each was asked, and the placement that is
 -- proposed. Partitions take their turns by falling weight, and then by number.
-use Rattle.std.specs.Prelude.{ℕ, ◌≡◌, ◌+◌, ◌<◌, ◌≤◌, ◌&&◌, ◌⊎◌, List, length, filter, sum_by, slice_index, All, IsTrue}
-use Rattle.std.specs.List.{range_with_len}
-use Rattle.placement.specs.Placement.{AreFirst, IsPlacement, is_earlier, is_target, targets_at, with_room}
-use Rattle.rebalance.specs.Loads.{Fits, bound, is_primary, peak}
-
--- ---- what earlier turns leave
-
--- the rules that a switch holds before a partition's turn
-unfoldable pub rules_before : List ℕ → List ℕ → List (List ℕ) → ℕ → ℕ → ℕ
-rules_before weights sizes placement partition switch =
-    let held = λ (other : ℕ).
-    is_earlier weights other partition && is_target placement other switch in
-    sum_by (slice_index sizes) (filter held (range_with_len 0 (length weights)))
-
--- its traffic before that turn
-unfoldable pub traffic_before : List ℕ → List (List ℕ) → ℕ → ℕ → ℕ
-traffic_before weights placement partition switch =
-    let carried = λ (other : ℕ).
-    is_earlier weights other partition && is_primary placement other switch in
-    sum_by (slice_index weights) (filter carried (range_with_len 0 (length weights)))
+use Rattle.std.specs.Prelude.{ℕ, ◌≡◌, ◌<◌, ◌≤◌, ◌⊎◌, List, length, All}
+use Rattle.placement.specs.Placement.{AreHosted, IsPlacement, IsRefused, TurnRule, turn_rule}
+use Rattle.placement.specs.declared.turns.Load.TheVariants as load
+use Rattle.rebalance.specs.Loads.{Fits, bound, peak}
 
 -- ---- the spread, and why there is none
 
--- the partition has the switches of least traffic that have room for it: one and the backups
-abbrev pub HasLeastTraffic : List ℕ → List ℕ → List ℕ → ℕ → List (List ℕ) → ℕ → Type 0
-HasLeastTraffic sizes weights rooms backups placement partition =
-    AreFirst (rules_before weights sizes placement partition)
-    (traffic_before weights placement partition) rooms (slice_index sizes partition) (1 + backups)
-    (targets_at placement partition)
+-- by falling weight; a partition loads its first target with its weight
+abbrev pub spreading : List ℕ → List ℕ → List ℕ → ℕ → TurnRule
+spreading sizes weights rooms backups = turn_rule load.OnFirst weights sizes rooms backups
 
--- each partition has them
-pub record IsSpread (sizes weights rooms : List ℕ) (backups : ℕ) (placement : List (List ℕ))
-    : Type 0 where
-  pub number : length placement ≡ length weights
-  pub chosen : (partition : ℕ) → partition < length weights
-      → HasLeastTraffic sizes weights rooms backups placement partition
+abbrev pub IsSpread : List ℕ → List ℕ → List ℕ → ℕ → List (List ℕ) → Type 0
+IsSpread sizes weights rooms backups placement =
+    AreHosted (spreading sizes weights rooms backups) placement
 
--- the earlier partitions have them, and for this one too few switches have room
-pub record FindsFewer (sizes weights rooms : List ℕ) (backups partition : ℕ) : Type 0 where
-  pub there : partition < length weights
-  pub placement : List (List ℕ)
-  pub earlier : (other : ℕ) → other < length weights → IsTrue (is_earlier weights other partition)
-      → HasLeastTraffic sizes weights rooms backups placement other
-  pub fewer : length
-      (with_room (rules_before weights sizes placement partition) rooms
-      (slice_index sizes partition))
-      < 1 + backups
+abbrev pub FindsFewer : List ℕ → List ℕ → List ℕ → ℕ → ℕ → Type 0
+FindsFewer sizes weights rooms backups partition =
+    IsRefused (spreading sizes weights rooms backups) partition
 
 -- ---- what is proposed
 

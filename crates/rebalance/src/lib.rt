@@ -18,7 +18,6 @@
 #![tactic(auto)]
 
 mod laws;
-mod loading;
 mod peaks;
 mod proposing;
 mod spreading;

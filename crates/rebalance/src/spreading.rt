@@ -2,9 +2,8 @@ ghost use Rattle.std.specs.Prelude.{◌≡◌, ◌<◌, ◌≤◌, ◌^◌, leng
 ghost use Rattle.base.specs.Refusals.{IfRefused};
 ghost use Rattle.rebalance.specs.Spread.{FindsFewer, IsSpread};
 
-use crate::loading::add_traffic;
 use base::Failure;
-use placement::{NoRoom, add_load, by_falling, by_load, front, number_at, widened};
+use placement::{Load, NoRoom, widened};
 use policy_rules::Targets;
 use std::alloc::Global;
 
@@ -35,24 +34,6 @@ pub fn spread(
     ensures refused { IfErr result (IfRefused (λ lack.
         FindsFewer sizes.now weights.now rooms.now backups lack.partition)) }
 {
-    let none_yet = Targets::new(&[0]).unwrap();
-    let mut placement = vec![in alloc; none_yet; weights.len()]?;
-    let mut held = vec![in alloc; 0; rooms.len()]?;
-    let mut carried = vec![in alloc; 0; rooms.len()]?;
     let wide = widened(alloc, sizes)?;
-    let order = by_falling(alloc, weights)?;
-    for partition in &order {
-        let size = number_at(&wide, *partition);
-        let weight = number_at(weights, *partition);
-        let switches = by_load(alloc, &held, &carried, rooms, size)?;
-        let Some(targets) = front(&switches, backups) else {
-            return Err(Failure::Refused(NoRoom {
-                partition: *partition,
-            }));
-        };
-        add_load(&mut held, targets.items(), size);
-        add_traffic(&mut carried, &targets, weight);
-        placement[*partition as usize] = targets;
-    }
-    Ok(placement)
+    Load::OnFirst.take_turns(alloc, weights, &wide, rooms, backups)
 }

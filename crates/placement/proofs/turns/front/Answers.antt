@@ -1,5 +1,4 @@
-use Rattle.std.proofs.Common.{ℕ, ◌≡◌, ◌+◌, ◌≤◌, ◌<◌, ◌⊎◌, ◌↔◌, ◌∙◌, List, length, length-take, take, inl, inr, Option, Some, None, MatchOption, IsNone, refl, arith, sym, ap}
-use Rattle.std.specs.Option.{IfSome}
+use Rattle.std.proofs.Common.{ℕ, ◌≡◌, ◌+◌, ◌≤◌, ◌<◌, ◌⊎◌, ◌↔◌, List, length, length-take, take, inl, inr, Option, Some, None, MatchOption, IsNone, refl, arith}
 use Rattle.placement.proofs.turns.front.Goals as goal
 
 -- a list of one to four

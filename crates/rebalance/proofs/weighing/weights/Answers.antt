@@ -1,4 +1,4 @@
-use Rattle.std.proofs.Common.{ℕ, ◌≡◌, ◌∙◌, ◌+◌, ◌<◌, ◌≤◌, ◌++◌, List, length, length-take, replicate, take, drop, get_or, ap, arith, rules, take_all}
+use Rattle.std.proofs.Common.{ℕ, ◌≡◌, ◌∙◌, ◌<◌, ◌++◌, List, length, length-take, replicate, take, drop, get_or, ap, arith, rules, take_all}
 use Rattle.std.specs.List.{sum}
 use Rattle.rebalance.specs.Loads.{weights_of}
 use Rattle.std.proofs.lemmas.List.{get_or_default, length-replicate}

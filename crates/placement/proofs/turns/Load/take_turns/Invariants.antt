@@ -1,10 +1,10 @@
 use Rattle.std.proofs.Common.{take, drop}
-use Rattle.placement.proofs.CallerLemmas.{Loaded}
-use Rattle.rebalance.proofs.SpreadLemmas.{spreading}
-use Rattle.rebalance.proofs.spreading.spread.Given as goal
+use Rattle.placement.specs.Placement.{turn_rule}
+use Rattle.placement.proofs.TurnLemmas.{Loaded}
+use Rattle.placement.proofs.turns.Load.take_turns.Given as goal
 
 abbrev pub invariant-loop-partition : goal.invariant-loop-partition
 invariant-loop-partition l =
-    Loaded (spreading l.sizes l.weights l.rooms l.backups) l.held.items l.carried.items
+    Loaded (turn_rule l.self l.keys l.sizes l.rooms l.backups) l.held.items l.loads.items
     l.placement.items (take l.partition-index l.partition-items)
     (drop l.partition-index l.partition-items)
