@@ -1,24 +1,22 @@
 use Rattle.std.proofs.Common.{ℕ, ◌≡◌, ◌∙◌, ap, bit_and, sym}
 use Rattle.std.specs.List.{position_or_len}
+use Rattle.std.specs.Map.{keys_of}
 use Rattle.std.proofs.lemmas.Option.{MatchOption-at_some}
 use Rattle.ternary.specs.Word.{WordValue}
 use Rattle.indexmap.proofs.MapLemmas.{Found-position, Missing-position}
 use Rattle.switch_table.specs.Keys.{equal_keys, key_under}
-use Rattle.switch_table.specs.declared.key.CacheKey.{CacheKey}
 use Rattle.switch_table.proofs.SlotHitLemmas.{has_live, place_dead, place_live, place_missing, under_is_word}
 use Rattle.switch_table.proofs.slots.place_under.Goals as goal
-use Rattle.switch_table.proofs.slots.place_under.Goals.{After-unwrap-word}
+use Rattle.switch_table.proofs.slots.place_under.Goals.{After-unwrap-word, In-Some}
 
 pub unwrap-word-requires : goal.unwrap-word-requires
 unwrap-word-requires c = c.new.ensures.taken.1
     (under_is_word c.args.header c.mask-bits.result c.mask-bits.ensures.bound)
 
-abbrev looked_up : After-unwrap-word → CacheKey
-looked_up c = record { number = c.args.number; word = c.unwrap-word.result }
-
 -- a place under the key that is looked up is one under the mask
 under_mask : (c : After-unwrap-word) (place : ℕ)
-    → place ≡ position_or_len (has_live (looked_up c)) c.args.map.now.entries
+    → place ≡ position_or_len
+    (has_live (record { number = c.args.number; word = c.unwrap-word.result })) c.args.map.now.entries
     → place ≡ position_or_len (has_live (key_under c.args.number c.args.header c.args.mask.now))
     c.args.map.now.entries
 under_mask c place is =
@@ -29,32 +27,32 @@ under_mask c place is =
     (has_live (record { number = c.args.number; word = w })) c.args.map.now.entries)
     (word.0 ∙ λ i. record { value = bit_and c.args.header (bits i); mask = bits i })
 
-pub returns-then-slot : goal.returns-then-slot
+-- the map's place of the key
+found_at : (c : In-Some) → position_or_len
+    (equal_keys (record { number = c.args.number; word = c.unwrap-word.result }))
+    (keys_of c.args.map.now.entries) ≡ c.in-Some.place
 unfolding equal_keys
+found_at c = (Found-position
+    (equal_keys (record { number = c.args.number; word = c.unwrap-word.result }))
+    c.args.map.now.entries c.in-Some.place (sym c.in-Some.ensures.index)).or_len
+
+pub returns-then-slot : goal.returns-then-slot
 returns-then-slot c =
-    let before = (goal.at.returns-then-slot c).After-unwrap-word in
-    let found = Found-position (equal_keys (looked_up before)) c.args.map.now.entries c.in-Some.place
-    (sym c.in-Some.ensures.index) in
-    under_mask before c.in-Some.place
-    (place_live _ _ _ (c.in-Some.field-0-1.now, c.in-Some.slot.now) found.or_len
-    c.in-Some.ensures.entry c.if-slot.true)
+    under_mask (goal.at.returns-then-slot c).After-unwrap-word c.in-Some.place
+    (place_live _ _ _ (c.in-Some.field-0-1.now, c.in-Some.slot.now)
+    (found_at (goal.at.returns-then-slot c).In-Some) c.in-Some.ensures.entry c.if-slot.true)
 
 pub returns-else-slot : goal.returns-else-slot
 unfolding equal_keys
 returns-else-slot c =
-    let before = (goal.at.returns-else-slot c).After-unwrap-word in
-    let found = Found-position (equal_keys (looked_up before)) c.args.map.now.entries c.in-Some.place
-    (sym c.in-Some.ensures.index) in
-    under_mask before c.len.result
+    under_mask (goal.at.returns-else-slot c).After-unwrap-word c.len.result
     (c.len.ensures.len
     ∙ place_dead _ _ _ (c.in-Some.field-0-1.now, c.in-Some.slot.now) c.len.ensures.unique
-    found.or_len c.in-Some.ensures.entry c.if-slot.false)
+    (found_at (goal.at.returns-else-slot c).In-Some) c.in-Some.ensures.entry c.if-slot.false)
 
 pub returns-in-None : goal.returns-in-None
 unfolding equal_keys
 returns-in-None c =
-    let before = (goal.at.returns-in-None c).After-unwrap-word in
-    under_mask before c.len-in-None.result
+    under_mask (goal.at.returns-in-None c).After-unwrap-word c.len-in-None.result
     (c.len-in-None.ensures.len
-    ∙ place_missing _ _ (Missing-position (equal_keys (looked_up before)) c.args.map.now.entries
-    (sym c.in-None.ensures.index)).or_len)
+    ∙ place_missing _ _ (Missing-position _ _ (sym c.in-None.ensures.index)).or_len)
