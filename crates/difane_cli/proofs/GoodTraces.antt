@@ -101,20 +101,16 @@ meters_are_last (meter ∷ meters) =
     All-append IsLastLine (meter_texts meter.port meter.held) (all_texts meters)
     (meter_is_last meter.port meter.held) (meters_are_last meters)
 
+answer_is_last : (word : List ℕ) → IsOneLine (codes "quiet " ++ word)
+    → All IsLastLine ((codes "quiet " ++ word) ∷ [])
+answer_is_last word one_line =
+    All-cons IsLastLine (codes "quiet " ++ word) []
+    (record { rest = word; begins = inr refl; one_line = one_line.bytes }) (All-nil IsLastLine)
+
 quiet_is_last : (answer : Option Bool) → All IsLastLine (quiet_texts answer)
 quiet_is_last None = All-nil IsLastLine
-quiet_is_last (Some true) =
-    All-cons IsLastLine (codes "quiet yes") [] (record {
-      rest = codes "yes";
-      begins = inr refl;
-      one_line = (tested (codes "quiet yes") refl).bytes;
-    }) (All-nil IsLastLine)
-quiet_is_last (Some false) =
-    All-cons IsLastLine (codes "quiet no") [] (record {
-      rest = codes "no";
-      begins = inr refl;
-      one_line = (tested (codes "quiet no") refl).bytes;
-    }) (All-nil IsLastLine)
+quiet_is_last (Some true) = answer_is_last (codes "yes") (tested (codes "quiet yes") refl)
+quiet_is_last (Some false) = answer_is_last (codes "no") (tested (codes "quiet no") refl)
 
 -- ---- the text of a play
 

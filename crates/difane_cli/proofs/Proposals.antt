@@ -231,25 +231,16 @@ module _ (rows : List Row) (plan : List Hosted) (net : Net) (journal : List Item
     failed = after.failed;
     faults = after.faults;
   }
-  wrote_proposal found takes_memory before now (Err sink.Failed) is after = record {
-    whole = tt;
-    part = λ same. proposes found (λ text. GainedPart before.bytes text now.bytes) is after.part;
-    some = λ same. absurd (cc same);
-    calm = after.calm;
-    failed = after.failed;
-    faults = after.faults;
-  }
-  wrote_proposal found takes_memory before now (Err sink.NoMemory) is after = record {
-    whole = tt;
-    part = λ same. absurd (cc same);
-    some = λ same. inr (
-      after.no_memory refl,
-      proposes found (λ text. GainedPart before.bytes text now.bytes) is after.part,
-    );
-    calm = after.calm;
-    failed = after.failed;
-    faults = after.faults;
-  }
+  wrote_proposal found takes_memory before now (Err error) is after =
+      let part : ProposesFor rows plan net journal
+      (λ text. GainedPart before.bytes text now.bytes) = proposes found _ is after.part in record {
+        whole = tt;
+        part = λ same. part;
+        some = λ same. inr (after.no_memory same, part);
+        calm = after.calm;
+        failed = after.failed;
+        faults = after.faults;
+      }
 
 -- where memory ran out
 pub out_of_room : {A B C : Type 0} → A ⊎ (B × C) → B ⊎ A

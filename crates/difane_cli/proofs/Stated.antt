@@ -13,7 +13,6 @@ use Rattle.policy_file.specs.Reading.{policy_code, policy_of}
 use Rattle.policy_file.specs.declared.ports.NoPort.{NoPort}
 use Rattle.policy_rules.specs.declared.file.PolicyFile.{PolicyFile}
 use Rattle.policy_rules.specs.declared.file.PolicyFile.TheVariants.{Whole, Change}
-use Rattle.policy_rules.specs.declared.policy.Row.{Row}
 use Rattle.base.specs.declared.row.InRow.{InRow}
 use Rattle.schedule.specs.Reading.{schedule_of}
 use Rattle.schedule.specs.Refusals.{schedule_code}
@@ -82,21 +81,14 @@ with_ports_is : {X : Type 0} (name : List ℕ) (value own : X) (lack : Option No
 with_ports_is name value own None is = same_value (Ok value) value own refl is
 with_ports_is name value own (Some lack) is = absurd (cc is)
 
-policy_is : (ports : ℕ) (name bytes : List ℕ) (rows : List Row)
-    → policy_stated ports name bytes ≡ Ok rows → policy_of bytes ≡ Ok rows
-policy_is ports name bytes rows is =
-    let on = went_on (read_from policy_code name (policy_of bytes))
-    (λ read. with_ports name read (first_without_port ports read)) rows is in
-    read_is policy_code name (policy_of bytes) rows
-    (on.1 ∙ ap Ok (with_ports_is name on.0 rows (first_without_port ports on.0) on.2))
-
-file_is : (ports : ℕ) (name bytes : List ℕ) (file : PolicyFile)
-    → file_stated ports name bytes ≡ Ok file → policy_file_of bytes ≡ Ok file
-file_is ports name bytes file is =
-    let on = went_on (read_from policy_code name (policy_file_of bytes))
-    (λ read. with_ports name read (first_in_file ports read)) file is in
-    read_is policy_code name (policy_file_of bytes) file
-    (on.1 ∙ ap Ok (with_ports_is name on.0 file (first_in_file ports on.0) on.2))
+-- a value that names only ports that are there was read
+ported_is : {X R : Type 0} (code : R → ℕ) (name : List ℕ) (read : Result X (InRow R))
+    (lack : X → Option NoPort) (value : X)
+    → and_then (read_from code name read) (λ own. with_ports name own (lack own)) ≡ Ok value
+    → read ≡ Ok value
+ported_is code name read lack value is =
+    let on = went_on (read_from code name read) (λ own. with_ports name own (lack own)) value is in
+    read_is code name read value (on.1 ∙ ap Ok (with_ports_is name on.0 value (lack on.0) on.2))
 
 -- a first file states its policy
 first_is : (ports : ℕ) (name bytes : List ℕ) (file : PolicyFile)
@@ -111,13 +103,15 @@ first_is ports name bytes file is = by_heading (is_change_text bytes) is
     by_heading true is = absurd (cc is)
     by_heading false is =
         let on = went_on (policy_stated ports name bytes) (λ rows. Ok (Whole rows)) file is in
-        ap (on_ok Whole) (policy_is ports name bytes on.0 on.1)
+        ap (on_ok Whole)
+        (ported_is policy_code name (policy_of bytes) (first_without_port ports) on.0 on.1)
         ∙ ap Ok (same_value (Ok (Whole on.0)) (Whole on.0) file refl on.2)
 
 stated_is : (is_first : Bool) (ports : ℕ) (name bytes : List ℕ) (file : PolicyFile)
     → stated_as is_first ports name bytes ≡ Ok file → policy_file_of bytes ≡ Ok file
 stated_is true ports name bytes file is = first_is ports name bytes file is
-stated_is false ports name bytes file is = file_is ports name bytes file is
+stated_is false ports name bytes file is =
+    ported_is policy_code name (policy_file_of bytes) (first_in_file ports) file is
 
 file_states : (is_first : Bool) (ports : ℕ) (files : Files) (name : List ℕ) (file : PolicyFile)
     → read_file is_first ports files name ≡ Ok file → States files policy_file_of name file
