@@ -6,7 +6,7 @@ use Rattle.shelf.specs.Shelf.{Files, IsAfterReads, ShelfState}
 use Rattle.command_line.specs.Commands.{Audit, AuditCommand}
 use Rattle.difane_cli.specs.Codes.{most_trace_bytes}
 use Rattle.difane_cli.specs.Inputs.{auditing_of, content_within, file_reads, most_reads, read_files, solo_ports, up_to_refusal}
-use Rattle.difane_cli.proofs.ShelfReads.{reads_then}
+use Rattle.difane_cli.proofs.ShelfReads.{fewer_reads, reads_then}
 
 one_read : (accepted : Bool) (others : List Bool) → 1 ≤ up_to_refusal (accepted ∷ others)
 one_read true others = omega arith
@@ -29,11 +29,7 @@ policies_read (Some files) command trace is = rw (is files refl) (omega arith)
 pub trace_alone : (command : AuditCommand) (old new : ShelfState) → IsAfterReads 1 old new
     → IsAfterReads (most_reads old.files (Some (Audit command))) old new
 trace_alone command old new after =
-    let few = trace_read old.files command in record {
-      same_files = after.same_files;
-      faults = after.faults;
-      reads = (after.reads.0, omega (arith, few, after.reads.1), after.reads.2);
-    }
+    fewer_reads 1 _ old new (trace_read old.files command) after
 
 pub both_read : (command : AuditCommand) (trace : List ℕ) (ports : ℕ) (old one new : ShelfState)
     → ports ≡ solo_ports

@@ -1,31 +1,43 @@
--- Readings one after another that count no fault.
+-- Readings one after another, and where they stop.
 use Rattle.std.specs.Prelude.{IsErrAnd}
 use Rattle.std.specs.Option.{ForSome}
-use Rattle.std.proofs.Common.{◌≡◌, ◌⊎◌, ◌∙◌, Option, Some, None, Result, Ok, Err, refl, subst, sym}
-use Rattle.shelf.specs.Shelf.{Files, ShelfState}
+use Rattle.std.proofs.Common.{ℕ, ◌≡◌, ◌⊎◌, ◌∙◌, Option, Some, None, Result, Ok, Err, List, refl, subst, sym}
+use Rattle.shelf.specs.Shelf.{Files, IsAfterReads, ShelfState}
 use Rattle.difane_cli.specs.Codes.{missing_file, too_long}
-use Rattle.difane_cli.specs.Ending.{IsCalmRead, MayFollowFault, RefusesInput, status_of}
+use Rattle.difane_cli.specs.Ending.{IsCalmRead, MayFollowFault, NamesOneOf, ReadsFiles, RefusesInput, status_of}
 use Rattle.difane_cli.specs.declared.status.Refusal.{Refusal}
 use Rattle.difane_cli.specs.declared.status.Stop.{Stop}
 use Rattle.difane_cli.specs.declared.status.Stop.TheVariants as stop
+use Rattle.difane_cli.proofs.Named.{AreAmong, among}
 
 -- no fault was counted, unless the stop is one that may follow a fault
 abbrev pub IsCalmStop : (old new : ShelfState) → Stop → Type 0
 IsCalmStop old new why = ¬ MayFollowFault old.files (status_of why) → new.faults ≡ old.faults
 
--- none was counted before a stop
-pub stop_then : (old middle new : ShelfState) (why : Stop) → middle.files ≡ old.files
-    → middle.faults ≡ old.faults → IsCalmStop middle new why → IsCalmStop old new why
-stop_then old middle new why same first calm = λ may.
-    calm (λ follows. may (subst (λ (files : Option Files). MayFollowFault files (status_of why)) same
-    follows))
-    ∙ first
+-- a reading that ends with this stop
+pub stops_with : {V : Type 0} (few all : List (List ℕ)) (most : ℕ) (old new : ShelfState)
+    (why : Stop) (result : Result V Stop) → IsErrAnd result (λ stop. stop ≡ why)
+    → AreAmong few all → IsAfterReads most old new → IsCalmStop old new why
+    → NamesOneOf few (status_of why) → ReadsFiles all most old new result
+stops_with few all most old new why (Ok value) is wider after calm named = absurd is
+stops_with few all most old new why (Err stop) is wider after calm named =
+    rw is (record {
+      after = after;
+      calm = calm;
+      stops = among few all (status_of why) wider named;
+    })
 
--- a reading that ends with this stop is as calm
-pub stopped : {V : Type 0} (old new : ShelfState) (why : Stop) (result : Result V Stop)
-    → IsErrAnd result (λ stop. stop ≡ why) → IsCalmStop old new why → IsCalmRead old new result
-stopped old new why (Ok value) is calm = absurd is
-stopped old new why (Err stop) is calm = subst (IsCalmStop old new) (sym is) calm
+-- one that ends with the stop of the last of its readings, before which no fault was counted
+pub stops_behind : {V : Type 0} {n m : ℕ} (few all : List (List ℕ)) (most : ℕ)
+    (old middle new : ShelfState) (why : Stop) (result : Result V Stop)
+    → IsErrAnd result (λ stop. stop ≡ why) → AreAmong few all → IsAfterReads most old new
+    → IsAfterReads n old middle → middle.faults ≡ old.faults → IsAfterReads m middle new
+    → IsCalmStop middle new why → NamesOneOf few (status_of why)
+    → ReadsFiles all most old new result
+stops_behind few all most old middle new why result is wider after first none second calm named =
+    stops_with few all most old new why result is wider after
+    (λ may. calm (λ follows. may (subst (λ (files : Option Files).
+    MayFollowFault files (status_of why)) first.same_files follows)) ∙ none) named
 
 -- none was counted at all
 pub all_calm : {V : Type 0} (old new : ShelfState) (result : Result V Stop)

@@ -1,5 +1,5 @@
 -- Which names a refusal names.
-use Rattle.std.specs.Prelude.{IsErrAnd, unwrap_or}
+use Rattle.std.specs.Prelude.{unwrap_or}
 use Rattle.std.proofs.Common.{ℕ, ◌≡◌, ◌<◌, Result, Ok, Err, List, [], ◌∷◌, ◌++◌, arith, inl, inr, length, refl, subst, sym, zero, suc, get_or}
 use Rattle.net_file.specs.declared.net.Net.{Net}
 use Rattle.partition.specs.Plan.{Hosted, plan_of}
@@ -9,7 +9,7 @@ use Rattle.policy_rules.specs.declared.file.PolicyFile.{PolicyFile}
 use Rattle.policy_rules.specs.declared.policy.Row.{Row}
 use Rattle.update_machine.specs.Pieces.{plan_code}
 use Rattle.world.specs.Files.{first_policy}
-use Rattle.difane_cli.specs.Ending.{IsOneOf, NamesOneOf, StopsAt, StopsCheck, status_of}
+use Rattle.difane_cli.specs.Ending.{IsOneOf, NamesOneOf, StopsCheck, status_of}
 use Rattle.difane_cli.specs.Inputs.{first_plan, plan_from, plan_on, refused_whole}
 use Rattle.difane_cli.specs.declared.status.Refusal.{Refusal}
 use Rattle.difane_cli.specs.declared.status.Status.{Status}
@@ -105,12 +105,3 @@ first_check names net files why some is =
     let name = get_or names 0 [] in
     among (name ∷ []) names (status_of why) (among_there names 0 [] some)
     (plan_check name net (unwrap_or (first_policy files) []) why is)
-
--- a reading that ends with this stop
-pub ends_at : {V : Type 0} (few all : List (List ℕ)) (why : Stop) (result : Result V Stop)
-    → AreAmong few all → IsErrAnd result (λ stop. stop ≡ why) → NamesOneOf few (status_of why)
-    → StopsAt all result
-ends_at few all why (Ok value) wider is named = tt
-ends_at few all why (Err stop) wider is named =
-    subst (λ (s : Stop). NamesOneOf all (status_of s)) (sym is)
-    (among few all (status_of why) wider named)

@@ -32,6 +32,21 @@ reads_then a b most old middle new few first then =
       );
     }
 
+-- fewer reads are at most so many
+pub fewer_reads : (n most : ℕ) (old new : ShelfState) → n ≤ most → IsAfterReads n old new
+    → IsAfterReads most old new
+fewer_reads n most old new few after = record {
+  same_files = after.same_files;
+  faults = after.faults;
+  reads = (after.reads.0, omega (arith, few, after.reads.1), after.reads.2);
+}
+
+-- a replay reads its network
+pub net_read : (known : Option Files) (command : ReplayCommand)
+    → net_reads command.net ≤ most_reads known (Some (Replay command))
+net_read None command = omega arith
+net_read (Some files) command = omega arith
+
 -- a replay reads its schedule too, where the network is accepted
 pub schedule_read : (known : Option Files) (command : ReplayCommand) (net : Net)
     → ForSome known (λ files. read_net files command.net ≡ Ok net)
@@ -77,6 +92,12 @@ all_reads command net events count ports old one two new many mask net_read even
     new) (second.same_files ∙ first.same_files) third) in
     reads_then most _ _ old two new
     (policies_read old.files command net events net_read accepted) both policies
+
+-- a printing command reads its network
+pub net_asked_read : (known : Option Files) (command : PrintCommand)
+    → net_reads command.net ≤ most_reads known (Some (Print command))
+net_asked_read None command = omega arith
+net_asked_read (Some files) command = omega arith
 
 -- a printing command reads its policy too, where the network and the switch are accepted
 policy_read : (known : Option Files) (command : PrintCommand) (net : Net) (switch : Option ℕ)

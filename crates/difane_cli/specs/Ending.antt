@@ -2,14 +2,14 @@
 use Rattle.std.specs.Prelude.{⊤, ℕ, ◌≡◌, ◌≢◌, ◌≤◌, ◌⊎◌, Bool, Option, Some, None, Result, Ok, Err, IsOk, IsTrue, List, [], ◌∷◌, ◌++◌, option_to_list}
 use Rattle.std.specs.Option.{ForSome}
 use Rattle.journal.specs.declared.item.Item.{Item}
-use Rattle.shelf.specs.Shelf.{Files, ShelfState}
+use Rattle.shelf.specs.Shelf.{Files, IsAfterReads, ShelfState}
 use Rattle.shelf.specs.Sink.{Rose, SinkState}
 use Rattle.shelf.specs.declared.output.SinkError.{SinkError}
 use Rattle.command_line.specs.Commands.{Command}
 use Rattle.command_line.specs.Commands as asked
 use Rattle.command_line.specs.declared.report.Report.TheVariants as report
 use Rattle.difane_cli.specs.Codes.{missing_file, too_long}
-use Rattle.difane_cli.specs.Inputs.{load_name}
+use Rattle.difane_cli.specs.Inputs.{load_name, most_reads}
 use Rattle.difane_cli.specs.Run.{WantsMemory}
 use Rattle.difane_cli.specs.declared.status.Refusal.{Refusal}
 use Rattle.difane_cli.specs.declared.status.Status.{Status}
@@ -129,6 +129,19 @@ NamesOneOf names _ = ⊤
 abbrev pub StopsAt : {V : Type 0} → List (List ℕ) → Result V Stop → Type 0
 StopsAt names (Ok value) = ⊤
 StopsAt names (Err stop) = NamesOneOf names (status_of stop)
+
+-- a reading of the files of these names, by at most so many reads of the shelf: it counts no fault,
+-- unless it stops as one that met a fault may, and what it refuses is one of them
+pub record ReadsFiles {V : Type 0} (names : List (List ℕ)) (most : ℕ) (old new : ShelfState)
+    (result : Result V Stop) : Type 0 where
+  pub after : IsAfterReads most old new
+  pub calm : IsCalmRead old new result
+  pub stops : StopsAt names result
+
+-- the same of what a command names
+abbrev pub ReadsFor : {V : Type 0} → Command → (old new : ShelfState) → Result V Stop → Type 0
+ReadsFor command old new result =
+    ReadsFiles (names_in (Some command)) (most_reads old.files (Some command)) old new result
 
 -- ---- what is wanted, and what is given back
 

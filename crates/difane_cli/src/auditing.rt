@@ -1,8 +1,8 @@
 //! Audits: a trace and its policies are read, and then the trace is checked.
 ghost use Rattle.std.specs.Prelude.{◌≡◌, ◌⊎◌, [], Ok, Option, Some, IfOk, IsTrue, length};
 ghost use Rattle.std.specs.Option.{ForSome};
-ghost use Rattle.shelf.specs.Shelf.{Files, IsAfterReads};
-ghost use Rattle.difane_cli.specs.Exports.{Audit, AuditOutcome, EndsRead, EndsWork, IsAuditingOf, IsCalmRead, StopsAt, auditing_of, auditing_stated, known_task, most_reads, names_in};
+ghost use Rattle.shelf.specs.Shelf.{Files};
+ghost use Rattle.difane_cli.specs.Exports.{Audit, AuditOutcome, EndsRead, EndsWork, IsAuditingOf, ReadsFor, auditing_of, auditing_stated, known_task};
 ghost use Rattle.difane_cli.specs.declared.status.Status.TheVariants as status;
 ghost use Rattle.command_line.specs.Named.{MayBePolicies, audit_named};
 ghost use Rattle.command_line.specs.Commands as grammar;
@@ -40,11 +40,8 @@ pub fn read_auditing<F: Shelf>(
     ensures read { EndsRead (F.state shelf.old).files
         (λ files. auditing_of files (audit_named args.now)) auditing_stated
         (F.state shelf.old) (F.state shelf.new) result }
-    ensures shelf { IsAfterReads
-        (most_reads (F.state shelf.old).files (Some (grammar.Audit (audit_named args.now))))
-        (F.state shelf.old) (F.state shelf.new) }
-    ensures calm { IsCalmRead (F.state shelf.old) (F.state shelf.new) result }
-    ensures stops { StopsAt (names_in (Some (grammar.Audit (audit_named args.now)))) result }
+    ensures shelf { ReadsFor (grammar.Audit (audit_named args.now))
+        (F.state shelf.old) (F.state shelf.new) result }
     ensures asked { IfOk result (λ inputs.
         IsAuditingOf (audit_named args.now) (auditing_stated inputs)) }
 {

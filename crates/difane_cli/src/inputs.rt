@@ -1,13 +1,12 @@
 //! The files of a command, read and checked one after another.
-ghost use Rattle.std.specs.Prelude.{◌≡◌, ◌<◌, ◌≤◌, All, IsSome, IsTrue, IfOk, IfErr, Ok, Some, [], ◌∷◌, length, true};
+ghost use Rattle.std.specs.Prelude.{◌≡◌, ◌<◌, ◌≤◌, All, IsSome, IsTrue, IfOk, IfErr, Ok, [], ◌∷◌, length, true};
 ghost use Rattle.net_file.specs.Net.{IsNet};
 ghost use Rattle.policy_file.specs.Ports.{names_port_of};
 ghost use Rattle.policy_rules.specs.Exports.{GivesOnly, IsPolicy, IsPolicyFile};
 ghost use Rattle.schedule.specs.Reading.{AreSoundEvents};
-ghost use Rattle.shelf.specs.Shelf.{IsAfterReads};
 ghost use Rattle.policy_file.specs.Changes.{file_length};
 ghost use Rattle.world.specs.Files.{first_policy, own_policy};
-ghost use Rattle.difane_cli.specs.Exports.{AreReadyToPlay, EndsRead, IsCalmRead, IsReplayOf, RefusesInput, StopsAt, StopsCheck, content_of, content_within, file_reads, inputs_of, inputs_stated, most_reads, names_in, read_file, read_files, read_policy, read_schedule, schedule_in};
+ghost use Rattle.difane_cli.specs.Exports.{AreReadyToPlay, EndsRead, IsReplayOf, ReadsFiles, ReadsFor, RefusesInput, StopsCheck, content_of, content_within, file_reads, inputs_of, inputs_stated, read_file, read_files, read_policy, read_schedule, schedule_in};
 ghost use Rattle.command_line.specs.Named.{HasPolicies, names_seen, replay_named};
 ghost use Rattle.command_line.specs.Commands.{Replay};
 
@@ -46,9 +45,7 @@ pub fn refused(alloc: Global, name: &str, code: u32, row: u32) -> Stop
 pub fn read_bytes<F: Shelf>(alloc: Global, shelf: &mut F, name: &str) -> Result<Vec<u8>, Stop>
     ensures read { EndsRead (F.state shelf.old).files (λ files. content_of files name.now)
         (λ bytes. bytes.items) (F.state shelf.old) (F.state shelf.new) result }
-    ensures shelf { IsAfterReads 1 (F.state shelf.old) (F.state shelf.new) }
-    ensures calm { IsCalmRead (F.state shelf.old) (F.state shelf.new) result }
-    ensures stops { StopsAt (name.now ∷ []) result }
+    ensures shelf { ReadsFiles (name.now ∷ []) 1 (F.state shelf.old) (F.state shelf.new) result }
 {
     read_within(alloc, shelf, name, MAX_BYTES)
 }
@@ -63,9 +60,7 @@ pub fn read_within<F: Shelf>(
     ensures read { EndsRead (F.state shelf.old).files
         (λ files. content_within most files name.now)
         (λ bytes. bytes.items) (F.state shelf.old) (F.state shelf.new) result }
-    ensures shelf { IsAfterReads 1 (F.state shelf.old) (F.state shelf.new) }
-    ensures calm { IsCalmRead (F.state shelf.old) (F.state shelf.new) result }
-    ensures stops { StopsAt (name.now ∷ []) result }
+    ensures shelf { ReadsFiles (name.now ∷ []) 1 (F.state shelf.old) (F.state shelf.new) result }
     ensures within { IfOk result (λ bytes. length bytes.items ≤ most) }
 {
     match shelf.read(name, most) {
@@ -111,9 +106,7 @@ fn read_schedule<F: Shelf>(
     ensures read { EndsRead (F.state shelf.old).files
         (λ files. read_schedule net.now policies files name.now) (λ events. events.items)
         (F.state shelf.old) (F.state shelf.new) result }
-    ensures shelf { IsAfterReads 1 (F.state shelf.old) (F.state shelf.new) }
-    ensures calm { IsCalmRead (F.state shelf.old) (F.state shelf.new) result }
-    ensures stops { StopsAt (name.now ∷ []) result }
+    ensures shelf { ReadsFiles (name.now ∷ []) 1 (F.state shelf.old) (F.state shelf.new) result }
     ensures sound { IfOk result (λ events. AreSoundEvents net.now policies events.items) }
 {
     let bytes = read_bytes(alloc, shelf, name)?;
@@ -129,9 +122,7 @@ pub fn read_policy<F: Shelf>(
 ) -> Result<Policy, Stop>
     ensures read { EndsRead (F.state shelf.old).files (λ files. read_policy ports files name.now)
         (λ policy. policy) (F.state shelf.old) (F.state shelf.new) result }
-    ensures shelf { IsAfterReads 1 (F.state shelf.old) (F.state shelf.new) }
-    ensures calm { IsCalmRead (F.state shelf.old) (F.state shelf.new) result }
-    ensures stops { StopsAt (name.now ∷ []) result }
+    ensures shelf { ReadsFiles (name.now ∷ []) 1 (F.state shelf.old) (F.state shelf.new) result }
     ensures own_ports { IfOk result (All (λ row. IsTrue (names_port_of ports row.action))) }
     ensures sound { IfOk result IsPolicy }
     ensures few { IfOk result (λ policy. length policy ≤ 2000) }
@@ -152,9 +143,7 @@ fn read_file<F: Shelf>(
     ensures read { EndsRead (F.state shelf.old).files
         (λ files. read_file is_first ports files name.now) (λ file. file)
         (F.state shelf.old) (F.state shelf.new) result }
-    ensures shelf { IsAfterReads 1 (F.state shelf.old) (F.state shelf.new) }
-    ensures calm { IsCalmRead (F.state shelf.old) (F.state shelf.new) result }
-    ensures stops { StopsAt (name.now ∷ []) result }
+    ensures shelf { ReadsFiles (name.now ∷ []) 1 (F.state shelf.old) (F.state shelf.new) result }
     ensures own_ports { IfOk result (GivesOnly (λ row. IsTrue (names_port_of ports row.action))) }
     ensures sound { IfOk result IsPolicyFile }
     ensures few { IfOk result (λ file. file_length file ≤ 2000) }
@@ -179,11 +168,9 @@ pub fn read_files<F: Shelf>(
     ensures read { EndsRead (F.state shelf.old).files
         (λ files. read_files true ports files (names_seen names.now)) (λ read. read.items)
         (F.state shelf.old) (F.state shelf.new) result }
-    ensures shelf { IsAfterReads
+    ensures shelf { ReadsFiles (names_seen names.now)
         (file_reads true ports (F.state shelf.old).files (names_seen names.now))
-        (F.state shelf.old) (F.state shelf.new) }
-    ensures calm { IsCalmRead (F.state shelf.old) (F.state shelf.new) result }
-    ensures stops { StopsAt (names_seen names.now) result }
+        (F.state shelf.old) (F.state shelf.new) result }
     ensures many { IfOk result (λ read. length read.items ≡ length names.now) }
     ensures first { IfOk result (λ read. IsSome (first_policy read.items)) }
     ensures own_ports { IfOk result (λ read.
@@ -220,11 +207,8 @@ pub fn read_inputs<F: Shelf>(
     ensures read { EndsRead (F.state shelf.old).files
         (λ files. inputs_of files (replay_named args.now)) inputs_stated
         (F.state shelf.old) (F.state shelf.new) result }
-    ensures shelf { IsAfterReads
-        (most_reads (F.state shelf.old).files (Some (Replay (replay_named args.now))))
-        (F.state shelf.old) (F.state shelf.new) }
-    ensures calm { IsCalmRead (F.state shelf.old) (F.state shelf.new) result }
-    ensures stops { StopsAt (names_in (Some (Replay (replay_named args.now)))) result }
+    ensures shelf { ReadsFor (Replay (replay_named args.now))
+        (F.state shelf.old) (F.state shelf.new) result }
     ensures ready { IfOk result AreReadyToPlay }
     ensures asked { IfOk result (λ inputs.
         IsReplayOf (replay_named args.now) (inputs_stated inputs)) }

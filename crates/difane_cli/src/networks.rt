@@ -1,9 +1,8 @@
 //! Networks as a command takes them: of a file or of one switch, and the switches on them.
 ghost use Rattle.std.specs.Prelude.{◌≡◌, IfOk, IfErr, Ok, option_to_list};
 ghost use Rattle.net_file.specs.Net.{IsNet};
-ghost use Rattle.shelf.specs.Shelf.{IsAfterReads};
 ghost use Rattle.command_line.specs.Named.{net_named};
-ghost use Rattle.difane_cli.specs.Exports.{EndsRead, IsCalmRead, IsNetOf, IsSwitchOf, StopsAt, StopsCheck, net_reads, net_stated, read_net, switch_on};
+ghost use Rattle.difane_cli.specs.Exports.{EndsRead, IsNetOf, IsSwitchOf, ReadsFiles, StopsAt, StopsCheck, net_reads, net_stated, read_net, switch_on};
 
 use crate::inputs::{read_bytes, refused};
 use crate::policies::NO_SWITCH;
@@ -41,10 +40,8 @@ fn one_switch(alloc: Global) -> Result<Net, Stop>
 pub fn take_network<F: Shelf>(alloc: Global, shelf: &mut F, name: Option<&str>) -> Result<Net, Stop>
     ensures read { EndsRead (F.state shelf.old).files (λ files. read_net files (net_named name.entry))
         (λ net. net) (F.state shelf.old) (F.state shelf.new) result }
-    ensures shelf { IsAfterReads (net_reads (net_named name.entry))
-        (F.state shelf.old) (F.state shelf.new) }
-    ensures calm { IsCalmRead (F.state shelf.old) (F.state shelf.new) result }
-    ensures stops { StopsAt (option_to_list (net_named name.entry)) result }
+    ensures shelf { ReadsFiles (option_to_list (net_named name.entry))
+        (net_reads (net_named name.entry)) (F.state shelf.old) (F.state shelf.new) result }
     ensures sound { IfOk result IsNet }
     ensures named { IfOk result (IsNetOf (net_named name.entry)) }
 {

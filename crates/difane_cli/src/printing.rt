@@ -3,8 +3,8 @@ ghost use Rattle.std.specs.Prelude.{◌≡◌, ◌≢◌, ◌≤◌, [], Ok, Opt
 ghost use Rattle.std.specs.Option.{ForSome};
 ghost use Rattle.net_file.specs.Net.{IsNet};
 ghost use Rattle.shelf.specs.Sink.{Rose};
-ghost use Rattle.shelf.specs.Shelf.{Files, IsAfterReads};
-ghost use Rattle.difane_cli.specs.Exports.{EndsRead, IsCalmRead, IsPrintingOf, Print, PrintOutcome, StopsAt, known_task, most_reads, names_in, printing_of, printing_stated, printing_text, status_after};
+ghost use Rattle.shelf.specs.Shelf.{Files};
+ghost use Rattle.difane_cli.specs.Exports.{EndsRead, IsPrintingOf, Print, PrintOutcome, ReadsFor, known_task, printing_of, printing_stated, printing_text, status_after};
 ghost use Rattle.command_line.specs.Named.{print_named};
 ghost use Rattle.command_line.specs.Commands as grammar;
 ghost use Rattle.command_line.specs.Commands.{PrintCommand};
@@ -39,11 +39,8 @@ pub fn read_printing<F: Shelf>(
     ensures read { EndsRead (F.state shelf.old).files
         (λ files. printing_of files (print_named args.now)) printing_stated
         (F.state shelf.old) (F.state shelf.new) result }
-    ensures shelf { IsAfterReads
-        (most_reads (F.state shelf.old).files (Some (grammar.Print (print_named args.now))))
-        (F.state shelf.old) (F.state shelf.new) }
-    ensures calm { IsCalmRead (F.state shelf.old) (F.state shelf.new) result }
-    ensures stops { StopsAt (names_in (Some (grammar.Print (print_named args.now)))) result }
+    ensures shelf { ReadsFor (grammar.Print (print_named args.now))
+        (F.state shelf.old) (F.state shelf.new) result }
     ensures sound { IfOk result (λ inputs. IsNet inputs.net) }
     ensures planned { IfOk result (λ inputs.
         IsPrintingOf (print_named args.now) (printing_stated inputs)) }

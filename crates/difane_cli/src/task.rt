@@ -1,8 +1,8 @@
 //! What a command is to do, once its files are read, and the doing of it.
 ghost use Rattle.std.specs.Prelude.{◌≡◌, Ok, Option, Some, IfOk, Result, [], map};
 ghost use Rattle.std.specs.Option.{ForSome};
-ghost use Rattle.shelf.specs.Shelf.{Files, IsAfterReads};
-ghost use Rattle.difane_cli.specs.Exports.{Accounts, EndsRead, IsCalmRead, EndsWork, IsReadyTask, IsTaskOf, Outcome, GivesBack, RanOut, StopsAt, Task as Stated, known_task, most_reads, names_in, task_stated};
+ghost use Rattle.shelf.specs.Shelf.{Files};
+ghost use Rattle.difane_cli.specs.Exports.{Accounts, EndsRead, EndsWork, IsReadyTask, IsTaskOf, Outcome, GivesBack, RanOut, ReadsFor, Task as Stated, known_task, task_stated};
 ghost use Rattle.difane_cli.specs.declared.status.Refusal.{Refusal};
 ghost use Rattle.command_line.specs.Named.{NamesPolicies, command_named};
 ghost use Rattle.command_line.specs.Commands as grammar;
@@ -40,11 +40,8 @@ pub fn read_task<F: Shelf>(
     ensures read { EndsRead
         (known_task (F.state shelf.old).files (Some (command_named command.now))) (λ read. read)
         task_stated (F.state shelf.old) (F.state shelf.new) result }
-    ensures shelf { IsAfterReads
-        (most_reads (F.state shelf.old).files (Some (command_named command.now)))
-        (F.state shelf.old) (F.state shelf.new) }
-    ensures calm { IsCalmRead (F.state shelf.old) (F.state shelf.new) result }
-    ensures stops { StopsAt (names_in (Some (command_named command.now))) result }
+    ensures shelf { ReadsFor (command_named command.now)
+        (F.state shelf.old) (F.state shelf.new) result }
     ensures ready { IfOk result IsReadyTask }
     ensures asked { IfOk result (λ task.
         IsTaskOf (command_named command.now) (task_stated task)) }

@@ -3,8 +3,8 @@ use Rattle.command_line.specs.Named.{audit_named}
 use Rattle.difane_cli.specs.Inputs.{solo_ports}
 use Rattle.difane_cli.proofs.Begun.{as_many}
 use Rattle.difane_cli.proofs.AuditReads.{auditing_is, both_read, trace_alone}
-use Rattle.difane_cli.proofs.CalmReads.{stop_then, stopped}
-use Rattle.difane_cli.proofs.Named.{among_first, among_last, ends_at}
+use Rattle.difane_cli.proofs.CalmReads.{stops_behind, stops_with}
+use Rattle.difane_cli.proofs.Named.{among_first, among_last}
 use Rattle.difane_cli.proofs.auditing.read_auditing.Goals as goal
 
 all_ports : 18446744073709551615 ≡ solo_ports
@@ -12,24 +12,38 @@ all_ports = refl
 
 pub returns-in_err-trace-clause-shelf : goal.returns-in_err-trace-clause-shelf
 returns-in_err-trace-clause-shelf g c =
-    trace_alone (audit_named c.args.args.now) _ _ c.in_err-trace.ensures.shelf
+    let args = audit_named c.args.args.now in
+    let trace = c.in_err-trace.ensures.shelf in
+    stops_with (args.trace ∷ []) _ _ _ _ c.in_err-trace.field-0.0 c.from_residual.result
+    c.from_residual.ensures.1 (among_first args.trace args.policies)
+    (trace_alone args _ _ trace.after) trace.calm trace.stops
 
 pub returns-in_err-files-clause-shelf : goal.returns-in_err-files-clause-shelf
 returns-in_err-files-clause-shelf g c =
-    both_read (audit_named c.args.args.now) c.in_ok-trace.trace.items _ _ _ _ all_ports
-    c.in_ok-trace.ensures.read c.in_ok-trace.ensures.shelf
-    (rw c.deref-names.ensures.value at c.in_err-files.ensures.shelf)
+    let args = audit_named c.args.args.now in
+    let trace = c.in_ok-trace.ensures.shelf in
+    let files = rw c.deref-names.ensures.value at c.in_err-files.ensures.shelf in
+    stops_behind args.policies _ _ _ _ _ c.in_err-files.field-0.0
+    c.from_residual-in_err-files.result c.from_residual-in_err-files.ensures.1
+    (among_last [] args.trace args.policies)
+    (both_read args c.in_ok-trace.trace.items _ _ _ _ all_ports c.in_ok-trace.ensures.read
+    trace.after files.after)
+    trace.after trace.calm files.after files.calm files.stops
 
 pub returns-clause-shelf : goal.returns-clause-shelf
 returns-clause-shelf g c =
-    both_read (audit_named c.args.args.now) c.in_ok-trace.trace.items _ _ _ _ all_ports
-    c.in_ok-trace.ensures.read c.in_ok-trace.ensures.shelf
-    (rw c.deref-names.ensures.value at c.in_ok-files.ensures.shelf)
+    let trace = c.in_ok-trace.ensures.shelf in
+    let files = rw c.deref-names.ensures.value at c.in_ok-files.ensures.shelf in record {
+      after = both_read (audit_named c.args.args.now) c.in_ok-trace.trace.items _ _ _ _ all_ports
+          c.in_ok-trace.ensures.read trace.after files.after;
+      calm = files.calm ∙ trace.calm;
+      stops = tt;
+    }
 
 pub returns-clause-read : goal.returns-clause-read
 returns-clause-read g c =
     auditing_is _ _ (audit_named c.args.args.now) c.in_ok-trace.trace.items
-    c.in_ok-files.files.items _ c.in_ok-trace.ensures.shelf.same_files all_ports
+    c.in_ok-files.files.items _ c.in_ok-trace.ensures.shelf.after.same_files all_ports
     c.in_ok-trace.ensures.read
     (rw c.deref-names.ensures.value at c.in_ok-files.ensures.read)
 
@@ -41,31 +55,3 @@ returns-clause-asked g c = record {
   few = c.in_ok-files.ensures.few;
   short = c.in_ok-trace.ensures.within;
 }
-
-pub returns-in_err-files-clause-calm : goal.returns-in_err-files-clause-calm
-returns-in_err-files-clause-calm g c =
-    let old = g.F.Shelf.state c.args.shelf.now in
-    let now = g.F.Shelf.state c.read_files.new.shelf in
-    let stop = c.in_err-files.field-0.0 in
-    stopped old now stop c.from_residual-in_err-files.result
-    c.from_residual-in_err-files.ensures.1
-    (stop_then old (g.F.Shelf.state c.read_within.new.shelf) now stop
-    c.in_ok-trace.ensures.shelf.same_files c.in_ok-trace.ensures.calm c.in_err-files.ensures.calm)
-
-pub returns-clause-calm : goal.returns-clause-calm
-returns-clause-calm g c = c.in_ok-files.ensures.calm ∙ c.in_ok-trace.ensures.calm
-
-pub returns-in_err-trace-clause-stops : goal.returns-in_err-trace-clause-stops
-returns-in_err-trace-clause-stops g c =
-    let args = audit_named c.args.args.now in
-    ends_at (args.trace ∷ []) (args.trace ∷ args.policies) c.in_err-trace.field-0.0
-    c.from_residual.result (among_first args.trace args.policies)
-    c.from_residual.ensures.1 c.in_err-trace.ensures.stops
-
-pub returns-in_err-files-clause-stops : goal.returns-in_err-files-clause-stops
-returns-in_err-files-clause-stops g c =
-    let args = audit_named c.args.args.now in
-    ends_at args.policies (args.trace ∷ args.policies) c.in_err-files.field-0.0
-    c.from_residual-in_err-files.result (among_last [] args.trace args.policies)
-    c.from_residual-in_err-files.ensures.1
-    (rw c.deref-names.ensures.value at c.in_err-files.ensures.stops)

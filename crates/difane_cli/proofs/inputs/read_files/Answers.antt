@@ -12,9 +12,10 @@ use Rattle.command_line.specs.Named.{names_seen}
 use Rattle.world.specs.Files.{first_policy}
 use Rattle.difane_cli.specs.Ending.{EndsRead, NamesOneOf, status_of}
 use Rattle.difane_cli.specs.Inputs.{read_file}
-use Rattle.difane_cli.proofs.CalmReads.{all_calm, stop_then, stopped}
+use Rattle.difane_cli.specs.declared.status.Stop.TheVariants as stop
+use Rattle.difane_cli.proofs.CalmReads.{stops_behind, stops_with}
 use Rattle.difane_cli.proofs.FileReads.{HasRead, at_next, first_behind, is_none, name_there, one_read, reads_at, stops_at}
-use Rattle.difane_cli.proofs.Named.{among_there, ends_at}
+use Rattle.difane_cli.proofs.Named.{among_there}
 use Rattle.difane_cli.proofs.inputs.read_files.Goals as goal
 
 -- a vector counts its elements
@@ -44,13 +45,29 @@ returns-in_err-file-clause-read g c =
 
 pub returns-in_err-file-clause-shelf : goal.returns-in_err-file-clause-shelf
 returns-in_err-file-clause-shelf g c =
-    reads_at _ _ _ _ _ _ _ _ (at_next c.args.ports c.args.names.now c.loop-name.name-index _ _ _
-    c.loop-name.invariant.read c.loop-name-test.true) c.in_err-file.ensures.shelf
+    let names = c.args.names.now in
+    let i = c.loop-name.name-index in
+    let name = get_or (names_seen names) i [] in
+    let stop = c.in_err-file.field-0.0 in
+    let file = c.in_err-file.ensures.shelf in
+    let so_far = at_next c.args.ports names i _ _ _ c.loop-name.invariant.read
+    c.loop-name-test.true in
+    stops_behind (name ∷ []) _ _ _ _ _ stop c.from_residual.result c.from_residual.ensures.1
+    (among_there (names_seen names) i []
+    (omega (arith, length-map names (λ n. n.now), c.loop-name-test.true)))
+    (reads_at _ _ _ _ _ _ _ _ so_far file.after) so_far.after c.loop-name.invariant.calm file.after
+    file.calm
+    (subst (λ (name : List ℕ). NamesOneOf (name ∷ []) (status_of stop))
+    (name_there names i _ c.loop-name-test.true) file.stops)
 
 pub returns-in_err-push-clause-shelf : goal.returns-in_err-push-clause-shelf
 returns-in_err-push-clause-shelf g c =
-    reads_at _ _ _ _ _ _ _ _ (at_next c.args.ports c.args.names.now c.loop-name.name-index _ _ _
-    c.loop-name.invariant.read c.loop-name-test.true) c.in_ok-file.ensures.shelf
+    let file = c.in_ok-file.ensures.shelf in
+    stops_with [] _ _ _ _ stop.NoMemory c.from_residual-in_err-push.result
+    c.from_residual-in_err-push.ensures.1 (λ name is. absurd is)
+    (reads_at _ _ _ _ _ _ _ _ (at_next c.args.ports c.args.names.now c.loop-name.name-index _ _ _
+    c.loop-name.invariant.read c.loop-name-test.true) file.after)
+    (λ may. file.calm ∙ c.loop-name.invariant.calm) tt
 
 pub loop-name-preserved : goal.loop-name-preserved
 loop-name-preserved g c =
@@ -77,7 +94,7 @@ loop-name-preserved g c =
       read = subst (λ (own : List PolicyFile). HasRead c.args.ports (names_seen names)
           (drop (c.loop-name.name-index + 1) (names_seen names)) own
           (g.F.Shelf.state c.args.shelf.now) (g.F.Shelf.state c.read_file.new.shelf)) (sym pushed)
-          (one_read _ _ _ _ before file _ _ _ so_far read c.in_ok-file.ensures.shelf);
+          (one_read _ _ _ _ before file _ _ _ so_far read c.in_ok-file.ensures.shelf.after);
       many = omega (
         arith,
         ap length pushed,
@@ -95,35 +112,5 @@ loop-name-preserved g c =
           (All-push IsPolicyFile before file c.loop-name.invariant.sound c.in_ok-file.ensures.sound);
       few = subst (All IsShort) (sym pushed)
           (All-push IsShort before file c.loop-name.invariant.few c.in_ok-file.ensures.few);
-      calm = c.in_ok-file.ensures.calm ∙ c.loop-name.invariant.calm;
+      calm = c.in_ok-file.ensures.shelf.calm ∙ c.loop-name.invariant.calm;
     }
-
-pub returns-in_err-file-clause-calm : goal.returns-in_err-file-clause-calm
-returns-in_err-file-clause-calm g c =
-    let so_far = at_next c.args.ports c.args.names.now c.loop-name.name-index _ _ _
-    c.loop-name.invariant.read c.loop-name-test.true in
-    let old = g.F.Shelf.state c.args.shelf.now in
-    let now = g.F.Shelf.state c.read_file.new.shelf in
-    let stop = c.in_err-file.field-0.0 in
-    stopped old now stop c.from_residual.result c.from_residual.ensures.1
-    (stop_then old (g.F.Shelf.state c.loop-name.shelf) now stop so_far.after.same_files
-    c.loop-name.invariant.calm c.in_err-file.ensures.calm)
-
-pub returns-in_err-push-clause-calm : goal.returns-in_err-push-clause-calm
-returns-in_err-push-clause-calm g c =
-    all_calm (g.F.Shelf.state c.args.shelf.now) (g.F.Shelf.state c.read_file.new.shelf)
-    c.from_residual-in_err-push.result
-    (c.in_ok-file.ensures.calm ∙ c.loop-name.invariant.calm)
-
-pub returns-in_err-file-clause-stops : goal.returns-in_err-file-clause-stops
-returns-in_err-file-clause-stops g c =
-    let names = c.args.names.now in
-    let i = c.loop-name.name-index in
-    let name = get_or (names_seen names) i [] in
-    let stop = c.in_err-file.field-0.0 in
-    ends_at (name ∷ []) (names_seen names) stop c.from_residual.result
-    (among_there (names_seen names) i []
-    (omega (arith, length-map names (λ n. n.now), c.loop-name-test.true)))
-    c.from_residual.ensures.1
-    (subst (λ (name : List ℕ). NamesOneOf (name ∷ []) (status_of stop))
-    (name_there names i _ c.loop-name-test.true) c.in_err-file.ensures.stops)

@@ -1,32 +1,53 @@
 use Rattle.world.specs.State.{setting_at}
 use Rattle.std.specs.Prelude.{option_to_list}
-use Rattle.std.proofs.Common.{◌∙◌, Some, [], ◌∷◌, ◌++◌, ap, arith, refl}
+use Rattle.std.proofs.Common.{◌+◌, ◌∙◌, Some, [], ◌∷◌, ap, arith, refl}
 use Rattle.std.proofs.lemmas.List.{length-map}
 use Rattle.shelf.specs.Shelf.{IsAfterReads}
 use Rattle.command_line.specs.Commands.{Replay}
 use Rattle.command_line.specs.Named.{replay_named}
 use Rattle.difane_cli.specs.Inputs.{most_reads, net_reads}
 use Rattle.difane_cli.proofs.Begun.{all_are_events, as_many, asked_for, few_named, inputs_are}
-use Rattle.difane_cli.proofs.CalmReads.{all_calm, stop_then, stopped}
-use Rattle.difane_cli.proofs.Named.{among_behind, among_front, among_last, ends_at, first_check}
-use Rattle.difane_cli.proofs.ShelfReads.{all_reads, reads_then, schedule_read}
+use Rattle.difane_cli.proofs.CalmReads.{stops_behind, stops_with}
+use Rattle.difane_cli.proofs.Named.{among_behind, among_front, among_last, first_check}
+use Rattle.difane_cli.proofs.ShelfReads.{all_reads, fewer_reads, net_read, reads_then, schedule_read}
 use Rattle.difane_cli.proofs.inputs.read_inputs.Goals as goal
 use Rattle.difane_cli.proofs.inputs.read_inputs.Goals.{In_ok-files}
 use Rattle.difane_cli.proofs.inputs.read_inputs.Given.{Over}
 
+pub returns-in_err-net-clause-shelf : goal.returns-in_err-net-clause-shelf
+returns-in_err-net-clause-shelf g c =
+    let args = replay_named c.args.args.now in
+    let net = c.in_err-net.ensures.shelf in
+    stops_with (option_to_list args.net) _ _ _ _ c.in_err-net.field-0.0 c.from_residual.result
+    c.from_residual.ensures.1 (among_front (option_to_list args.net) (args.schedule ∷ args.policies))
+    (fewer_reads (net_reads args.net) _ _ _ (net_read _ args) net.after) net.calm net.stops
+
 pub returns-in_err-events-clause-shelf : goal.returns-in_err-events-clause-shelf
 returns-in_err-events-clause-shelf g c =
     let args = replay_named c.args.args.now in
-    let one = schedule_read _ args c.in_ok-net.net c.in_ok-net.ensures.read in
-    reads_then (net_reads args.net) 1 _ _ (g.F.Shelf.state c.take_network.new.shelf) _ one
-    c.in_ok-net.ensures.shelf c.in_err-events.ensures.shelf
+    let net = c.in_ok-net.ensures.shelf in
+    let events = c.in_err-events.ensures.shelf in
+    let most = schedule_read _ args c.in_ok-net.net c.in_ok-net.ensures.read in
+    stops_behind (args.schedule ∷ []) _ _ _ _ _ c.in_err-events.field-0.0
+    c.from_residual-in_err-events.result c.from_residual-in_err-events.ensures.1
+    (among_behind (option_to_list args.net) args.schedule args.policies)
+    (reads_then (net_reads args.net) 1 _ _ _ _ most net.after events.after)
+    net.after net.calm events.after events.calm events.stops
 
 pub returns-in_err-files-clause-shelf : goal.returns-in_err-files-clause-shelf
 returns-in_err-files-clause-shelf g c =
-    all_reads (replay_named c.args.args.now) c.in_ok-net.net c.in_ok-events.events.items _ _ _ _ _ _
-    (as_many _ _ c.deref-names.ensures.value) c.port_mask.ensures
-    c.in_ok-net.ensures.read c.in_ok-events.ensures.read c.in_ok-net.ensures.shelf
-    c.in_ok-events.ensures.shelf (rw c.deref-names.ensures.value at c.in_err-files.ensures.shelf)
+    let args = replay_named c.args.args.now in
+    let net = c.in_ok-net.ensures.shelf in
+    let events = c.in_ok-events.ensures.shelf in
+    let files = rw c.deref-names.ensures.value at c.in_err-files.ensures.shelf in
+    stops_behind args.policies _ _ _ _ _ c.in_err-files.field-0.0
+    c.from_residual-in_err-files.result c.from_residual-in_err-files.ensures.1
+    (among_last (option_to_list args.net) args.schedule args.policies)
+    (all_reads args c.in_ok-net.net c.in_ok-events.events.items _ _ _ _ _ _
+    (as_many _ _ c.deref-names.ensures.value) c.port_mask.ensures c.in_ok-net.ensures.read
+    c.in_ok-events.ensures.read net.after events.after files.after)
+    (reads_then (net_reads args.net) 1 (net_reads args.net + 1) _ _ _ (omega arith) net.after
+    events.after) (events.calm ∙ net.calm) files.after files.calm files.stops
 
 -- the network, the schedule and the policies are all that is read
 policies_read : (g : Over) (c : In_ok-files g)
@@ -36,22 +57,38 @@ policies_read : (g : Over) (c : In_ok-files g)
 policies_read g c =
     all_reads (replay_named c.args.args.now) c.in_ok-net.net c.in_ok-events.events.items _ _ _ _ _ _
     (as_many _ _ c.deref-names.ensures.value) c.port_mask.ensures
-    c.in_ok-net.ensures.read c.in_ok-events.ensures.read c.in_ok-net.ensures.shelf
-    c.in_ok-events.ensures.shelf (rw c.deref-names.ensures.value at c.in_ok-files.ensures.shelf)
+    c.in_ok-net.ensures.read c.in_ok-events.ensures.read c.in_ok-net.ensures.shelf.after
+    c.in_ok-events.ensures.shelf.after
+    (rw c.deref-names.ensures.value at c.in_ok-files.ensures.shelf.after)
 
 pub returns-in_err-world-clause-shelf : goal.returns-in_err-world-clause-shelf
 returns-in_err-world-clause-shelf g c =
-    policies_read g (goal.at.returns-in_err-world-clause-shelf g c).In_ok-files
+    let args = replay_named c.args.args.now in
+    let named = length-map c.args.args.now.policies.items (λ n. n.now) in
+    stops_with args.policies _ _ _ _ c.in_err-world.field-0.0
+    c.from_residual-in_err-world.result c.from_residual-in_err-world.ensures.1
+    (among_last (option_to_list args.net) args.schedule args.policies)
+    (policies_read g (goal.at.returns-in_err-world-clause-shelf g c).In_ok-files)
+    (λ may. c.in_ok-files.ensures.shelf.calm ∙ c.in_ok-events.ensures.shelf.calm
+    ∙ c.in_ok-net.ensures.shelf.calm)
+    (first_check args.policies c.in_ok-net.net c.in_ok-files.files.items
+    c.in_err-world.field-0.0 (omega (arith, named, c.requires.0))
+    (rw c.deref-names.ensures.value at c.in_err-world.ensures.stopped))
 
 pub returns-clause-shelf : goal.returns-clause-shelf
-returns-clause-shelf g c = policies_read g (goal.at.returns-clause-shelf g c).In_ok-files
+returns-clause-shelf g c = record {
+  after = policies_read g (goal.at.returns-clause-shelf g c).In_ok-files;
+  calm = c.in_ok-files.ensures.shelf.calm ∙ c.in_ok-events.ensures.shelf.calm
+      ∙ c.in_ok-net.ensures.shelf.calm;
+  stops = tt;
+}
 
 pub returns-clause-read : goal.returns-clause-read
 returns-clause-read g c =
-    let net_files = c.in_ok-net.ensures.shelf.same_files in
+    let net_files = c.in_ok-net.ensures.shelf.after.same_files in
     inputs_are _ _ _ (replay_named c.args.args.now) c.in_ok-net.net c.in_ok-files.files.items
     c.in_ok-events.events.items (setting_at c.in_ok-world.world) _ _ net_files
-    (c.in_ok-events.ensures.shelf.same_files ∙ net_files)
+    (c.in_ok-events.ensures.shelf.after.same_files ∙ net_files)
     (as_many _ _ c.deref-names.ensures.value) c.port_mask.ensures
     c.in_ok-net.ensures.read c.in_ok-events.ensures.read
     (rw c.deref-names.ensures.value at c.in_ok-files.ensures.read)
@@ -79,72 +116,3 @@ returns-clause-asked g c =
     (c.in_ok-files.ensures.many ∙ as_many _ _ c.deref-names.ensures.value)
     (few_named c.args.args.now.policies.items c.requires)
     c.in_ok-events.ensures.sound.few c.in_ok-files.ensures.few
-
-pub returns-in_err-events-clause-calm : goal.returns-in_err-events-clause-calm
-returns-in_err-events-clause-calm g c =
-    let old = g.F.Shelf.state c.args.shelf.now in
-    let now = g.F.Shelf.state c.read_schedule.new.shelf in
-    let stop = c.in_err-events.field-0.0 in
-    stopped old now stop c.from_residual-in_err-events.result
-    c.from_residual-in_err-events.ensures.1
-    (stop_then old (g.F.Shelf.state c.take_network.new.shelf) now stop
-    c.in_ok-net.ensures.shelf.same_files c.in_ok-net.ensures.calm c.in_err-events.ensures.calm)
-
-pub returns-in_err-files-clause-calm : goal.returns-in_err-files-clause-calm
-returns-in_err-files-clause-calm g c =
-    let old = g.F.Shelf.state c.args.shelf.now in
-    let now = g.F.Shelf.state c.read_files.new.shelf in
-    let stop = c.in_err-files.field-0.0 in
-    stopped old now stop c.from_residual-in_err-files.result
-    c.from_residual-in_err-files.ensures.1
-    (stop_then old (g.F.Shelf.state c.read_schedule.new.shelf) now stop
-    (c.in_ok-events.ensures.shelf.same_files ∙ c.in_ok-net.ensures.shelf.same_files)
-    (c.in_ok-events.ensures.calm ∙ c.in_ok-net.ensures.calm) c.in_err-files.ensures.calm)
-
-pub returns-in_err-world-clause-calm : goal.returns-in_err-world-clause-calm
-returns-in_err-world-clause-calm g c =
-    all_calm (g.F.Shelf.state c.args.shelf.now) (g.F.Shelf.state c.read_files.new.shelf)
-    c.from_residual-in_err-world.result
-    (c.in_ok-files.ensures.calm ∙ c.in_ok-events.ensures.calm ∙ c.in_ok-net.ensures.calm)
-
-pub returns-clause-calm : goal.returns-clause-calm
-returns-clause-calm g c =
-    c.in_ok-files.ensures.calm ∙ c.in_ok-events.ensures.calm ∙ c.in_ok-net.ensures.calm
-
-pub returns-in_err-net-clause-stops : goal.returns-in_err-net-clause-stops
-returns-in_err-net-clause-stops g c =
-    let args = replay_named c.args.args.now in
-    let nets = option_to_list args.net in
-    let others = args.schedule ∷ args.policies in
-    ends_at nets (nets ++ others) c.in_err-net.field-0.0 c.from_residual.result
-    (among_front nets others) c.from_residual.ensures.1 c.in_err-net.ensures.stops
-
-pub returns-in_err-events-clause-stops : goal.returns-in_err-events-clause-stops
-returns-in_err-events-clause-stops g c =
-    let args = replay_named c.args.args.now in
-    let nets = option_to_list args.net in
-    ends_at (args.schedule ∷ []) (nets ++ args.schedule ∷ args.policies)
-    c.in_err-events.field-0.0 c.from_residual-in_err-events.result
-    (among_behind nets args.schedule args.policies)
-    c.from_residual-in_err-events.ensures.1 c.in_err-events.ensures.stops
-
-pub returns-in_err-files-clause-stops : goal.returns-in_err-files-clause-stops
-returns-in_err-files-clause-stops g c =
-    let args = replay_named c.args.args.now in
-    let nets = option_to_list args.net in
-    ends_at args.policies (nets ++ args.schedule ∷ args.policies)
-    c.in_err-files.field-0.0 c.from_residual-in_err-files.result
-    (among_last nets args.schedule args.policies) c.from_residual-in_err-files.ensures.1
-    (rw c.deref-names.ensures.value at c.in_err-files.ensures.stops)
-
-pub returns-in_err-world-clause-stops : goal.returns-in_err-world-clause-stops
-returns-in_err-world-clause-stops g c =
-    let args = replay_named c.args.args.now in
-    let nets = option_to_list args.net in
-    let named = length-map c.args.args.now.policies.items (λ n. n.now) in
-    ends_at args.policies (nets ++ args.schedule ∷ args.policies)
-    c.in_err-world.field-0.0 c.from_residual-in_err-world.result
-    (among_last nets args.schedule args.policies) c.from_residual-in_err-world.ensures.1
-    (first_check args.policies c.in_ok-net.net c.in_ok-files.files.items
-    c.in_err-world.field-0.0 (omega (arith, named, c.requires.0))
-    (rw c.deref-names.ensures.value at c.in_err-world.ensures.stopped))
