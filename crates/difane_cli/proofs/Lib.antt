@@ -11,6 +11,7 @@ mod OneSwitch
 mod Plays
 mod FlowTexts
 mod FileReads
+mod FileChecks
 mod ShelfReads
 mod Stated
 mod Verdicts

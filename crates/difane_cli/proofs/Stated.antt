@@ -2,17 +2,17 @@
 use Rattle.std.specs.Prelude.{nat_le, if◌then◌else◌}
 use Rattle.std.specs.List.{AllZip}
 use Rattle.std.specs.Option.{ForSome}
-use Rattle.std.proofs.Common.{ℕ, ◌≡◌, ◌∙◌, Bool, true, false, Option, Some, None, Result, Ok, Err, List, [], ◌∷◌, ap, length, refl, subst}
+use Rattle.std.proofs.Common.{ℕ, ◌≡◌, ◌∙◌, Bool, true, false, Option, Some, None, Result, Ok, Err, List, [], ◌∷◌, ap, length, refl, subst, sym}
 use Rattle.net_file.specs.Owners.{port_mask}
 use Rattle.net_file.specs.Reading.{net_of}
 use Rattle.net_file.specs.Refusals.{net_code}
 use Rattle.net_file.specs.declared.net.Net.{Net}
-use Rattle.policy_file.specs.Changes.{change_of, is_change_text, on_ok, policy_file_of}
-use Rattle.policy_file.specs.Ports.{first_in_file, first_without_port}
-use Rattle.policy_file.specs.Reading.{policy_code, policy_of}
+use Rattle.policy_file.specs.Changes.{is_change_text, policy_file_of}
+use Rattle.policy_file.specs.Ports.{first_in_file}
+use Rattle.policy_file.specs.Reading.{policy_code}
 use Rattle.policy_file.specs.declared.ports.NoPort.{NoPort}
 use Rattle.policy_rules.specs.declared.file.PolicyFile.{PolicyFile}
-use Rattle.policy_rules.specs.declared.file.PolicyFile.TheVariants.{Whole, Change}
+use Rattle.policy_rules.specs.declared.file.PolicyFile.TheVariants.{Whole}
 use Rattle.base.specs.declared.row.InRow.{InRow}
 use Rattle.schedule.specs.Reading.{schedule_of}
 use Rattle.schedule.specs.Refusals.{schedule_code}
@@ -21,10 +21,11 @@ use Rattle.steps.specs.declared.step.Event.{Event}
 use Rattle.command_line.specs.Commands.{Command, ReplayCommand}
 use Rattle.command_line.specs.Commands as asked
 use Rattle.difane_cli.specs.Codes.{first_change, most_bytes, too_long}
-use Rattle.difane_cli.specs.Inputs.{and_then, content_from, content_of, file_stated, first_plan, first_stated, inputs_of, known_task, net_stated, play_task, policy_stated, read_file, read_files, read_from, read_net, read_schedule, refused_whole, schedule_in, stated_as, task_of, with_ports}
+use Rattle.difane_cli.specs.Inputs.{and_then, content_from, content_of, first_plan, first_stated, inputs_of, known_task, net_stated, play_task, policy_stated, read_file, read_files, read_from, read_net, read_schedule, refused_whole, schedule_in, stated_as, task_of, with_ports}
 use Rattle.difane_cli.specs.Run.{AreStatedBy, AreStated, States}
 use Rattle.difane_cli.specs.Tasks.{Inputs, Play}
 use Rattle.difane_cli.specs.declared.status.Refusal.{Refusal}
+use Rattle.difane_cli.proofs.FileChecks.{stated_so}
 
 -- ---- one file
 
@@ -90,28 +91,24 @@ ported_is code name read lack value is =
     let on = went_on (read_from code name read) (λ own. with_ports name own (lack own)) value is in
     read_is code name read value (on.1 ∙ ap Ok (with_ports_is name on.0 value (lack on.0) on.2))
 
--- a first file states its policy
-first_is : (ports : ℕ) (name bytes : List ℕ) (file : PolicyFile)
-    → first_stated ports name bytes ≡ Ok file → policy_file_of bytes ≡ Ok file
-unfolding policy_file_of
-first_is ports name bytes file is = by_heading (is_change_text bytes) is
+-- a first file that is accepted is no change
+no_change : (ports : ℕ) (name bytes : List ℕ) (file : PolicyFile)
+    → first_stated ports name bytes ≡ Ok file → is_change_text bytes ≡ false
+no_change ports name bytes file is = by (is_change_text bytes) is
   where
-    by_heading : (changes : Bool) → (if changes then Err (refused_whole name first_change)
+    by : (changes : Bool) → (if changes then Err (refused_whole name first_change)
         else and_then (policy_stated ports name bytes) (λ rows. Ok (Whole rows))) ≡ Ok file
-        → (if changes then on_ok Change (change_of bytes) else on_ok Whole (policy_of bytes))
-        ≡ Ok file
-    by_heading true is = absurd (cc is)
-    by_heading false is =
-        let on = went_on (policy_stated ports name bytes) (λ rows. Ok (Whole rows)) file is in
-        ap (on_ok Whole)
-        (ported_is policy_code name (policy_of bytes) (first_without_port ports) on.0 on.1)
-        ∙ ap Ok (same_value (Ok (Whole on.0)) (Whole on.0) file refl on.2)
+        → changes ≡ false
+    by true is = absurd (cc is)
+    by false is = refl
 
 stated_is : (is_first : Bool) (ports : ℕ) (name bytes : List ℕ) (file : PolicyFile)
     → stated_as is_first ports name bytes ≡ Ok file → policy_file_of bytes ≡ Ok file
-stated_is true ports name bytes file is = first_is ports name bytes file is
-stated_is false ports name bytes file is =
-    ported_is policy_code name (policy_file_of bytes) (first_in_file ports) file is
+stated_is is_first ports name bytes file is =
+    ported_is policy_code name (policy_file_of bytes) (first_in_file ports) file
+    (sym (stated_so is_first ports name bytes
+    (λ first. no_change ports name bytes file
+    (subst (λ (b : Bool). stated_as b ports name bytes ≡ Ok file) first is))) ∙ is)
 
 file_states : (is_first : Bool) (ports : ℕ) (files : Files) (name : List ℕ) (file : PolicyFile)
     → read_file is_first ports files name ≡ Ok file → States files policy_file_of name file

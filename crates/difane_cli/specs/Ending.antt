@@ -1,6 +1,9 @@
 -- Which status a command ends with, and what brings one about.
 use Rattle.std.specs.Prelude.{⊤, ℕ, ◌≡◌, ◌≢◌, ◌≤◌, ◌⊎◌, Bool, Option, Some, None, Result, Ok, Err, IsOk, IsTrue, List, [], ◌∷◌, ◌++◌, option_to_list}
 use Rattle.std.specs.Option.{ForSome}
+use Rattle.base.specs.declared.error.Failure.{Failure}
+use Rattle.base.specs.declared.error.Failure.TheVariants as failure
+use Rattle.base.specs.declared.row.InRow.{InRow}
 use Rattle.journal.specs.declared.item.Item.{Item}
 use Rattle.shelf.specs.Shelf.{Files, IsAfterReads, ShelfState}
 use Rattle.shelf.specs.Sink.{Rose, SinkState}
@@ -179,3 +182,10 @@ RefusesInput given stop.ReadFault = ⊥
 abbrev pub StopsCheck : {X : Type 0} → Result X Refusal → Stop → Type 0
 StopsCheck read stop =
     Accounts read (status_of stop) × (NeedsReadFault None (status_of stop) → ⊥)
+
+-- a stop at a text that is refused in a row by a refusal of this code, or that there was no memory to
+-- read
+abbrev pub StopsText : {R : Type 0} → (R → ℕ) → List ℕ → Failure (InRow R) → Stop → Type 0
+StopsText code name (failure.Refused why) stop =
+    RefusesInput (record { file = name; code = code why.refusal; row = why.row }) stop
+StopsText code name failure.NoMemory why = why ≡ stop.NoMemory

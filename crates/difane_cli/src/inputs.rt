@@ -11,7 +11,7 @@ ghost use Rattle.command_line.specs.Named.{HasPolicies, names_seen, replay_named
 ghost use Rattle.command_line.specs.Commands.{Replay};
 
 use crate::networks::take_network;
-use crate::policies::{begin_world, check_file, check_first, check_policy};
+use crate::policies::{begin_world, check_file, check_policy};
 use crate::status::{FileName, Refusal, Stop};
 use command_line::{ReplayArgs, Report};
 use net_file::Net;
@@ -150,10 +150,7 @@ fn read_file<F: Shelf>(
     ensures whole { is_first ≡ true → IfOk result (λ file. IsSome (own_policy file)) }
 {
     let bytes = read_bytes(alloc, shelf, name)?;
-    if is_first {
-        return check_first(alloc, name, &bytes, ports);
-    }
-    check_file(alloc, name, &bytes, ports)
+    check_file(alloc, name, &bytes, ports, is_first)
 }
 
 /// The policies and changes of these names, each of which is read and checked before the next one

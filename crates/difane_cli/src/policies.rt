@@ -1,15 +1,15 @@
 //! Policies and changes as a command takes them: read from bytes, and checked against the network.
-ghost use Rattle.std.specs.Prelude.{◌≡◌, ◌≤◌, All, List, IfOk, IfErr, IsOk, IsSome, IsTrue, Ok, OnOk, [], ◌∷◌, length, map};
-ghost use Rattle.policy_file.specs.Changes.{file_length, policy_file_of};
-ghost use Rattle.policy_file.specs.Reading.{policy_code, policy_of};
+ghost use Rattle.std.specs.Prelude.{◌≡◌, ◌≤◌, All, List, IfOk, IfErr, IsOk, IsSome, IsTrue, None, Ok, OnOk, [], ◌∷◌, length, map, true};
+ghost use Rattle.policy_file.specs.Changes.{file_length};
+ghost use Rattle.policy_file.specs.Reading.{policy_code};
 ghost use Rattle.policy_file.specs.Ports.{names_port_of};
 ghost use Rattle.policy_rules.specs.Exports.{GivesOnly, IsPolicy, IsPolicyFile};
 ghost use Rattle.policy_rules.specs.declared.file.PolicyFile.TheVariants.{Whole};
 ghost use Rattle.policy_rules.specs.declared.policy.Row.{Row};
 ghost use Rattle.controller.specs.Leads.{LeadEveryHeader};
 ghost use Rattle.controller.specs.Plan.{RefusesPlan};
-ghost use Rattle.difane_cli.specs.Ending.{StopsAt, StopsCheck};
-ghost use Rattle.difane_cli.specs.Inputs.{file_stated, first_plan, first_stated, plan_on, policy_stated, read_from};
+ghost use Rattle.difane_cli.specs.Ending.{NeedsReadFault, StopsAt, StopsCheck, StopsText, status_of};
+ghost use Rattle.difane_cli.specs.Inputs.{first_plan, plan_on, policy_stated, stated_as};
 ghost use Rattle.net_file.specs.Exports.{IsNet, port_mask};
 ghost use Rattle.net_file.specs.declared.net.Net.{Net};
 ghost use Rattle.partition.specs.Plan.{IsPlan, plan_of};
@@ -22,9 +22,7 @@ use crate::inputs::refused;
 use crate::status::Stop;
 use controller::{Plan, PlanError, compile};
 use net_file::{Net, port_laws};
-use policy_file::{
-    NoPort, PolicyError, check_file_ports, check_ports, is_change, read_file, read_policy,
-};
+use policy_file::{PolicyError, check_file_ports, check_ports, is_change, read_file, read_policy};
 use policy_rules::{Policy, PolicyFile};
 use std::alloc::{AllocError, Global};
 use world::World;
@@ -39,18 +37,14 @@ pub const FIRST_CHANGE: u32 = 23;
 /// The code of a switch that the network lacks.
 pub const NO_SWITCH: u32 = 21;
 
-/// The policy that the bytes of this file state.
-fn state_policy(alloc: Global, name: &str, bytes: &[u8]) -> Result<Policy, Stop>
-    ensures value { IfOk result (λ policy. policy_of bytes.now ≡ Ok policy) }
-    ensures stopped { IfErr result
-        (StopsCheck (read_from policy_code name.now (policy_of bytes.now))) }
-    ensures sound { IfOk result IsPolicy }
-    ensures few { IfOk result (λ policy. length policy ≤ 2000) }
+/// The stop at a file whose text is refused, or that there is no memory to read.
+fn not_read(alloc: Global, name: &str, error: PolicyError) -> Stop
+    ensures text { StopsText policy_code name.now error result }
+    ensures no_fault { ¬ NeedsReadFault None (status_of result) }
 {
-    match read_policy(alloc, bytes) {
-        Ok(policy) => Ok(policy),
-        Err(PolicyError::Refused(why)) => Err(refused(alloc, name, why.refusal.code(), why.row)),
-        Err(PolicyError::NoMemory) => Err(Stop::NoMemory),
+    match error {
+        PolicyError::Refused(why) => refused(alloc, name, why.refusal.code(), why.row),
+        PolicyError::NoMemory => Stop::NoMemory,
     }
 }
 
@@ -62,58 +56,34 @@ pub fn check_policy(alloc: Global, name: &str, bytes: &[u8], ports: u64) -> Resu
     ensures sound { IfOk result IsPolicy }
     ensures few { IfOk result (λ policy. length policy ≤ 2000) }
 {
-    let policy = state_policy(alloc, name, bytes)?;
-    match check_ports(&policy, ports) {
-        Ok(()) => Ok(policy),
-        Err(NoPort { row }) => Err(refused(alloc, name, NO_PORT, row)),
-    }
-}
-
-/// The policy or the change that the bytes of this file state.
-fn state_file(alloc: Global, name: &str, bytes: &[u8]) -> Result<PolicyFile, Stop>
-    ensures value { IfOk result (λ file. policy_file_of bytes.now ≡ Ok file) }
-    ensures stopped { IfErr result
-        (StopsCheck (read_from policy_code name.now (policy_file_of bytes.now))) }
-    ensures sound { IfOk result IsPolicyFile }
-    ensures few { IfOk result (λ file. file_length file ≤ 2000) }
-{
-    match read_file(alloc, bytes) {
-        Ok(file) => Ok(file),
-        Err(PolicyError::Refused(why)) => Err(refused(alloc, name, why.refusal.code(), why.row)),
-        Err(PolicyError::NoMemory) => Err(Stop::NoMemory),
-    }
+    let policy = read_policy(alloc, bytes).map_err(|error| not_read(alloc, name, error))?;
+    check_ports(&policy, ports).map_err(|lack| refused(alloc, name, NO_PORT, lack.row))?;
+    Ok(policy)
 }
 
 /// The policy or the change that the bytes of this file state, the rows of which name only ports
-/// of the mask.
-pub fn check_file(alloc: Global, name: &str, bytes: &[u8], ports: u64) -> Result<PolicyFile, Stop>
-    ensures value { IfOk result (λ file. file_stated ports name.now bytes.now ≡ Ok file) }
-    ensures stopped { IfErr result (StopsCheck (file_stated ports name.now bytes.now)) }
+/// of the mask. A first file is no change: one is refused before its rows are read.
+pub fn check_file(
+    alloc: Global,
+    name: &str,
+    bytes: &[u8],
+    ports: u64,
+    is_first: bool,
+) -> Result<PolicyFile, Stop>
+    ensures value { IfOk result (λ file.
+        stated_as is_first ports name.now bytes.now ≡ Ok file) }
+    ensures stopped { IfErr result (StopsCheck (stated_as is_first ports name.now bytes.now)) }
     ensures own_ports { IfOk result (GivesOnly (λ row. IsTrue (names_port_of ports row.action))) }
     ensures sound { IfOk result IsPolicyFile }
     ensures few { IfOk result (λ file. file_length file ≤ 2000) }
+    ensures whole { is_first ≡ true → IfOk result (λ file. IsSome (own_policy file)) }
 {
-    let file = state_file(alloc, name, bytes)?;
-    match check_file_ports(&file, ports) {
-        Ok(()) => Ok(file),
-        Err(NoPort { row }) => Err(refused(alloc, name, NO_PORT, row)),
-    }
-}
-
-/// The same of a first file, which is no change: one is refused before its rows are read.
-pub fn check_first(alloc: Global, name: &str, bytes: &[u8], ports: u64) -> Result<PolicyFile, Stop>
-    ensures value { IfOk result (λ file. first_stated ports name.now bytes.now ≡ Ok file) }
-    ensures stopped { IfErr result (StopsCheck (first_stated ports name.now bytes.now)) }
-    ensures own_ports { IfOk result (GivesOnly (λ row. IsTrue (names_port_of ports row.action))) }
-    ensures sound { IfOk result IsPolicyFile }
-    ensures few { IfOk result (λ file. file_length file ≤ 2000) }
-    ensures whole { IfOk result (λ file. IsSome (own_policy file)) }
-{
-    if is_change(alloc, bytes)? {
+    if is_first && is_change(alloc, bytes)? {
         return Err(refused(alloc, name, FIRST_CHANGE, 0));
     }
-    let policy = check_policy(alloc, name, bytes, ports)?;
-    Ok(PolicyFile::Whole(policy))
+    let file = read_file(alloc, bytes).map_err(|error| not_read(alloc, name, error))?;
+    check_file_ports(&file, ports).map_err(|lack| refused(alloc, name, NO_PORT, lack.row))?;
+    Ok(file)
 }
 
 /// Each of these policies as a file that has it.
