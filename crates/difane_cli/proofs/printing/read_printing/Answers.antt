@@ -42,13 +42,12 @@ pub returns-in_err-plan-clause-shelf : goal.returns-in_err-plan-clause-shelf
 returns-in_err-plan-clause-shelf g c =
     let args = print_named c.args.args.now in
     let net = c.in_ok-net.ensures.shelf in
-    let policy = c.in_ok-policy.ensures.shelf in
     stops_with (args.policy ∷ []) _ _ _ _ c.in_err-plan.field-0.0
     c.from_residual-in_err-plan.result c.from_residual-in_err-plan.ensures.1
     (among_behind (option_to_list args.net) args.policy (option_to_list args.switch))
     (both_reads args c.in_ok-net.net c.in_ok-switch.switch _ _ _ c.in_ok-net.ensures.read
-    c.in_ok-switch.ensures.value net.after policy.after)
-    (λ may. policy.calm ∙ net.calm) c.in_err-plan.ensures.stops
+    c.in_ok-switch.ensures.value net.after c.in_ok-policy.ensures.shelf.after)
+    (λ may. c.in_ok-policy.ensures.shelf.calm ∙ net.calm) c.in_err-plan.ensures.stops
 
 pub returns-clause-shelf : goal.returns-clause-shelf
 returns-clause-shelf g c =
