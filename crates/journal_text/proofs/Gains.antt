@@ -4,7 +4,6 @@ use Rattle.std.proofs.Common.{ℕ, ◌≡◌, ◌+◌, ◌<◌, ◌≤◌, ◌==
 use Rattle.std.proofs.lemmas.Grind.{flat_map-append}
 use Rattle.std.proofs.lemmas.List.{take-append-drop, take-append-le, take_all, take_more}
 use Rattle.journal.specs.declared.item.Item.{Item}
-use Rattle.journal_text.specs.Gathered.{IsHeld}
 use Rattle.journal_text.specs.Lines.{item_line, journal_text}
 use Rattle.lines.specs.Pushes.{line_with}
 use Rattle.net_file.specs.declared.net.Net.{Net}
@@ -43,6 +42,13 @@ part_upto net items i before now part =
       omega (arith, shorter, length-append front rest),
       part.2 ∙ ap (with_gained before) (sym (take-append-le n front rest (omega (arith, shorter)))),
     )
+
+-- of a text that is written in blocks, a line holds what is yet to be gathered
+pub record IsHeld (text : List ℕ) (before now : Option (List ℕ)) (waiting line : List ℕ)
+    : Type 0 where
+  pub front : List ℕ
+  pub gathered : IsGathered front before now waiting
+  pub whole : text ≡ front ++ line
 
 pub nothing_gained : (before : Option (List ℕ)) → before ≡ with_gained before []
 nothing_gained None = refl
