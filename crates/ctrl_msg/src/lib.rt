@@ -6,7 +6,9 @@
 #![tactic(auto)]
 
 mod message;
+mod same;
 mod shared;
 
 pub use message::{Body, Message, Place};
+pub use same::{are_same_tables, are_same_words, have_same_rows};
 pub use shared::SharedTables;

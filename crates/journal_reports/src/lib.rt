@@ -18,7 +18,6 @@ mod bucket;
 mod deliveries;
 mod judge;
 mod replacing;
-mod same;
 mod status;
 mod summary;
 mod text;

@@ -4,8 +4,8 @@ ghost use Rattle.std.specs.Option.{option_map_or};
 ghost use Rattle.update_machine.specs.Quiet.{are_old_tables, carries_boot, is_advert, is_of_boot, is_old_answer, speaker};
 ghost use Rattle.journal_reports.specs.Judging.{HaveSameLists, SaysAsMuch, matters_to, replaces_message, replaces_body};
 
-use crate::same::{are_same_tables, are_same_words};
 use crate::status::SwitchStatus;
+use ctrl_msg::{are_same_tables, are_same_words};
 use journal::{Body, Message, Place};
 
 /// Whether the message is one to the switch or of it that matters: one to it, where the boot that

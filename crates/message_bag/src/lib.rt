@@ -27,11 +27,11 @@
 
 mod bag;
 mod deliveries;
+mod digest;
 mod firsts;
 mod laws;
 mod post_bag;
 mod reading;
-mod same;
 mod tables;
 mod told;
 

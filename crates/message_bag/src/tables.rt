@@ -6,9 +6,9 @@ ghost use Rattle.wire.specs.Frames.{AreFrames, frame, frames};
 ghost use Rattle.wire.specs.Messages.{HasSpelling, IsPlace, message_front, message as form, spelled_front};
 ghost use Rattle.message_bag.specs.KeptFrames.{AreOfMessage, IsGrown, IsInstallOf, CarryRows, CarryTables, frames_in};
 
+use crate::digest::digest_of;
 use crate::reading::{shared, tables_in};
-use crate::same::{are_same_tables, digest_of, have_same_rows};
-use ctrl_msg::{Message, Place, SharedTables};
+use ctrl_msg::{Message, Place, SharedTables, are_same_tables, have_same_rows};
 use std::alloc::{AllocError, Global};
 use std::marker::Model;
 use switch_table::{PartRow, Tables};

@@ -9,8 +9,14 @@ use ternary::Word;
 pub fn are_same_tables(one: &Tables, other: &Tables) -> bool
     ensures { IsTrue result ↔ (one.now ≡ other.now) }
 {
-    one.version == other.version
-        && are_same(one.auth.items(), other.auth.items())
+    one.version == other.version && have_same_rows(one, other)
+}
+
+/// Whether they are the same tables, whatever their versions are.
+pub fn have_same_rows(one: &Tables, other: &Tables) -> bool
+    ensures { IsTrue result ↔ (one.now ≡ record other.now { version = one.now.version }) }
+{
+    are_same(one.auth.items(), other.auth.items())
         && are_same(one.parts.items(), other.parts.items())
 }
 

@@ -1,0 +1,19 @@
+//! A number by which tables of the same rows are found.
+use switch_table::Tables;
+
+/// An odd number that spreads small ones.
+const FACTOR: usize = 2_654_435_769;
+
+/// A number that all tables of the same rows and partitions have, and few others: of how many rows
+/// there are, and of the number of each partition and how many rules it has.
+pub fn digest_of(tables: &Tables) -> usize {
+    let mut digest = tables.parts.items().len();
+    for part in tables.auth.items() {
+        digest = digest
+            .wrapping_mul(FACTOR)
+            .wrapping_add(part.number as usize)
+            .wrapping_mul(FACTOR)
+            .wrapping_add(part.rules.items().len());
+    }
+    digest
+}
