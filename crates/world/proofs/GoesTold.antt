@@ -3,15 +3,15 @@ use Rattle.std.proofs.Common.{ℕ, ◌≡◌, ◌+◌, List, [], ◌∷◌, ◌+
 use Rattle.std.specs.Prelude.{IsErr, OnErr, OnOk, Result}
 use Rattle.std.proofs.lemmas.Result.{on_ok_weaker}
 use Rattle.message_bag.specs.Posts.{Post}
-use Rattle.controller.specs.Controller.{ControllerValue}
 use Rattle.controller.specs.declared.sends.Act.{Act}
 use Rattle.journal.specs.declared.item.Item.{Item}
 use Rattle.journal.specs.declared.item.Item.TheVariants as item
 use Rattle.steps.specs.declared.step.Step.{Step}
 use Rattle.update_machine.specs.Pieces.{piece}
-use Rattle.world.specs.Parts.{BeginsStep, Goes, KeepNet, control_in, setting_in}
+use Rattle.update_machine.specs.Setting.{Setting}
+use Rattle.world.specs.Parts.{BeginsStep, Goes, KeepNet, KeepRest, control_in, setting_in}
 use Rattle.world.specs.State.{comes_in}
-use Rattle.refinement.specs.Refinement.{RefineJournal, Control}
+use Rattle.refinement.specs.Refinement.{RefineJournal}
 use Rattle.travelling.specs.Travelling.{Flights}
 use Rattle.world_log.specs.Sending.{act_items, act_posts}
 use Rattle.world_log.specs.Writing.{IsPart}
@@ -122,14 +122,13 @@ first_goes {before} {row} {step} first rest begins keeps is failed pushed =
           ∙ append_assoc before (item.Row row step ∷ []) (first ∷ []);
     })
 
--- what is known in the control plane where only messages and usable links changed
-pub same_control : (control : Control) (new : Parts) (posts : List Post) (near : List ℕ)
-    → new.controller ≡ control.controller → new.links ≡ control.links → new.near ≡ near
-    → record control { posts = posts; near = near } ≡ record (control_in new) { posts = posts }
-same_control control new posts near controller links is =
-    ap (λ (it : ControllerValue). record { controller = it; posts = posts; links = control.links; near = near })
-    (sym controller)
-    ∙ ap (λ it. record { controller = new.controller; posts = posts; links = it; near = near })
-    (sym links)
-    ∙ ap (λ it. record { controller = new.controller; posts = posts; links = new.links; near = it })
-    (sym is)
+-- the parts refine the journal where only switches, messages and usable links changed
+pub relinked_refines : {old new : Parts} (setting : Setting) (journal : List Item)
+    (travelling : Flights) (posts : List Post) (near : List ℕ) → KeepRest old new
+    → new.near ≡ near
+    → RefineJournal setting journal new.switches.items travelling old.packets
+    (record (control_in old) { posts = posts; near = near })
+    → RefineJournal setting journal new.switches.items travelling new.packets
+    (record (control_in new) { posts = posts })
+relinked_refines setting journal travelling posts near keeps is refines =
+    rw (keeps.packets, keeps.controller, keeps.links, is) refines

@@ -16,7 +16,7 @@ use Rattle.travelling.specs.Travelling.{WithoutAt, numbers_at}
 use Rattle.world_log.specs.Writing.{IsPart}
 use Rattle.refinement.proofs.Crashed.{crash_may, crash_next, crash_piece, crash_refines, same_switch, stays_down}
 use Rattle.world.proofs.Frame.{follows, goes, goes_nothing, net_stays, nothing_goes}
-use Rattle.world.proofs.GoesTold.{same_control}
+use Rattle.world.proofs.GoesTold.{relinked_refines}
 use Rattle.world.proofs.OverSwitches.{few_in, place_in, switch_in}
 use Rattle.world_log.proofs.Writing.{none_ok, part_of_first, part_of_rest, step_part, step_written, three_ok, on_err}
 use Rattle.world.proofs.parts.Parts.crash.Goals as goal
@@ -148,13 +148,10 @@ returns c = λ before row begins.
     subst (λ bag. RefineJournal (setting_in self) all new.switches.items new.log.travelling
     new.packets
     (record (control_in new) { posts = bag })) (sym bag_is)
-    (subst (λ count. RefineJournal (setting_in self) all new.switches.items new.log.travelling count
-    (record (control_in new) { posts = posts })) (sym rest.packets)
-    (subst (λ control. RefineJournal (setting_in self) all new.switches.items new.log.travelling
-    self.packets control) (same_control (control_in self) new posts
-    (near_all self.links others) rest.controller rest.links near_is)
+    (relinked_refines (setting_in self) all new.log.travelling posts (near_all self.links others)
+    rest near_is
     (crash_refines _ _ _ _ _ _ row s own changed ready.refines ready.may within
     c.index_mut.ensures.value c.crash.ensures is_up new.switches.items new.log.travelling are
     (subst (WithoutAt self.log.travelling s) (sym rest.travelling)
-    c.in_ok-lose_at.ensures.lost)))))
+    c.in_ok-lose_at.ensures.lost))))
     c.change_links.ensures.near c.change_links.ensures.switches c.change_links.ensures.posted)

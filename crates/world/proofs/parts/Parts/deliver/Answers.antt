@@ -8,18 +8,16 @@ use Rattle.message_bag.proofs.Numbered.{length_changed}
 use Rattle.controller.specs.Controller.{ControllerValue, newest_policy}
 use Rattle.controller.specs.Sends.{hear_acts}
 use Rattle.ctrl_msg.specs.declared.message.Message.{Message}
-use Rattle.journal.specs.declared.item.Item.{Item}
 use Rattle.journal.specs.declared.item.Item.TheVariants as item
 use Rattle.steps.specs.declared.step.Step.TheVariants.{Deliver}
 use Rattle.switch_core.specs.Hearing.{IsSoundBody, replies}
 use Rattle.update_machine.specs.Messages.{sent_from}
-use Rattle.world.specs.Parts.{control_in, setting_in}
+use Rattle.world.specs.Parts.{setting_in}
 use Rattle.refinement.specs.Linking.{all_adverts_sent, near_all}
 use Rattle.world_log.specs.Sending.{MayNote, MaySend, act_items, act_posts}
-use Rattle.refinement.specs.Refinement.{RefineJournal}
 use Rattle.refinement.proofs.Delivering.{found_there}
 use Rattle.world_log.specs.Writing.{IsPart}
-use Rattle.world.proofs.GoesTold.{first_goes, goes_told, same_control}
+use Rattle.world.proofs.GoesTold.{first_goes, goes_told, relinked_refines}
 use Rattle.refinement.proofs.HeardBy.{control_may, control_piece, control_refines, first_piece, names_known, shut_may, shut_piece, shut_refines, undelivered}
 use Rattle.world.proofs.OverSwitches.{few_in}
 use Rattle.refinement.proofs.HearReady.{hear_ready, usable_here}
@@ -274,17 +272,12 @@ returns c = λ before row begins.
           (new.log.bag ≡ bag ++ map new_post messages)) c.deliver.ensures
           c.change_links.ensures.posted;
       refines = both_ok c.change_links.result (λ near_is are.
-          let all : List Item = before ++ item.Row row (Deliver n) ∷ item.Delivered n
-          ∷ item.Opened s stamp ∷ sent_from (length self.log.bag + 1) messages in
-          let posts = with_delivered self.log.bag n ++ map new_post messages in
-          subst (λ count. RefineJournal (setting_in self) all new.switches.items self.log.travelling
-          count (record (control_in new) { posts = posts })) (sym rest.packets)
-          (subst (λ control. RefineJournal (setting_in self) all new.switches.items
-          self.log.travelling
-          self.packets control) (same_control (control_in self) new posts
-          (near_all self.links others) rest.controller rest.links near_is)
+          relinked_refines (setting_in self) (before ++ item.Row row (Deliver n)
+          ∷ item.Delivered n ∷ item.Opened s stamp ∷ sent_from (length self.log.bag + 1) messages)
+          self.log.travelling (with_delivered self.log.bag n ++ map new_post messages)
+          (near_all self.links others) rest near_is
           (opening_refines _ _ _ _ _ _ row n s stamp message own c.hear.new.self ready.refines
           ready.may there c.in-Switch.is within.0 c.index_mut.ensures.value
-          c.in_ok-heard.ensures.after opens new.switches.items are)))
+          c.in_ok-heard.ensures.after opens new.switches.items are))
           c.change_links.ensures.near c.change_links.ensures.switches;
     })

@@ -1,4 +1,4 @@
-use Rattle.std.proofs.Common.{ℕ, ◌≡◌, ◌+◌, ◌<◌, ◌++◌, ◌∷◌, [], Bool, true, false, List, length, map, max, min, refl, ap, sym, subst, ◌∙◌, arith}
+use Rattle.std.proofs.Common.{ℕ, ◌≡◌, ◌+◌, ◌<◌, ◌++◌, ◌∷◌, [], Bool, true, false, List, length, map, max, min, refl, ap, sym, ◌∙◌, arith}
 use Rattle.std.specs.Bool.{beq}
 use Rattle.message_bag.specs.Posts.{new_post}
 use Rattle.ctrl_msg.specs.declared.message.Message.{Message}
@@ -7,12 +7,11 @@ use Rattle.journal.specs.declared.item.Item.{Item}
 use Rattle.journal.specs.declared.item.Item.TheVariants as item
 use Rattle.update_machine.specs.Messages.{sent_from}
 use Rattle.refinement.specs.Linking.{all_adverts_sent, link_step, near_all}
-use Rattle.world.specs.Parts.{HasBegun, control_in, setting_in}
+use Rattle.world.specs.Parts.{HasBegun, setting_in}
 use Rattle.world.specs.declared.parts.Parts.{Parts}
 use Rattle.world.specs.State.{comes_in}
-use Rattle.refinement.specs.Refinement.{RefineJournal}
 use Rattle.world.proofs.Frame.{follows, goes_nothing, net_stays, nothing_goes}
-use Rattle.world.proofs.GoesTold.{goes_told, same_control}
+use Rattle.world.proofs.GoesTold.{goes_told, relinked_refines}
 use Rattle.world.proofs.OverSwitches.{few_in}
 use Rattle.refinement.proofs.LinksChange.{numbers_left}
 use Rattle.refinement.proofs.LinkRows.{ends_below, same_refines, set_may, set_piece, set_refines}
@@ -88,7 +87,6 @@ change_links-requires-clause-may c =
 pub returns : goal.returns
 returns c = λ before row begins.
     let self = c.args.self.now in
-    let new = c.change_links.new.self in
     let one = c.args.one in
     let two = c.args.two in
     let up = c.args.up in
@@ -115,16 +113,10 @@ returns c = λ before row begins.
       part = c.change_links.ensures.part;
       posted = c.change_links.ensures.posted;
       refines = both_ok c.change_links.result (λ near_is are.
-          let all : List Item = before ++ item.Row row (link_step up one two) ∷ told
-          ∷ sent_from (length self.log.bag + 1) messages in
-          let posts = self.log.bag ++ map new_post messages in
-          subst (λ count. RefineJournal (setting_in self) all new.switches.items self.log.travelling
-          count (record (control_in new) { posts = posts })) (sym rest.packets)
-          (subst (λ control. RefineJournal (setting_in self) all new.switches.items
-          self.log.travelling
-          self.packets control) (same_control (record (control_in self) { links = links }) new
-          posts near rest.controller rest.links near_is)
+          relinked_refines (setting_in self) (before ++ item.Row row (link_step up one two) ∷ told
+          ∷ sent_from (length self.log.bag + 1) messages) self.log.travelling
+          (self.log.bag ++ map new_post messages) near rest near_is
           (set_refines _ _ _ _ _ _ row one two up ready.refines ready.may links other
-          c.set_ends.ensures.set c.set_ends.ensures.fits new.switches.items are)))
+          c.set_ends.ensures.set c.set_ends.ensures.fits c.change_links.new.self.switches.items are))
           c.change_links.ensures.near c.change_links.ensures.switches;
     })
