@@ -8,3 +8,4 @@ pub mod Filling
 pub mod LeastHops
 pub mod LeastWaiting
 pub mod SoFar
+pub mod Viewed
