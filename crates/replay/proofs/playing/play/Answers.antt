@@ -13,6 +13,7 @@ use Rattle.replay.specs.InForce.{IsPlanInForce}
 use Rattle.replay.proofs.Keeping.{kept_up}
 use Rattle.replay.proofs.Refining.{tie_of}
 use Rattle.replay.proofs.playing.play.Goals as goal
+use Rattle.replay.proofs.playing.play.Given.{Over}
 
 board_is : (one other : BoardValue Seen) → one.meters ≡ other.meters → one.gone ≡ other.gone
     → one ≡ other
@@ -83,21 +84,24 @@ returns-clause-play g c =
     (subst (λ events. PlaysOn setting journal row events journal None) (sym none)
     (plays_no_more setting journal row))))
 
+-- a full journal's board is the one that it says
+full_board : (g : Over) (c : goal.After-ended g)
+    → seen_board g.M.Meter.seen c.take_steps.new.board
+    ≡ board_after c.args.ports (left_in c.take_steps.new.world.journal)
+    (map g.M.Meter.seen c.args.meters.items)
+full_board g c = kept_up _ _ _ _ c.args.ports (map g.M.Meter.seen c.args.meters.items)
+    (c.in-Err-Refused.ensures.kept_full (ap Err c.in-Err-Refused.field-0-is))
+    c.loop-event.invariant.board
+
 pub returns-in-Err-Refused-clause-kept : goal.returns-in-Err-Refused-clause-kept
 returns-in-Err-Refused-clause-kept g c =
     rw (c.ended.ensures.journal, c.ended.ensures.meters)
-    (ap (λ (board : BoardValue Seen). board.meters)
-    (kept_up _ _ _ _ c.args.ports (map g.M.Meter.seen c.args.meters.items)
-    (c.in-Err-Refused.ensures.kept_full (ap Err c.in-Err-Refused.field-0-is))
-    c.loop-event.invariant.board))
+    (ap (λ (board : BoardValue Seen). board.meters) (full_board g c))
 
 pub returns-in-Err-Refused-clause-gone : goal.returns-in-Err-Refused-clause-gone
 returns-in-Err-Refused-clause-gone g c =
     rw (c.ended.ensures.journal, c.ended.ensures.gone)
-    (ap (λ (board : BoardValue Seen). board.gone)
-    (kept_up _ _ _ _ c.args.ports (map g.M.Meter.seen c.args.meters.items)
-    (c.in-Err-Refused.ensures.kept_full (ap Err c.in-Err-Refused.field-0-is))
-    c.loop-event.invariant.board))
+    (ap (λ (board : BoardValue Seen). board.gone) (full_board g c))
 
 pub returns-clause-kept : goal.returns-clause-kept
 returns-clause-kept g c =
