@@ -1,0 +1,33 @@
+use Rattle.std.proofs.Common.{◌≡◌, true, false, Ok, arith}
+use Rattle.std.proofs.lemmas.Grind.{common_steps}
+use Rattle.policy_file.specs.Changes.{is_change_text, policy_file_of}
+use Rattle.difane_cli.proofs.FileChecks.{is_whole, stated_so}
+use Rattle.difane_cli.proofs.policies.check_file.Goals as goal
+
+pub returns-in_err-file-clause-stopped : goal.returns-in_err-file-clause-stopped
+returns-in_err-file-clause-stopped c =
+    let none : c.args.is_first ≡ true → is_change_text c.args.bytes.now ≡ false =
+    grind (arith, common_steps) in
+    rw (stated_so c.args.is_first c.args.ports c.args.name.now c.args.bytes.now none)
+    (grind (arith, common_steps))
+
+pub returns-in_err-map_err-clause-stopped : goal.returns-in_err-map_err-clause-stopped
+returns-in_err-map_err-clause-stopped c =
+    let none : c.args.is_first ≡ true → is_change_text c.args.bytes.now ≡ false =
+    grind (arith, common_steps) in
+    rw (stated_so c.args.is_first c.args.ports c.args.name.now c.args.bytes.now none)
+    (grind (arith, common_steps))
+
+pub returns-clause-value : goal.returns-clause-value
+returns-clause-value c =
+    let none : c.args.is_first ≡ true → is_change_text c.args.bytes.now ≡ false =
+    grind (arith, common_steps) in
+    rw (stated_so c.args.is_first c.args.ports c.args.name.now c.args.bytes.now none)
+    (grind (arith, common_steps))
+
+pub returns-clause-whole : goal.returns-clause-whole
+returns-clause-whole c = λ first.
+    let none : is_change_text c.args.bytes.now ≡ false = grind (arith, common_steps) in
+    let read : policy_file_of c.args.bytes.now ≡ Ok c.in_ok-file.file =
+    grind (arith, common_steps) in
+    is_whole c.args.bytes.now c.in_ok-file.file none read
