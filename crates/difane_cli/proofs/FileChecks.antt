@@ -42,11 +42,11 @@ is_policy bytes none = rw none refl
 
 pub is_whole : (bytes : List ℕ) (file : PolicyFile) → is_change_text bytes ≡ false
     → policy_file_of bytes ≡ Ok file → IsSome (own_policy file)
-is_whole bytes file none is = by (policy_of bytes) file (rw is_policy bytes none at is)
+is_whole bytes file none is = by (policy_of bytes) file (rw (is_policy bytes none) at is)
   where
     by : (read : Result (List Row) (InRow PolicyRefusal)) (file : PolicyFile)
         → on_ok Whole read ≡ Ok file → IsSome (own_policy file)
-    by (Ok rows) (Whole own) is = tt
+    by (Ok rows) (Whole own) is = refl
     by (Ok rows) _ is = absurd (cc is)
     by (Err refused) file is = absurd (cc is)
 

@@ -1,6 +1,7 @@
 use Rattle.world.specs.State.{setting_at}
 use Rattle.std.specs.Prelude.{option_to_list}
 use Rattle.std.proofs.Common.{◌+◌, ◌∙◌, Some, [], ◌∷◌, ap, arith, refl}
+use Rattle.std.proofs.lemmas.Grind.{common_steps}
 use Rattle.std.proofs.lemmas.List.{length-map}
 use Rattle.shelf.specs.Shelf.{IsAfterReads}
 use Rattle.command_line.specs.Commands.{Replay}
@@ -82,6 +83,18 @@ returns-clause-shelf g c = record {
       ∙ c.in_ok-net.ensures.shelf.calm;
   stops = tt;
 }
+
+pub returns-in_err-files-clause-read : goal.returns-in_err-files-clause-read
+returns-in_err-files-clause-read g c =
+    let net = c.in_ok-net.ensures.shelf.after in
+    let events = c.in_ok-events.ensures.shelf.after in
+    let files = c.in_err-files.ensures.shelf.after in grind (arith, common_steps)
+
+pub returns-in_err-world-clause-read : goal.returns-in_err-world-clause-read
+returns-in_err-world-clause-read g c =
+    let net = c.in_ok-net.ensures.shelf.after in
+    let events = c.in_ok-events.ensures.shelf.after in
+    let files = c.in_ok-files.ensures.shelf.after in grind arith
 
 pub returns-clause-read : goal.returns-clause-read
 returns-clause-read g c =
