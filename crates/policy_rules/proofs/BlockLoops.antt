@@ -1,5 +1,5 @@
 -- Loops over the blocks of a range.
-use Rattle.std.proofs.Common.{◌≡◌, ◌∙◌, ◌<◌, List, length, map, Option, Some, None, ap, sym, subst, arith, map-id}
+use Rattle.std.proofs.Common.{◌≡◌, ◌∙◌, List, length, map, Option, Some, None, ap, sym, subst, map-id}
 use Rattle.std.specs.Iterator.{YieldsFirst, Yields}
 use Rattle.std.proofs.lemmas.Iterator.{YieldsList}
 use Rattle.std.proofs.lemmas.Iterator.Consumers.{YieldsList-from_first, YieldsList-end, YieldsList-turn}
@@ -20,8 +20,7 @@ block_words row source = map (word_of_row row source) (cover_of row.dport)
 -- a loop that has passed the blocks `done`, at its next call
 pub record IsAtBlock (range : PortRangeValue) (done : List Block) (next : Option Block) : Type 0
   where
-    pub turn : IsPortRange range → (block : Block) → next ≡ Some block
-        → (length done < 30) × IsPortBlock block
+    pub turn : IsPortRange range → (block : Block) → next ≡ Some block → IsPortBlock block
     pub end : next ≡ None → done ≡ cover_of range
 
 module _ (range : PortRangeValue) {start from : Blocks} (same : from ≡ start)
@@ -35,9 +34,6 @@ module _ (range : PortRangeValue) {start from : Blocks} (same : from ≡ start)
   at_block done now yielded next after step = record {
     turn = λ sound block is.
         let turn = YieldsList-turn road done now yielded next after block is step in
-        let cover = is_cover_of range sound in (
-          omega (arith, turn.0, cover.few),
-          subst IsPortBlock (sym turn.1) (cover.masked (length done) _ turn.0),
-        );
+        subst IsPortBlock (sym turn.1) ((is_cover_of range sound).masked (length done) _ turn.0);
     end = λ is. sym (map-id done) ∙ (YieldsList-end road done now yielded next after is step).0;
   }

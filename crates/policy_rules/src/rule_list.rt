@@ -1,16 +1,16 @@
-ghost use Rattle.std.specs.Prelude.{◌≡◌, ◌+◌, ◌<◌, ◌≤◌, ◌^◌, ◌∷◌, [], All, Err, IfOk, IfErr, OnOk, Some, map, option_map, length};
+ghost use Rattle.std.specs.Prelude.{◌≡◌, ◌+◌, ◌<◌, ◌≤◌, ◌^◌, ◌∷◌, [], All, Err, IfOk, IfErr, OnOk, Some, option_map, length};
 ghost use Rattle.base.specs.Refusals.{IfRefused};
 ghost use Rattle.base.specs.declared.error.Failure.TheVariants.{Refused};
-ghost use Rattle.five_tuple.specs.Exports.{IsHeader, IsPortBlock, cover_of};
+ghost use Rattle.five_tuple.specs.Exports.{IsHeader};
 ghost use Rattle.five_tuple.specs.declared.header.Header.{Header};
-ghost use Rattle.policy_rules.specs.Exports.{AppendsRanked, IsPolicy, IsRuleList, IsSoundRow, RefusesRules, by_falling_priority, entries_of, first_rule, hit_of_rule, ranked_from, rules_of, scan, with_default, with_hit, word_of_row, word_total};
+ghost use Rattle.policy_rules.specs.Exports.{AppendsRanked, IsPolicy, IsRuleList, IsSoundRow, RefusesRules, by_falling_priority, entries_of, first_rule, hit_of_rule, ranked_from, rules_of, scan, with_default, word_total};
 
 use crate::laws::rule_list_laws;
 use crate::policy::{Hit, Policy, Row};
 use crate::rules::Rule;
-use crate::words::word_of_row;
+use crate::words::push_row_words;
 use base::Failure;
-use five_tuple::{PortBlock, count_blocks};
+use five_tuple::count_blocks;
 use std::alloc::{AllocError, Global};
 use std::cmp::Reverse;
 use ternary::Word;
@@ -84,34 +84,24 @@ fn list_rules(alloc: Global, rows: &[Row], room: usize) -> Result<Vec<Rule>, All
     ensures { IfOk result (λ rules. rules.items ≡ ranked_from 0 (with_default rows.now)) }
 {
     let mut rules = Vec::with_capacity(alloc, room)?;
+    let mut words = Vec::new(alloc);
     for row in rows {
-        push_row(&mut rules, row)?;
+        push_row(&mut rules, &mut words, row)?;
     }
     push_rule(&mut rules, Word::any(), Hit::DEFAULT)?;
     Ok(rules)
 }
 
-fn push_row(rules: &mut Vec<Rule>, row: &Row) -> Result<(), AllocError>
+// The rules of the row's words, which are put into `words` in the place of what is there.
+fn push_row(rules: &mut Vec<Rule>, words: &mut Vec<Word>, row: &Row) -> Result<(), AllocError>
     requires few { length rules.old.items ≤ 4096 }
     requires row { IsSoundRow row.now }
     ensures { OnOk result (AppendsRanked rules.old.items rules.new.items (entries_of row.now)) }
 {
-    for source in row.sport.blocks() {
-        push_words(rules, row, source)?;
-    }
-    Ok(())
-}
-
-// The rules of the row's words for one block of its source ports.
-fn push_words(rules: &mut Vec<Rule>, row: &Row, source: PortBlock) -> Result<(), AllocError>
-    requires few { length rules.old.items ≤ 4996 }
-    requires row { IsSoundRow row.now }
-    requires source { IsPortBlock source }
-    ensures { OnOk result (AppendsRanked rules.old.items rules.new.items
-        (with_hit row.now (map (word_of_row row.now source) (cover_of row.now.dport)))) }
-{
-    for destination in row.dport.blocks() {
-        push_rule(rules, word_of_row(row, source, destination), Hit::of(row))?;
+    words.clear();
+    push_row_words(words, row)?;
+    for word in words.as_slice() {
+        push_rule(rules, *word, Hit::of(row))?;
     }
     Ok(())
 }

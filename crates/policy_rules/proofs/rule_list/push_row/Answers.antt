@@ -1,50 +1,55 @@
-use Rattle.std.proofs.Common.{◌∙◌, ◌++◌, ap, sym, [], length, append-nil, arith}
-use Rattle.std.specs.List.{flat_map}
-use Rattle.std.proofs.lemmas.List.{flat_map_more, map-append}
+use Rattle.std.proofs.Common.{◌≡◌, ◌∙◌, ◌++◌, ◌∷◌, ap, sym, [], length, length-take, append-nil, arith, take}
+use Rattle.std.proofs.lemmas.List.{length-map, map-append, take_all, take_more}
 use Rattle.five_tuple.proofs.CallerLemmas.{is_cover_of}
 use Rattle.five_tuple.specs.Cover.{cover_of}
 use Rattle.policy_rules.specs.RuleList.{ranked_from, with_hit}
-use Rattle.policy_rules.proofs.BlockLoops.{IsAtBlock, at_block, block_words}
+use Rattle.policy_rules.specs.Words.{words_of_row}
 use Rattle.policy_rules.proofs.Ranks.{ranked_more, length_ranked, few_pairs}
 use Rattle.policy_rules.proofs.rule_list.push_row.Goals as goal
-use Rattle.policy_rules.proofs.rule_list.push_row.Goals.{After-next}
+use Rattle.policy_rules.proofs.rule_list.push_row.Goals.{After-as_slice-word-items}
 
--- the loop, at its next block
-here : (c : After-next) → IsAtBlock c.args.row.now.sport c.loop-source.yielded c.next.result
-here c = at_block c.args.row.now.sport c.into_iter-source-iterator.ensures.into_iter_gives
-    c.blocks-source-items.ensures.blocks c.loop-source.yielded _ c.loop-source.yielded_by c.next.result
-    c.next.new.self c.next.ensures.steps
+-- the words that are there then
+words_are : (c : After-as_slice-word-items) → c.as_slice-word-items.result.now
+    ≡ words_of_row c.args.row.now
+words_are c = c.as_slice-word-items.ensures.value ∙ c.in_ok-push_row_words.ensures
+    ∙ ap (λ these. these ++ words_of_row c.args.row.now) c.clear.ensures.items
 
-pub loop-source-init : goal.loop-source-init
+pub loop-word-init : goal.loop-word-init
 unfolding ranked_from
-loop-source-init c = sym (append-nil _)
+loop-word-init c = sym (append-nil _)
 
-pub push_words-requires-clause-few : goal.push_words-requires-clause-few
-push_words-requires-clause-few c =
+pub push_rule-requires : goal.push_rule-requires
+push_rule-requires c =
     let row = c.args.row.now in
-    let turn = (here (goal.at.push_words-requires-clause-few c).After-next).turn c.requires.row.sport _
-    c.in-Some.is in
-    let pairs = few_pairs row (cover_of row.dport) c.loop-source.yielded
-    (is_cover_of row.dport c.requires.row.dport).few (omega (arith, turn.0)) in
-    omega (arith, pairs, length_ranked _ _ _ c.loop-source.invariant)
+    let words = take c.loop-word.word-index c.as_slice-word-items.result.now in
+    let some : length (with_hit row words) ≡ length words = length-map _ _ in
+    let all : length (with_hit row (words_of_row row)) ≡ length (words_of_row row) = length-map _ _ in
+    omega (
+      arith,
+      some,
+      all,
+      ap length (words_are (goal.at.push_rule-requires c).After-as_slice-word-items),
+      length-take c.loop-word.word-index c.as_slice-word-items.result.now,
+      few_pairs row (cover_of row.dport) (cover_of row.sport)
+          (is_cover_of row.dport c.requires.row.dport).few
+          (is_cover_of row.sport c.requires.row.sport).few,
+      length_ranked _ _ (with_hit row words) c.loop-word.invariant,
+    )
 
-pub push_words-requires-clause-source : goal.push_words-requires-clause-source
-push_words-requires-clause-source c =
-    ((here (goal.at.push_words-requires-clause-source c).After-next).turn c.requires.row.sport _
-    c.in-Some.is).1
-
-pub loop-source-preserved : goal.loop-source-preserved
-loop-source-preserved c =
+pub loop-word-preserved : goal.loop-word-preserved
+loop-word-preserved c =
     let row = c.args.row.now in
-    let done = c.loop-source.yielded in
-    ranked_more _ _ _ _ _ _ c.loop-source.invariant c.in_ok-push_words.ensures
-    (ap (with_hit row) (sym (flat_map_more (block_words row) [] done c.in-Some.source))
-    ∙ map-append _ (flat_map (block_words row) done) (block_words row c.in-Some.source))
+    let i = c.loop-word.word-index in
+    let words = c.as_slice-word-items.result.now in
+    let more = take_more words i c.word-item.result c.loop-word-test.true
+    ∙ ap (λ word. take i words ++ word ∷ []) (sym c.word-item.is) in
+    ranked_more _ _ _ _ _ _ c.loop-word.invariant (rw c.of.ensures at c.in_ok-push_rule.ensures)
+    (ap (with_hit row) more ∙ map-append _ (take i words) (c.word-item.result ∷ []))
 
 pub returns : goal.returns
 returns c =
-    let row = c.args.row.now in
-    c.loop-source.invariant
-    ∙ ap (λ sources. c.args.rules.now.items ++ ranked_from (length c.args.rules.now.items)
-    (with_hit row (flat_map (block_words row) sources)))
-    ((here (goal.at.returns c).After-next).end c.in-None.is)
+    let rules = c.args.rules.now.items in
+    c.loop-word.invariant
+    ∙ ap (λ words. rules ++ ranked_from (length rules) (with_hit c.args.row.now words))
+    (take_all c.loop-word.word-index c.as_slice-word-items.result.now (omega arith)
+    ∙ words_are (goal.at.returns c).After-as_slice-word-items)

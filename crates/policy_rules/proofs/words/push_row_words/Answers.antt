@@ -16,8 +16,8 @@ loop-source-init c = sym (append-nil _)
 
 pub push_source_words-requires-clause-source : goal.push_source_words-requires-clause-source
 push_source_words-requires-clause-source c =
-    ((here (goal.at.push_source_words-requires-clause-source c).After-next).turn c.requires.sport _
-    c.in-Some.is).1
+    (here (goal.at.push_source_words-requires-clause-source c).After-next).turn c.requires.sport _
+    c.in-Some.is
 
 pub loop-source-preserved : goal.loop-source-preserved
 loop-source-preserved c =

@@ -16,8 +16,8 @@ loop-destination-init c = sym (append-nil _)
 
 pub word_of_row-requires-clause-destination : goal.word_of_row-requires-clause-destination
 word_of_row-requires-clause-destination c =
-    ((here (goal.at.word_of_row-requires-clause-destination c).After-next).turn c.requires.row.dport _
-    c.in-Some.is).1
+    (here (goal.at.word_of_row-requires-clause-destination c).After-next).turn c.requires.row.dport _
+    c.in-Some.is
 
 pub loop-destination-preserved : goal.loop-destination-preserved
 loop-destination-preserved c =
