@@ -1,7 +1,7 @@
 -- A network on which a policy begins to be in force, and the events that may happen on it.
-use Rattle.std.proofs.Common.{ℕ, ◌≡◌, ◌<◌, ◌≤◌, true, false, Option, Result, Ok, Err, List, [], ◌∷◌, arith, length, map, refl, sym, ap, subst, ◌∙◌, All}
+use Rattle.std.proofs.Common.{ℕ, ◌≡◌, ◌<◌, ◌≤◌, true, false, Option, Some, None, Result, Ok, Err, List, [], ◌∷◌, arith, length, map, refl, sym, ap, subst, ◌∙◌, All}
 use Rattle.std.specs.Borrow.{Bor}
-use Rattle.std.specs.Prelude.{IsOk, IsSome, IsTrue, slice_index_or, unwrap_or}
+use Rattle.std.specs.Prelude.{IsErrAnd, IsOk, IsSome, IsTrue, slice_index_or, unwrap_or}
 use Rattle.std.proofs.lemmas.List.{get_or-map, length-map}
 use Rattle.std.specs.Option.{ForSome}
 use Rattle.schedule.specs.Case.{IsPlayable, LoadCase, NamesPort}
@@ -29,14 +29,19 @@ use Rattle.update_machine.specs.Setting.{Setting, setting_of, IsSetting, NamesOw
 use Rattle.world.specs.Files.{first_policy}
 use Rattle.world.specs.State.{RefinesJournal, WorldValue, setting_at}
 use Rattle.refinement.specs.Refinement.{RefineJournal}
-use Rattle.shelf.specs.Shelf.{Files}
+use Rattle.shelf.specs.Shelf.{Files, ShelfState}
+use Rattle.difane_cli.specs.Ending.{Accounts, EndsRead, NeedsReadFault, StopsCheck, status_of}
 use Rattle.difane_cli.specs.Inputs.{and_then, case_files, first_plan, inputs_of, plan_from, read_files, read_net, read_schedule}
 use Rattle.difane_cli.specs.Run.{IsReplayOf}
 use Rattle.command_line.specs.Commands.{ReplayCommand}
 use Rattle.command_line.specs.Grammar.{most_policies}
 use Rattle.command_line.specs.Named.{MayBePolicies, names_seen}
 use Rattle.difane_cli.specs.declared.status.Refusal.{Refusal}
-use Rattle.difane_cli.specs.Tasks.{IsNetOf}
+use Rattle.difane_cli.specs.declared.status.Status.{Status}
+use Rattle.difane_cli.specs.declared.status.Status.TheVariants as status
+use Rattle.difane_cli.specs.declared.status.Stop.{Stop}
+use Rattle.difane_cli.specs.declared.status.Stop.TheVariants as stop
+use Rattle.difane_cli.specs.Tasks.{Inputs, IsNetOf}
 
 -- ---- ports
 
@@ -165,18 +170,18 @@ and_then_ok : {X Y : Type 0} (read : Result X Refusal) (result : Result Y Refusa
 and_then_ok (Ok x) result is = refl
 and_then_ok (Err refusal) result is = cc is
 
-inputs_from : (files : Files) (args : ReplayCommand) (net : Net) (read : List PolicyFile)
+-- where all is read, what is left is to plan the first policy
+inputs_then : (files : Files) (args : ReplayCommand) (net : Net) (read : List PolicyFile)
     (events : List Event) → read_net files args.net ≡ Ok net
     → read_schedule net (length args.policies) files args.schedule ≡ Ok events
     → read_files true (port_mask net.switches) files args.policies ≡ Ok read
-    → IsOk (first_plan args.policies net read)
-    → inputs_of files args ≡ Ok (record {
+    → inputs_of files args ≡ and_then (first_plan args.policies net read) (λ hosted. Ok (record {
       setting = setting_of net read;
       events = events;
       report = args.report;
-    })
-inputs_from files args net read events net_is events_are files_are planned =
-    rw (net_is, events_are, files_are) (and_then_ok (first_plan args.policies net read) _ planned)
+    }))
+inputs_then files args net read events net_is events_are files_are =
+    rw (net_is, events_are, files_are) refl
 
 -- and they are what the files state, where these are known
 pub inputs_are : (known middle later : Option Files) (args : ReplayCommand) (net : Net)
@@ -197,6 +202,59 @@ inputs_are known middle later args net read events setting count ports first sec
     let own_files =
     subst (λ (p : ℕ). read_files true p files args.policies ≡ Ok read) mask
     (files_are files (second ∙ is)) in
-    inputs_from files args net read events (net_is files is) own_events own_files planned
+    inputs_then files args net read events (net_is files is) own_events own_files
+    ∙ and_then_ok (first_plan args.policies net read) _ planned
     ∙ ap (λ s. Ok (record { setting = s; events = events; report = args.report }))
     (sym own)
+
+-- what accounts for a stop goes on to do so
+then_accounts : {X Y : Type 0} (read : Result X Refusal) (next : X → Result Y Refusal) (why : Stop)
+    → Accounts read (status_of why) → Accounts (and_then read next) (status_of why)
+then_accounts read next (stop.Refused refusal) is = rw is refl
+then_accounts read next stop.ReadFault is = tt
+then_accounts read next stop.NoMemory is = tt
+
+-- where the first policy has no plan, what the files state accounts for the stop
+pub plan_accounts : (known middle later : Option Files) (args : ReplayCommand) (net : Net)
+    (read : List PolicyFile) (events : List Event) (count ports : ℕ) (why : Stop)
+    → middle ≡ known → later ≡ known → count ≡ length args.policies
+    → ports ≡ port_mask net.switches
+    → ForSome known (λ files. read_net files args.net ≡ Ok net)
+    → ForSome middle (λ files. read_schedule net count files args.schedule ≡ Ok events)
+    → ForSome later (λ files. read_files true ports files args.policies ≡ Ok read)
+    → Accounts (first_plan args.policies net read) (status_of why)
+    → ForSome known (λ files. Accounts (inputs_of files args) (status_of why))
+plan_accounts known middle later args net read events count ports why first second many mask net_is
+    events_are files_are accounts = λ files is.
+    let own_events =
+    subst (λ (n : ℕ). read_schedule net n files args.schedule ≡ Ok events) many
+    (events_are files (first ∙ is)) in
+    let own_files =
+    subst (λ (p : ℕ). read_files true p files args.policies ≡ Ok read) mask
+    (files_are files (second ∙ is)) in
+    subst (λ (inputs : Result Inputs Refusal). Accounts inputs (status_of why))
+    (sym (inputs_then files args net read events (net_is files is) own_events own_files))
+    (then_accounts (first_plan args.policies net read) _ why accounts)
+
+-- a check gives no stop that only a fault gives
+no_fault_needed : (files : Option Files) (status : Status) → (NeedsReadFault None status → ⊥)
+    → NeedsReadFault files status → ⊥
+no_fault_needed None status never needs = never needs
+no_fault_needed (Some files) status.ReadFault never needs = never tt
+no_fault_needed (Some files) status.Ok never needs = needs
+no_fault_needed (Some files) (status.No line) never needs = needs
+no_fault_needed (Some files) status.Words never needs = needs
+no_fault_needed (Some files) (status.Input file code row) never needs = needs
+no_fault_needed (Some files) status.WriteFault never needs = needs
+no_fault_needed (Some files) (status.Full row) never needs = needs
+no_fault_needed (Some files) status.NoMemory never needs = needs
+
+-- a reading that ends at a check of what was read
+pub ends_in_check : {X V Y : Type 0} (read : Files → Result X Refusal) (seen : V → X)
+    (checked : Result Y Refusal) (old new : ShelfState) (why : Stop) (result : Result V Stop)
+    → IsErrAnd result (λ stop. stop ≡ why) → StopsCheck checked why
+    → ForSome old.files (λ files. Accounts (read files) (status_of why))
+    → EndsRead old.files read seen old new result
+ends_in_check read seen checked old new why (Ok value) is check accounts = absurd is
+ends_in_check read seen checked old new why (Err stop) is check accounts =
+    rw is (accounts, λ needs. absurd (no_fault_needed old.files (status_of why) check.1 needs))

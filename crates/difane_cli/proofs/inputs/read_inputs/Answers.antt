@@ -7,7 +7,7 @@ use Rattle.shelf.specs.Shelf.{IsAfterReads}
 use Rattle.command_line.specs.Commands.{Replay}
 use Rattle.command_line.specs.Named.{replay_named}
 use Rattle.difane_cli.specs.Inputs.{most_reads, net_reads}
-use Rattle.difane_cli.proofs.Begun.{all_are_events, as_many, asked_for, few_named, inputs_are}
+use Rattle.difane_cli.proofs.Begun.{all_are_events, as_many, asked_for, ends_in_check, few_named, inputs_are, plan_accounts}
 use Rattle.difane_cli.proofs.CalmReads.{stops_behind, stops_with}
 use Rattle.difane_cli.proofs.Named.{among_behind, among_front, among_last, first_check}
 use Rattle.difane_cli.proofs.ShelfReads.{all_reads, fewer_reads, net_read, reads_then, schedule_read}
@@ -92,9 +92,17 @@ returns-in_err-files-clause-read g c =
 
 pub returns-in_err-world-clause-read : goal.returns-in_err-world-clause-read
 returns-in_err-world-clause-read g c =
-    let net = c.in_ok-net.ensures.shelf.after in
-    let events = c.in_ok-events.ensures.shelf.after in
-    let files = c.in_ok-files.ensures.shelf.after in grind arith
+    let net_files = c.in_ok-net.ensures.shelf.after.same_files in
+    let stopped = rw c.deref-names.ensures.value at c.in_err-world.ensures.stopped in
+    ends_in_check _ _ _ (g.F.Shelf.state c.args.shelf.now) (g.F.Shelf.state c.read_files.new.shelf)
+    c.in_err-world.field-0.0 c.from_residual-in_err-world.result
+    c.from_residual-in_err-world.ensures.1 stopped
+    (plan_accounts _ _ _ (replay_named c.args.args.now) c.in_ok-net.net c.in_ok-files.files.items
+    c.in_ok-events.events.items _ _ c.in_err-world.field-0.0 net_files
+    (c.in_ok-events.ensures.shelf.after.same_files ∙ net_files)
+    (as_many _ _ c.deref-names.ensures.value) c.port_mask.ensures
+    c.in_ok-net.ensures.read c.in_ok-events.ensures.read
+    (rw c.deref-names.ensures.value at c.in_ok-files.ensures.read) stopped.0)
 
 pub returns-clause-read : goal.returns-clause-read
 returns-clause-read g c =
