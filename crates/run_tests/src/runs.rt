@@ -38,7 +38,8 @@ pub fn metered(
 /// A run with these arguments over this shelf, without meters and faults of its sinks.
 pub fn ran(alloc: Global, args: &[&str], shelf: MemShelf) -> Result<Ran, AllocError> {
     let (out, errs) = (sink(alloc), sink(alloc));
-    Ok(metered(alloc, args, shelf, out, errs, Vec::new(alloc))?.0)
+    let (ran, _, _) = metered(alloc, args, shelf, out, errs, Vec::new(alloc))?;
+    Ok(ran)
 }
 
 /// A run with these arguments over these files, without meters.

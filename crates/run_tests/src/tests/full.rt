@@ -37,7 +37,8 @@ fn told_again(alloc: Global, rows: u32, failing_write: u64) -> Result<Ran, Fail>
     let out = MemSink::new(alloc, u64::MAX, calls(alloc, failing_write)?);
     let errs = MemSink::new(alloc, u64::MAX, Vec::new(alloc));
     let shelf = shelf_of(alloc, &files)?;
-    Ok(metered(alloc, &ARGS, shelf, out, errs, Vec::new(alloc))?.0)
+    let (ran, _, _) = metered(alloc, &ARGS, shelf, out, errs, Vec::new(alloc))?;
+    Ok(ran)
 }
 
 /// The hub's Hello, 64 adverts to each of 63 switches, and its Open.

@@ -61,7 +61,8 @@ fn played(alloc: Global, case: &Case<'_>) -> Result<Ran, AllocError> {
     let shelf = MemShelf::new(alloc, files, calls(alloc, case.failing_read)?);
     let out = MemSink::new(alloc, case.most_written, calls(alloc, case.failing_write)?);
     let errs = MemSink::new(alloc, u64::MAX, calls(alloc, case.failing_line)?);
-    Ok(metered(alloc, case.args, shelf, out, errs, Vec::new(alloc))?.0)
+    let (ran, _, _) = metered(alloc, case.args, shelf, out, errs, Vec::new(alloc))?;
+    Ok(ran)
 }
 
 const DROPPED: &str = "row 1: packet s0 10.1.1.1 9.9.9.9 5000 80 tcp\n\
