@@ -50,7 +50,7 @@ unfolding boot_and_version n4 spelled_number
 two_numbers a b = refl
 
 three_numbers : (s a b : ℕ) → length (acknowledgement.spell (s, (a, b))) ≡ 9
-unfolding acknowledgement switch n1 n4 spelled_number
+unfolding acknowledgement boot_and_version switch n1 n4 spelled_number
 three_numbers s a b = refl
 
 told : (s a : ℕ) → length (hello.spell (s, a)) ≡ 5

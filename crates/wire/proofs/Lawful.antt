@@ -161,7 +161,7 @@ hello_lawful = switch_lawful ⊠ n4_lawful
 
 acknowledged_lawful : IsLawful acknowledgement
 unfolding acknowledgement
-acknowledged_lawful = switch_lawful ⊠ n4_lawful ⊠ n4_lawful
+acknowledged_lawful = switch_lawful ⊠ of_version_lawful
 
 -- a body of a kind was taken from bytes behind that kind
 record TakesFields (kind : ℕ) (b : Body) (bytes rest : List ℕ) : Type 0 where

@@ -62,7 +62,7 @@ unfoldable pub hello : Format (ℕ × ℕ)
 hello = form.switch ⊗ form.n4
 
 unfoldable pub acknowledgement : Format (ℕ × (ℕ × ℕ))
-acknowledgement = form.switch ⊗ form.n4 ⊗ form.n4
+acknowledgement = form.switch ⊗ boot_and_version
 
 -- ---- the body: the kind, and its fields
 

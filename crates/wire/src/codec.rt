@@ -115,8 +115,7 @@ fn read_acknowledged(reader: &mut Reader) -> Result<(u32, u32, u32), WireError>
         Gives (λ p. (p.0, (p.1, p.2))) read result reader.new }
 {
     let switch = read_switch(reader)?;
-    let boot = reader.n4()?;
-    let version = reader.n4()?;
+    let (boot, version) = read_of_version(reader)?;
     Ok((switch, boot, version))
 }
 
@@ -261,8 +260,7 @@ fn put_acknowledged(
         out.old.items out.new.items) }
 {
     put_switch(out, switch)?;
-    put_n4(out, boot)?;
-    put_n4(out, version)
+    put_of_version(out, boot, version)
 }
 
 fn kind_of(body: &Body) -> u8
