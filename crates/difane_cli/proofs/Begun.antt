@@ -170,42 +170,42 @@ and_then_ok : {X Y : Type 0} (read : Result X Refusal) (result : Result Y Refusa
 and_then_ok (Ok x) result is = refl
 and_then_ok (Err refusal) result is = cc is
 
--- where all is read, what is left is to plan the first policy
-inputs_then : (files : Files) (args : ReplayCommand) (net : Net) (read : List PolicyFile)
-    (events : List Event) → read_net files args.net ≡ Ok net
-    → read_schedule net (length args.policies) files args.schedule ≡ Ok events
-    → read_files true (port_mask net.switches) files args.policies ≡ Ok read
-    → inputs_of files args ≡ and_then (first_plan args.policies net read) (λ hosted. Ok (record {
-      setting = setting_of net read;
-      events = events;
-      report = args.report;
-    }))
-inputs_then files args net read events net_is events_are files_are =
-    rw (net_is, events_are, files_are) refl
+-- what a replay is to play, where its files are read and the first policy is planned
+abbrev pub planned_inputs : ReplayCommand → Net → List PolicyFile → List Event
+    → Result Inputs Refusal
+planned_inputs args net read events =
+    and_then (first_plan args.policies net read) (λ hosted.
+    Ok (record { setting = setting_of net read; events = events; report = args.report }))
 
--- and they are what the files state, where these are known
-pub inputs_are : (known middle later : Option Files) (args : ReplayCommand) (net : Net)
-    (read : List PolicyFile) (events : List Event) (setting : Setting) (count ports : ℕ)
+-- where all is read, what is left is to plan the first policy
+pub inputs_then : (known middle later : Option Files) (args : ReplayCommand) (net : Net)
+    (read : List PolicyFile) (events : List Event) (count ports : ℕ)
     → middle ≡ known → later ≡ known → count ≡ length args.policies
     → ports ≡ port_mask net.switches
     → ForSome known (λ files. read_net files args.net ≡ Ok net)
     → ForSome middle (λ files. read_schedule net count files args.schedule ≡ Ok events)
     → ForSome later (λ files. read_files true ports files args.policies ≡ Ok read)
-    → IsOk (first_plan args.policies net read) → setting ≡ setting_of net read
-    → ForSome known (λ files. inputs_of files args
-    ≡ Ok (record { setting = setting; events = events; report = args.report }))
-inputs_are known middle later args net read events setting count ports first second many mask
-    net_is events_are files_are planned own = λ files is.
+    → ForSome known (λ files. inputs_of files args ≡ planned_inputs args net read events)
+inputs_then known middle later args net read events count ports first second many mask net_is
+    events_are files_are = λ files is.
     let own_events =
     subst (λ (n : ℕ). read_schedule net n files args.schedule ≡ Ok events) many
     (events_are files (first ∙ is)) in
     let own_files =
     subst (λ (p : ℕ). read_files true p files args.policies ≡ Ok read) mask
     (files_are files (second ∙ is)) in
-    inputs_then files args net read events (net_is files is) own_events own_files
-    ∙ and_then_ok (first_plan args.policies net read) _ planned
-    ∙ ap (λ s. Ok (record { setting = s; events = events; report = args.report }))
-    (sym own)
+    rw (net_is files is, own_events, own_files) refl
+
+-- the inputs are what the files state, where these are known
+pub inputs_are : (known : Option Files) (args : ReplayCommand) (net : Net)
+    (read : List PolicyFile) (events : List Event) (setting : Setting)
+    → ForSome known (λ files. inputs_of files args ≡ planned_inputs args net read events)
+    → IsOk (first_plan args.policies net read) → setting ≡ setting_of net read
+    → ForSome known (λ files. inputs_of files args
+    ≡ Ok (record { setting = setting; events = events; report = args.report }))
+inputs_are known args net read events setting left planned own = λ files is.
+    left files is ∙ and_then_ok (first_plan args.policies net read) _ planned
+    ∙ ap (λ s. Ok (record { setting = s; events = events; report = args.report })) (sym own)
 
 -- what accounts for a stop goes on to do so
 then_accounts : {X Y : Type 0} (read : Result X Refusal) (next : X → Result Y Refusal) (why : Stop)
@@ -215,26 +215,14 @@ then_accounts read next stop.ReadFault is = tt
 then_accounts read next stop.NoMemory is = tt
 
 -- where the first policy has no plan, what the files state accounts for the stop
-pub plan_accounts : (known middle later : Option Files) (args : ReplayCommand) (net : Net)
-    (read : List PolicyFile) (events : List Event) (count ports : ℕ) (why : Stop)
-    → middle ≡ known → later ≡ known → count ≡ length args.policies
-    → ports ≡ port_mask net.switches
-    → ForSome known (λ files. read_net files args.net ≡ Ok net)
-    → ForSome middle (λ files. read_schedule net count files args.schedule ≡ Ok events)
-    → ForSome later (λ files. read_files true ports files args.policies ≡ Ok read)
+pub plan_accounts : (known : Option Files) (args : ReplayCommand) (net : Net)
+    (read : List PolicyFile) (events : List Event) (why : Stop)
+    → ForSome known (λ files. inputs_of files args ≡ planned_inputs args net read events)
     → Accounts (first_plan args.policies net read) (status_of why)
     → ForSome known (λ files. Accounts (inputs_of files args) (status_of why))
-plan_accounts known middle later args net read events count ports why first second many mask net_is
-    events_are files_are accounts = λ files is.
-    let own_events =
-    subst (λ (n : ℕ). read_schedule net n files args.schedule ≡ Ok events) many
-    (events_are files (first ∙ is)) in
-    let own_files =
-    subst (λ (p : ℕ). read_files true p files args.policies ≡ Ok read) mask
-    (files_are files (second ∙ is)) in
+plan_accounts known args net read events why left accounts = λ files is.
     subst (λ (inputs : Result Inputs Refusal). Accounts inputs (status_of why))
-    (sym (inputs_then files args net read events (net_is files is) own_events own_files))
-    (then_accounts (first_plan args.policies net read) _ why accounts)
+    (sym (left files is)) (then_accounts (first_plan args.policies net read) _ why accounts)
 
 -- a check gives no stop that only a fault gives
 no_fault_needed : (files : Option Files) (status : Status) → (NeedsReadFault None status → ⊥)

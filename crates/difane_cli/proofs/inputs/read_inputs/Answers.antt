@@ -1,13 +1,14 @@
 use Rattle.world.specs.State.{setting_at}
+use Rattle.std.specs.Option.{ForSome}
 use Rattle.std.specs.Prelude.{option_to_list}
-use Rattle.std.proofs.Common.{◌+◌, ◌∙◌, Some, [], ◌∷◌, ap, arith, refl}
+use Rattle.std.proofs.Common.{◌+◌, ◌≡◌, ◌∙◌, Some, [], ◌∷◌, ap, arith, refl}
 use Rattle.std.proofs.lemmas.Grind.{common_steps}
 use Rattle.std.proofs.lemmas.List.{length-map}
 use Rattle.shelf.specs.Shelf.{IsAfterReads}
 use Rattle.command_line.specs.Commands.{Replay}
 use Rattle.command_line.specs.Named.{replay_named}
-use Rattle.difane_cli.specs.Inputs.{most_reads, net_reads}
-use Rattle.difane_cli.proofs.Begun.{all_are_events, as_many, asked_for, ends_in_check, few_named, inputs_are, plan_accounts}
+use Rattle.difane_cli.specs.Inputs.{inputs_of, most_reads, net_reads}
+use Rattle.difane_cli.proofs.Begun.{all_are_events, as_many, asked_for, ends_in_check, few_named, inputs_are, inputs_then, plan_accounts, planned_inputs}
 use Rattle.difane_cli.proofs.CalmReads.{stops_behind, stops_with}
 use Rattle.difane_cli.proofs.Named.{among_behind, among_front, among_last, first_check}
 use Rattle.difane_cli.proofs.ShelfReads.{all_reads, fewer_reads, net_read, reads_then, schedule_read}
@@ -90,29 +91,36 @@ returns-in_err-files-clause-read g c =
     let events = c.in_ok-events.ensures.shelf.after in
     let files = c.in_err-files.ensures.shelf.after in grind (arith, common_steps)
 
-pub returns-in_err-world-clause-read : goal.returns-in_err-world-clause-read
-returns-in_err-world-clause-read g c =
+-- all is read, and the first policy is left to be planned
+left_to_plan : (g : Over) (c : In_ok-files g)
+    → ForSome (g.F.Shelf.state c.args.shelf.now).files (λ files.
+    inputs_of files (replay_named c.args.args.now)
+    ≡ planned_inputs (replay_named c.args.args.now) c.in_ok-net.net c.in_ok-files.files.items
+    c.in_ok-events.events.items)
+left_to_plan g c =
     let net_files = c.in_ok-net.ensures.shelf.after.same_files in
-    let stopped = rw c.deref-names.ensures.value at c.in_err-world.ensures.stopped in
-    ends_in_check _ _ _ (g.F.Shelf.state c.args.shelf.now) (g.F.Shelf.state c.read_files.new.shelf)
-    c.in_err-world.field-0.0 c.from_residual-in_err-world.result
-    c.from_residual-in_err-world.ensures.1 stopped
-    (plan_accounts _ _ _ (replay_named c.args.args.now) c.in_ok-net.net c.in_ok-files.files.items
-    c.in_ok-events.events.items _ _ c.in_err-world.field-0.0 net_files
-    (c.in_ok-events.ensures.shelf.after.same_files ∙ net_files)
-    (as_many _ _ c.deref-names.ensures.value) c.port_mask.ensures
-    c.in_ok-net.ensures.read c.in_ok-events.ensures.read
-    (rw c.deref-names.ensures.value at c.in_ok-files.ensures.read) stopped.0)
-
-pub returns-clause-read : goal.returns-clause-read
-returns-clause-read g c =
-    let net_files = c.in_ok-net.ensures.shelf.after.same_files in
-    inputs_are _ _ _ (replay_named c.args.args.now) c.in_ok-net.net c.in_ok-files.files.items
-    c.in_ok-events.events.items (setting_at c.in_ok-world.world) _ _ net_files
+    inputs_then _ _ _ (replay_named c.args.args.now) c.in_ok-net.net c.in_ok-files.files.items
+    c.in_ok-events.events.items _ _ net_files
     (c.in_ok-events.ensures.shelf.after.same_files ∙ net_files)
     (as_many _ _ c.deref-names.ensures.value) c.port_mask.ensures
     c.in_ok-net.ensures.read c.in_ok-events.ensures.read
     (rw c.deref-names.ensures.value at c.in_ok-files.ensures.read)
+
+pub returns-in_err-world-clause-read : goal.returns-in_err-world-clause-read
+returns-in_err-world-clause-read g c =
+    let stopped = rw c.deref-names.ensures.value at c.in_err-world.ensures.stopped in
+    ends_in_check _ _ _ (g.F.Shelf.state c.args.shelf.now) (g.F.Shelf.state c.read_files.new.shelf)
+    c.in_err-world.field-0.0 c.from_residual-in_err-world.result
+    c.from_residual-in_err-world.ensures.1 stopped
+    (plan_accounts _ (replay_named c.args.args.now) c.in_ok-net.net c.in_ok-files.files.items
+    c.in_ok-events.events.items c.in_err-world.field-0.0
+    (left_to_plan g (goal.at.returns-in_err-world-clause-read g c).In_ok-files) stopped.0)
+
+pub returns-clause-read : goal.returns-clause-read
+returns-clause-read g c =
+    inputs_are _ (replay_named c.args.args.now) c.in_ok-net.net c.in_ok-files.files.items
+    c.in_ok-events.events.items (setting_at c.in_ok-world.world)
+    (left_to_plan g (goal.at.returns-clause-read g c).In_ok-files)
     (rw c.deref-names.ensures.value at c.in_ok-world.ensures.planned) c.in_ok-world.ensures.begun.own
 
 pub returns-clause-ready : goal.returns-clause-ready

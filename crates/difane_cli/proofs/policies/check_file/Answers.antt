@@ -6,24 +6,18 @@ use Rattle.difane_cli.proofs.policies.check_file.Goals as goal
 
 pub returns-in_err-file-clause-stopped : goal.returns-in_err-file-clause-stopped
 returns-in_err-file-clause-stopped c =
-    let none : c.args.is_first ≡ true → is_change_text c.args.bytes.now ≡ false =
-    grind (arith, common_steps) in
-    rw (stated_so c.args.is_first c.args.ports c.args.name.now c.args.bytes.now none)
-    (grind (arith, common_steps))
+    rw (stated_so c.args.is_first c.args.ports c.args.name.now c.args.bytes.now
+    (grind (arith, common_steps))) (grind (arith, common_steps))
 
 pub returns-in_err-map_err-clause-stopped : goal.returns-in_err-map_err-clause-stopped
 returns-in_err-map_err-clause-stopped c =
-    let none : c.args.is_first ≡ true → is_change_text c.args.bytes.now ≡ false =
-    grind (arith, common_steps) in
-    rw (stated_so c.args.is_first c.args.ports c.args.name.now c.args.bytes.now none)
-    (grind (arith, common_steps))
+    rw (stated_so c.args.is_first c.args.ports c.args.name.now c.args.bytes.now
+    (grind (arith, common_steps))) (grind (arith, common_steps))
 
 pub returns-clause-value : goal.returns-clause-value
 returns-clause-value c =
-    let none : c.args.is_first ≡ true → is_change_text c.args.bytes.now ≡ false =
-    grind (arith, common_steps) in
-    rw (stated_so c.args.is_first c.args.ports c.args.name.now c.args.bytes.now none)
-    (grind (arith, common_steps))
+    rw (stated_so c.args.is_first c.args.ports c.args.name.now c.args.bytes.now
+    (grind (arith, common_steps))) (grind (arith, common_steps))
 
 pub returns-clause-whole : goal.returns-clause-whole
 returns-clause-whole c = λ first.
