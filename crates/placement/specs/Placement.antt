@@ -2,12 +2,21 @@
 -- partition's rules: Yu, Rexford, Freedman and Wang, "Scalable Flow-Based Networking with DIFANE",
 -- SIGCOMM 2010; the rule of least load is this project's own). A placement gives each partition, by
 -- its number, the list of its targets.
-use Rattle.std.specs.Prelude.{ℕ, ◌≡◌, ◌+◌, ◌<◌, Bool, ◌&&◌, ◌||◌, ◌==◌, nat_lt, nat_le, nat_eq, if◌then◌else◌, Result, Ok, Err, MatchResult, List, [], ◌∷◌, length, take, filter, sum_by, slice_index, slice_index_or, slice_set, replicate, All, AllPairs, IsTrue, IsFalse}
+use Rattle.std.specs.Prelude.{ℕ, ◌≡◌, ◌+◌, ◌<◌, ◌≤◌, ◌^◌, Bool, ◌&&◌, ◌||◌, ◌==◌, nat_lt, nat_le, nat_eq, if◌then◌else◌, Result, Ok, Err, MatchResult, List, [], ◌∷◌, length, take, filter, sum, sum_by, slice_index, slice_index_or, slice_set, replicate, All, AllPairs, IsTrue, IsFalse}
 use Rattle.std.specs.List.{list_any, range_with_len}
 use Rattle.placement.specs.Order.{in_order}
 use Rattle.placement.specs.declared.NoRoom.{NoRoom}
 use Rattle.placement.specs.declared.turns.Load.{Load}
 use Rattle.placement.specs.declared.turns.Load.TheVariants as load
+
+-- ---- what can be placed
+
+-- partitions whose keys have a sum of 64 bits, on the switches of a network
+pub record MayTakeTurns (keys rooms : List ℕ) (backups : ℕ) : Type 0 where
+  pub partitions : length keys < 2 ^ 32
+  pub switches : length rooms ≤ 64
+  pub few : backups ≤ 3
+  pub small : sum keys < 2 ^ 64
 
 -- ---- which partition comes first, and what the switches hold then
 

@@ -2,7 +2,7 @@ ghost use Rattle.std.specs.Prelude.{ℕ, ◌≡◌, ◌+◌, ◌<◌, ◌≤◌,
 ghost use Rattle.std.specs.List.{list_any, range_with_len};
 ghost use Rattle.base.specs.Refusals.{IfRefused};
 ghost use Rattle.placement.specs.Order.{in_order};
-ghost use Rattle.placement.specs.Placement.{AreHosted, IsRefused, is_earlier, is_lighter, has_room, loaded_by, turn_rule, with_room};
+ghost use Rattle.placement.specs.Placement.{AreHosted, IsRefused, MayTakeTurns, is_earlier, is_lighter, has_room, loaded_by, turn_rule, with_room};
 
 use crate::NoRoom;
 use base::Failure;
@@ -35,10 +35,7 @@ impl Load {
         rooms: &[u32],
         backups: u32,
     ) -> Result<Vec<Targets>, Failure<NoRoom>>
-        requires partitions { length keys.now < 2 ^ 32 }
-        requires switches { length rooms.now ≤ 64 }
-        requires backups { backups ≤ 3 }
-        requires small { sum keys.now < 2 ^ 64 }
+        requires { MayTakeTurns keys.now rooms.now backups }
         ensures hosted { IfOk result (λ targets.
             AreHosted (turn_rule self keys.now sizes.now rooms.now backups) targets.items) }
         ensures refused { IfErr result (IfRefused (λ lack.

@@ -13,7 +13,7 @@ use policy_rules::{Action, Cause, Leg, Targets};
 use ternary::Word;
 
 /// What a switch says of a packet, before a route is taken: small beside the answer, which has room
-/// for a route. `Switch::way` finds the route.
+/// for a route. `Switch::shared_way` finds the route.
 #[derive(Drop)]
 pub enum Verdict {
     /// Out of the network, by this port of the switch: at the end of the packet's way to it.

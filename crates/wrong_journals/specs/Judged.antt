@@ -15,7 +15,8 @@ use Rattle.wrong_journals.specs.Office.{office, text_of, two_switches}
 abbrev pub PrintsAs : List Item → List (List ℕ) → Type 0
 PrintsAs journal lines = journal_text two_switches journal ≡ text_of lines
 
--- a schedule of the rows of a journal
+-- the schedule of the rows that a journal has: what can fail of its entries is then that a packet
+-- comes in by no row
 abbrev pub event_in : Item → List Event
 event_in (item.Row row step) = One step ∷ []
 event_in _ = []

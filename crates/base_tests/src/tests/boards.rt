@@ -1,18 +1,72 @@
 //! Meters of several kinds on one board, each in a box that its maker made.
-ghost use Rattle.std.specs.Prelude.{◌<◌};
+ghost use Rattle.std.specs.Prelude.{◌≡◌, ◌<◌, []};
+ghost use Rattle.std.specs.List.{list_any};
+ghost use Rattle.std.specs.Option.{is_none};
 
 use crate::packets::web_header;
 use five_tuple::Header;
 use flow_export::FlowMeter;
-use meters::{Board, FirstN, FlowRecord, Leaving, Meter, Recorder};
+use meters::{Board, FirstN, FlowRecord, Flows, Leaving, Meter, Recorder, Stay};
 use std::alloc::{AllocError, Global};
 use std::test::Fail;
+
+fn has_default(held: &[Leaving]) -> bool
+    ensures { result ≡ list_any (λ one. is_none one.rule) held.now }
+{
+    held.iter().any(|one| one.rule.is_none())
+}
+
+/// A kind of a caller's own: it leaves once it holds a packet that the default decided.
+#[derive(Drop)]
+struct UntilDefault {
+    port: u32,
+    held: Vec<Leaving>,
+}
+
+impl Meter for UntilDefault {
+    ghost seen = { λ m. record {
+      port = m.port;
+      held = m.held.items;
+      is_ended = list_any (λ one. is_none one.rule);
+      recorded = λ _. [];
+    } };
+
+    fn port(&self) -> u32 {
+        self.port
+    }
+
+    fn note(&mut self, leaving: &Leaving) -> Stay {
+        match self.held.push(*leaving) {
+            Ok(()) if has_default(&self.held) => Stay::Leave,
+            Ok(()) => Stay::Stay,
+            Err(_) => Stay::NoMemory,
+        }
+    }
+
+    fn notes(&self) -> u64 {
+        self.held.len() as u64
+    }
+
+    fn records(&self) -> Result<Flows, AllocError> {
+        Ok(Flows::new(Vec::new(*self.held.allocator())))
+    }
+}
 
 // The header from 10.1.1.X to 9.9.9.9.
 fn header_from(x: u32) -> Header
     requires { x < 256 }
 {
     web_header(0x0a01_0100 + x, 0x0909_0909)
+}
+
+// Packet 1, 2, .. as it leaves, decided by the row of this priority or by the default.
+fn leaving(packet: u32, rule: Option<u32>) -> Leaving {
+    Leaving {
+        packet,
+        header: header_from(1),
+        version: 1,
+        rule,
+    }
 }
 
 // A packet from 10.1.1.X.
@@ -55,10 +109,10 @@ fn told(kept: &[Box<dyn Meter>], place: usize) -> Option<(u32, u64)> {
 // Whether of the meters of all kinds the recorders of ports 3 and 2 are left after four packets.
 fn leave_in_time(mut board: Board<Box<dyn Meter>>) -> Result<bool, AllocError> {
     let leavings = [
-        (3, leaving_from(1, 1)),
-        (2, leaving_from(2, 1)),
-        (3, leaving_from(3, 1)),
-        (3, leaving_from(4, 2)),
+        (3, leaving(1, Some(50))),
+        (2, leaving(2, None)),
+        (3, leaving(3, Some(50))),
+        (3, leaving(4, None)),
     ];
     note_all(&mut board, &leavings)?;
     let kept = board.into_meters();
@@ -69,12 +123,16 @@ fn leave_in_time(mut board: Board<Box<dyn Meter>>) -> Result<bool, AllocError> {
 #[test]
 fn each_kind_leaves_at_its_time(rt: HostRuntime) -> Result<(), Fail> {
     let alloc = rt.alloc();
+    let until_default = UntilDefault {
+        port: 3,
+        held: Vec::new(alloc),
+    };
     let mut meters: Vec<Box<dyn Meter>> = Vec::new(alloc);
     meters.push(Box::new(alloc, FirstN::new(alloc, 3, 2))?)?;
-    for port in [3, 5, 2] {
-        meters.push(Box::new(alloc, Recorder::new(alloc, port))?)?;
-    }
-    meters.push(Box::new(alloc, FlowMeter::new(alloc, 3, 2))?)?;
+    meters.push(Box::new(alloc, Recorder::new(alloc, 3))?)?;
+    meters.push(Box::new(alloc, Recorder::new(alloc, 5))?)?;
+    meters.push(Box::new(alloc, until_default)?)?;
+    meters.push(Box::new(alloc, Recorder::new(alloc, 2))?)?;
     assert!(rt; leave_in_time(Board::new(meters, 0b1100)) == Ok(true));
     Ok(())
 }

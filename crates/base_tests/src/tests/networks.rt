@@ -91,7 +91,10 @@ const REFUSED: [(u32, &[(&str, u32)]); 3] = [
         2,
         &[
             ("switch = [{name='a',ports=[1]},{name='a',ports=[1]}]", 6),
-            ("switch = [{name='a',ports=[1]},{name='b',ports=[1]}]", 7),
+            (
+                "[[switch]]\nname = 'a'\nports = [1]\n[[switch]]\nname = 'b'\nports = [1]",
+                7,
+            ),
         ],
     ),
 ];

@@ -7,10 +7,13 @@ use Rattle.placement.proofs.PlacementLemmas.{placement_is, refusal_is, sum-sizes
 use Rattle.placement.proofs.place.Goals as goal
 use Rattle.placement.proofs.place.Goals.{After-take_turns}
 
-pub take_turns-requires-clause-small : goal.take_turns-requires-clause-small
-take_turns-requires-clause-small c =
-    rw (c.deref.ensures.value ∙ c.in_ok-wide.ensures)
-    (sum-sizes c.args.sizes.now c.requires.partitions (λ k. omega (arith, c.type_inv.sizes k)))
+pub take_turns-requires : goal.take_turns-requires
+take_turns-requires c = rw (c.deref.ensures.value ∙ c.in_ok-wide.ensures) (record {
+  partitions = c.requires.partitions;
+  switches = c.requires.switches;
+  few = c.requires.backups;
+  small = sum-sizes c.args.sizes.now c.requires.partitions (λ k. omega (arith, c.type_inv.sizes k));
+})
 
 -- the sizes in 64 bits are the sizes
 hosted : (c : After-take_turns) → IfOk c.take_turns.result (λ targets.
