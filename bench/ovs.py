@@ -6,7 +6,7 @@ usage: bench/ovs.py BIN
 BIN is the proved program (`rt run` leaves it in crates/difane/out/difane). The policies are those
 of `bench/replay.py` with 100 and 2,000 rows, whose prefixes have two lengths, and the scattered one
 of `bench/plans.py` with 1,000 rows, whose prefixes have all. What `BIN show` says of the one switch
-becomes flows as `examples/openvswitch` makes them, in an Open vSwitch in user space with a dummy
+becomes flows as `desk/openvswitch` makes them, in an Open vSwitch in user space with a dummy
 datapath. Both get the same packets, each of which a random row's blocks hold. Prints a line a
 figure: for each policy microseconds of the processor a packet, and packets a second, the least of
 three runs.
@@ -39,7 +39,7 @@ from statistics import median
 from plans import HEADER, dotted, scattered
 
 HOME = Path(__file__).resolve().parent.parent
-sys.path.append(str(HOME / "crates/examples/data"))
+sys.path.append(str(HOME / "desk"))
 from bridges import daemon, flows, lookups, tables  # noqa: E402
 
 RUNS = 3

@@ -17,6 +17,18 @@ def libraries():
 
 
 @cache
+def layers():
+    """The crates of each layer, by its heading, which crates.txt has as a comment."""
+    found = {}
+    for line in (HOME / "crates.txt").read_text().splitlines()[1:]:
+        if line.startswith("# "):
+            found[line.removeprefix("# ")] = []
+        elif line:
+            [*found.values()][-1].append(line.partition(":")[0])
+    return found
+
+
+@cache
 def uses():
     """The crates of this repository that each one uses."""
     known = libraries()

@@ -1,7 +1,7 @@
 #!/usr/bin/env python3
-"""Checks examples/ask, examples/draw and the modules of examples/desk: `checks/desk.py [SEEDS]`.
+"""Checks desk/ask, desk/draw and the modules of desk/parts: `checks/desk.py [SEEDS]`.
 
-- Each output that stands in examples/desk/README.md is what the command in front of it prints;
+- Each output that stands in desk/README.md is what the command in front of it prints;
   `checks/desk.py --write` puts the present outputs there.
 - With --json the same values are printed.
 - Each form of a line that docs/FORMATS.md has is read as one.
@@ -10,7 +10,7 @@
   policy are those of `model/slow_replay.py`. Each answer is what `checks/journal_text.py` finds in
   the text by patterns, and each row of a policy stands where it is said to stand.
 - Matches, read bit by bit, are the words that they spell.
-- In each picture of examples/draw the numbers stand over the lines, and the key says what occurs.
+- In each picture of desk/draw the numbers stand over the lines, and the key says what occurs.
 - Each wrong input is told in one line, with status 2; damaged journals raise nothing else.
 """
 import json
@@ -27,22 +27,22 @@ from xml.etree import ElementTree
 import journal_text
 
 HOME = Path(__file__).resolve().parent.parent
-EXAMPLES = HOME / "examples"
-PAGE, FORMATS = HOME / "examples/desk/README.md", HOME / "docs/FORMATS.md"
+EXAMPLES, DESK = HOME / "examples", HOME / "desk"
+PAGE, FORMATS = DESK / "README.md", HOME / "docs/FORMATS.md"
 SEEDS, WORDS, DAMAGES = 40, 2000, 30
 
 sys.dont_write_bytecode = True
-sys.path[:0] = [str(EXAMPLES), str(HOME / "model")]
+sys.path[:0] = [str(DESK), str(HOME / "model")]
 
 import fuzz
 import row_states
 import slow_replay
-from desk import journal, page, questions, words
-from desk.folder import case_of
-from desk.network import Network
-from desk.packets import Play
-from desk.row_mistakes import CHANGE_HEADING, POLICY_HEADING
-from desk.script import Mistake
+from parts import journal, page, questions, words
+from parts.folder import case_of
+from parts.network import Network
+from parts.packets import Play
+from parts.row_mistakes import CHANGE_HEADING, POLICY_HEADING
+from parts.script import Mistake
 
 
 # ---- the page, the forms
@@ -68,13 +68,13 @@ def page_with_outputs(text):
 def page_faults():
     text = PAGE.read_text()
     if page_with_outputs(text) != text:
-        yield "examples/desk/README.md has other outputs than the commands print; see --write"
+        yield "desk/README.md has other outputs than the commands print; see --write"
 
 
 def json_faults():
     """With --json each question prints what its function gives."""
     for question, *rest in ASKED:
-        out, errors, status = ask(str(EXAMPLES / "ask"), "day", question, *rest, "--json")
+        out, errors, status = ask(str(DESK / "ask"), "day", question, *rest, "--json")
         args = [int(one) if one.isdecimal() else one for one in rest]
         wanted = getattr(questions, question)(case_of("day"), *args)
         if status or json.loads(out) != json.loads(json.dumps(wanted)):
@@ -176,7 +176,7 @@ def word_faults():
 
 
 def state_told(play):
-    """The state that the modules of examples/desk have, in the plain values of the model's."""
+    """The state that the modules of desk/parts have, in the plain values of the model's."""
     network = play.network
     standing = [one.at for one in play.packets.values() if one.end == "travelling"]
     return {
@@ -197,7 +197,7 @@ def state_told(play):
 
 
 def newest_told(case, play):
-    """The rows of the newest version's policy, as the modules of examples/desk have them."""
+    """The rows of the newest version's policy, as the modules of desk/parts have them."""
     versions = play.network.versions
     return [rule.fields for rule in case.policy(versions[len(versions)])]
 
@@ -384,11 +384,11 @@ def seed_faults(seed):
 
 
 def picture_faults():
-    """The pictures that examples/draw makes of each packet of the examples."""
+    """The pictures that desk/draw makes of each packet of the examples."""
     for path in sorted(EXAMPLES.glob("*/journal.txt")):
         name, text = path.parent.name, path.read_text()
         for packet in journal_text.outcomes(text):
-            out, errors, status = ask(str(EXAMPLES / "draw"), name, packet)
+            out, errors, status = ask(str(DESK / "draw"), name, packet)
             if status:
                 yield f"draw {name} {packet}: {errors}"
                 continue
@@ -483,7 +483,7 @@ WRONG_ARGS = [
 
 def refusal_faults(what, *args):
     """Status 2 and one line are wanted, and no output."""
-    out, errors, status = ask(str(EXAMPLES / args[0]), *args[1:])
+    out, errors, status = ask(str(DESK / args[0]), *args[1:])
     if (out, status, errors.count("\n")) != ("", 2, 1) or "Traceback" in errors:
         yield f"{what}: status {status}, {errors.strip()[-200:]}"
 
@@ -568,7 +568,7 @@ def main():
     if len(sys.argv) > 2 or not all(arg.isdecimal() for arg in sys.argv[1:]):
         sys.exit(__doc__)
     checks = {
-        "outputs of examples/desk/README.md": page_faults(),
+        "outputs of desk/README.md": page_faults(),
         "forms of docs/FORMATS.md": form_faults(),
         "--json": json_faults(),
         "words": word_faults(),

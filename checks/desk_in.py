@@ -1,5 +1,5 @@
 #!/usr/bin/env python3
-"""Checks `examples/traffic` and `examples/policy`: `checks/desk_in.py [SEED]`.
+"""Checks `desk/traffic` and `desk/policy`: `checks/desk_in.py [SEED]`.
 
 - Each line of the samples' index.txt is a name, a status and arguments. What the script writes is
   compared with expected/NAME.csv, and what it says with expected/NAME.txt.
@@ -23,7 +23,7 @@ import tempfile
 from pathlib import Path
 
 HOME = Path(__file__).resolve().parent.parent
-EXAMPLES = HOME / "examples"
+EXAMPLES, DESK = HOME / "examples", HOME / "desk"
 SAMPLES = {"traffic": EXAMPLES / "traffic_samples", "policy": EXAMPLES / "policy_samples"}
 HEADERS = 1000
 LISTS, FILTERS, CAPTURES, DAMAGED = 12, 6, 12, 20
@@ -41,7 +41,7 @@ TESTS = {
 
 def run(script, *args, cwd=None):
     """The status of a script, what it wrote, and what it said."""
-    command = [sys.executable, str(EXAMPLES / script), *map(str, args)]
+    command = [sys.executable, str(DESK / script), *map(str, args)]
     done = subprocess.run(command, cwd=cwd, capture_output=True)
     return done.returncode, done.stdout, done.stderr.decode()
 
@@ -66,7 +66,7 @@ def sample_faults(script, folder):
         files = [folder / "expected" / f"{name}{ending}" for ending in (".csv", ".txt")]
         rows, said = [path.read_bytes() if path.exists() else b"" for path in files]
         if got != (int(status), rows, said.decode()):
-            yield f"examples/{script} {' '.join(args)}: other than expected/{name}"
+            yield f"desk/{script} {' '.join(args)}: other than expected/{name}"
 
 
 def play_faults():
@@ -455,7 +455,7 @@ def damaged_faults(rng, folder):
         is_refused = status == 2 and not rows and said.count("\n") == 1
         if status != 0 and not is_refused:
             kept = shutil.copy(path, tempfile.gettempdir())
-            yield f"examples/{script} {kept}: status {status}: {said[-200:]}"
+            yield f"desk/{script} {kept}: status {status}: {said[-200:]}"
 
 
 def main():

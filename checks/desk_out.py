@@ -1,5 +1,5 @@
 #!/usr/bin/env python3
-"""Checks `examples/openvswitch`: `checks/desk_out.py`.
+"""Checks `desk/openvswitch`: `checks/desk_out.py`.
 
 - Whole texts of `show` alone are taken: none that is empty, cut anywhere, or has a line too many or
   too few. What is refused is told in one line, with status 2; Ctrl-C is one line too.
@@ -24,11 +24,11 @@ from pathlib import Path
 sys.dont_write_bytecode = True
 
 HOME = Path(__file__).resolve().parent.parent
-EXAMPLES = HOME / "crates/examples/data"
-sys.path.insert(0, str(EXAMPLES))
+EXAMPLES, DESK = HOME / "crates/examples/data", HOME / "desk"
+sys.path.insert(0, str(DESK))
 from bridges import daemon, lookups, tables  # noqa: E402
 
-SCRIPT = [sys.executable, str(EXAMPLES / "openvswitch")]
+SCRIPT = [sys.executable, str(DESK / "openvswitch")]
 LOOKUPS = 29
 TEXT = (EXAMPLES / "campus/show-b.txt").read_text()
 REFUSED = {
@@ -98,7 +98,7 @@ def texts_wrong():
         told = done.stderr.splitlines()
         if done.returncode != 2 or done.stdout or len(told) != 1:
             yield f"{text[:40]!r} is refused by {done.returncode} {told}"
-        elif not told[0].startswith(f"examples/openvswitch: {why}"):
+        elif not told[0].startswith(f"desk/openvswitch: {why}"):
             yield f"{text[:40]!r} is refused by {told[0]}, and not {why}"
     for name, text in shows():
         if not is_whole(text):
@@ -115,7 +115,7 @@ def interrupt_wrong():
     process.stdin.flush()
     process.send_signal(signal.SIGINT)
     told = process.communicate()
-    if told != ("", "examples/openvswitch: stopped\n") or process.returncode != -signal.SIGINT:
+    if told != ("", "desk/openvswitch: stopped\n") or process.returncode != -signal.SIGINT:
         yield f"Ctrl-C: {process.returncode} {told}"
 
 
@@ -194,7 +194,7 @@ def stopping_wrong(home):
         time.sleep(0.01)
     process.send_signal(signal.SIGINT)
     told = process.communicate()[0].decode()
-    if told != "examples/openvswitch: stopped\n" or list((home / "own").iterdir()):
+    if told != "desk/openvswitch: stopped\n" or list((home / "own").iterdir()):
         yield f"Ctrl-C in a network: {told}, and it leaves {list((home / 'own').iterdir())}"
 
 

@@ -30,8 +30,8 @@ MODELS = {
 }
 # Each picture, and the script that draws it.
 PICTURES = {
-    "docs/campus.svg": ["examples/draw", "campus", "1"],
-    "examples/skewed/loads.svg": ["examples/skewed/loads"],
+    "docs/campus.svg": ["desk/draw", "campus", "1"],
+    "examples/skewed/loads.svg": ["desk/loads"],
 }
 
 
@@ -48,14 +48,14 @@ def wrong_refusals():
 def wrong_records():
     """Whether the records of a day aren't those that are imported, or other packets than its meters
     note."""
-    script = [str(FOLDER / "flows/nfdump"), str(FOLDER / "flows/records.txt")]
+    script = [str(HOME / "desk/nfdump"), str(FOLDER / "flow_records/records.txt")]
     made = subprocess.run(script, capture_output=True).stdout
-    if made != (FOLDER / "flows/records.csv").read_bytes():
-        yield "flows/records.csv has other records than flows/nfdump makes"
+    if made != (FOLDER / "flow_records/records.csv").read_bytes():
+        yield "flow_records/records.csv has other records than desk/nfdump makes"
     totals = subprocess.run([*script, "--totals"], capture_output=True, text=True).stdout
     noted = re.findall(r"^meter port .*\n", (FOLDER / "day/journal.txt").read_text(), re.M)
     if totals.splitlines(True) != noted:
-        yield "flows/records.txt has other packets than the meters of day/journal.txt note"
+        yield "flow_records/records.txt has other packets than the meters of day/journal.txt note"
 
 
 def main():

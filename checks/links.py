@@ -3,7 +3,7 @@
 
 It looks at each link of a page to a file of this repository or to a heading, and at each name in
 backticks of a file of a crate, as `CRATE/src/FILE`. In pages, scripts and sources it looks at each name of a file
-of docs/, checks/, model/ or bench/. It ends with 1 where there is no such file.
+of docs/, checks/, desk/, model/ or bench/. It ends with 1 where there is no such file.
 """
 import os
 import re
@@ -11,11 +11,12 @@ import sys
 
 from crates import HOME
 
-PAGES = ("*.md", "docs/*.md", "bench/*.md", "model/*.md", "crates/examples/data/*/README.md")
-OTHERS = ("bench/*.py", "checks/*.py", "checks/*.c", "model/*.py", "crates/*/src/**/*.rt")
+PAGES = ("*.md", "docs/*.md", "bench/*.md", "model/*.md", "desk/**/*.md",
+         "crates/examples/data/*/README.md")
+OTHERS = ("bench/*.py", "desk/**/*.py", "checks/*.py", "checks/*.c", "model/*.py", "crates/*/src/**/*.rt")
 LINK = re.compile(r"\]\(([^)#:\s]+)(?:#[^)]*)?\)")
 HEADING = re.compile(r"\]\(([^)#:\s]*)#([^)]*)\)")
-NAME = re.compile(r"\b(?:docs|checks|model|bench)/[\w-]+\.\w+")
+NAME = re.compile(r"\b(?:docs|checks|model|bench|desk)/[\w-]+\.\w+")
 IN_CRATE = re.compile(r"`(?:crates/)?((?!crate/)\w+/(?:src|specs|proofs|must-fail)(?:/[\w./-]*)?)`")
 
 

@@ -9,7 +9,8 @@ C, A stands on B alone. The picture has the same lines, by `dot` (Debian's packa
 
 With `--check` it only compares. It ends with 1 where a crate stands in no layer or in two, or uses
 one of a later layer; where the page has a row that names no crate; where the page or the picture
-differ from crates.txt and the root files; and where a crate with contracts has no place in
+differ from crates.txt and the root files; where crates.txt, whose comments are the headings of the
+layers, has other layers; and where a crate with contracts has no place in
 docs/PROVED.md.
 """
 import html
@@ -17,7 +18,7 @@ import re
 import subprocess
 import sys
 
-from crates import HOME, below, height, sources, uses
+from crates import HOME, below, height, layers, sources, uses
 
 PICTURE, PAGE, PROVED = (HOME / "docs" / name for name in ("map.svg", "MAP.md", "PROVED.md"))
 PART = "## The crates by layer\n"
@@ -61,6 +62,11 @@ def parts_of(page):
 def layers_of(page):
     """The names of the rows of each layer."""
     return [NAMED.findall(layer) for layer in parts_of(page)[1]]
+
+
+def headings_of(page):
+    """The headings of the layers, in order."""
+    return [layer.partition("\n")[0].removeprefix("### ") for layer in parts_of(page)[1]]
 
 
 def row(name):
@@ -125,6 +131,8 @@ def misplaced(layers):
 def differences():
     page, proved = PAGE.read_text(), PROVED.read_text()
     yield from misplaced(layers_of(page))
+    if [*layers().items()] != [*zip(headings_of(page), layers_of(page))]:
+        yield "crates.txt has other layers than docs/MAP.md, or in another order"
     if page_anew(page) != page:
         yield "docs/MAP.md: the rows aren't those of crates.txt and the root files"
     titles = map(html.unescape, re.findall(r"<title>(.*?)</title>", PICTURE.read_text()))

@@ -1,7 +1,7 @@
 #!/usr/bin/env python3
-"""Checks what `examples/run` says of mistakes: `checks/mistakes.py [BIN]`.
+"""Checks what `desk/run` says of mistakes: `checks/mistakes.py [BIN]`.
 
-Each case of checks/mistakes.toml has the program's line and what desk/mistakes.py says behind it.
+Each case of checks/mistakes.toml has the program's line and what desk/parts/mistakes.py says behind it.
 Where BIN is given, the line is that of this program; otherwise it is that of `model/refusals.py`.
 `checks/mistakes.py --write` puts the present ones into the table. It ends with 1 where one differs.
 
@@ -25,11 +25,11 @@ HOME = Path(__file__).resolve().parent.parent
 TABLE = HOME / "checks/mistakes.toml"
 
 sys.dont_write_bytecode = True
-sys.path[:0] = [str(HOME / "examples"), str(HOME / "model")]
+sys.path[:0] = [str(HOME / "desk"), str(HOME / "model")]
 
 import refusals
-from desk.cautions import folder_cautions
-from desk.mistakes import explain
+from parts.cautions import folder_cautions
+from parts.mistakes import explain
 
 HEADINGS = {
     "schedule": "event,arguments",

@@ -18,6 +18,7 @@ LONGEST, COLUMNS = 40, 100
 def pages():
     yield from (HOME / "README.md", HOME / "bench/README.md", HOME / "model/README.md")
     yield from sorted((HOME / "docs").glob("*.md"))
+    yield from sorted((HOME / "desk").glob("**/*.md"))
     yield from sorted((HOME / "crates/examples/data").glob("*/README.md"))
 
 

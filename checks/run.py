@@ -1,5 +1,5 @@
 #!/usr/bin/env python3
-"""Checks `examples/run`: `checks/run.py [BIN]`.
+"""Checks `desk/run`: `checks/run.py [BIN]`.
 
 The program is BIN where it is given, and otherwise `checks/stand_in.py`, which says what the slow
 model says; it stands in for `rt` too, so what the kit prints is not checked here. Each case is a
@@ -15,7 +15,7 @@ import time
 from pathlib import Path
 
 HOME = Path(__file__).resolve().parent.parent
-EXAMPLES = HOME / "crates/examples/data"
+EXAMPLES, RUN = HOME / "crates/examples/data", HOME / "desk/run"
 STAND_IN = HOME / "checks/stand_in.py"
 MANY = 9000  # packets, whose journal on one switch is longer than 1 MiB
 
@@ -39,9 +39,9 @@ class Desk:
         return self.folder / name
 
     def run(self, *args, cwd=None):
-        """The output, the lines of standard error and the status of examples/run."""
+        """The output, the lines of standard error and the status of desk/run."""
         environment = {**os.environ, "PATH": str(self.bin)}
-        command = [sys.executable, str(EXAMPLES / "run"), *args]
+        command = [sys.executable, str(RUN), *args]
         done = subprocess.run(
             command, cwd=cwd or self.folder, env=environment, capture_output=True, text=True
         )
@@ -229,14 +229,14 @@ def an_interrupt_is_one_line(desk):
     slow, begun = desk.folder / "slow", desk.folder / "begun"
     slow.write_text(f"#!/bin/sh\ntouch '{begun}'\nexec /bin/sleep 60\n")
     slow.chmod(0o755)
-    command = [sys.executable, str(EXAMPLES / "run"), "campus", "--program", str(slow)]
+    command = [sys.executable, str(RUN), "campus", "--program", str(slow)]
     with subprocess.Popen(command, stderr=subprocess.PIPE, text=True) as child:
         while not begun.exists() and child.poll() is None:
             time.sleep(0.1)
         time.sleep(0.2)
         child.send_signal(signal.SIGINT)
         errors = child.communicate()[1]
-    assert errors == "examples/run: interrupted\n" and child.returncode == 130
+    assert errors == "desk/run: interrupted\n" and child.returncode == 130
 
 
 def is_right(one, program):

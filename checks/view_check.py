@@ -1,5 +1,5 @@
 #!/usr/bin/env python3
-"""Opens pages of examples/view in a browser: `checks/view_check.py [--shots FOLDER]`.
+"""Opens pages of desk/view in a browser: `checks/view_check.py [--shots FOLDER]`.
 
 Of each example with a journal it compares what the page says: how the packets ended, and the lines
 of each packet, with the text of the journal; the state behind each row with that of
@@ -25,7 +25,7 @@ sys.path.insert(0, str(HOME / "model"))
 import large_case
 import row_states
 
-EXAMPLES = HOME / "examples"
+EXAMPLES, VIEW = HOME / "examples", HOME / "desk/view"
 PACKETS, LINES, SECONDS = 4500, 100_000, 3
 TURNS = 3  # how often the large page is opened; the shortest time counts, as others work here too
 LEFT, RIGHT, HOME_KEY, ENTER = ("ArrowLeft", 37), ("ArrowRight", 39), ("Home", 36), ("Enter", 13)
@@ -57,13 +57,13 @@ CONTROLS = ("button", "slider", "combobox", "checkbox", "textbox", "link")
 
 
 class Case:
-    """A folder with a journal, and the page that examples/view makes of it."""
+    """A folder with a journal, and the page that desk/view makes of it."""
 
     def __init__(self, folder, page):
         self.folder, self.page = folder, page
         self.text = (folder / "journal.txt").read_text()
         with open(page, "w", encoding="utf-8") as file:
-            subprocess.run([EXAMPLES / "view", folder], stdout=file, check=True)
+            subprocess.run([VIEW, folder], stdout=file, check=True)
 
     def address(self, asked=""):
         return f"{self.page.as_uri()}#{asked}"

@@ -1,5 +1,5 @@
 #!/usr/bin/env python3
-"""Makes a folder for `examples/openvswitch --network`.
+"""Makes a folder for `desk/openvswitch --network`.
 
     model/fat_tree.py FOLDER
 

@@ -1,8 +1,8 @@
 #!/usr/bin/env python3
-"""Makes a folder for `examples/openvswitch --check`.
+"""Makes a folder for `desk/openvswitch --check`.
 
     model/flows.py FOLDER
-    examples/run FOLDER
+    desk/run FOLDER
 
 Four switches stand in a ring, two of them are authorities, and leaves have few rules, so that
 regions are cut at bits of ports and of protocols too. Half of the 300 rows have ports and any

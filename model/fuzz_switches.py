@@ -5,7 +5,7 @@ usage: model/fuzz_switches.py COUNT [START]
 
 The cases are those of `model/fuzz.py` without rows that make links or switches fail, and with more
 drains and flushes; half of the later policies are changes. Each is played by
-`examples/openvswitch --network`, whose lines are shown where anything differs. At last it prints
+`desk/openvswitch --network`, whose lines are shown where anything differs. At last it prints
 how many packets were compared, and why others weren't. It ends with 1 where there was a difference.
 """
 import re
@@ -17,7 +17,7 @@ from pathlib import Path
 
 import fuzz
 
-SCRIPT = Path(__file__).resolve().parent.parent / "examples/openvswitch"
+SCRIPT = Path(__file__).resolve().parent.parent / "desk/openvswitch"
 FAILURES = ("linkdown", "linkup", "crash", "restart", "confirm")
 KINDS = {kind: share for kind, share in fuzz.KINDS.items() if kind not in FAILURES}
 KINDS |= {"drain": 20, "flush": 8}

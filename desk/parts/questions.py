@@ -1,4 +1,4 @@
-"""The questions of examples/ask: each is a function from a case to plain values."""
+"""The questions of desk/ask: each is a function from a case to plain values."""
 from collections import Counter
 
 from .folder import case_of

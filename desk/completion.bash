@@ -1,4 +1,4 @@
-# Completion of difane's arguments for bash: `source examples/completion.bash`.
+# Completion of difane's arguments for bash: `source desk/completion.bash`.
 _difane() {
     local word=${COMP_WORDS[COMP_CWORD]} command=${COMP_WORDS[1]}
     COMPREPLY=()

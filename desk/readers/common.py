@@ -1,4 +1,4 @@
-"""What `examples/traffic` and `examples/policy` share: refusals, what is left out, how they end."""
+"""What `desk/traffic` and `desk/policy` share: refusals, what is left out, how they end."""
 import argparse
 import os
 import re
@@ -144,9 +144,9 @@ def finish(name, args, rows, left, passed, told):
     """
     shown = sys.maxsize if args.all else SHOWN
     for line in [told, *left.lines("left out", shown), *passed.lines("passed over", shown)]:
-        print(f"examples/{name}: {line}", file=sys.stderr)
+        print(f"desk/{name}: {line}", file=sys.stderr)
     if args.strict and left.count:
-        print(f"examples/{name}: --strict: nothing is written", file=sys.stderr)
+        print(f"desk/{name}: --strict: nothing is written", file=sys.stderr)
         return 1
     sys.stdout.write("".join(f"{row}\n" for row in rows))
     sys.stdout.flush()
@@ -165,8 +165,8 @@ def run(name, main):
     except (Refused, OSError) as why:
         is_file = isinstance(why, OSError)
         text = f"{why.filename or 'output'}: {why.strerror}" if is_file else why
-        print(f"examples/{name}: {text}", file=sys.stderr)
+        print(f"desk/{name}: {text}", file=sys.stderr)
         sys.exit(2)
     except KeyboardInterrupt:
-        print(f"examples/{name}: stopped", file=sys.stderr)
+        print(f"desk/{name}: stopped", file=sys.stderr)
         sys.exit(130)

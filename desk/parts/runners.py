@@ -10,9 +10,9 @@ import tempfile
 from pathlib import Path
 from typing import NamedTuple
 
+from .places import MODEL, TOP
 from .script import Mistake
 
-TOP = Path(__file__).resolve().parents[4]
 CRATE = TOP / "crates/difane"
 PROVED = CRATE / "out/difane"
 MODELS = {"replay": "slow_replay.py", "compile": "plan_model.py", "show": "plan_model.py"}
@@ -22,7 +22,7 @@ LARGE = 1 << 16  # bytes of a schedule from which on its journal may be too long
 LIMIT = 1 << 20  # bytes of output above which `rt try` gives none
 NO_ANSWER = -1
 
-sys.path.append(str(TOP / "model"))
+sys.path.append(str(MODEL))
 
 import refusals
 
@@ -84,7 +84,7 @@ def readme_place():
 def by_model(question):
     """The answer of the slow model to files that are accepted."""
     command, *args = question.args
-    model = TOP / "model" / MODELS[command]
+    model = MODEL / MODELS[command]
     text, errors, status = finished([sys.executable, "-B", str(model), *args], question.folder)
     if status != 0:
         raise Mistake(f"{model} ended with status {status}:\n{errors.rstrip()}")

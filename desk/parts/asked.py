@@ -103,4 +103,4 @@ def forgotten_network(asked):
         if "net.toml" in found:
             yield "net.toml is there, and isn't named: add --net net.toml"
         elif found:
-            yield f"examples/run takes net.toml, --net takes any name: there is {found[0]}"
+            yield f"desk/run takes net.toml, --net takes any name: there is {found[0]}"

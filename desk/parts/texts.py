@@ -1,4 +1,4 @@
-"""The answers of examples/ask as text: one function a question."""
+"""The answers of desk/ask as text: one function a question."""
 from .packets import TRAVELLING
 from .story import header_text
 

@@ -9,11 +9,12 @@ from itertools import takewhile
 from pathlib import Path
 from typing import NamedTuple
 
+from parts.places import MODEL
+
 from . import daemon, flows, tables
 from .told import Told
 from .wiring import Net, Wiring
 
-MODEL = Path(__file__).resolve().parents[4] / "model"
 sys.path.insert(0, str(MODEL))
 import plan_model  # noqa: E402
 import slow_replay  # noqa: E402

@@ -7,11 +7,11 @@ from pathlib import Path
 from .journal import read_items
 from .network import CACHE, Network
 from .packets import Play
+from .places import EXAMPLES
 from .policies import Change, read_policy
 from .script import Mistake
 from .touched import EVERYTHING, touched_words
 
-EXAMPLES = Path(__file__).resolve().parent.parent
 SOLO = {"switch": [{"name": "s0", "ports": list(range(64)), "authority": 8192}]}
 
 
@@ -60,7 +60,7 @@ class Case:
         return net
 
     def policy_file(self, file):
-        """The F-th policy file by the names that examples/run gives it."""
+        """The F-th policy file by the names that desk/run gives it."""
         return self.folder / ("policy.csv" if file == 1 else f"policy{file}.csv")
 
     def stated(self, file):
@@ -135,5 +135,5 @@ def case_of(name):
     if not folder.is_dir():
         raise Mistake(f"there is no folder, no journal and no example {name!r}")
     if not (folder / "journal.txt").is_file():
-        raise Mistake(f"there is no file {folder / 'journal.txt'}, which examples/run can print")
+        raise Mistake(f"there is no file {folder / 'journal.txt'}, which desk/run can print")
     return Case(folder / "journal.txt", name)

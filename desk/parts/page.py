@@ -1,4 +1,4 @@
-"""The page of examples/view: what it shows of a journal, and its text.
+"""The page of desk/view: what it shows of a journal, and its text.
 
 The page draws no conclusions of its own. What a line changes is worked out here: its script sets
 each changed thing to its new value, up to the row of the slider.
