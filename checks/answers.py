@@ -1,5 +1,5 @@
 #!/usr/bin/env python3
-"""Checks docs/PROVED.md against the sources: `checks/answers.py [PAGE]`.
+"""Checks docs/PROVED.md and docs/CLAUSES.md against the sources: `checks/answers.py [PAGE..]`.
 
 A section whose heading names a crate in backticks is that crate's. Its tables with a last column
 "Clause" have three kinds of rows, by the first cell:
@@ -7,11 +7,11 @@ A section whose heading names a crate in backticks is that crate's. Its tables w
 - Empty: a fact, with at least one reference in the last cell.
 - Calls of the crate, of which the row says what they answer. The last cell names clauses that each
   of them has, `ensures` for the one that has no name, and references to others.
-- Calls whose second cell says "never want of memory"; those behind the word "but" are left out.
+- Calls whose second cell says "never out of memory"; those behind the word "but" are left out.
 
 A reference is `call.clause`, or the call alone where its contract has one clause, with a crate and
-`::` before it where it is another crate's; `*` stands for any letters. In all other text of the
-page what begins with a crate's name is one, and in a crate's section also `call.clause`.
+`::` before it where it is another crate's; `*` stands for any letters. In all other text of
+a page what begins with a crate's name is one, and in a crate's section also `call.clause`.
 
 It ends with 1 where a crate, a call or a clause that is named isn't there, where a row names no
 clause, where a public call that may answer `None`, `false` or an error has no row of the second
@@ -24,6 +24,7 @@ from functools import cache
 from pathlib import Path
 
 HOME = Path(__file__).resolve().parent.parent
+PAGES = "PROVED.md", "CLAUSES.md"
 CLAUSE = re.compile(r"(ensures|requires)( \w+)?\s*$")
 
 
@@ -166,7 +167,7 @@ def check_memory(crate, cell):
 def check_row(cells, crate, listed):
     """The faults of a row of a crate's table; calls of answers are added to those listed."""
     calls, clauses = names_in(cells[0]), names_in(cells[-1])
-    if cells[1].strip().startswith("never want of memory"):
+    if cells[1].strip().startswith("never out of memory"):
         yield from check_memory(crate, cells[0])
     elif calls:
         listed.update((crate, call) for call in calls)
@@ -218,12 +219,12 @@ def check_page(page, listed):
 
 
 def main():
-    page = Path(sys.argv[1]) if sys.argv[1:] else HOME / "docs/PROVED.md"
+    pages = [Path(page) for page in sys.argv[1:]] or [HOME / "docs" / name for name in PAGES]
     listed = set()
-    faults = list(check_page(page, listed))
+    faults = [fault for page in pages for fault in check_page(page, listed)]
     for crate in crates():
         left = sorted(call for call in offered(crate) if (crate, call) not in listed)
-        faults += [f"{page}: not listed: {crate}::{call}" for call in left]
+        faults += [f"{pages[-1]}: not listed: {crate}::{call}" for call in left]
     print("\n".join(faults) or f"{len(listed)} calls, all clauses there")
     sys.exit(bool(faults))
 

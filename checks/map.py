@@ -11,7 +11,7 @@ With `--check` it only compares. It ends with 1 where a crate stands in no layer
 one of a later layer; where the page has a row that names no crate; where the page or the picture
 differ from crates.txt and the root files; where crates.txt, whose comments are the headings of the
 layers, has other layers; and where a crate with contracts has no place in
-docs/PROVED.md.
+docs/PROVED.md or docs/CLAUSES.md.
 """
 import html
 import re
@@ -20,7 +20,8 @@ import sys
 
 from crates import HOME, below, height, layers, sources, uses
 
-PICTURE, PAGE, PROVED = (HOME / "docs" / name for name in ("map.svg", "MAP.md", "PROVED.md"))
+PICTURE, PAGE = HOME / "docs/map.svg", HOME / "docs/MAP.md"
+PROVED = HOME / "docs/PROVED.md", HOME / "docs/CLAUSES.md"
 PART = "## The crates by layer\n"
 HEAD = "| Crate | What it is for | Stands on |\n|---|---|---|\n"
 NAMED = re.compile(r"^\| `(\w+)` \|.*\n", re.M)
@@ -129,7 +130,7 @@ def misplaced(layers):
 
 
 def differences():
-    page, proved = PAGE.read_text(), PROVED.read_text()
+    page, proved = PAGE.read_text(), "".join(path.read_text() for path in PROVED)
     yield from misplaced(layers_of(page))
     if [*layers().items()] != [*zip(headings_of(page), layers_of(page))]:
         yield "crates.txt has other layers than docs/MAP.md, or in another order"
@@ -140,7 +141,7 @@ def differences():
         yield f"docs/map.svg: {line} is drawn or missing wrongly"
     for name in uses():
         if is_proved(name) and not re.search(rf"^(?:\||#+ [^`\n]*) ?`{name}`", proved, re.M):
-            yield f"docs/PROVED.md: {name} has no place"
+            yield f"docs/CLAUSES.md: {name} has no place"
 
 
 def main():

@@ -27,7 +27,7 @@ def texts_of(lines):
     start, parts, fenced = 0, [], False
     for number, line in enumerate([*lines, ""], 1):
         fenced ^= line.startswith("```")
-        plain = line.strip() and not re.match(r"[|#!]|```|    ", line) and not fenced
+        plain = line.strip() and not re.match(r"[|#!>]|```|    ", line) and not fenced
         if parts and (not plain or re.match(r"\s*(-|\d+\.) ", line)):
             yield start, " ".join(parts)
             parts = []
