@@ -1,11 +1,12 @@
 #!/usr/bin/env python3
-"""Looks for long prose: `checks/prose.py [FILE..]`.
+"""Looks for prose that is hard to read: `checks/prose.py [FILE..]`.
 
-Without a file it looks at all pages: README.md, those of docs/, and the README of bench, model and
-of each example.
+Without a file it looks at all pages: README.md, those of docs/ and desk/, and the README of bench,
+model and of each example; and at the comments of the sources for the words of DIALECT.
+
 It ends with 1 where a sentence or a cell of a table has more than 40 words, or a line that is no
-row of a table, no link and no code more than 100 columns. What stands in backticks counts as one
-word.
+row of a table, no link and no code more than 100 columns; and where a page or a comment has a word
+of DIALECT, beside which stands the plain one. What stands in backticks counts as one word.
 """
 import re
 import sys
@@ -13,6 +14,14 @@ from pathlib import Path
 
 HOME = Path(__file__).resolve().parent.parent
 LONGEST, COLUMNS = 40, 100
+DIALECT = {
+    r"wants? of memory": "out of memory, running out of memory",
+    r"wants? memory": "allocates, runs out of memory",
+    r"(?:laws?|facts?) (?:of|on) the (?:definitions?|texts) alone": "about the definitions only",
+    r"than which": "at least as, at most as",
+    r"so does no other": "no other does",
+    r"[Tt]ests alone": "only tests",
+}
 
 
 def pages():
@@ -38,8 +47,27 @@ def texts_of(lines):
             yield from ((number, cell) for cell in line.strip("|").split("|"))
 
 
+def dialect(lines):
+    """The dialect's words in these lines, each with its line and the plain ones."""
+    for number, line in enumerate(lines, 1):
+        for words, plain in DIALECT.items():
+            if found := re.search(rf"\b{words}\b", line):
+                yield number, f"{found[0]!r}: say {plain}"
+
+
+def comments():
+    """The comments of each source, and blanks in the place of its other lines."""
+    for path in sorted((HOME / "crates").glob("*/src/**/*.rt")):
+        lines = path.read_text().splitlines()
+        yield path, [line if re.match(r"\s*//", line) else "" for line in lines]
+
+
 def main():
     found = 0
+    for path, lines in () if sys.argv[1:] else comments():
+        for number, why in dialect(lines):
+            print(f"{path}:{number}: {why}")
+            found += 1
     for page in map(Path, sys.argv[1:]) if sys.argv[1:] else pages():
         lines = page.read_text().splitlines()
         wrong = [
@@ -47,6 +75,7 @@ def main():
             for number, line in enumerate(lines, 1)
             if len(line) > COLUMNS and " " in line[:COLUMNS] and not re.match(r"[|!]|    ", line)
         ]
+        wrong += dialect(lines)
         for number, text in texts_of(lines):
             for sentence in re.split(r"(?<=[.?!])\s+", re.sub(r"`[^`]*`", "code", text)):
                 if len(sentence.split()) > LONGEST:
