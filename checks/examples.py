@@ -32,6 +32,8 @@ MODELS = {
 PICTURES = {
     "docs/campus.svg": ["desk/draw", "campus", "1"],
     "examples/skewed/loads.svg": ["desk/loads"],
+    "examples/bad_night/before.svg": ["desk/draw", "examples/bad_night/journal.txt", "2"],
+    "examples/bad_night/after.svg": ["desk/draw", "examples/bad_night/morning.txt", "3"],
 }
 
 
@@ -70,7 +72,7 @@ def main():
                 wrong.append(f"{name} is another text than the model's")
     wrong += wrong_records()
     for picture, (script, *args) in PICTURES.items():
-        drawn = subprocess.run([str(HOME / script), *args], capture_output=True)
+        drawn = subprocess.run([str(HOME / script), *args], cwd=HOME, capture_output=True)
         if drawn.stdout != (HOME / picture).read_bytes():
             wrong.append(f"{picture} is another picture than `{' '.join([script, *args])}`")
     print("\n".join(wrong) if wrong else "the texts are the model's, and the pictures are drawn anew")
