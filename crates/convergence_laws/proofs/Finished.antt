@@ -40,17 +40,18 @@ not_waiting journal number none first below =
     none_found (is_waiting journal) number (range_with_len 1 (count_of is_sending journal)) none
     (in_range number 1 (count_of is_sending journal) first (omega (arith, below)))
 
-all_delivered : (setting : Setting) (journal : List Item) → IsFinished setting journal
-    → (x : Sending) → IsTraced journal x → IsTrue (was_delivered journal x.number)
+pub one_delivered : (journal : List Item) (x : Sending) → next_waiting journal ≡ None
+    → IsFalse (is_forgotten journal x.number) → IsTraced journal x
+    → IsTrue (was_delivered journal x.number)
 unfolding is_deliverable
-all_delivered setting journal finished x traced =
+one_delivered journal x waiting forgotten traced =
     by_delivered (was_delivered journal x.number) refl
-    (not_waiting journal x.number finished.waiting traced.first traced.number)
+    (not_waiting journal x.number waiting traced.first traced.number)
   where
     deliverable : is_deliverable journal x.number ≡ true
     deliverable =
         let sent = traced.message in
-        let kept : is_forgotten journal x.number ≡ false = finished.forgotten x.number in
+        let kept : is_forgotten journal x.number ≡ false = forgotten in
         rw (sent, kept) refl
 
     by_delivered : (b : Bool) → was_delivered journal x.number ≡ b
@@ -110,7 +111,7 @@ finished_quiet : (setting : Setting) (journal : List Item)
 finished_quiet setting journal have finished = record {
   switches = finished.switches;
   messages = each_received setting journal [] journal refl
-      (λ x is. all_delivered setting journal finished x
+      (λ x is. one_delivered journal x finished.waiting (finished.forgotten x.number)
       (each_in (IsTraced journal) x (sendings journal) (caused_traced setting journal have).each
       is)) traced_at_first have;
 }
