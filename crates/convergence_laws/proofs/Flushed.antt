@@ -27,7 +27,7 @@ all_end setting next row before [] are = are
 all_end setting next row before (first ∷ steps) are =
     all_end setting next row (before ++ piece setting before first.row first.step) steps are.2
 
-flush_ends : (setting : Setting) (row : ℕ) (events : List Event) (before : List Item)
+pub flush_ends : (setting : Setting) (row : ℕ) (events : List Event) (before : List Item)
     (steps : List StepOfRow) → AreSteps setting row (events ++ Flush ∷ []) before steps
     → next_delivery (after_steps setting before steps) ≡ None
 flush_ends setting row [] before steps are =

@@ -117,7 +117,7 @@ next_more : (before : List Item) (next : Item) → next_message (before ++ next 
 unfolding next_message
 next_more before next = counted_more is_sending before next
 
-next_first : (journal : List Item) → 1 ≤ next_message journal
+pub next_first : (journal : List Item) → 1 ≤ next_message journal
 unfolding next_message
 next_first journal = omega arith
 
