@@ -42,7 +42,7 @@ use Rattle.recovery_laws.proofs.Since.{IsFlushed, since_delivered}
 
 -- ---- resends change neither links nor what switches heard
 
--- the later journal is the earlier one and behind such items
+-- the later journal is the earlier one and then such items
 record Stilly (before after : List Item) : Type 0 where
   items : List Item
   is : after ≡ before ++ items
@@ -227,7 +227,7 @@ resends_spread setting before steps net are each tells =
             (omega (arith, asked.late, next_grows asked.at (item.Row asked.row (Resend s) ∷ [])))
             sent)
 
--- ---- what was told since behind was delivered
+-- ---- what was told since then was delivered
 
 told_given : (setting : Setting) (before journal : List Item) → IsFlushed setting before journal
     → (s : ℕ) (b : Advert) → IsTrue (is_up journal s) → b.origin ≢ s
@@ -239,7 +239,7 @@ told_given setting before journal are s b up other told = record {
       (heard_in_boot journal s told.number (boot_of journal s) (Advertise b) are.traced told.is up
       refl refl
       (since_delivered setting before journal are told.number (boot_of journal s) (advert_to s b)
-      told.late told.is)) (ap (λ c. if c behind None else Some b) apart));
+      told.late told.is)) (ap (λ c. if c then None else Some b) apart));
 }
   where
     apart : (b.origin == s) ≡ false

@@ -211,9 +211,9 @@ recovered_neighbours setting events journal net ends answers =
     ends_agree setting journal (ends_calmly setting events journal ends answers) net
 
 pub recovered_updated : (setting : Setting) (events : List Event) (journal : List Item)
-    → IsNet setting.net → EndsInRecovery setting.net events → Answers setting events journal
+    → EndsInRecovery setting.net events → Answers setting events journal
     → IsUpdated setting journal
-recovered_updated setting events journal net ends answers =
+recovered_updated setting events journal ends answers =
     ends_updated setting journal (ends_calmly setting events journal ends answers)
 
 -- ---- by the laws of the crates below
@@ -256,7 +256,7 @@ recovers converge part forward setting events journal is own ends answers =
     converged = converge.answered setting events journal answers is.net agree
 
     updated : IsUpdated setting journal
-    updated = recovered_updated setting events journal is.net ends answers
+    updated = recovered_updated setting events journal ends answers
 
 -- ---- a flush delivers all
 

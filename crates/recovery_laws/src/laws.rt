@@ -39,8 +39,8 @@ pub fn recovered_networks_have_converged()
 /// current one, and each version before it is retired.
 pub fn recovered_networks_are_updated()
     ensures { (setting : Setting) (events : List Event) (journal : List Item)
-        → IsNet setting.net → EndsInRecovery setting.net events
-        → Answers setting events journal → IsUpdated setting journal }
+        → EndsInRecovery setting.net events → Answers setting events journal
+        → IsUpdated setting journal }
 {}
 
 /// Whatever was lost, repeated or reordered, and whatever failed: where a schedule ends with the
