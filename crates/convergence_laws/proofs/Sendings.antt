@@ -1,7 +1,7 @@
 -- What became of each message that was sent: it has the number under which it was sent, and if it
 -- was delivered to a switch in the boot in which it was sent, or to the controller, it was heard.
 use Rattle.std.proofs.Common.{ℕ, ◌≡◌, ◌+◌, ◌≤◌, ◌<◌, ◌⊎◌, ◌==◌, ◌&&◌, ◌||◌, Bool, true, false, if◌then◌else◌, Option, Some, None, List, [], ◌∷◌, ◌++◌, refl, ap, sym, subst, ◌∙◌, append-nil, append_assoc, arith, inl, inr}
-use Rattle.std.specs.Prelude.{⊤, IfSome, IsTrue, IsFalse, nat_lt, not, is_some}
+use Rattle.std.specs.Prelude.{⊤, IfSome, IsTrue, IsFalse, not, is_some}
 use Rattle.std.specs.List.{AllByRecursion}
 use Rattle.std.specs.Option.{option_map_or}
 use Rattle.std.proofs.lemmas.Bool.{eq-eqb, eqb-true}
@@ -17,7 +17,6 @@ use Rattle.journal.specs.declared.item.Item.{Item}
 use Rattle.journal.specs.declared.item.Item.TheVariants as item
 use Rattle.update_machine.specs.Boots.{boot_of, heard, is_for_boot, is_up, body_to_switch}
 use Rattle.update_machine.specs.Causes.{HaveCauses}
-use Rattle.update_machine.specs.Folds.{count_of}
 use Rattle.update_machine.specs.Marks.{controller_heard, body_to_controller}
 use Rattle.update_machine.specs.Messages.{is_deliverable, is_delivery, is_forgetting, is_forgotten, is_sending, next_message, send_items, sent_from, was_delivered}
 use Rattle.update_machine.specs.Numbers.{TakesNext}
@@ -29,7 +28,7 @@ use Rattle.update_machine.proofs.CallerLemmas.{PiecesHave, count_of_append, fold
 use Rattle.control_laws.specs.ItemCauses.{HasItemCause}
 use Rattle.control_laws.proofs.Boots.{boot_rises}
 use Rattle.control_laws.proofs.Facts.{AreKept, Both, fact_on, have_both}
-use Rattle.control_laws.proofs.Grown.{boot_more, counted_more, heard_more, message_more, told_more}
+use Rattle.control_laws.proofs.Grown.{boot_more, counted_more, heard_more, message_more, some_more, told_more}
 use Rattle.control_laws.proofs.Pieces as boots
 use Rattle.control_laws.proofs.Sends.{each_append}
 use Rattle.control_laws.proofs.Openings.{IsKnown, known_at_first, known_kept}
@@ -120,25 +119,6 @@ next_more before next = counted_more is_sending before next
 pub next_first : (journal : List Item) → 1 ≤ next_message journal
 unfolding next_message
 next_first journal = omega arith
-
--- whether some item passes a test, once more items stand behind
-some_more : (test : Item → Bool) (before : List Item) (next : Item)
-    → nat_lt 0 (count_of test (before ++ next ∷ []))
-    ≡ (test next || nat_lt 0 (count_of test before))
-some_more test before next = by_test (test next) refl
-  where
-    by_test : (b : Bool) → test next ≡ b
-        → nat_lt 0 (count_of test (before ++ next ∷ [])) ≡ (b || nat_lt 0 (count_of test before))
-    by_test true e =
-        let one : count_of test (next ∷ []) ≡ 1 = rw e refl in
-        let more : 0 < count_of test (before ++ next ∷ []) =
-        omega (arith, one, count_of_append test before (next ∷ [])) in
-        grind (arith, nat_tests)
-    by_test false e =
-        let none : count_of test (next ∷ []) ≡ 0 = rw e refl in
-        let same : count_of test (before ++ next ∷ []) ≡ count_of test before =
-        omega (arith, none, count_of_append test before (next ∷ [])) in
-        ap (nat_lt 0) same
 
 pub delivered_more : (before : List Item) (next : Item) (n : ℕ)
     → was_delivered (before ++ next ∷ []) n ≡ (is_delivery n next || was_delivered before n)

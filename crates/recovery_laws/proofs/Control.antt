@@ -110,7 +110,6 @@ openings_stand setting journal causes =
 
 module _ (setting : Setting) (before journal : List Item)
     (are : IsRecovered setting before journal) where
-
   abbrev since : ℕ
   since = next_message before
 

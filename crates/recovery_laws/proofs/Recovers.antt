@@ -68,7 +68,6 @@ both_calm (next ∷ one) other first later = (first.0, both_calm one other first
 -- ---- a journal behind recovery
 
 module _ (setting : Setting) (journal : List Item) (ends : EndsCalmly setting journal) where
-
   -- behind the confirmations, and behind the resends
   abbrev confirmed : List Item
   confirmed = after_steps setting [] ends.first
