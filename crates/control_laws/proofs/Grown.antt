@@ -1,6 +1,6 @@
 -- What one more item makes of each fact of switches, messages and the controller.
-use Rattle.std.proofs.Common.{ℕ, ◌≡◌, ◌+◌, Bool, true, false, Option, Some, None, List, [], ◌∷◌, ◌++◌, refl, ap, sym, ◌∙◌, append-nil, append_assoc, arith, if◌then◌else◌}
-use Rattle.std.specs.Prelude.{◌==◌, filter_map, fold, max, option_and_then, option_to_list, unwrap_or}
+use Rattle.std.proofs.Common.{ℕ, ◌≡◌, ◌+◌, Bool, true, false, Option, Some, None, List, [], ◌∷◌, ◌++◌, refl, ap, sym, ◌∙◌, append-nil, append_assoc, zero-add, arith, if◌then◌else◌}
+use Rattle.std.specs.Prelude.{◌||◌, ◌==◌, filter_map, fold, max, nat_lt, option_and_then, option_to_list, unwrap_or}
 use Rattle.std.proofs.lemmas.List.Elements.{filter_map-append}
 use Rattle.std.proofs.lemmas.List.Sums.{fold-append}
 use Rattle.std.specs.Option.{option_map_or, option_or}
@@ -69,6 +69,19 @@ counted_more test before item = by_test (test item) refl
     by_test false e =
         let none : count_of test (item ∷ []) ≡ 0 = rw e refl in
         omega (arith, none, count_of_append test before (item ∷ []))
+
+-- whether some item passes a test, with one more item
+pub some_more : (test : Item → Bool) (before : List Item) (item : Item)
+    → nat_lt 0 (count_of test (before ++ item ∷ []))
+    ≡ (test item || nat_lt 0 (count_of test before))
+some_more test before item = by_test (test item) refl
+  where
+    by_test : (b : Bool) → test item ≡ b → nat_lt 0 (count_of test (before ++ item ∷ []))
+        ≡ (b || nat_lt 0 (count_of test before))
+    by_test b is =
+        let one : count_of test (item ∷ []) ≡ (if b then 1 else 0) = rw is (zero-add _) in
+        let more = count_of_append test before (item ∷ []) in
+        grind (arith, nat_tests)
 
 pub count_more : (before : List Item) (item : Item) → version_count (before ++ item ∷ [])
     ≡ (if is_submission item then version_count before + 1 else version_count before)

@@ -27,10 +27,10 @@ use Rattle.update_machine.specs.Caches.{lookup_at}
 use Rattle.update_machine.specs.Causes.{HaveCauses}
 use Rattle.update_machine.specs.Deliveries.{advert_to, has_changed, link_changes, passed_on, messages_of, messages_over, switches_in}
 use Rattle.update_machine.specs.LinkMasks.{near}
-use Rattle.update_machine.specs.Messages.{send_items, sent_from}
+use Rattle.update_machine.specs.Messages.{is_deliverable, send_items, sent_from}
 use Rattle.update_machine.specs.Moves.{items_then, AuthorityRule, arrive_by, arrive_items, authority_items, cache_items, end_items, found_items, go_on, header_at, leg_items, lookup_items, move_items, reroute_by, reroute_items, route_for, stuck_on, takes_route, authority_rule, cache_rule, first_place, in_turn}
 use Rattle.update_machine.specs.Travels.{leg_of, ingress_of, is_at}
-use Rattle.update_machine.specs.Pieces.{expire_items, forget_items, hop_items, link_items, lose_items, packet_items, step_items}
+use Rattle.update_machine.specs.Pieces.{expire_items, forget_items, hop_items, link_items, lose_items, nothing, packet_items, step_items}
 use Rattle.update_machine.specs.Setting.{Setting}
 use Rattle.update_machine.specs.SwitchNumbers.{switches_of}
 use Rattle.update_machine.specs.Ways.{found_down, targets_of}
@@ -73,14 +73,15 @@ pub record KnowsNoRoute (setting : Setting) (before : List Item) (i s : ℕ) (le
   pub none : route_from setting before s (targets_of setting before leg) down ≡ None
 
 -- what becomes of packets once they came in, and of messages and cache rules that end: nothing is
--- sent but cache rules, no link changes, a packet is stuck only where its switch knows no route,
--- and finds down only links that can't be used
+-- sent but cache rules, nothing is forgotten that can't be delivered, no link changes, a packet is
+-- stuck only where its switch knows no route, and finds down only links that can't be used
 abbrev pub IsWork : Setting → List Item → Item → Type 0
 IsWork setting before (item.Sent number message) = IsRuleTo before message.to message.body
 IsWork setting before (item.Stuck i s cause leg down) = KnowsNoRoute setting before i s leg down
 IsWork setting before (item.FoundDown i one two) = IsFalse (has (near setting before one) two)
 IsWork setting before (item.Entered packet s header) = ⊥
 IsWork setting before (item.Delivered number) = ⊥
+IsWork setting before (item.Forgotten number) = IsTrue (is_deliverable before number)
 IsWork setting before (item.LinkIs one two up) = ⊥
 IsWork setting before (item.Down s) = ⊥
 IsWork setting before (item.Booted s boot) = ⊥
@@ -355,7 +356,14 @@ lose_work setting i journal = grind arith
 forget_work : (setting : Setting) (number : ℕ) (journal : List Item)
     → Work setting journal (forget_items number journal)
 unfolding forget_items
-forget_work setting number journal = grind arith
+forget_work setting number journal = by_test (is_deliverable journal number) refl
+  where
+    by_test : (b : Bool) → is_deliverable journal number ≡ b → Work setting journal (elim b [
+      | false ↦ nothing
+      | true ↦ item.Forgotten number ∷ []
+    ])
+    by_test false e = (tt, tt)
+    by_test true e = (e, tt)
 
 expire_work : (setting : Setting) (s at : ℕ) (journal : List Item)
     → Work setting journal (expire_items setting s at journal)

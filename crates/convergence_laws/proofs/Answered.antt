@@ -234,7 +234,7 @@ serving_on setting s before (item.Booted t boot) is serving = absurd is
 serving_on setting s before (item.Opened t version) is serving = absurd is
 serving_on setting s before next is serving = rw (serving_more before next s) serving
 
-opens : (setting : Setting) (before : List Item) (s : ℕ) (now : List Item)
+pub opens : (setting : Setting) (before : List Item) (s : ℕ) (now : List Item)
     → serves now s ≡ serves before s → (boot version : ℕ)
     → IsTrue (serves (now ++ switch_items setting before s (OpenAt boot version) now) s)
 unfolding switch_items

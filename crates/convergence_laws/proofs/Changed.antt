@@ -20,7 +20,7 @@ use Rattle.update_machine.specs.Causes.{HaveCauses}
 use Rattle.update_machine.specs.Concerns.{concerns_links}
 use Rattle.update_machine.specs.Deliveries.{advert_to, has_changed, link_changes, messages_of, messages_over, switches_in}
 use Rattle.update_machine.specs.LinkMasks.{near, adverts_begun, adverts_heard}
-use Rattle.update_machine.specs.Messages.{send_items}
+use Rattle.update_machine.specs.Messages.{next_message, send_items}
 use Rattle.update_machine.specs.Setting.{Setting}
 use Rattle.update_machine.specs.SwitchNumbers.{switches_of}
 use Rattle.update_machine.specs.Links.{serves}
@@ -91,7 +91,7 @@ newest_held setting journal s a of =
             all_in (λ (b : Advert). b.origin ≡ a.origin → IsFalse (is_newer b best)) a newest.1
             newest.5 after refl
 
-held_in : (setting : Setting) (journal : List Item) (s origin : ℕ) (advert : Advert)
+pub held_in : (setting : Setting) (journal : List Item) (s origin : ℕ) (advert : Advert)
     → origin < 64 → advert_known setting journal s origin ≡ Some advert
     → IsIn advert (held_adverts setting journal s)
 unfolding held_adverts switches
@@ -158,12 +158,12 @@ pub record IsOwed (setting : Setting) (before now : List Item) (s neighbour : �
   pub had : IsHad setting now s advert
   pub which : (advert ≡ own_advert setting now s) ⊎ IsFalse (has (near setting before s) neighbour)
 
-pub link_news : (setting : Setting) (before here : List Item) (next : Item)
+pub link_news : {since : ℕ} (setting : Setting) (before here : List Item) (next : Item)
     → ((s : ℕ) → near setting here s ≡ near setting before s)
     → HasBothCauses setting here next → is_delivered next ≡ false → IsKnown here
-    → HaveNews setting (λ s neighbour advert. ⊥) here
-    → HaveNews setting (IsOwed setting before (here ++ next ∷ [])) (here ++ next ∷ [])
-link_news setting before here next links_same both none known have =
+    → HaveNews setting since (λ s neighbour advert. ⊥) here
+    → HaveNews setting since (IsOwed setting before (here ++ next ∷ [])) (here ++ next ∷ [])
+link_news {since = since} setting before here next links_same both none known have =
     record { each = by_link }
   where
     now : List Item
@@ -190,7 +190,7 @@ link_news setting before here next links_same both none known have =
     old : (s neighbour : ℕ) (advert : Advert) → serves now neighbour ≡ true
         → IsTrue (has (near setting before s) neighbour) → IsHad setting here s advert
         → advert.origin ≢ neighbour
-        → IsOwed setting before now s neighbour advert ⊎ HasNews setting now neighbour advert
+        → IsOwed setting before now s neighbour advert ⊎ HasNews setting since now neighbour advert
     old s neighbour advert serving linked had other =
         let life = serving_lives here next neighbour none serving in
         elim (have.each s neighbour advert
@@ -240,7 +240,7 @@ link_news setting before here next links_same both none known have =
         → serves now neighbour ≡ true
         → (near setting before s == near setting now s) ≡ false → IsOther setting now s advert
         → advert.origin ≢ neighbour → (b : Bool) → has (near setting before s) neighbour ≡ b
-        → IsOwed setting before now s neighbour advert ⊎ HasNews setting now neighbour advert
+        → IsOwed setting before now s neighbour advert ⊎ HasNews setting since now neighbour advert
     by_old s neighbour advert serving at_it apart of other true e =
         old s neighbour advert at_it e (other_back s advert serving of) other
     by_old s neighbour advert serving at_it apart of other false e =
@@ -250,7 +250,7 @@ link_news setting before here next links_same both none known have =
         → serves now neighbour ≡ true → IsTrue (has (near setting now s) neighbour)
         → IsHad setting now s advert → advert.origin ≢ neighbour
         → (b : Bool) → (near setting before s == near setting now s) ≡ b
-        → IsOwed setting before now s neighbour advert ⊎ HasNews setting now neighbour advert
+        → IsOwed setting before now s neighbour advert ⊎ HasNews setting since now neighbour advert
     by_same s neighbour advert serving at_it linked (inl own) other true e =
         old s neighbour advert at_it
         (subst (λ mask. IsTrue (has mask neighbour))
@@ -270,7 +270,7 @@ link_news setting before here next links_same both none known have =
     by_link : (s neighbour : ℕ) (advert : Advert)
         → IsTrue (has (near setting now s) neighbour) → IsHad setting now s advert
         → advert.origin ≢ neighbour
-        → IsOwed setting before now s neighbour advert ⊎ HasNews setting now neighbour advert
+        → IsOwed setting before now s neighbour advert ⊎ HasNews setting since now neighbour advert
     by_link s neighbour advert linked had other =
         let ends = ends_serve setting now s neighbour linked in
         by_same s neighbour advert ends.0 ends.1 linked had other
@@ -353,11 +353,11 @@ over_tells setting before now s neighbour a small owed =
               (held_in setting now s a.origin best.advert of.small best.held);
         }
 
-pub pay_links : (setting : Setting) (before now : List Item) → IsNet setting.net
-    → HaveNews setting (IsOwed setting before now) now
-    → HaveNews setting (λ s neighbour advert. ⊥) (now ++ link_changes setting before now)
+pub pay_links : {since : ℕ} (setting : Setting) (before now : List Item) → IsNet setting.net
+    → since ≤ next_message now → HaveNews setting since (IsOwed setting before now) now
+    → HaveNews setting since (λ s neighbour advert. ⊥) (now ++ link_changes setting before now)
 unfolding link_changes
-pay_links setting before now net have = record {
+pay_links {since = since} setting before now net late have = record {
   each = λ s neighbour a linked had other.
       elim (kept.each s neighbour a linked had other) [
         | inl owed ↦ inr (paid s neighbour a
@@ -374,12 +374,12 @@ pay_links setting before now net have = record {
     after : List Item
     after = now ++ send_items now messages
 
-    kept : HaveNews setting (IsOwed setting before now) after
+    kept : HaveNews setting since (IsOwed setting before now) after
     kept = stills_news setting (IsOwed setting before now) now (send_items now messages)
         (sends_still now messages) have
 
     paid : (s neighbour : ℕ) (a : Advert) → IsTrue (has (near setting now s) neighbour)
-        → IsOwed setting before now s neighbour a → HasNews setting after neighbour a
+        → IsOwed setting before now s neighbour a → HasNews setting since after neighbour a
     paid s neighbour a linked owed =
         let ends = ends_there setting now s neighbour net linked in
         let tells = over_tells setting before now s neighbour a
@@ -387,7 +387,7 @@ pay_links setting before now net have = record {
         record {
           advert = tells.advert;
           as_new = tells.as_new;
-          had = inr (sends_tell now messages neighbour tells.advert
+          had = inr (sends_tell now messages neighbour tells.advert late
               (in_flat_map (messages_of setting before now) s (advert_to neighbour tells.advert)
               (filter (has_changed setting before now) (switches_of setting))
               (in_filter (has_changed setting before now) s (switches_of setting)

@@ -7,6 +7,7 @@ use Rattle.journal.specs.declared.item.Item.{Item}
 use Rattle.journal.specs.declared.item.Item.TheVariants as item
 use Rattle.update_machine.specs.Causes.{HaveCauses}
 use Rattle.update_machine.specs.Folds.{count_of}
+use Rattle.update_machine.specs.Links.{message_of}
 use Rattle.update_machine.specs.Messages.{is_deliverable, is_forgotten, is_sending, is_waiting, next_message, next_waiting, was_delivered}
 use Rattle.update_machine.specs.Quiet.{AreReceived, IsQuiet}
 use Rattle.update_machine.specs.Sendings.{Sending, boot_at, sendings}
@@ -40,27 +41,35 @@ not_waiting journal number none first below =
     none_found (is_waiting journal) number (range_with_len 1 (count_of is_sending journal)) none
     (in_range number 1 (count_of is_sending journal) first (omega (arith, below)))
 
-all_delivered : (setting : Setting) (journal : List Item) → IsFinished setting journal
-    → (x : Sending) → IsTraced journal x → IsTrue (was_delivered journal x.number)
+pub sent_delivered : (journal : List Item) (number : ℕ) (message : Message)
+    → next_waiting journal ≡ None → IsFalse (is_forgotten journal number)
+    → message_of journal number ≡ Some message → 1 ≤ number → number < next_message journal
+    → IsTrue (was_delivered journal number)
 unfolding is_deliverable
-all_delivered setting journal finished x traced =
-    by_delivered (was_delivered journal x.number) refl
-    (not_waiting journal x.number finished.waiting traced.first traced.number)
+sent_delivered journal number message waiting forgotten sent first below =
+    by_delivered (was_delivered journal number) refl
+    (not_waiting journal number waiting first below)
   where
-    deliverable : is_deliverable journal x.number ≡ true
+    deliverable : is_deliverable journal number ≡ true
     deliverable =
-        let sent = traced.message in
-        let kept : is_forgotten journal x.number ≡ false = finished.forgotten x.number in
+        let kept : is_forgotten journal number ≡ false = forgotten in
         rw (sent, kept) refl
 
-    by_delivered : (b : Bool) → was_delivered journal x.number ≡ b
-        → IsFalse (is_deliverable journal x.number && not b)
-        → IsTrue (was_delivered journal x.number)
+    by_delivered : (b : Bool) → was_delivered journal number ≡ b
+        → IsFalse (is_deliverable journal number && not b)
+        → IsTrue (was_delivered journal number)
     by_delivered true e waits = e
     by_delivered false e waits =
         let clash : true ≡ false =
         sym (ap (λ b. b && true) deliverable) ∙ waits in
         absurd cc
+
+pub one_delivered : (journal : List Item) (x : Sending) → next_waiting journal ≡ None
+    → IsFalse (is_forgotten journal x.number) → IsTraced journal x
+    → IsTrue (was_delivered journal x.number)
+one_delivered journal x waiting forgotten traced =
+    sent_delivered journal x.number x.message waiting forgotten traced.message traced.first
+    traced.number
 
 -- an item that sends a message delivers none
 sent_alone : (number n : ℕ) (message : Message)
@@ -110,7 +119,7 @@ finished_quiet : (setting : Setting) (journal : List Item)
 finished_quiet setting journal have finished = record {
   switches = finished.switches;
   messages = each_received setting journal [] journal refl
-      (λ x is. all_delivered setting journal finished x
+      (λ x is. one_delivered journal x finished.waiting (finished.forgotten x.number)
       (each_in (IsTraced journal) x (sendings journal) (caused_traced setting journal have).each
       is)) traced_at_first have;
 }

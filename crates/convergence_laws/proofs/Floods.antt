@@ -1,6 +1,6 @@
 -- News that is delivered floods, so what a switch has each neighbour has as new, or was sent,
 -- behind each step.
-use Rattle.std.proofs.Common.{ℕ, ◌≡◌, ◌≢◌, ◌<◌, ◌⊎◌, ◌==◌, ◌&&◌, Bool, true, false, not, if◌then◌else◌, Option, Some, None, List, [], ◌∷◌, ◌++◌, map, length, refl, ap, sym, subst, ◌∙◌, append_assoc, append-nil, arith, inl, inr}
+use Rattle.std.proofs.Common.{ℕ, ◌≡◌, ◌≢◌, ◌<◌, ◌≤◌, ◌⊎◌, ◌==◌, ◌&&◌, Bool, true, false, not, if◌then◌else◌, Option, Some, None, List, [], ◌∷◌, ◌++◌, map, length, refl, ap, sym, subst, ◌∙◌, append_assoc, append-nil, arith, inl, inr}
 use Rattle.std.specs.Prelude.{IsTrue, IsFalse, filter_map, nat_lt, option_to_list, slice_index}
 use Rattle.std.specs.Option.{option_map_or}
 use Rattle.std.proofs.lemmas.Bool.Decides.{nat_tests}
@@ -28,7 +28,7 @@ use Rattle.update_machine.specs.Boots.{body_to_switch}
 use Rattle.update_machine.specs.Causes.{HaveCauses}
 use Rattle.update_machine.specs.Deliveries.{advert_to, delivery_items, is_news_to, link_changes, passed_on, received_items, switch_items, switches_in}
 use Rattle.update_machine.specs.LinkMasks.{near, adverts_begun, adverts_heard, other_advert}
-use Rattle.update_machine.specs.Messages.{is_to_controller, send_items}
+use Rattle.update_machine.specs.Messages.{is_to_controller, next_message, send_items}
 use Rattle.update_machine.specs.Moves.{items_then}
 use Rattle.update_machine.specs.Packets.{next_packet}
 use Rattle.update_machine.specs.Pieces.{deliver_items, nothing, piece, step_items}
@@ -57,7 +57,7 @@ use Rattle.convergence_laws.proofs.Changed.{ends_there, link_news, pay_links, se
 use Rattle.convergence_laws.proofs.Installs.{delivery_told}
 use Rattle.convergence_laws.proofs.Givens.{HasNews, HaveNews, IsDelivered, IsGiven, IsHad, IsStill, as_new_itself, as_new_through, delivered_news, given_grows, news_on, sends_tell, stills_news}
 use Rattle.convergence_laws.proofs.Lists.{IsIn, in_either, in_filter, in_map, in_range, in_right}
-use Rattle.convergence_laws.proofs.Sendings.{IsInOrder, caused_traced, delivered_grows, pieces_in_order}
+use Rattle.convergence_laws.proofs.Sendings.{IsInOrder, caused_traced, delivered_grows, next_grows, pieces_in_order}
 use Rattle.convergence_laws.proofs.News.{Spread, Still, control_is_still, control_still, crash_spread, link_spread, owed_as, restart_spread, row_near, still_spread, work_is_still, work_still}
 
 -- ---- what a switch knows it was given
@@ -101,10 +101,10 @@ known_given setting journal s origin advert other small known =
 -- ---- a delivery
 
 -- nothing is owed where no advert of another switch is delivered
-unowed : (setting : Setting) (here : List Item) (number : ℕ) (journal : List Item)
+unowed : {since : ℕ} (setting : Setting) (here : List Item) (number : ℕ) (journal : List Item)
     → ((s : ℕ) (advert : Advert) → body_to_switch here s number ≡ Some (Advertise advert) → ⊥)
-    → HaveNews setting (λ s neighbour advert. IsDelivered here number s advert) journal
-    → Spread setting journal
+    → HaveNews setting since (λ s neighbour advert. IsDelivered here number s advert) journal
+    → Spread setting since journal
 unowed setting here number journal none have =
     owed_as setting (λ s neighbour advert. IsDelivered here number s advert)
     (λ s neighbour advert. ⊥) journal (λ s neighbour advert owed. none s advert owed.said) have
@@ -130,16 +130,17 @@ held_as_new setting before s a small none =
         (c, e, sym (ap (λ b. b && is_newer a c) below) ∙ none)
 
 -- an advert is passed on where it is news, and had been had as new where it isn't
-advert_spread : (setting : Setting) (before : List Item) (row number : ℕ) (step : Step) (t : ℕ)
-    (advert : Advert) → IsNet setting.net → let here = before ++ item.Row row step ∷ [] in
+advert_spread : {since : ℕ} (setting : Setting) (before : List Item) (row number : ℕ)
+    (step : Step) (t : ℕ) (advert : Advert) → IsNet setting.net → let here = before ++ item.Row row step ∷ [] in
     let now = here ++ item.Delivered number ∷ [] in
-    body_to_switch here t number ≡ Some (Advertise advert)
+    since ≤ next_message now → body_to_switch here t number ≡ Some (Advertise advert)
     → ((s : ℕ) (a : Advert) → body_to_switch here s number ≡ Some (Advertise a)
-    → (s ≡ t) × (a ≡ advert)) → Spread setting here
-    → HaveNews setting (λ s neighbour a. IsDelivered here number s a) now
-    → Spread setting (now ++ switch_items setting before t (Advertise advert) now)
+    → (s ≡ t) × (a ≡ advert)) → Spread setting since here
+    → HaveNews setting since (λ s neighbour a. IsDelivered here number s a) now
+    → Spread setting since (now ++ switch_items setting before t (Advertise advert) now)
 unfolding switch_items
-advert_spread setting before row number step t advert net said alone spread have =
+advert_spread {since = since} setting before row number step t advert net late said alone spread
+    have =
     by_news (is_news_to setting before t advert) refl
   where
     here : List Item
@@ -154,7 +155,7 @@ advert_spread setting before row number step t advert net said alone spread have
     passed : (s neighbour : ℕ) (a : Advert)
         → IsTrue (has (near setting (now ++ send_items now messages) s) neighbour)
         → IsDelivered here number s a
-        → HasNews setting (now ++ send_items now messages) neighbour a
+        → HasNews setting since (now ++ send_items now messages) neighbour a
     passed s neighbour a linked owed =
         let is = alone s a owed.said in
         let near_now : IsTrue (has (near setting now t) neighbour) =
@@ -164,7 +165,7 @@ advert_spread setting before row number step t advert net said alone spread have
         record {
           advert = a;
           as_new = as_new_itself a;
-          had = inr (sends_tell now messages neighbour a
+          had = inr (sends_tell now messages neighbour a late
               (subst (λ (b : Advert). IsIn (advert_to neighbour b) messages) (sym is.1)
               (in_map (λ k. advert_to k advert) neighbour (switches_in setting (near setting now t))
               (in_filter (has (near setting now t)) neighbour (switches_of setting)
@@ -175,7 +176,7 @@ advert_spread setting before row number step t advert net said alone spread have
     -- it held one as new before
     had_news : is_news_to setting before t advert ≡ false → (s neighbour : ℕ) (a : Advert)
         → IsTrue (has (near setting now s) neighbour) → a.origin ≢ neighbour
-        → IsDelivered here number s a → HasNews setting now neighbour a
+        → IsDelivered here number s a → HasNews setting since now neighbour a
     had_news none s neighbour a linked elsewhere owed =
         let is = alone s a owed.said in
         let apart : a.origin ≢ t = subst (λ u. a.origin ≢ u) is.0 owed.other in
@@ -199,8 +200,8 @@ advert_spread setting before row number step t advert net said alone spread have
               (sym (heard_more before (item.Row row step) t)) is) given.given;
         })) (λ same. elsewhere (sym given.of ∙ same)))
       where
-        by_has : (a c : Advert) → IsAsNew c a → ⊥ ⊎ HasNews setting here neighbour c
-            → HasNews setting now neighbour a
+        by_has : (a c : Advert) → IsAsNew c a → ⊥ ⊎ HasNews setting since here neighbour c
+            → HasNews setting since now neighbour a
         by_has a c as_new (inl none) = absurd none
         by_has a c as_new (inr has) =
             let next : Item = item.Delivered number in
@@ -213,7 +214,7 @@ advert_spread setting before row number step t advert net said alone spread have
             }
 
     by_news : (b : Bool) → is_news_to setting before t advert ≡ b
-        → Spread setting (now ++ elim b [
+        → Spread setting since (now ++ elim b [
           | true ↦ send_items now (passed_on setting now t advert)
           | false ↦ []
         ])
@@ -227,7 +228,7 @@ advert_spread setting before row number step t advert net said alone spread have
           ];
     }
     by_news false e =
-        subst (Spread setting) (sym (append-nil now))
+        subst (Spread setting since) (sym (append-nil now))
         (record {
           each = λ s neighbour a linked had other.
               elim (have.each s neighbour a linked had other) [
@@ -237,14 +238,15 @@ advert_spread setting before row number step t advert net said alone spread have
         })
 
 -- a switch that opens has new links
-open_spread : (setting : Setting) (before : List Item) (row number : ℕ) (step : Step) (t : ℕ)
-    (boot version : ℕ) → IsNet setting.net → let here = before ++ item.Row row step ∷ [] in
+open_spread : {since : ℕ} (setting : Setting) (before : List Item) (row number : ℕ)
+    (step : Step) (t boot version : ℕ) → IsNet setting.net → let here = before ++ item.Row row step ∷ [] in
     let now = here ++ item.Delivered number ∷ [] in
-    Has setting now (switch_items setting before t (OpenAt boot version) now) → IsKnown now
-    → Spread setting now
-    → Spread setting (now ++ switch_items setting before t (OpenAt boot version) now)
+    since ≤ next_message now
+    → Has setting now (switch_items setting before t (OpenAt boot version) now) → IsKnown now
+    → Spread setting since now
+    → Spread setting since (now ++ switch_items setting before t (OpenAt boot version) now)
 unfolding switch_items
-open_spread setting before row number step t boot version net =
+open_spread {since = since} setting before row number step t boot version net late =
     by_serving (serves before t)
   where
     here : List Item
@@ -263,15 +265,16 @@ open_spread setting before row number step t boot version net =
     by_serving : (b : Bool) → Has setting now (elim b [
       | true ↦ []
       | false ↦ items_then (next ∷ []) (link_changes setting before) now
-    ]) → IsKnown now → Spread setting now → Spread setting (now ++ elim b [
+    ]) → IsKnown now → Spread setting since now → Spread setting since (now ++ elim b [
       | true ↦ []
       | false ↦ items_then (next ∷ []) (link_changes setting before) now
     ])
-    by_serving true causes known have = subst (Spread setting) (sym (append-nil now)) have
+    by_serving true causes known have = subst (Spread setting since) (sym (append-nil now)) have
     by_serving false causes known have =
-        subst (Spread setting)
+        subst (Spread setting since)
         (append_assoc now (next ∷ []) (link_changes setting before (now ++ next ∷ [])))
         (pay_links setting before (now ++ next ∷ []) net
+        (omega (arith, late, next_grows now (next ∷ [])))
         (link_news setting before now next near_now
         (record {
           first = causes.0;
@@ -287,31 +290,32 @@ other_still setting before s body now none =
     (λ boot version is. absurd (none boot version is)) (λ advert is news. sends_still now _) tt
 
 -- what is said to a switch
-said_spread : (setting : Setting) (before : List Item) (row number : ℕ) (step : Step) (t : ℕ)
-    (body : Body) → IsNet setting.net → let here = before ++ item.Row row step ∷ [] in
+said_spread : {since : ℕ} (setting : Setting) (before : List Item) (row number : ℕ)
+    (step : Step) (t : ℕ) (body : Body) → IsNet setting.net
+    → let here = before ++ item.Row row step ∷ [] in
     let now = here ++ item.Delivered number ∷ [] in
-    body_to_switch here t number ≡ Some body
+    since ≤ next_message now → body_to_switch here t number ≡ Some body
     → ((s : ℕ) (other : Body) → body_to_switch here s number ≡ Some other → (s ≡ t)
     × (other ≡ body))
     → Has setting now (switch_items setting before t body now) → IsKnown now
-    → Spread setting here
-    → HaveNews setting (λ s neighbour a. IsDelivered here number s a) now
-    → Spread setting (now ++ switch_items setting before t body now)
-said_spread setting before row number step t (Advertise advert) net said alone causes known spread
-    have = advert_spread setting before row number step t advert net said
+    → Spread setting since here
+    → HaveNews setting since (λ s neighbour a. IsDelivered here number s a) now
+    → Spread setting since (now ++ switch_items setting before t body now)
+said_spread setting before row number step t (Advertise advert) net late said alone causes known
+    spread have = advert_spread setting before row number step t advert net late said
     (λ s a told. let is = alone s (Advertise a) told in (is.0, same_advert a advert is.1)) spread
     have
   where
     same_advert : (a b : Advert) → Advertise a ≡ Advertise b → a ≡ b
     same_advert a b same = cc
-said_spread setting before row number step t (OpenAt boot version) net said alone causes known
-    spread have = open_spread setting before row number step t boot version net causes known
+said_spread setting before row number step t (OpenAt boot version) net late said alone causes known
+    spread have = open_spread setting before row number step t boot version net late causes known
     (unowed setting (before ++ item.Row row step ∷ []) number _
     (λ s a told. absurd (apart a (alone s (Advertise a) told).1)) have)
   where
     apart : (a : Advert) → Advertise a ≡ OpenAt boot version → ⊥
     apart a same = absurd cc
-said_spread setting before row number step t body net said alone causes known spread have =
+said_spread setting before row number step t body net late said alone causes known spread have =
     still_spread setting _ _
     (other_still setting before t body _ (λ boot version same. absurd cc))
     (unowed setting (before ++ item.Row row step ∷ []) number _
@@ -333,12 +337,12 @@ abbrev receiver_or : Place → ℕ
 receiver_or (receiver.Switch s) = s
 receiver_or receiver.Controller = 0
 
-deliver_spread : (setting : Setting) (before : List Item) (row number : ℕ) (step : Step)
+deliver_spread : {since : ℕ} (setting : Setting) (before : List Item) (row number : ℕ) (step : Step)
     → IsNet setting.net → let here = before ++ item.Row row step ∷ [] in
-    IsKnown here → Spread setting here
-    → Spread setting (here ++ deliver_items setting before number here)
-deliver_spread setting before row number step net known spread =
-    deliver_cases (Spread setting) setting before number here
+    since ≤ next_message here → IsKnown here → Spread setting since here
+    → Spread setting since (here ++ deliver_items setting before number here)
+deliver_spread {since = since} setting before row number step net late known spread =
+    deliver_cases (Spread setting since) setting before number here
     (still_spread setting here nothing (tt, tt) spread)
     (by_message (message_of before number) refl)
   where
@@ -348,7 +352,7 @@ deliver_spread setting before row number step net known spread =
     now : List Item
     now = here ++ item.Delivered number ∷ []
 
-    have : HaveNews setting (λ s neighbour a. IsDelivered here number s a) now
+    have : HaveNews setting since (λ s neighbour a. IsDelivered here number s a) now
     have = delivered_news setting here number spread
 
     -- what is said was sent to the switch
@@ -360,7 +364,7 @@ deliver_spread setting before row number step net known spread =
     -- where nothing is said to a switch the rest is still
     silent : Still now (delivery_items setting before number now)
         → ((s : ℕ) (body : Body) → body_to_switch here s number ≡ Some body → ⊥)
-        → Spread setting (now ++ delivery_items setting before number now)
+        → Spread setting since (now ++ delivery_items setting before number now)
     silent still none = still_spread setting now _ still
         (unowed setting here number now (λ s advert said. none s (Advertise advert) said) have)
 
@@ -375,7 +379,7 @@ deliver_spread setting before row number step net known spread =
 
     by_receiver : (to : Place) (body : Body)
         → message_of before number ≡ Some (record { to = to; body = body })
-        → Spread setting (now ++ delivery_items setting before number now)
+        → Spread setting since (now ++ delivery_items setting before number now)
     by_receiver receiver.Controller body e =
         silent
         (subst (λ items. Still now items) (sym (delivery_told setting before number body now e))
@@ -389,7 +393,7 @@ deliver_spread setting before row number step net known spread =
     by_receiver (receiver.Switch t) body e = by_said (body_to_switch here t number) refl
       where
         by_said : (o : Option Body) → body_to_switch here t number ≡ o
-            → Spread setting (now ++ delivery_items setting before number now)
+            → Spread setting since (now ++ delivery_items setting before number now)
         by_said None f =
             silent
             (subst (λ items. Still now items) (sym (nothing_said f)) tt)
@@ -409,14 +413,15 @@ deliver_spread setting before row number step net known spread =
         by_said (Some told) f =
             let items = delivery_is setting before number now t told
             (sym (said_row before row t number step) ∙ f) in
-            subst (λ xs. Spread setting (now ++ xs)) (sym items)
-            (said_spread setting before row number step t told net f
+            subst (λ xs. Spread setting since (now ++ xs)) (sym items)
+            (said_spread setting before row number step t told net
+            (omega (arith, late, next_grows here (item.Delivered number ∷ []))) f
             (to_switch_alone t told f)
             (said_have setting before here t number told f)
             (known_kept setting here (item.Delivered number) tt known) spread have)
 
     by_message : (o : Option Message) → message_of before number ≡ o
-        → Spread setting (now ++ delivery_items setting before number now)
+        → Spread setting since (now ++ delivery_items setting before number now)
     by_message None e =
         silent
         (subst (λ items. Still now items) (sym (unsent_items setting before number now e)) tt)
@@ -426,15 +431,16 @@ deliver_spread setting before row number step net known spread =
 
 -- ---- steps
 
-step_spread : (setting : Setting) (before : List Item) (row : ℕ) (step : Step) → IsNet setting.net
-    → let here = before ++ item.Row row step ∷ [] in IsKnown here → Spread setting here
-    → Spread setting (here ++ step_items setting before step here)
-step_spread setting before row (Packet s header) net = λ known have.
+step_spread : {since : ℕ} (setting : Setting) (before : List Item) (row : ℕ) (step : Step) → IsNet setting.net
+    → let here = before ++ item.Row row step ∷ [] in
+    since ≤ next_message here → IsKnown here → Spread setting since here
+    → Spread setting since (here ++ step_items setting before step here)
+step_spread setting before row (Packet s header) net = λ late known have.
     still_spread setting _ _
     (packet_works setting IsStill (work_is_still setting) (next_packet before) s header _ tt) have
 step_spread setting before row (Deliver number) net =
     deliver_spread setting before row number (Deliver number) net
-step_spread setting before row (Update file) net = λ known have.
+step_spread setting before row (Update file) net = λ late known have.
     still_spread setting _ _
     (update_has IsStill control_is_still setting file _ (λ version. tt)) have
 step_spread setting before row (LinkDown one two) net =
@@ -444,32 +450,36 @@ step_spread setting before row (LinkUp one two) net =
 step_spread setting before row (Crash s) net =
     crash_spread setting before row (Crash s) s net
 step_spread setting before row (Restart s) net =
-    restart_spread setting before row (Restart s) s
-step_spread setting before row (Confirm s) net = λ known have.
+    λ late. restart_spread setting before row (Restart s) s
+step_spread setting before row (Confirm s) net = λ late known have.
     still_spread setting _ _ (control_still _ _ (confirm_control setting s _)) have
-step_spread setting before row (Resend s) net = λ known have.
+step_spread setting before row (Resend s) net = λ late known have.
     still_spread setting _ _ (resends_any IsStill (λ now n message. tt) setting s _ tt) have
-step_spread setting before row step net = λ known have.
+step_spread setting before row step net = λ late known have.
     still_spread setting _ _ (work_still setting _ _ (step_work setting before step _ tt)) have
 
-piece_spread : (setting : Setting) (before : List Item) (row : ℕ) (step : Step)
-    → IsNet setting.net → IsKnown before → Spread setting before
-    → Spread setting (before ++ piece setting before row step)
-piece_spread setting before row step net known have =
+piece_spread : {since : ℕ} (setting : Setting) (before : List Item) (row : ℕ) (step : Step)
+    → IsNet setting.net → since ≤ next_message before → IsKnown before
+    → Spread setting since before
+    → Spread setting since (before ++ piece setting before row step)
+piece_spread {since = since} setting before row step net late known have =
     let next : Item = item.Row row step in
-    behind_piece setting before row step (Spread setting)
-    (step_spread setting before row step net (known_kept setting before next tt known)
+    behind_piece setting before row step (Spread setting since)
+    (step_spread setting before row step net (omega (arith, late, next_grows before (next ∷ [])))
+    (known_kept setting before next tt known)
     (still_spread setting before (next ∷ []) (tt, tt) have))
 
-steps_spread : (setting : Setting) (before : List Item) (steps : List StepOfRow)
-    → IsNet setting.net → HaveCauses (IsInOrder setting) [] before → Spread setting before
-    → Spread setting (after_steps setting before steps)
-steps_spread setting before [] net causes have = have
-steps_spread setting before (next ∷ steps) net causes have =
+pub steps_spread : {since : ℕ} (setting : Setting) (before : List Item)
+    (steps : List StepOfRow) → IsNet setting.net → since ≤ next_message before
+    → HaveCauses (IsInOrder setting) [] before → Spread setting since before
+    → Spread setting since (after_steps setting before steps)
+steps_spread setting before [] net late causes have = have
+steps_spread setting before (next ∷ steps) net late causes have =
     steps_spread setting (before ++ piece setting before next.row next.step) steps net
+    (omega (arith, late, next_grows before (piece setting before next.row next.step)))
     (have_append (IsInOrder setting) [] before (piece setting before next.row next.step) causes
     (pieces_in_order setting before next.row next.step))
-    (piece_spread setting before next.row next.step net (caused_traced setting before causes).known
+    (piece_spread setting before next.row next.step net late (caused_traced setting before causes).known
     have)
 
 -- ---- the beginning
@@ -494,19 +504,19 @@ has_first setting s neighbour there small =
     ∙ ap (λ up. Some (first_advert s up)) row
     ∙ ap Some (sym (start_laws.advert setting s))
 
-first_spread : (setting : Setting) → IsNet setting.net → Spread setting []
-first_spread setting net = record {
+first_spread : {since : ℕ} (setting : Setting) → IsNet setting.net → Spread setting since []
+first_spread {since = since} setting net = record {
   each = λ s neighbour a linked had other.
       inr (by_had s neighbour a (ends_there setting [] s neighbour net linked).one had);
 }
   where
     given_news : (neighbour : ℕ) (a : Advert) → IsGiven setting [] neighbour a
-        → HasNews setting [] neighbour a
+        → HasNews setting since [] neighbour a
     given_news neighbour a given =
         record { advert = a; as_new = as_new_itself a; had = inl given }
 
     by_had : (s neighbour : ℕ) (a : Advert) → s < length setting.net.switches
-        → IsHad setting [] s a → HasNews setting [] neighbour a
+        → IsHad setting [] s a → HasNews setting since [] neighbour a
     by_had s neighbour a there (inl own) =
         given_news neighbour a (inl (
         ap (λ (b : Advert). held_advert (adverts_begun setting [] neighbour) b.origin) own
@@ -515,7 +525,7 @@ first_spread setting net = record {
         ∙ ap Some (sym own)))
     by_had s neighbour a there (inr of) = by_given of.given
       where
-        by_given : IsGiven setting [] s a → HasNews setting [] neighbour a
+        by_given : IsGiven setting [] s a → HasNews setting since [] neighbour a
         by_given (inl begun) = given_news neighbour a (inl (
             ap (λ adverts. held_advert adverts a.origin)
             (begun_first setting neighbour ∙ sym (begun_first setting s)) ∙ begun))
@@ -526,6 +536,6 @@ first_spread setting net = record {
             absurd none
 
 pub spread_at_ends : (setting : Setting) (steps : List StepOfRow) → IsNet setting.net
-    → Spread setting (after_steps setting [] steps)
+    → Spread setting 0 (after_steps setting [] steps)
 spread_at_ends setting steps net =
-    steps_spread setting [] steps net tt (first_spread setting net)
+    steps_spread setting [] steps net (omega arith) tt (first_spread setting net)

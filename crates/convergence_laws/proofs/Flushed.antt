@@ -16,18 +16,18 @@ use Rattle.convergence_laws.specs.Converged.{HasConverged}
 use Rattle.convergence_laws.specs.Finished.{EndsFinished}
 use Rattle.convergence_laws.specs.Updated.{IsUpdated}
 use Rattle.convergence_laws.proofs.Finished.{finished_behind}
-use Rattle.convergence_laws.proofs.Told.{converged_at_ends}
+use Rattle.convergence_laws.proofs.Told.{quiet_converged}
 use Rattle.convergence_laws.proofs.Updates.{updated_at_ends}
 
 -- behind all of them there is no next one
-all_end : (setting : Setting) (next : List Item → Option Step) (row : ℕ) (before : List Item)
+pub all_end : (setting : Setting) (next : List Item → Option Step) (row : ℕ) (before : List Item)
     (steps : List StepOfRow) → AreAll setting next row before steps
     → next (after_steps setting before steps) ≡ None
 all_end setting next row before [] are = are
 all_end setting next row before (first ∷ steps) are =
     all_end setting next row (before ++ piece setting before first.row first.step) steps are.2
 
-flush_ends : (setting : Setting) (row : ℕ) (events : List Event) (before : List Item)
+pub flush_ends : (setting : Setting) (row : ℕ) (events : List Event) (before : List Item)
     (steps : List StepOfRow) → AreSteps setting row (events ++ Flush ∷ []) before steps
     → next_delivery (after_steps setting before steps) ≡ None
 flush_ends setting row [] before steps are =
@@ -42,7 +42,7 @@ flush_ends setting row (event ∷ events) before steps are =
     subst (λ journal. next_delivery journal ≡ None) (sym joined)
     (flush_ends setting (row + 1) events (after_steps setting before are.0) are.1 are.4)
 
-none_waits : (journal : List Item) → next_delivery journal ≡ None → next_waiting journal ≡ None
+pub none_waits : (journal : List Item) → next_delivery journal ≡ None → next_waiting journal ≡ None
 none_waits journal none = by_next (next_waiting journal) none
   where
     by_next : (o : Option ℕ) → option_map Deliver o ≡ None → o ≡ None
@@ -63,7 +63,7 @@ flushed_quiet setting events journal ends =
 pub flushed_converged : (setting : Setting) (events : List Event) (journal : List Item)
     → IsNet setting.net → EndsFinished setting events journal → HasConverged setting journal
 flushed_converged setting events journal net ends =
-    converged_at_ends.answered setting (events ++ Flush ∷ []) journal ends.answered net
+    quiet_converged.answered setting (events ++ Flush ∷ []) journal ends.answered net
     (flushed_quiet setting events journal ends)
 
 pub flushed_updated : (setting : Setting) (events : List Event) (journal : List Item)

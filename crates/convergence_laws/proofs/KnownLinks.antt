@@ -20,7 +20,7 @@ use Rattle.update_machine.proofs.CallerLemmas.{has_known_link, known_places, unr
 use Rattle.control_laws.proofs.NetLinks.{ends_serve, near_linked, second, claimed_mask}
 use Rattle.convergence_laws.specs.Converged.{AreUnusable, HasConverged, LeadsOver, Reaches}
 use Rattle.convergence_laws.proofs.Changed.{ends_there}
-use Rattle.convergence_laws.proofs.Converged.{AreQuiet, HoldsOwn, IsThere, adverts_reach, reached_holds, small_of, serving_up}
+use Rattle.convergence_laws.proofs.Converged.{AreAgreed, HoldsOwn, IsThere, adverts_reach, reached_holds, small_of, serving_up}
 use Rattle.convergence_laws.proofs.Near.{near_both}
 
 -- ---- what a switch is told of one that it reaches
@@ -75,7 +75,7 @@ four : (w x y z : Bool) → w ≡ false → x ≡ true → y ≡ true → z ≡ 
     → (not w && x && y && not z) ≡ true
 four w x y z p q r t = rw (p, q, r, t) refl
 
-known_usable : (setting : Setting) (journal : List Item) → AreQuiet setting journal
+known_usable : (setting : Setting) (journal : List Item) → AreAgreed setting journal
     → (s one other : ℕ) (down : List ℕ) → IsThere setting journal s
     → Reaches setting journal s one → one < 64 → other < 64
     → AreJoined (links_known setting journal s down) one other
@@ -91,7 +91,7 @@ known_usable setting journal are s one other down is reaches small fits joined =
     (mask_known setting journal s one (small_of setting are.net s is.there)
     (reached_holds setting journal are s one is reaches)) named
 
-usable_known : (setting : Setting) (journal : List Item) → AreQuiet setting journal
+usable_known : (setting : Setting) (journal : List Item) → AreAgreed setting journal
     → (s one other : ℕ) (down : List ℕ) → IsThere setting journal s
     → Reaches setting journal s one → AreUnusable setting journal down
     → IsTrue (has (near setting journal one) other)
@@ -142,7 +142,7 @@ usable_known setting journal are s one other down is reaches unusable linked =
         ∙ near_both setting journal one other small linked
 
 -- where links lead is a switch with a number below 64
-reached_small : (setting : Setting) (journal : List Item) → AreQuiet setting journal
+reached_small : (setting : Setting) (journal : List Item) → AreAgreed setting journal
     → (s target : ℕ) → HasSwitch setting.net s → (rest : List ℕ)
     → LeadsOver setting journal target s rest → target < 64
 reached_small setting journal are s target there [] leads =
@@ -153,7 +153,7 @@ reached_small setting journal are s target there (next ∷ rest) leads =
 
 -- ---- routes
 
-leads_known : (setting : Setting) (journal : List Item) → AreQuiet setting journal
+leads_known : (setting : Setting) (journal : List Item) → AreAgreed setting journal
     → (s target : ℕ) (down : List ℕ) → IsThere setting journal s
     → AreUnusable setting journal down → (at : ℕ) (rest : List ℕ) → Reaches setting journal s at
     → LeadsOver setting journal target at rest
@@ -167,7 +167,7 @@ leads_known setting journal are s target down is unusable at (next ∷ rest) rea
 )
 
 -- a way over links that can be used is one over known links
-way_known : (setting : Setting) (journal : List Item) → AreQuiet setting journal
+way_known : (setting : Setting) (journal : List Item) → AreAgreed setting journal
     → (s target : ℕ) (down : List ℕ) → AreUnusable setting journal down → (rest : List ℕ)
     → LeadsOver setting journal target s rest
     → LinksLead (links_known setting journal s down) target s rest
@@ -178,7 +178,7 @@ way_known setting journal are s target down unusable (next ∷ rest) leads =
       up = serving_up setting journal are s (ends_serve setting journal s next leads.0).0;
     }) unusable s (next ∷ rest) (record { rest = []; leads = refl }) leads
 
-stuck_apart : (setting : Setting) (journal : List Item) → AreQuiet setting journal
+stuck_apart : (setting : Setting) (journal : List Item) → AreAgreed setting journal
     → (s : ℕ) (targets down : List ℕ) → HasSwitch setting.net s
     → AreUnusable setting journal down → route_from setting journal s targets down ≡ None
     → All (λ target. Reaches setting journal s target → ⊥) targets
@@ -196,9 +196,9 @@ stuck_apart setting journal are s targets down there unusable none =
 
 -- ---- together
 
-pub quiet_converged : (setting : Setting) (journal : List Item) → AreQuiet setting journal
+pub agreed_converged : (setting : Setting) (journal : List Item) → AreAgreed setting journal
     → HasConverged setting journal
-quiet_converged setting journal are = record {
+agreed_converged setting journal are = record {
   adverts = λ s origin apart reaches. adverts_reach setting journal are s origin apart reaches;
   links = λ s one other down there up reaches fits unusable. (
     known_usable setting journal are s one other down (record { there = there; up = up }) reaches

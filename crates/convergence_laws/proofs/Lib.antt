@@ -6,6 +6,7 @@ pub mod Installs
 pub mod Stamps
 pub mod Downs
 pub mod Received
+pub mod CaughtUp
 pub mod Updates
 pub mod Finished
 pub mod Flushed
@@ -14,6 +15,7 @@ pub mod Givens
 pub mod Changed
 pub mod News
 pub mod Floods
+pub mod Agreeing
 pub mod Converged
 pub mod KnownLinks
 pub mod Walks

@@ -1,5 +1,5 @@
 -- At the end of each step what a switch has each neighbour has as new, or was sent.
-use Rattle.std.proofs.Common.{ℕ, ◌≡◌, ◌+◌, ◌≤◌, ◌⊎◌, ◌==◌, ◌&&◌, Bool, true, false, not, List, [], ◌∷◌, ◌++◌, map, min, max, refl, ap, sym, subst, ◌∙◌, append_assoc, inl, inr}
+use Rattle.std.proofs.Common.{ℕ, ◌≡◌, ◌+◌, ◌≤◌, ◌⊎◌, ◌==◌, ◌&&◌, Bool, true, false, not, List, [], ◌∷◌, ◌++◌, map, min, max, refl, ap, sym, subst, ◌∙◌, append_assoc, arith, inl, inr}
 use Rattle.std.specs.Prelude.{IsTrue, IsFalse, unwrap_or}
 use Rattle.std.specs.Bool.{beq}
 use Rattle.std.proofs.lemmas.Bool.{eq-eqb, eqb-true}
@@ -16,6 +16,7 @@ use Rattle.update_machine.specs.Concerns.{concerns_links}
 use Rattle.update_machine.specs.Deliveries.{has_changed, link_changes}
 use Rattle.update_machine.specs.Laws.{LinksKeep}
 use Rattle.update_machine.specs.Links.{is_link_up, gives_link, serves}
+use Rattle.update_machine.specs.Messages.{next_message}
 use Rattle.update_machine.specs.Moves.{items_then}
 use Rattle.update_machine.specs.Travels.{packets_at}
 use Rattle.update_machine.specs.Pieces.{crash_items, hello_of, link_items, nothing, restart_items}
@@ -33,16 +34,18 @@ use Rattle.control_laws.proofs.Stepping.{row_first}
 use Rattle.convergence_laws.proofs.Changed.{IsOwed, link_news, pay_links, sends_still}
 use Rattle.convergence_laws.proofs.Givens.{HaveNews, IsHad, IsStill, given_grows, stills_news}
 use Rattle.convergence_laws.proofs.Lists.{IsIn}
+use Rattle.convergence_laws.proofs.Sendings.{next_grows}
 
 abbrev pub Still : List Item → List Item → Type 0
 Still journal items = HaveCauses IsStill journal items
 
 -- nobody owes anything
-abbrev pub Spread : Setting → List Item → Type 0
-Spread setting journal = HaveNews setting (λ s neighbour advert. ⊥) journal
+abbrev pub Spread : Setting → ℕ → List Item → Type 0
+Spread setting since journal = HaveNews setting since (λ s neighbour advert. ⊥) journal
 
-pub still_spread : (setting : Setting) (journal items : List Item) → Still journal items
-    → Spread setting journal → Spread setting (journal ++ items)
+pub still_spread : {since : ℕ} (setting : Setting) (journal items : List Item)
+    → Still journal items
+    → Spread setting since journal → Spread setting since (journal ++ items)
 still_spread setting journal items still have =
     stills_news setting (λ s neighbour advert. ⊥) journal items still have
 
@@ -80,12 +83,13 @@ pub row_near : (setting : Setting) (before : List Item) (row : ℕ) (step : Step
 row_near setting before row step s =
     near_stays setting s before (item.Row row step ∷ []) (refl, tt)
 
-pub link_spread : (setting : Setting) (before : List Item) (row : ℕ) (step : Step) (one two : ℕ)
-    (up : Bool) → IsNet setting.net → let here = before ++ item.Row row step ∷ [] in
-    IsKnown here → Spread setting here
-    → Spread setting (here ++ link_items setting before one two up here)
+pub link_spread : {since : ℕ} (setting : Setting) (before : List Item) (row : ℕ) (step : Step)
+    (one two : ℕ) (up : Bool) → IsNet setting.net
+    → let here = before ++ item.Row row step ∷ [] in
+    since ≤ next_message here → IsKnown here → Spread setting since here
+    → Spread setting since (here ++ link_items setting before one two up here)
 unfolding link_items
-link_spread setting before row step one two up net known have =
+link_spread {since = since} setting before row step one two up net late known have =
     by_test (beq (is_link_up before one two) up)
   where
     here : List Item
@@ -97,14 +101,15 @@ link_spread setting before row step one two up net known have =
     now : List Item
     now = here ++ next ∷ []
 
-    by_test : (b : Bool) → Spread setting (here ++ elim b [
+    by_test : (b : Bool) → Spread setting since (here ++ elim b [
       | true ↦ nothing
       | false ↦ items_then (next ∷ []) (link_changes setting before) here
     ])
     by_test true = still_spread setting here nothing (tt, tt) have
     by_test false =
-        subst (Spread setting) (append_assoc here (next ∷ []) (link_changes setting before now))
-        (pay_links setting before now net
+        subst (Spread setting since)
+        (append_assoc here (next ∷ []) (link_changes setting before now))
+        (pay_links setting before now net (omega (arith, late, next_grows here (next ∷ [])))
         (link_news setting before here next (row_near setting before row step)
         (record { first = tt; second = row_first before row step }) refl known have))
 
@@ -161,9 +166,10 @@ owed_later setting before now packets s neighbour advert owed =
     by_which (inr new) = inr new
 
 -- what is owed in one way is owed in another
-pub owed_as : (setting : Setting) (One Other : ℕ → ℕ → Advert → Type 0) (journal : List Item)
+pub owed_as : {since : ℕ} (setting : Setting) (One Other : ℕ → ℕ → Advert → Type 0)
+    (journal : List Item)
     → ((s neighbour : ℕ) (advert : Advert) → One s neighbour advert → Other s neighbour advert)
-    → HaveNews setting One journal → HaveNews setting Other journal
+    → HaveNews setting since One journal → HaveNews setting since Other journal
 owed_as setting One Other journal as_other have = record {
   each = λ s neighbour advert linked had other.
       elim (have.each s neighbour advert linked had other) [
@@ -172,12 +178,12 @@ owed_as setting One Other journal as_other have = record {
       ];
 }
 
-pub crash_spread : (setting : Setting) (before : List Item) (row : ℕ) (step : Step) (s : ℕ)
-    → IsNet setting.net → let here = before ++ item.Row row step ∷ [] in
-    IsKnown here → Spread setting here
-    → Spread setting (here ++ crash_items setting before s here)
+pub crash_spread : {since : ℕ} (setting : Setting) (before : List Item) (row : ℕ) (step : Step)
+    (s : ℕ) → IsNet setting.net → let here = before ++ item.Row row step ∷ [] in
+    since ≤ next_message here → IsKnown here → Spread setting since here
+    → Spread setting since (here ++ crash_items setting before s here)
 unfolding crash_items
-crash_spread setting before row step s net known have = by_up (is_up before s) refl
+crash_spread {since = since} setting before row step s net late known have = by_up (is_up before s) refl
   where
     here : List Item
     here = before ++ item.Row row step ∷ []
@@ -194,9 +200,12 @@ crash_spread setting before row step s net known have = by_up (is_up before s) r
     now : List Item
     now = here ++ next ∷ []
 
-    down : is_up before s ≡ true → Spread setting
+    later : since ≤ next_message (now ++ losts)
+    later = omega (arith, late, next_grows here (next ∷ []), next_grows now losts)
+
+    down : is_up before s ≡ true → Spread setting since
         ((now ++ losts) ++ link_changes setting before (now ++ losts))
-    down up = pay_links setting before (now ++ losts) net
+    down up = pay_links setting before (now ++ losts) net later
         (owed_as setting (IsOwed setting before now) (IsOwed setting before (now ++ losts))
         (now ++ losts) (owed_later setting before now packets)
         (stills_news setting (IsOwed setting before now) now losts
@@ -210,15 +219,15 @@ crash_spread setting before row step s net known have = by_up (is_up before s) r
     same : now ++ losts ≡ here ++ (next ∷ losts)
     same = append_assoc here (next ∷ []) losts
 
-    by_up : (b : Bool) → is_up before s ≡ b → Spread setting (here ++ elim b [
+    by_up : (b : Bool) → is_up before s ≡ b → Spread setting since (here ++ elim b [
       | false ↦ nothing
       | true ↦ items_then (next ∷ losts) (link_changes setting before) here
     ])
     by_up false e = still_spread setting here nothing (tt, tt) have
     by_up true e =
-        subst (Spread setting)
+        subst (Spread setting since)
         (append_assoc here (next ∷ losts) (link_changes setting before (here ++ (next ∷ losts))))
-        (subst (λ j. Spread setting (j ++ link_changes setting before j)) same (down e))
+        (subst (λ j. Spread setting since (j ++ link_changes setting before j)) same (down e))
 
 booted_link : (here : List Item) (s boot one other : ℕ)
     → is_link_up (here ++ item.Booted s boot ∷ []) one other ≡ is_link_up here one other
@@ -228,11 +237,12 @@ booted_link here s boot one other =
     (last_given_append (gives_link (min one other) (max one other)) here (item.Booted s boot ∷ []))
 
 -- a switch that began a boot has no links yet, and had none
-pub restart_spread : (setting : Setting) (before : List Item) (row : ℕ) (step : Step) (s : ℕ)
-    → let here = before ++ item.Row row step ∷ [] in
-    IsKnown here → Spread setting here → Spread setting (here ++ restart_items s here)
-restart_spread setting before row step s known have =
-    restart_cases (Spread setting) s here (still_spread setting here nothing (tt, tt) have)
+pub restart_spread : {since : ℕ} (setting : Setting) (before : List Item) (row : ℕ)
+    (step : Step) (s : ℕ) → let here = before ++ item.Row row step ∷ [] in
+    IsKnown here → Spread setting since here
+    → Spread setting since (here ++ restart_items s here)
+restart_spread {since = since} setting before row step s known have =
+    restart_cases (Spread setting since) s here (still_spread setting here nothing (tt, tt) have)
     (λ down. still_spread setting now _ (sends_still now (hello_of now s ∷ [])) (booted down))
   where
     here : List Item
@@ -282,7 +292,7 @@ restart_spread setting before row step s known have =
             absurd cc
         by_changed false mask changed same = absurd cc
 
-    booted : is_up here s ≡ false → Spread setting now
+    booted : is_up here s ≡ false → Spread setting since now
     booted down = owed_as setting (IsOwed setting before now) (λ t neighbour advert. ⊥) now
         (none down)
         (link_news setting before here next (row_near setting before row step)

@@ -1,5 +1,6 @@
 -- Items that deliver nothing and begin no boot: all of every step but the `Delivered` and the
--- `Booted` of two kinds. Those of steps that move no packet make none stuck either.
+-- `Booted` of two kinds. What they forget could be delivered. Those of steps that move no packet
+-- make none stuck either.
 use Rattle.std.proofs.Common.{ℕ, ◌≡◌, ◌+◌, Bool, true, false, List, [], ◌∷◌, ◌++◌, refl, ◌∙◌, arith}
 use Rattle.std.specs.Prelude.{⊤, IsFalse, IsTrue}
 use Rattle.ctrl_msg.specs.declared.message.Body.{Body}
@@ -29,6 +30,7 @@ use Rattle.control_laws.proofs.Traffic.{Change, link_change, IsChange, IsTraffic
 abbrev pub IsPlain : List Item → Item → Type 0
 IsPlain before (item.Delivered number) = ⊥
 IsPlain before (item.Booted s boot) = ⊥
+IsPlain before (item.Forgotten number) = IsTrue (is_deliverable before number)
 IsPlain before _ = ⊤
 
 abbrev pub Plain : List Item → List Item → Type 0
@@ -63,6 +65,7 @@ control_is : (before : List Item) (next : Item) → IsControl before next → Is
 control_is before (item.Delivered number) is = absurd is
 control_is before (item.Booted s boot) is = absurd is
 control_is before (item.Stuck i s cause leg down) is = absurd is
+control_is before (item.Forgotten number) is = absurd is
 control_is before _ is = tt
 
 control_aside : (journal items : List Item) → Control journal items → Aside journal items
@@ -78,6 +81,7 @@ change_is : (setting : Setting) (before : List Item) (next : Item) → IsChange 
 change_is setting before (item.Delivered number) is = absurd is
 change_is setting before (item.Booted s boot) is = absurd is
 change_is setting before (item.Stuck i s cause leg down) is = absurd is
+change_is setting before (item.Forgotten number) is = absurd is
 change_is setting before _ is = tt
 
 change_aside : (setting : Setting) (journal items : List Item) → Change setting journal items
@@ -93,6 +97,7 @@ traffic_is : (setting : Setting) (before : List Item) (next : Item)
     → IsTraffic setting before next → IsPlain before next
 traffic_is setting before (item.Delivered number) is = absurd is
 traffic_is setting before (item.Booted s boot) is = absurd is
+traffic_is setting before (item.Forgotten number) is = is
 traffic_is setting before _ is = tt
 
 -- ---- deliveries
@@ -125,7 +130,14 @@ lose_aside packet journal = grind arith
 
 forget_aside : (number : ℕ) (journal : List Item) → Aside journal (forget_items number journal)
 unfolding forget_items
-forget_aside number journal = grind arith
+forget_aside number journal = by_test (is_deliverable journal number) refl
+  where
+    by_test : (b : Bool) → is_deliverable journal number ≡ b → Aside journal (elim b [
+      | false ↦ nothing
+      | true ↦ item.Forgotten number ∷ []
+    ])
+    by_test false e = (tt, tt)
+    by_test true e = (e, tt)
 
 expire_aside : (setting : Setting) (s place : ℕ) (journal : List Item)
     → Aside journal (expire_items setting s place journal)

@@ -51,7 +51,7 @@ sent_as journal message sent =
       is = subst (λ y. IsIn y (sendings journal)) same sent.is;
     }
 
-sendings_on : (journal items : List Item) (x : Sending) → IsIn x (sendings journal)
+pub sendings_on : (journal items : List Item) (x : Sending) → IsIn x (sendings journal)
     → IsIn x (sendings (journal ++ items))
 sendings_on journal [] x is = subst (λ now. IsIn x (sendings now)) (sym (append-nil journal)) is
 sendings_on journal (next ∷ items) x is =
@@ -425,7 +425,7 @@ pub record WasHeard (bodies : List Body) (of : Body) : Type 0 where
   pub says : (body ≡ of) ⊎ IsTrue (is_later_body body of)
 
 -- a message to a switch that carries its boot was sent in that boot
-own_boot : (journal : List Item) (s boot : ℕ) (x : Sending) → SwitchCourse journal s x
+pub own_boot : (journal : List Item) (s boot : ℕ) (x : Sending) → SwitchCourse journal s x
     → body_boot x.message.body ≡ Some boot → boot ≡ boot_of journal s → x.boot ≡ boot
 own_boot journal s boot x course of own =
     let past : boot ≤ x.boot = subst (λ o. IfSome o (λ b. b ≤ x.boot)) of course.past in

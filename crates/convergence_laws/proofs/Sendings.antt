@@ -1,7 +1,7 @@
 -- What became of each message that was sent: it has the number under which it was sent, and if it
 -- was delivered to a switch in the boot in which it was sent, or to the controller, it was heard.
 use Rattle.std.proofs.Common.{ℕ, ◌≡◌, ◌+◌, ◌≤◌, ◌<◌, ◌⊎◌, ◌==◌, ◌&&◌, ◌||◌, Bool, true, false, if◌then◌else◌, Option, Some, None, List, [], ◌∷◌, ◌++◌, refl, ap, sym, subst, ◌∙◌, append-nil, append_assoc, arith, inl, inr}
-use Rattle.std.specs.Prelude.{⊤, IfSome, IsTrue, IsFalse, nat_lt, not, is_some}
+use Rattle.std.specs.Prelude.{⊤, IfSome, IsTrue, IsFalse, not, is_some}
 use Rattle.std.specs.List.{AllByRecursion}
 use Rattle.std.specs.Option.{option_map_or}
 use Rattle.std.proofs.lemmas.Bool.{eq-eqb, eqb-true}
@@ -17,9 +17,8 @@ use Rattle.journal.specs.declared.item.Item.{Item}
 use Rattle.journal.specs.declared.item.Item.TheVariants as item
 use Rattle.update_machine.specs.Boots.{boot_of, heard, is_for_boot, is_up, body_to_switch}
 use Rattle.update_machine.specs.Causes.{HaveCauses}
-use Rattle.update_machine.specs.Folds.{count_of}
 use Rattle.update_machine.specs.Marks.{controller_heard, body_to_controller}
-use Rattle.update_machine.specs.Messages.{is_deliverable, is_delivery, is_forgotten, is_sending, next_message, send_items, sent_from, was_delivered}
+use Rattle.update_machine.specs.Messages.{is_deliverable, is_delivery, is_forgetting, is_forgotten, is_sending, next_message, send_items, sent_from, was_delivered}
 use Rattle.update_machine.specs.Numbers.{TakesNext}
 use Rattle.update_machine.specs.Sendings.{Sending, boot_at, changes_sendings, sendings}
 use Rattle.update_machine.specs.Setting.{Setting}
@@ -29,7 +28,7 @@ use Rattle.update_machine.proofs.CallerLemmas.{PiecesHave, count_of_append, fold
 use Rattle.control_laws.specs.ItemCauses.{HasItemCause}
 use Rattle.control_laws.proofs.Boots.{boot_rises}
 use Rattle.control_laws.proofs.Facts.{AreKept, Both, fact_on, have_both}
-use Rattle.control_laws.proofs.Grown.{boot_more, counted_more, heard_more, message_more, told_more}
+use Rattle.control_laws.proofs.Grown.{boot_more, counted_more, heard_more, message_more, some_more, told_more}
 use Rattle.control_laws.proofs.Pieces as boots
 use Rattle.control_laws.proofs.Sends.{each_append}
 use Rattle.control_laws.proofs.Openings.{IsKnown, known_at_first, known_kept}
@@ -117,29 +116,24 @@ next_more : (before : List Item) (next : Item) → next_message (before ++ next 
 unfolding next_message
 next_more before next = counted_more is_sending before next
 
-next_first : (journal : List Item) → 1 ≤ next_message journal
+pub next_first : (journal : List Item) → 1 ≤ next_message journal
 unfolding next_message
 next_first journal = omega arith
 
 pub delivered_more : (before : List Item) (next : Item) (n : ℕ)
     → was_delivered (before ++ next ∷ []) n ≡ (is_delivery n next || was_delivered before n)
 unfolding was_delivered
-delivered_more before next n = by_test (is_delivery n next) refl
-  where
-    by_test : (b : Bool) → is_delivery n next ≡ b
-        → nat_lt 0 (count_of (is_delivery n) (before ++ next ∷ []))
-        ≡ (b || nat_lt 0 (count_of (is_delivery n) before))
-    by_test true e =
-        let one : count_of (is_delivery n) (next ∷ []) ≡ 1 = rw e refl in
-        let more : 0 < count_of (is_delivery n) (before ++ next ∷ []) =
-        omega (arith, one, count_of_append (is_delivery n) before (next ∷ [])) in
-        grind (arith, nat_tests)
-    by_test false e =
-        let none : count_of (is_delivery n) (next ∷ []) ≡ 0 = rw e refl in
-        let same : count_of (is_delivery n) (before ++ next ∷ [])
-        ≡ count_of (is_delivery n) before =
-        omega (arith, none, count_of_append (is_delivery n) before (next ∷ [])) in
-        ap (nat_lt 0) same
+delivered_more before next n = some_more (is_delivery n) before next
+
+pub forgotten_more : (before : List Item) (next : Item) (n : ℕ)
+    → is_forgotten (before ++ next ∷ []) n ≡ (is_forgetting n next || is_forgotten before n)
+unfolding is_forgotten
+forgotten_more before next n = some_more (is_forgetting n) before next
+
+-- numbers of messages never fall
+pub next_grows : (journal items : List Item) → next_message journal ≤ next_message (journal ++ items)
+unfolding next_message
+next_grows journal items = omega (arith, count_of_append is_sending journal items)
 
 -- ---- what becomes of a message
 
@@ -163,23 +157,26 @@ pub record IsTraced (journal : List Item) (x : Sending) : Type 0 where
   pub message : message_of journal x.number ≡ Some x.message
   pub course : Course journal x.message.to x
 
--- all messages are so, and none was delivered that wasn't sent
+-- all messages are so, and none was delivered or forgotten that wasn't sent
 pub record AreTraced (journal : List Item) : Type 0 where
   pub known : IsKnown journal
   pub sent : (n : ℕ) (message : Message) → message_of journal n ≡ Some message
       → n < next_message journal
   pub delivered : (n : ℕ) → IsTrue (was_delivered journal n) → n < next_message journal
+  pub forgotten : (n : ℕ) → IsTrue (is_forgotten journal n) → n < next_message journal
   pub each : AllByRecursion (IsTraced journal) (sendings journal)
 
 -- ---- causes
 
--- what is delivered was sent
+-- what is delivered or forgotten was sent
 abbrev pub IsSentFirst : List Item → Item → Type 0
 IsSentFirst before (item.Delivered number) =
     (message : Message) × (message_of before number ≡ Some message)
+IsSentFirst before (item.Forgotten number) =
+    (message : Message) × (message_of before number ≡ Some message)
 IsSentFirst before _ = ⊤
 
-deliverable_sent : (journal : List Item) (number : ℕ) → is_deliverable journal number ≡ true
+pub deliverable_sent : (journal : List Item) (number : ℕ) → is_deliverable journal number ≡ true
     → (message : Message) × (message_of journal number ≡ Some message)
 unfolding is_deliverable
 deliverable_sent journal number is = by_message (message_of journal number) refl is
@@ -193,6 +190,7 @@ deliverable_sent journal number is = by_message (message_of journal number) refl
 plain_sent_first : (before : List Item) (next : Item) → plain.IsPlain before next
     → IsSentFirst before next
 plain_sent_first before (item.Delivered number) is = absurd is
+plain_sent_first before (item.Forgotten number) is = deliverable_sent before number is
 plain_sent_first before _ is = tt
 
 sent_first_others : plain.HasOthers IsSentFirst
@@ -202,7 +200,8 @@ sent_first_others = record {
   booted = λ journal s down. tt;
 }
 
--- the causes of items, that they take the next numbers, and that what is delivered was sent
+-- the causes of items, that they take the next numbers, and that what is delivered or forgotten was
+-- sent
 abbrev pub IsInOrder : Setting → List Item → Item → Type 0
 IsInOrder setting = Both (HasItemCause setting) (Both TakesNext IsSentFirst)
 
@@ -446,11 +445,31 @@ delivered_below setting before next n cause are is =
     let was : IsTrue (was_delivered before n) = rw (delivered_more before next n) at is in
     omega (arith, are.delivered n was, next_rises before next)
 
+forgotten_below : (setting : Setting) (before : List Item) (next : Item) (n : ℕ)
+    → IsInOrder setting before next → AreTraced before
+    → IsTrue (is_forgotten (before ++ next ∷ []) n) → n < next_message (before ++ next ∷ [])
+forgotten_below setting before (item.Forgotten number) n cause are is =
+    by_test (number == n) refl (rw (forgotten_more before (item.Forgotten number) n) at is)
+  where
+    next : Item
+    next = item.Forgotten number
+
+    by_test : (b : Bool) → (number == n) ≡ b → IsTrue (b || is_forgotten before n)
+        → n < next_message (before ++ next ∷ [])
+    by_test true e was =
+        let sent = cause.second.second in
+        omega (arith, are.sent number sent.0 sent.1, eqb-true number n e, next_rises before next)
+    by_test false e was = omega (arith, are.forgotten n was, next_rises before next)
+forgotten_below setting before next n cause are is =
+    let was : IsTrue (is_forgotten before n) = rw (forgotten_more before next n) at is in
+    omega (arith, are.forgotten n was, next_rises before next)
+
 pub traced_kept : (setting : Setting) → AreKept (IsInOrder setting) AreTraced
 traced_kept setting before next cause are = record {
   known = known_kept setting before next cause.first are.known;
   sent = λ n message is. sent_below setting before next n message cause are is;
   delivered = λ n is. delivered_below setting before next n cause are is;
+  forgotten = λ n is. forgotten_below setting before next n cause are is;
   each = rw (sendings_more before next)
       (each_append (IsTraced (before ++ next ∷ [])) (sendings before) (sent_by before next)
       (each_weaker (IsTraced before) (IsTraced (before ++ next ∷ []))
@@ -459,12 +478,13 @@ traced_kept setting before next cause are = record {
 }
 
 pub traced_at_first : AreTraced []
-unfolding was_delivered
+unfolding was_delivered is_forgotten
 traced_at_first = record {
   known = known_at_first;
   sent = λ n message is.
       let none : None ≡ Some message = rw (start_laws.message n).message at is in absurd cc;
   delivered = λ n is. let no : false ≡ true = is in absurd cc;
+  forgotten = λ n is. let no : false ≡ true = is in absurd cc;
   each = subst (AllByRecursion (IsTraced [])) (sym start_laws.sent) tt;
 }
 

@@ -35,8 +35,8 @@ use Rattle.control_laws.proofs.Traffic.{KnowsNoRoute}
 use Rattle.convergence_laws.specs.Converged.{AreUnusable, Reaches}
 use Rattle.convergence_laws.specs.Stuck.{GetStuckApart}
 use Rattle.convergence_laws.proofs.Changed.{near_back}
-use Rattle.convergence_laws.proofs.Converged.{AreQuiet}
-use Rattle.convergence_laws.proofs.KnownLinks.{quiet_converged}
+use Rattle.convergence_laws.proofs.Converged.{AreAgreed}
+use Rattle.convergence_laws.proofs.KnownLinks.{agreed_converged}
 use Rattle.convergence_laws.proofs.Plain.{HasOthers, IsAside, others_have}
 use Rattle.convergence_laws.proofs.Walks.{Walk, Walks, hop_walk, packet_walk}
 
@@ -257,7 +257,7 @@ stays_itself setting journal i none = record {
 
 -- ---- steps
 
-walk_apart : (setting : Setting) (journal : List Item) → AreQuiet setting journal
+walk_apart : (setting : Setting) (journal : List Item) → AreAgreed setting journal
     → (items front rest : List Item) (i s : ℕ) (cause : Cause) (leg : Leg) (down : List ℕ)
     → Walk setting journal items → items ≡ front ++ item.Stuck i s cause leg down ∷ rest
     → found_down journal i ≡ no_links → HasSwitch setting.net s
@@ -271,7 +271,7 @@ walk_apart setting journal are items front rest i s cause leg down walk is none 
     (have_front (Walks setting) journal front _ whole) (stays_itself setting journal i none) in
     let knows : KnowsNoRoute setting (journal ++ front) i s leg down =
     (have_rest (Walks setting) journal front _ whole).0 in
-    (quiet_converged setting journal are).stuck s (targets_of setting journal leg) down there
+    (agreed_converged setting journal are).stuck s (targets_of setting journal leg) down there
     (subst (AreUnusable setting journal) (sym knows.found) stays.found)
     (sym (stays.routes s (targets_of setting journal leg) down)
     ∙ ap (λ targets. route_from setting (journal ++ front) s targets down) (sym (stays.targets leg))
@@ -294,7 +294,7 @@ step_kinds setting before row (Hop i) = inl (hop_walk setting i _)
 step_kinds setting before row step =
     inr (others_have IsNoEnd ends_none setting before row step refl)
 
-pub stuck_reaches_none : (setting : Setting) (journal : List Item) → AreQuiet setting journal
+pub stuck_reaches_none : (setting : Setting) (journal : List Item) → AreAgreed setting journal
     → GetStuckApart setting journal
 unfolding piece
 stuck_reaches_none setting journal are row step front rest i s cause leg down is none there =

@@ -1,6 +1,6 @@
 -- The definitions by which the laws of this crate speak, passed on from the files that define them.
 pub use Rattle.convergence_laws.specs.Converged.{HasConverged}
 pub use Rattle.convergence_laws.specs.Finished.{EndsFinished, IsFinished}
-pub use Rattle.convergence_laws.specs.News.{NewsSpreads}
+pub use Rattle.convergence_laws.specs.News.{NeighboursAgree, NewsSpreads}
 pub use Rattle.convergence_laws.specs.Stuck.{GetStuckApart}
 pub use Rattle.convergence_laws.specs.Updated.{IsUpdated}

@@ -40,3 +40,10 @@ NewsSpreads setting journal = (s neighbour origin : ℕ) (advert : Advert)
     → IsTrue (has (near setting journal s) neighbour) → origin < 64
     → advert_known setting journal s origin ≡ Some advert
     → HoldsAsNew setting journal neighbour advert ⊎ IsSentAsNew journal neighbour advert
+
+-- over a link that can be used each end holds adverts at least as new as those of the other end
+abbrev pub NeighboursAgree : Setting → List Item → Type 0
+NeighboursAgree setting journal = (s neighbour origin : ℕ) (advert : Advert)
+    → IsTrue (has (near setting journal s) neighbour) → origin < 64
+    → advert_known setting journal s origin ≡ Some advert
+    → HoldsAsNew setting journal neighbour advert

@@ -3,12 +3,27 @@ ghost use Rattle.std.specs.Prelude.{List};
 ghost use Rattle.net_file.specs.Net.{IsNet};
 ghost use Rattle.update_machine.specs.Exports.{Event, IsQuiet, Item, Setting};
 ghost use Rattle.control_laws.specs.Always.{HoldsAtEnds, HoldsBehindItems};
-ghost use Rattle.convergence_laws.specs.Exports.{EndsFinished, GetStuckApart, HasConverged, IsFinished, IsUpdated, NewsSpreads};
+ghost use Rattle.convergence_laws.specs.Exports.{EndsFinished, GetStuckApart, HasConverged, IsFinished, IsUpdated, NeighboursAgree, NewsSpreads};
 
 /// Over each link that can be used, each end holds adverts at least as new as those of the other
 /// end, or one was sent to it in its present boot: at the end of each step, quiet or not.
 pub fn news_spreads()
     ensures { HoldsAtEnds (λ setting journal. IsNet setting.net → NewsSpreads setting journal) }
+{}
+
+/// In a quiet network neighbours agree: over each link that can be used, each end holds adverts at
+/// least as new as those of the other end.
+pub fn quiet_neighbours_agree()
+    ensures { HoldsAtEnds (λ setting journal.
+        IsNet setting.net → IsQuiet setting journal → NeighboursAgree setting journal) }
+{}
+
+/// Where neighbours agree the network has converged: each switch holds the own advert of each
+/// switch that it reaches over links that can be used; so of the links that end where it reaches it
+/// knows exactly those that can be used, and it finds no route only where it reaches no target.
+pub fn agreeing_networks_have_converged()
+    ensures { HoldsAtEnds (λ setting journal.
+        IsNet setting.net → NeighboursAgree setting journal → HasConverged setting journal) }
 {}
 
 /// In a quiet network each switch holds the own advert of each switch that it reaches over links
@@ -19,10 +34,12 @@ pub fn quiet_networks_have_converged()
         IsNet setting.net → IsQuiet setting journal → HasConverged setting journal) }
 {}
 
-/// In a quiet network a step makes a packet that had found no link down stuck only where no target
-/// of its leg is reached over links that can be used.
+/// Where neighbours agree, as in a quiet network, a step makes a packet that had found no link down
+/// stuck only where no target of its leg is reached over links that can be used.
 pub fn packets_get_stuck_apart()
-    ensures { HoldsAtEnds (λ setting journal.
+    ensures agreed { HoldsAtEnds (λ setting journal.
+        IsNet setting.net → NeighboursAgree setting journal → GetStuckApart setting journal) }
+    ensures quiet { HoldsAtEnds (λ setting journal.
         IsNet setting.net → IsQuiet setting journal → GetStuckApart setting journal) }
 {}
 

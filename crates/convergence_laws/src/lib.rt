@@ -1,4 +1,5 @@
-//! What holds of a quiet network: laws over journals of any steps.
+//! What holds of a quiet network, and of one whose neighbours agree: laws over journals of any
+//! steps.
 //!
 //! No code: each function stands for the law that it ensures.
 #![tactic(auto)]
@@ -6,6 +7,7 @@
 mod laws;
 
 pub use laws::{
-    finished_networks_are_quiet, flushed_networks_have_converged, news_spreads,
-    packets_get_stuck_apart, quiet_networks_are_updated, quiet_networks_have_converged,
+    agreeing_networks_have_converged, finished_networks_are_quiet, flushed_networks_have_converged,
+    news_spreads, packets_get_stuck_apart, quiet_neighbours_agree, quiet_networks_are_updated,
+    quiet_networks_have_converged,
 };

@@ -45,6 +45,19 @@ both_between One Other Holds follow one other = record {
       (other.played setting events journal full own play n);
 }
 
+-- ---- journals of networks that have converged
+
+abbrev ForwardsBy : Setting → List Item → Type 0
+ForwardsBy setting journal = IsSetting setting → HasConverged setting journal
+    → IsUpdated setting journal → QuietForwards setting journal
+
+pub converged_forward : HoldsBetween ForwardsBy
+converged_forward = between
+    (λ setting journal. HasConverged setting journal → IsUpdated setting journal
+    → QuietForwards setting journal)
+    (λ setting journal is settled converged updated. forwards setting journal is settled converged
+    updated)
+
 -- ---- quiet journals
 
 abbrev Converges : Setting → List Item → Type 0
@@ -57,9 +70,6 @@ Updates setting journal = IsQuiet setting journal → IsUpdated setting journal
 abbrev Parts : Setting → List Item → Type 0
 Parts setting journal =
     IsNet setting.net → IsQuiet setting journal → GetStuckApart setting journal
-
-abbrev Settles : Setting → List Item → Type 0
-Settles setting journal = IsSetting setting → IsSettled setting journal
 
 abbrev Forwards : Setting → List Item → Type 0
 Forwards setting journal = IsSetting setting → IsQuiet setting journal → QuietForwards setting journal
@@ -75,12 +85,12 @@ known_between converge update =
     both_between Converges Updates Known (λ setting journal converges updates. (converges, updates))
     (ends_between Converges converge) (ends_between Updates update)
 
-pub quiet_forwards : HoldsAtEnds Converges → HoldsAtEnds Updates → HoldsBetween Forwards
-quiet_forwards converge update =
-    both_between Settles Known Forwards
-    (λ setting journal settles known is quiet. forwards setting journal is (settles is)
-    (known.0 is.net quiet) (known.1 quiet))
-    (between IsSettled (λ setting journal is settled. settled)) (known_between converge update)
+pub quiet_forwards : HoldsAtEnds Converges → HoldsAtEnds Updates → HoldsBetween ForwardsBy
+    → HoldsBetween Forwards
+quiet_forwards converge update forward =
+    both_between ForwardsBy Known Forwards
+    (λ setting journal forwards known is quiet. forwards is (known.0 is.net quiet) (known.1 quiet))
+    forward (known_between converge update)
 
 pub comes_to_rest : HoldsAtEnds Converges → HoldsAtEnds Parts → HoldsAtEnds Updates
     → HoldsBetween Forwards → HoldsBetween Rests

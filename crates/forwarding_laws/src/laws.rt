@@ -1,5 +1,6 @@
 //! The laws.
 ghost use Rattle.update_machine.specs.Exports.{IsQuiet, IsSetting};
+ghost use Rattle.convergence_laws.specs.Exports.{HasConverged, IsUpdated};
 ghost use Rattle.packet_laws.specs.Exports.{HoldsBetween};
 ghost use Rattle.forwarding_laws.specs.Exports.{HasComeToRest, QuietForwards};
 
@@ -7,16 +8,23 @@ use convergence_laws::{
     packets_get_stuck_apart, quiet_networks_are_updated, quiet_networks_have_converged,
 };
 
-/// A quiet network forwards: a packet that comes in at a switch that is up, and is drained with no
-/// other event between, is decided by the newest version, and is dropped or leaves by its port;
-/// unless no target of its partition, or not the switch of its port, is reached over links that can
-/// be used, and then it is stuck.
+/// A network that has converged and is updated forwards: a packet that comes in at a switch that is
+/// up, and is drained with no other event between, is decided by the newest version, and is dropped
+/// or leaves by its port; unless no target of its partition, or not the switch of its port, is
+/// reached over links that can be used, and then it is stuck.
+pub fn converged_networks_forward()
+    ensures { HoldsBetween (λ setting journal. IsSetting setting → HasConverged setting journal
+        → IsUpdated setting journal → QuietForwards setting journal) }
+{}
+
+/// So does a quiet network.
 pub fn quiet_networks_forward()
     ensures { HoldsBetween (λ setting journal.
         IsSetting setting → IsQuiet setting journal → QuietForwards setting journal) }
 {
     quiet_networks_have_converged();
     quiet_networks_are_updated();
+    converged_networks_forward();
 }
 
 /// So a quiet network has come to rest: it has converged and is updated, and it forwards.

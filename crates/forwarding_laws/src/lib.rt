@@ -6,4 +6,6 @@
 
 mod laws;
 
-pub use laws::{quiet_networks_forward, quiet_networks_have_come_to_rest};
+pub use laws::{
+    converged_networks_forward, quiet_networks_forward, quiet_networks_have_come_to_rest,
+};

@@ -1,8 +1,7 @@
 -- The bag of a world has the frames of the messages that its journal says.
-use Rattle.std.proofs.Common.{ℕ, zero, suc, ◌≡◌, ◌+◌, ◌<◌, ◌≤◌, ◌==◌, Bool, true, false, if◌then◌else◌, Option, Some, None, List, [], ◌∷◌, ◌++◌, refl, ap, sym, subst, ◌∙◌, length, length-append, append-nil, append_assoc, zero-add, arith, eq-eqb, eqb-true, ne_eqb}
-use Rattle.std.specs.Prelude.{⊤, ◌||◌, IsFalse, is_some, nat_lt, option_map, slice_get}
+use Rattle.std.proofs.Common.{ℕ, zero, suc, ◌≡◌, ◌+◌, ◌<◌, ◌≤◌, ◌==◌, Bool, true, false, if◌then◌else◌, Option, Some, None, List, [], ◌∷◌, ◌++◌, refl, ap, sym, subst, ◌∙◌, length, length-append, append-nil, append_assoc, arith, eq-eqb, eqb-true, ne_eqb}
+use Rattle.std.specs.Prelude.{⊤, ◌||◌, IsFalse, is_some, option_map, slice_get}
 use Rattle.std.specs.Option.{option_and_then, option_or}
-use Rattle.std.proofs.lemmas.Bool.Decides.{nat_tests}
 use Rattle.std.proofs.lemmas.Option.{slice_get_within}
 use Rattle.message_bag.specs.Numbered.{item_numbered, with_changed}
 use Rattle.message_bag.specs.Posts.{Post, posted_frames, frames_posted, is_post_deliverable, new_post, remembered_frames, with_delivered, with_forgotten}
@@ -16,6 +15,7 @@ use Rattle.update_machine.specs.Laws.{MessageKeeps}
 use Rattle.update_machine.specs.Messages.{is_forgotten, is_forgetting, is_delivery, is_sending, next_message, was_delivered}
 use Rattle.update_machine.specs.Links.{message_of, gives_message}
 use Rattle.update_machine.proofs.CallerLemmas.{count_of_append, last_given_append, fewer, message_keeps, messages_keep, start_laws, each_silent, next_sent}
+use Rattle.control_laws.proofs.Grown.{some_more}
 use Rattle.refinement.specs.Bags.{IsBagOf, post_in}
 
 -- ---- items that concern no message
@@ -54,19 +54,6 @@ other_number : (n k : ℕ) → (n == k) ≡ false → (k == n) ≡ false
 other_number n k apart = ne_eqb k n (λ same. let yes : (n == k) ≡ true = eq-eqb n k (sym same) in
     cc)
 
--- an item of its kind raises a flag, and any other one leaves it
-flag_on : (test : Item → Bool) (before : List Item) (item : Item)
-    → nat_lt 0 (count_of test (before ++ item ∷ []))
-    ≡ (test item || nat_lt 0 (count_of test before))
-flag_on test before item = by_test (test item) refl
-  where
-    by_test : (b : Bool) → test item ≡ b → nat_lt 0 (count_of test (before ++ item ∷ []))
-        ≡ (b || nat_lt 0 (count_of test before))
-    by_test b is =
-        let one : count_of test (item ∷ []) ≡ (if b then 1 else 0) = rw is (zero-add _) in
-        let more = count_of_append test before (item ∷ []) in
-        grind (arith, nat_tests)
-
 -- ---- a message is sent
 
 sent_facts : (before : List Item) (n : ℕ) (message : Message)
@@ -88,8 +75,8 @@ sent_post n before posts message true is bag =
     rw (
       same,
       sent_facts before k message,
-      flag_on (is_delivery k) before (item.Sent k message),
-      flag_on (is_forgetting k) before (item.Sent k message),
+      some_more (is_delivery k) before (item.Sent k message),
+      some_more (is_forgetting k) before (item.Sent k message),
       bag.undelivered k (omega arith),
       bag.remembered k (omega arith),
     ) refl
@@ -210,8 +197,8 @@ bag_flagged change k before posts item apart untold unsent flags posted_it bag =
       rw (
         last_given_append (gives_message k) before (item ∷ []),
         untold,
-        flag_on (is_delivery k) before item,
-        flag_on (is_forgetting k) before item,
+        some_more (is_delivery k) before item,
+        some_more (is_forgetting k) before item,
       ) (by_told (message_of before k)),
     ) posted_it (omega (arith, none, count_of_append is_sending before (item ∷ []))) bag
   where

@@ -1,5 +1,5 @@
-use Rattle.convergence_laws.proofs.Told.{converged_at_ends}
+use Rattle.convergence_laws.proofs.Told.{quiet_converged}
 use Rattle.convergence_laws.proofs.laws.quiet_networks_have_converged.Goals as goal
 
 pub returns : goal.returns
-returns c = converged_at_ends
+returns c = quiet_converged

@@ -1,0 +1,5 @@
+use Rattle.recovery_laws.proofs.Recovers.{flushed_all}
+use Rattle.recovery_laws.proofs.laws.flushes_deliver_all.Goals as goal
+
+pub returns : goal.returns
+returns c = flushed_all

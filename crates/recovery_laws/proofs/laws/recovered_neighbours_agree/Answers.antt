@@ -1,0 +1,5 @@
+use Rattle.recovery_laws.proofs.Recovers.{recovered_neighbours}
+use Rattle.recovery_laws.proofs.laws.recovered_neighbours_agree.Goals as goal
+
+pub returns : goal.returns
+returns c = recovered_neighbours

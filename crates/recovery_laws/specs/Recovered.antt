@@ -1,0 +1,26 @@
+-- What recovery leaves.
+use Rattle.std.specs.Prelude.{ℕ, ◌≡◌, ◌≤◌, ◌⊎◌, Some, List, IsTrue}
+use Rattle.ctrl_msg.specs.declared.message.Message.{Message}
+use Rattle.journal.specs.declared.item.Item.{Item}
+use Rattle.update_machine.specs.Links.{message_of}
+use Rattle.update_machine.specs.Messages.{is_forgotten, was_delivered}
+use Rattle.update_machine.specs.Setting.{Setting}
+use Rattle.convergence_laws.specs.Converged.{HasConverged}
+use Rattle.convergence_laws.specs.Stuck.{GetStuckApart}
+use Rattle.convergence_laws.specs.Updated.{IsUpdated}
+use Rattle.forwarding_laws.specs.Forwards.{QuietForwards}
+
+-- each message that was sent was delivered, or was forgotten
+abbrev pub AllDelivered : List Item → Type 0
+AllDelivered journal = (n : ℕ) (message : Message) → message_of journal n ≡ Some message
+    → IsTrue (was_delivered journal n) ⊎ IsTrue (is_forgotten journal n)
+
+-- the switches know the links that can be used, a step makes a packet that had found no link down
+-- stuck only where no target is reached, the switches that are up stamp with the newest version,
+-- and a packet that comes in then is forwarded by it. The network need not be quiet: what was lost
+-- before may matter still, as an advert for a switch to which no link leads any more
+pub record HasRecovered (setting : Setting) (journal : List Item) : Type 0 where
+  pub converged : HasConverged setting journal
+  pub apart : GetStuckApart setting journal
+  pub updated : IsUpdated setting journal
+  pub forwards : QuietForwards setting journal

@@ -1,0 +1,57 @@
+//! The laws.
+ghost use Rattle.std.specs.Prelude.{◌∷◌, ◌++◌, [], List};
+ghost use Rattle.net_file.specs.Net.{IsNet};
+ghost use Rattle.update_machine.specs.Exports.{Answers, Event, IsSetting, Item, Setting};
+ghost use Rattle.steps.specs.declared.step.Event.TheVariants.{Flush};
+ghost use Rattle.control_laws.specs.Always.{AreEvents};
+ghost use Rattle.convergence_laws.specs.Exports.{HasConverged, IsUpdated, NeighboursAgree};
+ghost use Rattle.recovery_laws.specs.Recovered.{AllDelivered, HasRecovered};
+ghost use Rattle.recovery_laws.specs.Recovery.{EndsInRecovery};
+
+use convergence_laws::{agreeing_networks_have_converged, packets_get_stuck_apart};
+use forwarding_laws::converged_networks_forward;
+
+/// Behind a flush each message that was sent was delivered, or was forgotten.
+pub fn flushes_deliver_all()
+    ensures { (setting : Setting) (events : List Event) (journal : List Item)
+        → Answers setting (events ++ Flush ∷ []) journal → AllDelivered journal }
+{}
+
+/// Behind recovery neighbours agree: over each link that can be used, each end holds adverts at
+/// least as new as those of the other end.
+pub fn recovered_neighbours_agree()
+    ensures { (setting : Setting) (events : List Event) (journal : List Item)
+        → IsNet setting.net → EndsInRecovery setting.net events
+        → Answers setting events journal → NeighboursAgree setting journal }
+{}
+
+/// So behind recovery the network has converged on the links that can be used.
+pub fn recovered_networks_have_converged()
+    ensures { (setting : Setting) (events : List Event) (journal : List Item)
+        → IsNet setting.net → EndsInRecovery setting.net events
+        → Answers setting events journal → HasConverged setting journal }
+{
+    agreeing_networks_have_converged();
+    recovered_neighbours_agree();
+}
+
+/// Behind recovery every switch that is up serves and stamps with the newest version, which is the
+/// current one, and each version before it is retired.
+pub fn recovered_networks_are_updated()
+    ensures { (setting : Setting) (events : List Event) (journal : List Item)
+        → EndsInRecovery setting.net events → Answers setting events journal
+        → IsUpdated setting journal }
+{}
+
+/// Whatever was lost, repeated or reordered, and whatever failed: where a schedule ends with the
+/// confirmation of each switch, a resend of each switch and a flush, the network has converged on
+/// the links that can be used and on the newest version, and forwards.
+pub fn networks_recover()
+    ensures { (setting : Setting) (events : List Event) (journal : List Item)
+        → IsSetting setting → AreEvents setting events → EndsInRecovery setting.net events
+        → Answers setting events journal → HasRecovered setting journal }
+{
+    agreeing_networks_have_converged();
+    packets_get_stuck_apart();
+    converged_networks_forward();
+}
