@@ -24,9 +24,9 @@ const HALF: u128 = 1 << 64;
 /// differs from the header, and none of the bits below by which it does stays fixed: that rule is
 /// the bit's reason.
 ///
-/// The bits are found from above. As long as the fixed bits leave a word that meets an earlier
-/// rule, the highest bit by which this one differs is fixed too, and those whose reasons have that
-/// bit are no longer.
+/// As long as the word of the fixed bits meets an earlier rule, the highest bit by which that rule
+/// differs is fixed too, and the bits whose reasons have it no longer are. Each time the bits come
+/// later in an order in which the lowest bit counts most, so this ends.
 pub fn widen(h: &Header, region: &Word, rules: &[Rule], index: u32) -> Word
     requires region { IsTrue (holds region.now (number_of h.now)) }
     requires first_hit { position (is_held (number_of h.now)) rules.now ≡ Some index }
