@@ -1,4 +1,5 @@
 pub mod Differing
+pub mod FixedBits
 pub mod Independence
-pub mod Turns
+pub mod Searching
 pub mod Widening

@@ -1,6 +1,5 @@
 -- The bits by which rules differ from a header.
-use Rattle.std.specs.Prelude.{ℕ, ◌≡◌, ◌==◌, ◌<◌, Bool, bit_and, bit_xor, List, All}
-use Rattle.std.specs.List.{list_any}
+use Rattle.std.specs.Prelude.{ℕ, ◌≡◌, ◌==◌, ◌<◌, ◌^◌, Bool, List, bit_and, bit_xor, get_or}
 use Rattle.std.specs.Int.{bit_at}
 use Rattle.ternary.specs.Word.{WordValue}
 use Rattle.policy_rules.specs.declared.rules.Rule.{Rule}
@@ -9,22 +8,16 @@ use Rattle.policy_rules.specs.declared.rules.Rule.{Rule}
 abbrev pub differing_bits : ℕ → WordValue → ℕ
 differing_bits h word = bit_and (bit_xor h word.value) word.mask
 
--- of the bits of n, k is the highest
-pub record IsHighest (n k : ℕ) : Type 0 where
-  pub set : bit_at n k ≡ 1
-  pub above : (j : ℕ) → k < j → bit_at n j ≡ 0
+-- the word that has these bits of h fixed meets the other: they don't tell them apart
+abbrev pub is_met : ℕ → ℕ → WordValue → Bool
+is_met h fixed word = bit_and (differing_bits h word) fixed == 0
 
--- among the fixed bits, some rule differs from h in these alone
-abbrev pub differs_alone : ℕ → ℕ → ℕ → List Rule → Bool
-differs_alone h fixed alone rules =
-    list_any (λ (rule : Rule). bit_and (differing_bits h rule.word) fixed == alone) rules
+abbrev pub rule_is_met : ℕ → ℕ → Rule → Bool
+rule_is_met h fixed rule = is_met h fixed rule.word
 
--- the mask has the highest bit by which the word differs from h, if it does in open bits alone
-abbrev pub HasHighest : ℕ → ℕ → ℕ → WordValue → Type 0
-HasHighest mask h open_bits word = (k : ℕ) → IsHighest (differing_bits h word) k
-    → bit_and (differing_bits h word) open_bits ≡ differing_bits h word → bit_at mask k ≡ 1
-
--- so it has that of each of the rules
-abbrev pub HaveHighest : ℕ → ℕ → ℕ → List Rule → Type 0
-HaveHighest mask h open_bits rules =
-    All (λ (rule : Rule). HasHighest mask h open_bits rule.word) rules
+-- of the fixed bits, those whose reasons don't have the bit b
+pub record IsWithout (fixed : ℕ) (reasons : List ℕ) (b stays : ℕ) : Type 0 where
+  pub small : stays < 2 ^ 104
+  pub gone : (n : ℕ) → bit_at stays n ≡ 1
+      → (bit_at fixed n ≡ 1) × (bit_at (get_or reasons n 0) b ≡ 0)
+  pub stay : (n : ℕ) → bit_at fixed n ≡ 1 → bit_at (get_or reasons n 0) b ≡ 0 → bit_at stays n ≡ 1

@@ -1,5 +1,4 @@
-ghost use Rattle.std.specs.Prelude.{ℕ, ◌≡◌, ◌^◌, ◌/◌, ◌%◌, ◌<◌, ◌==◌, ◌&&◌, bit_and, bit_xor, not, Some, All, position, IsTrue};
-ghost use Rattle.std.specs.Int.{bit_at, trailing_zeros, w128};
+ghost use Rattle.std.specs.Prelude.{ℕ, ◌≡◌, ◌^◌, ◌/◌, ◌%◌, ◌<◌, ◌≤◌, ◌==◌, bit_and, bit_xor, length, slice_get, Some, All, IfSome, IsFalse, IsNone, IsSomeAnd, IsTrue, position, replicate};
 ghost use Rattle.five_tuple.specs.Header.{number_of};
 ghost use Rattle.ternary.specs.Word.{holds};
 ghost use Rattle.ternary.specs.WordBits.{IsWord};
@@ -7,14 +6,11 @@ ghost use Rattle.ternary.specs.Meets.{is_fixed_of, free_of};
 ghost use Rattle.policy_rules.specs.Rules.{is_held};
 ghost use Rattle.policy_rules.specs.declared.rules.Rule.{Rule};
 ghost use Rattle.cache_maker.specs.Independent.{IsIndependent, widen};
-ghost use Rattle.cache_maker.specs.Differing.{HasHighest, HaveHighest, IsHighest, differing_bits, differs_alone};
+ghost use Rattle.cache_maker.specs.Differing.{IsWithout, differing_bits, is_met, rule_is_met};
 
 use five_tuple::Header;
 use policy_rules::Rule;
 use ternary::{Word, covers_laws, exact_laws, free_laws, meet_laws};
-
-/// The mask of all bits of a header's number.
-const ALL_BITS: u128 = (1 << 104) - 1;
 
 /// The least number that has bits in its upper half.
 const HALF: u128 = 1 << 64;
@@ -23,9 +19,14 @@ const HALF: u128 = 1 << 64;
 /// hold.
 ///
 /// From the header's own word each bit is freed in turn, from the lowest, where the freed word is
-/// still covered by the region and by the rule and meets no earlier rule: where both leave it free,
-/// and among the bits that are still fixed no earlier rule differs from the header in it alone.
-/// Such a rule has it as the last bit in which it differs, so all other bits are freed at once.
+/// still covered by the region and by the rule and meets no earlier rule. So a bit stays fixed
+/// where the region or the rule fixes it, or where it is the highest bit by which an earlier rule
+/// differs from the header, and none of the bits below by which it does stays fixed: that rule is
+/// the bit's reason.
+///
+/// As long as the word of the fixed bits meets an earlier rule, the highest bit by which that rule
+/// differs is fixed too, and the bits whose reasons have it no longer are. Each time the bits come
+/// later in an order in which the lowest bit counts most, so this ends.
 pub fn widen(h: &Header, region: &Word, rules: &[Rule], index: u32) -> Word
     requires region { IsTrue (holds region.now (number_of h.now)) }
     requires first_hit { position (is_held (number_of h.now)) rules.now ≡ Some index }
@@ -43,83 +44,69 @@ pub fn widen(h: &Header, region: &Word, rules: &[Rule], index: u32) -> Word
     free_laws();
     let number = h.number();
     let index = index as usize;
-    let free = free_bits(region, &rules[index].word);
+    let closed = region.mask() | rules[index].word.mask();
     let earlier = &rules[..index];
-    let last = last_differences(number, free, earlier);
-    let mut untested = free & last;
-    let mut fixed = (ALL_BITS ^ free) | untested;
-    while untested != 0 {
-        let bit = lowest_bit(untested);
-        if !differs_alone(number, fixed, bit, earlier) {
-            fixed ^= bit;
-        }
-        untested ^= bit;
+    let mut fixed = closed;
+    let mut reasons = no_reasons();
+    let mut from = 0;
+    while let Some(place) = next_met(number, fixed, earlier, from) {
+        let reason = differing(number, &earlier[place].word);
+        let bit = reason.ilog2();
+        fixed = without(fixed, &reasons, bit) | 1 << bit;
+        reasons[bit as usize] = reason;
+        from = place;
     }
     Word::new(number & fixed, fixed).unwrap()
 }
 
-// The bits that both words leave free.
-fn free_bits(region: &Word, rule: &Word) -> u128
-    ensures bits { (bit : ℕ) → bit < 104 → (bit_at result bit == 1)
-        ≡ (not (is_fixed_of region.now bit) && not (is_fixed_of rule.now bit)) }
-    ensures bound { result < 2 ^ 104 }
+fn no_reasons() -> [u128; 104]
+    ensures { result ≡ replicate 104 0 }
 {
-    ALL_BITS ^ (region.mask() | rule.mask())
+    [0; 104]
 }
 
-// The lowest bit of a number that isn't 0, alone.
-fn lowest_bit(n: u128) -> u128
-    requires { 0 < n }
-    ensures { result ≡ 2 ^ trailing_zeros w128 n }
+// The place of a rule that the word of these bits of the header meets, if there is one: they are
+// looked at from a place on, and then from the first.
+fn next_met(h: u128, fixed: u128, rules: &[Rule], from: usize) -> Option<usize>
+    requires { from ≤ length rules.now }
+    ensures met { IfSome result (λ place. (place < length rules.now)
+        × IsSomeAnd (slice_get rules.now place) (λ rule. IsTrue (rule_is_met h fixed rule))) }
+    ensures none { IsNone result → All (λ rule. IsFalse (rule_is_met h fixed rule)) rules.now }
 {
-    1 << n.trailing_zeros()
+    let (before, after) = rules.split_at(from);
+    match first_met(h, fixed, after) {
+        Some(place) => Some(from + place),
+        None => first_met(h, fixed, before),
+    }
 }
 
-// Whether some rule differs from the header, among these fixed bits, in this one alone.
-fn differs_alone(h: u128, fixed: u128, alone: u128, rules: &[Rule]) -> bool
-    ensures { result ≡ differs_alone h fixed alone rules.now }
+fn first_met(h: u128, fixed: u128, rules: &[Rule]) -> Option<usize>
+    ensures { result ≡ position (rule_is_met h fixed) rules.now }
 {
-    rules
-        .iter()
-        .any(|rule| differs_in(h, &rule.word, fixed, alone))
+    rules.iter().position(|rule| is_met(h, fixed, &rule.word))
 }
 
-// Whether the word differs from h, among these fixed bits, in these alone: the upper halves mostly
-// tell.
-fn differs_in(h: u128, word: &Word, fixed: u128, alone: u128) -> bool
-    ensures { result ≡ (bit_and (differing_bits h word.now) fixed == alone) }
+// Whether the word of these bits of the header meets another: the upper halves mostly tell.
+fn is_met(h: u128, fixed: u128, word: &Word) -> bool
+    ensures { result ≡ is_met h fixed word.now }
 {
-    upper_differing(h, word) & upper_half(fixed) == upper_half(alone)
-        && differs_so(
+    let upper = (upper_half(h) ^ upper_half(word.value())) & upper_half(word.mask());
+    upper & upper_half(fixed) == 0
+        && are_same(
             lower_half(h),
             lower_half(word.value()),
             lower_half(word.mask()),
             lower_half(fixed),
-            lower_half(alone),
         )
 }
 
-// Whether h differs from the value, in the bits of the mask that are fixed, in these alone. Where
-// this is inlined the compiler looks at both halves at once.
+// Whether h and the value are the same in the bits of the mask that are fixed. Where this is
+// inlined the compiler looks at both halves at once.
 #[inline(never)]
-fn differs_so(h: u64, value: u64, mask: u64, fixed: u64, alone: u64) -> bool
-    ensures { result ≡ (bit_and (bit_and (bit_xor h value) mask) fixed == alone) }
+fn are_same(h: u64, value: u64, mask: u64, fixed: u64) -> bool
+    ensures { result ≡ (bit_and (bit_and (bit_xor h value) mask) fixed == 0) }
 {
-    (h ^ value) & mask & fixed == alone
-}
-
-// The bits that the word fixes to another value than that of h.
-fn differing(h: u128, word: &Word) -> u128
-    ensures { result ≡ differing_bits h word.now }
-{
-    (h ^ word.value()) & word.mask()
-}
-
-// The upper half of them.
-fn upper_differing(h: u128, word: &Word) -> u64
-    ensures { result ≡ differing_bits h word.now / 2 ^ 64 }
-{
-    (upper_half(h) ^ upper_half(word.value())) & upper_half(word.mask())
+    (h ^ value) & mask & fixed == 0
 }
 
 fn upper_half(n: u128) -> u64
@@ -134,46 +121,29 @@ fn lower_half(n: u128) -> u64
     (n % HALF) as u64
 }
 
-// For each rule that differs from the header in free bits alone, the highest of them.
-fn last_differences(h: u128, free: u128, rules: &[Rule]) -> u128
-    requires { free < 2 ^ 104 }
-    ensures { HaveHighest result h free rules.now }
+// The bits that the word fixes to another value than that of h.
+fn differing(h: u128, word: &Word) -> u128
+    ensures { result ≡ differing_bits h word.now }
 {
-    let mut bits = 0;
-    for rule in rules {
-        bits = with_last(bits, h, free, &rule.word);
-    }
-    bits
+    (h ^ word.value()) & word.mask()
 }
 
-// These bits, and the highest one in which the word differs from h, if it does in free bits alone:
-// where the upper half has it, the lower ones aren't looked at.
-#[tactic(auto, using(ternary::proofs::CallerLemmas::or_right))]
-fn with_last(bits: u128, h: u128, free: u128, word: &Word) -> u128
-    requires { free < 2 ^ 104 }
-    ensures bits { (k : ℕ) → bit_at bits k ≡ 1 → bit_at result k ≡ 1 }
-    ensures last { HasHighest result h free word.now }
+// These bits without those whose reasons have this one.
+fn without(fixed: u128, reasons: &[u128; 104], bit: u32) -> u128
+    requires fixed { fixed < 2 ^ 104 }
+    requires bit { bit < 104 }
+    ensures { IsWithout fixed reasons.now bit result }
 {
-    let high = upper_differing(h, word);
-    if high & upper_half(ALL_BITS ^ free) != 0 {
-        return bits;
+    let mut stays = fixed;
+    let mut left = fixed;
+    while left != 0 {
+        let place = left.trailing_zeros();
+        if (reasons[place as usize] >> bit) % 2 != 0 {
+            stays ^= 1 << place;
+        }
+        left ^= 1 << place;
     }
-    if high != 0 {
-        return bits | u128::from(1u64 << high.ilog2()) << 64;
-    }
-    bits | highest_bit(differing(h, word) as u64)
-}
-
-// The number's highest bit alone, or 0 of 0.
-#[cold]
-#[inline(never)]
-fn highest_bit(n: u64) -> u128
-    ensures { (k : ℕ) → IsHighest n k → bit_at result k ≡ 1 }
-{
-    match n.checked_ilog2() {
-        Some(bit) => u128::from(1u64 << bit),
-        None => 0,
-    }
+    stays
 }
 
 // The region and the words of rules are words.

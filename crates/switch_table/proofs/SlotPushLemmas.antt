@@ -357,10 +357,8 @@ swept_slots live slots are = record {
 
 pub room_of : (live : LiveCounts) (slots : List SlotPair) (places : ℕ) →
     AreCounts live (flags_of slots) → places ≤ length slots → HaveRoom live places
-room_of live slots places are within = record {
-  blocks = omega (arith, are.blocks.room, length-map slots is_live, within);
-  groups = omega (arith, are.groups.room, length-map slots is_live, within);
-}
+room_of live slots places are within =
+    omega (arith, are.blocks.room, length-map slots is_live, within)
 
 -- ---- a push
 

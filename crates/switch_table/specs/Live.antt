@@ -5,22 +5,20 @@ use Rattle.switch_table.specs.declared.live.LiveCounts.{LiveCounts}
 abbrev pub count_set : List Bool → ℕ
 count_set flags = count_by (λ flag. flag) flags
 
--- there is a block of so many places for each flag, and the counts are how many of each are set
-pub record AreBlocks (size : ℕ) (counts : List ℕ) (flags : List Bool) : Type 0 where
-  pub room : length flags ≤ size * length counts
+-- there is a block of 64 places for each flag, and the counts are how many of each are set
+pub record AreBlocks (counts : List ℕ) (flags : List Bool) : Type 0 where
+  pub room : length flags ≤ 64 * length counts
   pub each : (k : ℕ) → k < length counts →
-      slice_index_or counts k 0 ≡ count_set (take size (drop (size * k) flags))
+      slice_index_or counts k 0 ≡ count_set (take 64 (drop (64 * k) flags))
 
 -- there are counts for so many places
-pub record HaveRoom (live : LiveCounts) (places : ℕ) : Type 0 where
-  pub blocks : places ≤ 64 * length live.blocks.items
-  pub groups : places ≤ 4096 * length live.groups.items
+abbrev pub HaveRoom : LiveCounts → ℕ → Type 0
+HaveRoom live places = places ≤ 64 * length live.blocks.items
 
 -- the counts are those of these flags
 pub record AreCounts (live : LiveCounts) (flags : List Bool) : Type 0 where
   pub all : live.all ≡ count_set flags
-  pub blocks : AreBlocks 64 live.blocks.items flags
-  pub groups : AreBlocks 4096 live.groups.items flags
+  pub blocks : AreBlocks live.blocks.items flags
 
 -- the flag at this place is set, and so many before it are
 pub record IsNthSet (before place : ℕ) (flags : List Bool) : Type 0 where

@@ -6,17 +6,13 @@ use std::alloc::{AllocError, Global};
 /// So many places are a block.
 pub const BLOCK: usize = 64;
 
-// So many blocks are a group.
-const GROUP: usize = 64;
-
-/// How many places of a list are live: in all, of each block, and of each group of blocks.
+/// How many places of a list are live: in all, and of each block.
 ///
 /// Contracts speak of the flags of the places: `AreCounts` says that these are their counts.
 #[derive(Drop)]
 pub struct LiveCounts {
     all: usize,
     blocks: Vec<u32>,
-    groups: Vec<u32>,
 }
 
 impl LiveCounts {
@@ -27,7 +23,6 @@ impl LiveCounts {
         LiveCounts {
             all: 0,
             blocks: Vec::new(alloc),
-            groups: Vec::new(alloc),
         }
     }
 
@@ -46,8 +41,7 @@ impl LiveCounts {
         ensures kept { (flags : List Bool) → AreCounts self.old flags → AreCounts self.new flags }
         ensures room { OnOk result (HaveRoom self.new places) }
     {
-        reach(&mut self.blocks, places.div_ceil(BLOCK))?;
-        reach(&mut self.groups, places.div_ceil(BLOCK * GROUP))
+        reach(&mut self.blocks, places.div_ceil(BLOCK))
     }
 
     /// A live place comes behind so many.
@@ -59,8 +53,6 @@ impl LiveCounts {
     {
         let block = &mut self.blocks[place / BLOCK];
         *block = block.wrapping_add(1);
-        let group = &mut self.groups[place / (BLOCK * GROUP)];
-        *group = group.wrapping_add(1);
         self.all = self.all.wrapping_add(1);
     }
 
@@ -72,8 +64,6 @@ impl LiveCounts {
     {
         let block = &mut self.blocks[place / BLOCK];
         *block = block.wrapping_sub(1);
-        let group = &mut self.groups[place / (BLOCK * GROUP)];
-        *group = group.wrapping_sub(1);
         self.all = self.all.wrapping_sub(1);
     }
 
@@ -82,8 +72,7 @@ impl LiveCounts {
         requires { HaveRoom self.old places }
         ensures { AreCounts self.new (replicate places true) }
     {
-        fill(&mut self.blocks, BLOCK, places);
-        fill(&mut self.groups, BLOCK * GROUP, places);
+        fill(&mut self.blocks, places);
         self.all = places;
     }
 
@@ -94,18 +83,14 @@ impl LiveCounts {
             (count_set (take (64 * result.0) flags) + result.1 ≡ before)
             × (result.1 < count_set (take 64 (drop (64 * result.0) flags))) }
     {
-        let (group, left) = block_at(&self.groups, before);
-        let start = self.blocks.len().min(group.saturating_mul(GROUP));
-        let (_, later) = self.blocks.split_at(start);
-        let (block, rest) = block_at(later, left);
-        (start + block, rest)
+        block_at(&self.blocks, before)
     }
 }
 
 // Adds counts of nothing until there are so many.
 fn reach(counts: &mut Vec<u32>, len: usize) -> Result<(), AllocError>
-    ensures kept { (size : ℕ) (flags : List Bool) → AreBlocks size counts.old.items flags →
-        AreBlocks size counts.new.items flags }
+    ensures kept { (flags : List Bool) → AreBlocks counts.old.items flags →
+        AreBlocks counts.new.items flags }
     ensures room { OnOk result (len ≤ length counts.new.items) }
 {
     while counts.len() < len {
@@ -114,15 +99,14 @@ fn reach(counts: &mut Vec<u32>, len: usize) -> Result<(), AllocError>
     Ok(())
 }
 
-// Counts so many live places, in blocks of this size.
-fn fill(counts: &mut [u32], size: usize, places: usize)
-    requires size { (0 < size) × (size ≤ 4096) }
-    requires room { places ≤ size * length counts.old }
-    ensures { AreBlocks size counts.new (replicate places true) }
+// Counts so many live places.
+fn fill(counts: &mut [u32], places: usize)
+    requires { places ≤ 64 * length counts.old }
+    ensures { AreBlocks counts.new (replicate places true) }
 {
     let mut left = places;
     for count in counts {
-        let here = left.min(size);
+        let here = left.min(BLOCK);
         *count = here as u32;
         left -= here;
     }

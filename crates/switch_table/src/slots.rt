@@ -19,7 +19,8 @@ use ternary::Word;
 ///
 /// A map has it in this order. A slot that goes stays as a dead one, so that none moves, until there
 /// are 64 more dead ones than live ones. The counts of live ones lead to the place of one. So each
-/// call takes constant time over many calls but those that go over all.
+/// call takes constant time over many calls, but those that go over all, and `remove`, which goes
+/// over the counts.
 #[derive(Drop)]
 pub struct Slots {
     map: IndexMap<CacheKey, Slot>,

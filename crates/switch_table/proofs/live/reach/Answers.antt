@@ -4,6 +4,6 @@ use Rattle.switch_table.proofs.LiveLemmas.{grown}
 use Rattle.switch_table.proofs.live.reach.Goals as goal
 
 pub loop-counts-preserved : goal.loop-counts-preserved
-loop-counts-preserved c = λ size flags are.
-    subst (λ counts. AreBlocks size counts flags) (sym c.in_ok-push.ensures.items)
-    (grown size c.loop-counts.counts.items flags (c.loop-counts.invariant size flags are))
+loop-counts-preserved c = λ flags are.
+    subst (λ counts. AreBlocks counts flags) (sym c.in_ok-push.ensures.items)
+    (grown c.loop-counts.counts.items flags (c.loop-counts.invariant flags are))

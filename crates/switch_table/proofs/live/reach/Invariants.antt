@@ -5,8 +5,7 @@ use Rattle.switch_table.proofs.live.reach.Given as goal
 -- the counts are still those of the same flags
 abbrev pub invariant-loop-counts : goal.invariant-loop-counts
 invariant-loop-counts l =
-    (size : ℕ) (flags : List Bool) → AreBlocks size l.fn.counts.items flags →
-    AreBlocks size l.counts.items flags
+    (flags : List Bool) → AreBlocks l.fn.counts.items flags → AreBlocks l.counts.items flags
 
 abbrev pub decreases-loop-counts : goal.decreases-loop-counts
 decreases-loop-counts l = l.len - length l.counts.items

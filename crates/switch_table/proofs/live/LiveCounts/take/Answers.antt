@@ -11,9 +11,6 @@ returns c = λ flags are at.
     record {
       all = all_taken flags c.args.self.now.all place are.all (omega arith) there live;
       blocks =
-          taken 64 place c.index_mut-block.result.now c.args.self.now.blocks.items flags
-          (omega arith) (omega arith) there live are.blocks c.index_mut-block.ensures.value;
-      groups =
-          taken 4096 place c.index_mut-group.result.now c.args.self.now.groups.items flags
-          (omega arith) (omega arith) there live are.groups c.index_mut-group.ensures.value;
+          taken place c.index_mut-block.result.now c.args.self.now.blocks.items flags there live
+          are.blocks c.index_mut-block.ensures.value;
     }
