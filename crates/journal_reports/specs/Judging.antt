@@ -25,8 +25,8 @@ MarksOneMore number before after = (n : ℕ)
 
 -- ---- the status of a switch
 
-abbrev pub status_after : Item → SwitchStatus → SwitchStatus
-status_after item status = record {
+abbrev pub status_with : Item → SwitchStatus → SwitchStatus
+status_with item status = record {
   switch = status.switch;
   is_up = unwrap_or (gives_up status.switch item) status.is_up;
   boot = unwrap_or (gives_boot status.switch item) status.boot;
