@@ -20,7 +20,7 @@ use Rattle.policy_rules.specs.SoundPolicies.{IsPolicy, IsSoundRow}
 use Rattle.policy_rules.specs.declared.policy.Action.{Action}
 use Rattle.policy_rules.specs.declared.policy.Hit.{Hit}
 use Rattle.policy_rules.specs.declared.policy.Row.{Row}
-use Rattle.trace_audit.specs.Index.{AreShapesOf, HasShape, IsBest, IsBetter, IsIndexOf, IsIndexUpTo, IsLastBefore, IsMatchIn, IsReached, IsSoundShape, LackSlot, Notes, better_of, is_shape, shape_of, shape_place, slot_of, slot_of_row}
+use Rattle.trace_audit.specs.Index.{AreShapesOf, HasShape, IsBest, IsBetter, IsIndexOf, IsIndexUpTo, IsLastBefore, IsMatchIn, IsNoHigher, IsSoundShape, LackSlot, Notes, better_of, is_shape, shape_of_row, shape_place, slot_of, slot_of_row}
 use Rattle.trace_audit.specs.declared.index.Index.{Index}
 use Rattle.trace_audit.specs.declared.index.Shape.{Shape}
 
@@ -98,13 +98,13 @@ has_shape shapes rows k row are there =
 
 -- the shape at the place of a row's shape is the row's
 own_shape : (shapes : List Shape) (row : Row) (shape : Shape)
-    → slice_get shapes (shape_place shapes row) ≡ Some shape → shape_of row ≡ shape
+    → slice_get shapes (shape_place shapes row) ≡ Some shape → shape_of_row row ≡ shape
 own_shape shapes row shape there =
     let place = shape_place shapes row in
     let within = slice_get_within shapes place shape there in
-    let passes = passes_at_first (is_shape (shape_of row)) shapes shape within in
-    let is : is_shape (shape_of row) shape ≡ true =
-    subst (λ (other : Shape). is_shape (shape_of row) other ≡ true)
+    let passes = passes_at_first (is_shape (shape_of_row row)) shapes shape within in
+    let is : is_shape (shape_of_row row) shape ≡ true =
+    subst (λ (other : Shape). is_shape (shape_of_row row) other ≡ true)
     (get_or_from_slice_get shapes place shape shape there) passes in
     let both = and_parts (shape.src == row.src.len) (shape.dst == row.dst.len) is in
     let src = eqb-true shape.src row.src.len both.0 in
@@ -125,9 +125,9 @@ module _ (shapes : List Shape) (shape : Shape) where
   kept_pushed row has =
       let place = shape_place shapes row in
       let more = length_push shapes shape in
-      subst (λ n. n < length (shapes ++ shape ∷ [])) (sym (place_pushed (shape_of row)))
+      subst (λ n. n < length (shapes ++ shape ∷ [])) (sym (place_pushed (shape_of_row row)))
       (cond_both (place == length shapes)
-      (length shapes + cond (is_shape (shape_of row) shape) 0 1) place
+      (length shapes + cond (is_shape (shape_of_row row) shape) 0 1) place
       (λ n. n < length (shapes ++ shape ∷ []))
       (λ yes. absurd (omega (arith, eqb-true place (length shapes) yes, has)))
       (λ no. omega (arith, has, more)))
@@ -152,7 +152,7 @@ module _ (shapes : List Shape) (shape : Shape) where
     sound = λ one all. All-push IsSoundShape shapes shape all one;
   }
 
-shape_sound : (row : Row) → IsSoundRow row → IsSoundShape (shape_of row)
+shape_sound : (row : Row) → IsSoundRow row → IsSoundShape (shape_of_row row)
 shape_sound row sound = record { src = sound.src.len; dst = sound.dst.len }
 
 pub shapes_none : (rows : List Row) (shapes : List Shape) → shapes ≡ [] → AreShapesOf [] shapes
@@ -164,7 +164,7 @@ shapes_none rows shapes none = record {
 -- one more row, whose shape was noted
 pub shapes_more : (rows : List Row) (i : ℕ) (row : Row) (before after : List Shape)
     → IsPolicy rows → i < length rows → slice_get rows i ≡ Some row
-    → Notes before (shape_of row) after → AreShapesOf (take i rows) before
+    → Notes before (shape_of_row row) after → AreShapesOf (take i rows) before
     → AreShapesOf (take (i + 1) rows) after
 shapes_more rows i row before after policy within there notes are = record {
   sound = notes.sound (shape_sound row (sound_row rows i row policy there)) are.sound;
@@ -176,7 +176,7 @@ shapes_more rows i row before after policy within there notes are = record {
 
 -- a header is sought in the slot of each row that matches it
 slot_same : (shapes : List Shape) (row : Row) (fields : Fields) (shape : Shape) (src dst : ℕ)
-    → IsSoundRow row → row_matches row fields ≡ true → shape_of row ≡ shape
+    → IsSoundRow row → row_matches row fields ≡ true → shape_of_row row ≡ shape
     → src ≡ (block_round fields.src shape.src).address
     → dst ≡ (block_round fields.dst shape.dst).address
     → slot_of_row shapes row ≡ slot_of (length shapes) (shape_place shapes row) src dst
@@ -323,15 +323,15 @@ module _ (row : Row) (fields : Fields) (hit : Hit) where
   abbrev above : Bool
   above = option_map_or (λ p. ltb p row.priority) hit.rule true
 
-  better_kept : (other : Row) → IsReached hit other → IsReached (better_of row fields hit) other
+  better_kept : (other : Row) → IsNoHigher hit other → IsNoHigher (better_of row fields hit) other
   better_kept other reached =
-      cond_both (above && row_matches row fields) (hit_of (Some row)) hit (λ h. IsReached h other)
+      cond_both (above && row_matches row fields) (hit_of (Some row)) hit (λ h. IsNoHigher h other)
       (λ yes. less_or hit.rule row.priority other.priority
       (and_parts above (row_matches row fields) yes).0 reached) (λ no. reached)
 
-  better_reached : row_matches row fields ≡ true → IsReached (better_of row fields hit) row
+  better_reached : row_matches row fields ≡ true → IsNoHigher (better_of row fields hit) row
   better_reached matches =
-      cond_both (above && row_matches row fields) (hit_of (Some row)) hit (λ h. IsReached h row)
+      cond_both (above && row_matches row fields) (hit_of (Some row)) hit (λ h. IsNoHigher h row)
       (λ yes. omega arith) (λ no. elim (and_cases above (row_matches row fields) no) [
         | inl below ↦ not_less hit.rule row.priority below
         | inr not ↦ absurd (both_ways (row_matches row fields) not matches)
@@ -352,9 +352,9 @@ pub record IsWalked (shapes : List Shape) (rows : List Row) (slot : ℕ) (fields
   pub bound : ℕ
   pub last : IsLastBefore shapes rows slot bound at
   pub matching : IsMatchIn rows fields first → IsMatchIn rows fields hit
-  pub kept : (row : Row) → IsReached first row → IsReached hit row
+  pub kept : (row : Row) → IsNoHigher first row → IsNoHigher hit row
   pub reached : (k : ℕ) (row : Row) → bound ≤ k → slice_get rows k ≡ Some row
-      → slot_of_row shapes row ≡ slot → row_matches row fields ≡ true → IsReached hit row
+      → slot_of_row shapes row ≡ slot → row_matches row fields ≡ true → IsNoHigher hit row
 
 -- the place of the one to look at, and one more
 abbrev pub places_left : Option ℕ → ℕ
@@ -421,7 +421,7 @@ module _ {rows : List Row} {slot : ℕ} {fields : Fields} {first hit : Hit} {at 
         reached = λ k other above got lies matches. elim (cases_eq k place) [
           | inl at ↦
               let one = one_item rows place k row other own_row at got in
-              subst (IsReached (better_of row fields hit)) one
+              subst (IsNoHigher (better_of row fields hit)) one
               (better_reached row fields hit
               (subst (λ (r : Row). row_matches r fields ≡ true) (sym one) matches))
           | inr more ↦ elim (cases_lt k w.bound) [
@@ -451,7 +451,7 @@ pub record IsSought (shapes : List Shape) (rows : List Row) (fields : Fields) (p
     (hit : Hit) : Type 0 where
   pub matching : IsMatchIn rows fields hit
   pub reached : (k : ℕ) (row : Row) → slice_get rows k ≡ Some row
-      → shape_place shapes row < place → row_matches row fields ≡ true → IsReached hit row
+      → shape_place shapes row < place → row_matches row fields ≡ true → IsNoHigher hit row
 
 pub sought_none : (shapes : List Shape) (rows : List Row) (fields : Fields)
     → IsSought shapes rows fields 0 (hit_of None)

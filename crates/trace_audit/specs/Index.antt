@@ -13,15 +13,15 @@ use Rattle.trace_audit.specs.declared.index.Shape.{Shape}
 
 -- ---- shapes
 
-abbrev pub shape_of : Row → Shape
-shape_of row = record { src = row.src.len; dst = row.dst.len }
+abbrev pub shape_of_row : Row → Shape
+shape_of_row row = record { src = row.src.len; dst = row.dst.len }
 
 abbrev pub is_shape : Shape → Shape → Bool
 is_shape shape other = other.src == shape.src && other.dst == shape.dst
 
 -- the place of the row's shape among the shapes
 abbrev pub shape_place : List Shape → Row → ℕ
-shape_place shapes row = position_or_len (is_shape (shape_of row)) shapes
+shape_place shapes row = position_or_len (is_shape (shape_of_row row)) shapes
 
 abbrev pub HasShape : List Shape → Row → Type 0
 HasShape shapes row = shape_place shapes row < length shapes
@@ -92,8 +92,8 @@ IsMatchIn rows fields hit = MatchOption hit.rule (hit.action ≡ Drop)
     × (row.priority ≡ priority) × (row.action ≡ hit.action))
 
 -- the row has no greater priority than the hit
-abbrev pub IsReached : Hit → Row → Type 0
-IsReached hit row = MatchOption hit.rule ⊥ (λ priority. row.priority ≤ priority)
+abbrev pub IsNoHigher : Hit → Row → Type 0
+IsNoHigher hit row = MatchOption hit.rule ⊥ (λ priority. row.priority ≤ priority)
 
 -- the better of the row, where it matches, and of the hit
 abbrev pub better_of : Row → Fields → Hit → Hit
@@ -105,11 +105,11 @@ better_of row fields hit =
 pub record IsBetter (shapes : List Shape) (rows : List Row) (slot : ℕ) (fields : Fields)
     (first hit : Hit) : Type 0 where
   pub matching : IsMatchIn rows fields first → IsMatchIn rows fields hit
-  pub kept : (row : Row) → IsReached first row → IsReached hit row
+  pub kept : (row : Row) → IsNoHigher first row → IsNoHigher hit row
   pub reached : (k : ℕ) (row : Row) → slice_get rows k ≡ Some row
-      → slot_of_row shapes row ≡ slot → row_matches row fields ≡ true → IsReached hit row
+      → slot_of_row shapes row ≡ slot → row_matches row fields ≡ true → IsNoHigher hit row
 
 -- a matching row's hit, or the default, which each matching row has no greater priority than
 pub record IsBest (rows : List Row) (fields : Fields) (hit : Hit) : Type 0 where
   pub matching : IsMatchIn rows fields hit
-  pub reached : All (λ row. row_matches row fields ≡ true → IsReached hit row) rows
+  pub reached : All (λ row. row_matches row fields ≡ true → IsNoHigher hit row) rows

@@ -2,7 +2,7 @@ ghost use Rattle.std.specs.Prelude.{◌≡◌, ◌<◌, ◌+◌, List, IfOk, IfS
 ghost use Rattle.policy_rules.specs.Exports.{IsFirstMatch, IsPolicy};
 ghost use Rattle.policy_rules.specs.declared.policy.Hit.{Hit};
 ghost use Rattle.policy_rules.specs.declared.policy.Row.{Row};
-ghost use Rattle.trace_audit.specs.Index.{AreShapesOf, HasShape, IsBest, IsBetter, IsIndexOf, IsIndexUpTo, Notes, better_of, is_shape, shape_of, slot_of, slot_of_row};
+ghost use Rattle.trace_audit.specs.Index.{AreShapesOf, HasShape, IsBest, IsBetter, IsIndexOf, IsIndexUpTo, Notes, better_of, is_shape, shape_of_row, slot_of, slot_of_row};
 
 use five_tuple::{Fields, Header, Prefix};
 use policy_rules::{Hit, Policy, Row, policy_laws};
@@ -39,12 +39,12 @@ pub(crate) struct Index {
 /// A policy that was submitted, with an index of its rows where they have few shapes. Contracts see
 /// the rows.
 #[derive(Drop)]
-pub(crate) struct Version {
+pub(crate) struct IndexedPolicy {
     policy: Policy,
     index: Option<Index>,
 }
 
-impl Model for Version {
+impl Model for IndexedPolicy {
     ghost use Rattle.std.specs.Prelude.{List, IfSome};
     ghost use Rattle.policy_rules.specs.declared.policy.Row.{Row};
     ghost use Rattle.trace_audit.specs.Index.{IsIndexOf};
@@ -104,7 +104,7 @@ fn better(row: &Row, fields: &Fields, hit: Hit) -> Hit
 
 impl Shape {
     fn of(row: &Row) -> Shape
-        ensures { result ≡ shape_of row.now }
+        ensures { result ≡ shape_of_row row.now }
     {
         Shape {
             src: row.src.len,
@@ -211,16 +211,16 @@ impl Index {
     }
 }
 
-impl Version {
+impl IndexedPolicy {
     /// The version that has this policy.
     ///
     /// # Errors
     /// Want of memory alone.
-    pub fn new(alloc: Global, policy: Policy) -> Result<Version, AllocError>
+    pub fn new(alloc: Global, policy: Policy) -> Result<IndexedPolicy, AllocError>
         ensures { IfOk result (λ version. version ≡ policy) }
     {
         let index = Index::of(alloc, policy.rows())?;
-        Ok(Version { policy, index })
+        Ok(IndexedPolicy { policy, index })
     }
 
     /// Its policy.
