@@ -393,6 +393,26 @@ def audit_updates(n):
     return audit(text, [subnets(Random(k), 2000) for k in range(n + 1)])
 
 
+def nested(rows):
+    """So many rows whose blocks of addresses all begin at 0.0.0.0, each of lengths of its own."""
+    lengths = ((a, b) for a in range(33) for b in range(33))
+    return policy(
+        f"{k},0.0.0.0/{a},0.0.0.0/{b},any,{k},any,drop"
+        for k, (a, b) in enumerate(islice(lengths, rows), 1)
+    )
+
+
+def audit_nested(rows):
+    """A trace of packets that lie in most of these blocks, and match no row."""
+    row = "row 1: packet s0 0.0.0.1 0.0.0.1 1 0 tcp"
+    decided = "rule default drop authority s0 part 0"
+    text = (
+        [row, f"  entered {k} s0", f"  decided {k} v1 {decided}", f"  dropped {k}"]
+        for k in range(1, 5001)
+    )
+    return audit(lines(*text), [nested(rows)])
+
+
 def plan(make, cap, *words):
     """A command that reads a policy of so many rows, and cuts it into parts of at most so many
     rules."""
@@ -419,6 +439,7 @@ OTHER = {
         (900, 9_000), lambda n: audit(lines(trace(islice(collisions(), n))))
     ),
     "audit, policies of 2,000 rows": (UPDATED, audit_updates),
+    "audit, rows of nested prefixes": ((108, 1_080), audit_nested),
     "load": ((100, 1_000), lambda n: Input(["load", str(n)], {})),
     "compile, subnets": (
         TENTH, plan(lambda n: subnets(Random(n), n), lambda n: 32, "compile")

@@ -14,7 +14,7 @@ use Rattle.shelf.specs.declared.output.SinkError.TheVariants as sink
 use Rattle.trace_audit.specs.Decided.{AreJustified}
 use Rattle.trace_audit.specs.Reading.{lines_of, lines_of_parts, open_line}
 use Rattle.trace_audit.specs.Run.{AreRun}
-use Rattle.trace_audit.specs.Verdicts.{IsFirstBad, IsVerdict}
+use Rattle.trace_audit.specs.Verdicts.{IsFirstBad, IsAuditVerdict}
 use Rattle.trace_audit.specs.declared.trace.Verdict.{Verdict}
 use Rattle.trace_audit.specs.declared.trace.Verdict.TheVariants.{Yes, No}
 use Rattle.command_line.specs.Commands.{AuditCommand}
@@ -51,7 +51,7 @@ few_lines trace =
 
 -- so in a trace that isn't too long no number of a line stands still
 own_number : (files : List PolicyFile) (trace : List ℕ) (line : ℕ)
-    → length trace ≤ most_trace_bytes → IsVerdict files (lines_of trace) (No line)
+    → length trace ≤ most_trace_bytes → IsAuditVerdict files (lines_of trace) (No line)
     → IsFirstBad files (lines_of trace) line
 own_number files trace line short is =
     let first = is.1 in
@@ -62,7 +62,7 @@ own_number files trace line short is =
 
 -- a verdict on what was read is one on what the inputs are
 pub verdict_on : (trace owned : List ℕ) (files own : List PolicyFile) (found verdict : Verdict)
-    → length owned ≤ most_trace_bytes → IsVerdict files (lines_of trace) found
+    → length owned ≤ most_trace_bytes → IsAuditVerdict files (lines_of trace) found
     → (found ≡ Yes → AreRun files (lines_of trace))
     → (found ≡ Yes → AreJustified files (lines_of trace))
     → trace ≡ owned → files ≡ own → found ≡ verdict → IsJudged own (lines_of owned) verdict
@@ -72,9 +72,9 @@ verdict_on trace owned files own found verdict short is run justified same all t
     subst (λ (given : Verdict). IsJudged own (lines_of owned) given) told
     (subst (λ (bytes : List ℕ). IsJudged own (lines_of bytes) found) same
     (subst (λ (given : List PolicyFile). IsJudged given (lines_of trace) found) all (record {
-      good = λ yes. subst (IsVerdict files (lines_of trace)) yes is;
+      good = λ yes. subst (IsAuditVerdict files (lines_of trace)) yes is;
       bad = λ line no. own_number files trace line few
-          (subst (IsVerdict files (lines_of trace)) no is);
+          (subst (IsAuditVerdict files (lines_of trace)) no is);
       run = run;
       justified = justified;
     })))

@@ -8,7 +8,7 @@ use Rattle.policy_rules.specs.declared.file.PolicyFile.{PolicyFile}
 use Rattle.shelf.specs.Shelf.{Files}
 use Rattle.shelf.specs.Sink.{GainedPart, SinkState}
 use Rattle.trace_audit.specs.Decided.{AreJustified}
-use Rattle.trace_audit.specs.Reading.{AreGood, Line, lines_of}
+use Rattle.trace_audit.specs.Reading.{AreGood, TraceLine, lines_of}
 use Rattle.trace_audit.specs.Run.{AreRun}
 use Rattle.trace_audit.specs.Verdicts.{IsFirstBad}
 use Rattle.trace_audit.specs.declared.trace.Verdict.{Verdict}
@@ -42,7 +42,7 @@ pub record IsAuditingOf (command : AuditCommand) (auditing : Auditing) : Type 0 
 -- isn't; and where it is Yes, the moves that they tell are a run of the machine, and each packet
 -- that they print as dropped or as out by a port got one decision before, the first match for its
 -- header under one version that was not retired as it entered
-pub record IsJudged (files : List PolicyFile) (lines : List Line) (verdict : Verdict) : Type 0 where
+pub record IsJudged (files : List PolicyFile) (lines : List TraceLine) (verdict : Verdict) : Type 0 where
   pub good : verdict ≡ Yes → AreGood files lines
   pub bad : (number : ℕ) → verdict ≡ No number → IsFirstBad files lines number
   pub run : verdict ≡ Yes → AreRun files lines

@@ -10,7 +10,7 @@ use Rattle.ctrl_msg.specs.declared.message.Body.{Body}
 use Rattle.ctrl_msg.specs.declared.message.Message.{Message}
 use Rattle.journal_reports.specs.declared.bucket.Bucket.{Bucket}
 use Rattle.journal_reports.specs.Judging.{SaysAsMuch}
-use Rattle.journal_reports.specs.Buckets.{AreEmpty, HasSaying, IsKept, bucket_of, messages_in, messages_of, subject}
+use Rattle.journal_reports.specs.Buckets.{AreEmpty, HasSaying, IsKeptInBucket, bucket_of, messages_at, bucket_messages, subject}
 use Rattle.journal_reports.proofs.SayingAsMuch.{later_more, means_of, says_through}
 
 -- ---- what says as much is in the same bucket
@@ -105,40 +105,40 @@ has_through (kept ∷ messages) next message has says = elim has [
 -- ---- in buckets
 
 in_got : (buckets : List Bucket) (c : ℕ) (d : Bucket) → c < length buckets
-    → messages_in buckets c ≡ (get_or buckets c d).messages.items
+    → messages_at buckets c ≡ (get_or buckets c d).messages.items
 in_got buckets c d there =
-    ap (λ o. option_map_or messages_of o []) (slice_get-get_or buckets c d there)
+    ap (λ o. option_map_or bucket_messages o []) (slice_get-get_or buckets c d there)
 
 -- the bucket alone tells
 pub kept_in_bucket : (buckets : List Bucket) (c : ℕ) (bucket : Bucket) (message : Message)
     → c ≡ bucket_of message.body → c < length buckets → bucket ≡ get_or buckets c bucket
-    → HasSaying bucket.messages.items message ↔ IsKept buckets message
+    → HasSaying bucket.messages.items message ↔ IsKeptInBucket buckets message
 kept_in_bucket buckets c bucket message at there is =
-    let same : bucket.messages.items ≡ messages_in buckets (bucket_of message.body) =
-    ap messages_of is ∙ sym (in_got buckets c bucket there) ∙ ap (messages_in buckets) at in (
+    let same : bucket.messages.items ≡ messages_at buckets (bucket_of message.body) =
+    ap bucket_messages is ∙ sym (in_got buckets c bucket there) ∙ ap (messages_at buckets) at in (
       λ has. subst (λ ms. HasSaying ms message) same has,
       λ kept. subst (λ ms. HasSaying ms message) (sym same) kept,
     )
 
 pub kept_nowhere : (buckets : List Bucket) (c : ℕ) (message : Message)
-    → c ≡ bucket_of message.body → length buckets ≤ c → IsKept buckets message → ⊥
+    → c ≡ bucket_of message.body → length buckets ≤ c → IsKeptInBucket buckets message → ⊥
 kept_nowhere buckets c message at past kept =
     subst (λ ms. HasSaying ms message)
-    (ap (messages_in buckets) (sym at)
-    ∙ ap (λ o. option_map_or messages_of o []) (slice_get_past buckets c past)) kept
+    (ap (messages_at buckets) (sym at)
+    ∙ ap (λ o. option_map_or bucket_messages o []) (slice_get_past buckets c past)) kept
 
-pub kept_through : (buckets : List Bucket) (next message : Message) → IsKept buckets next
-    → SaysAsMuch next message → IsKept buckets message
+pub kept_through : (buckets : List Bucket) (next message : Message) → IsKeptInBucket buckets next
+    → SaysAsMuch next message → IsKeptInBucket buckets message
 kept_through buckets next message kept says =
-    subst (λ c. HasSaying (messages_in buckets c) message) (says_bucket next message says)
-    (has_through (messages_in buckets (bucket_of next.body)) next message kept says)
+    subst (λ c. HasSaying (messages_at buckets c) message) (says_bucket next message says)
+    (has_through (messages_at buckets (bucket_of next.body)) next message kept says)
 
 -- one more is put into its bucket
 pub kept_more : (before after : List Bucket) (place : ℕ) (old bucket : Bucket)
     (next message : Message) → place < length before → place ≡ bucket_of next.body
     → old ≡ get_or before place old → after ≡ set before place bucket
     → bucket.messages.items ≡ old.messages.items ++ next ∷ [] → length before ≡ 64
-    → IsKept after message ↔ (IsKept before message ⊎ SaysAsMuch next message)
+    → IsKeptInBucket after message ↔ (IsKeptInBucket before message ⊎ SaysAsMuch next message)
 kept_more before after place old bucket next message there at was is now count =
     by_test (place == bucket_of message.body) refl
   where
@@ -151,20 +151,20 @@ kept_more before after place old bucket next message there at was is now count =
     both : length after ≡ length before
     both = ap (λ (buckets : List Bucket). length buckets) is ∙ length-set before place bucket
 
-    after_is : messages_in after own ≡ (get_or (set before place bucket) own old).messages.items
+    after_is : messages_at after own ≡ (get_or (set before place bucket) own old).messages.items
     after_is = in_got after own old (omega (arith, within, both))
         ∙ ap (λ (buckets : List Bucket). (get_or buckets own old).messages.items) is
 
     by_test : (b : Bool) → (place == bucket_of message.body) ≡ b
-        → IsKept after message ↔ (IsKept before message ⊎ SaysAsMuch next message)
+        → IsKeptInBucket after message ↔ (IsKeptInBucket before message ⊎ SaysAsMuch next message)
     by_test true e =
         let same : own ≡ place = sym (eqb-true place own e) in
-        let here : messages_in after own ≡ old.messages.items ++ next ∷ [] =
+        let here : messages_at after own ≡ old.messages.items ++ next ∷ [] =
         after_is
         ∙ ap (λ n. (get_or (set before place bucket) n old).messages.items) same
-        ∙ ap messages_of (get_or-set_same before place bucket old there) ∙ now in
-        let mine : old.messages.items ≡ messages_in before own =
-        ap messages_of was ∙ ap (λ n. (get_or before n old).messages.items) (sym same)
+        ∙ ap bucket_messages (get_or-set_same before place bucket old there) ∙ now in
+        let mine : old.messages.items ≡ messages_at before own =
+        ap bucket_messages was ∙ ap (λ n. (get_or before n old).messages.items) (sym same)
         ∙ sym (in_got before own old within) in
         let more = has_more old.messages.items next message in (
           λ kept. elim (more.0 (subst (λ ms. HasSaying ms message) here kept)) [
@@ -179,8 +179,8 @@ kept_more before after place old bucket next message there at was is now count =
     by_test false e =
         let apart : own ≢ place =
         λ same. absurd (clash (sym (eq-eqb place own (sym same)) ∙ e)) in
-        let stays : messages_in after own ≡ messages_in before own =
-        after_is ∙ ap messages_of (get_or-set_other before place own bucket old apart)
+        let stays : messages_at after own ≡ messages_at before own =
+        after_is ∙ ap bucket_messages (get_or-set_other before place own bucket old apart)
         ∙ sym (in_got before own old within) in (
           λ kept. inl (subst (λ ms. HasSaying ms message) stays kept),
           λ either. elim either [
@@ -212,12 +212,12 @@ empty_more buckets next n count were none i d below =
     ]
 
 pub none_kept : (buckets : List Bucket) (message : Message) → AreEmpty buckets
-    → IsKept buckets message → ⊥
+    → IsKeptInBucket buckets message → ⊥
 none_kept buckets message are kept =
     elim (slice_get_cases buckets (bucket_of message.body)).1 [
       | inl some ↦ subst (λ ms. HasSaying ms message)
-          (ap (λ o. option_map_or messages_of o []) some.2 ∙ ap messages_of (sym some.3)
+          (ap (λ o. option_map_or bucket_messages o []) some.2 ∙ ap bucket_messages (sym some.3)
           ∙ are.each (bucket_of message.body) some.0 (bucket_below message.body)) kept
       | inr past ↦ subst (λ ms. HasSaying ms message)
-          (ap (λ o. option_map_or messages_of o []) past.1) kept
+          (ap (λ o. option_map_or bucket_messages o []) past.1) kept
     ]

@@ -8,7 +8,7 @@ use Rattle.update_machine.specs.Folds.{count_of, last_given}
 use Rattle.update_machine.specs.Marks.{current_mark, retired_mark, gives_current, gives_retired}
 use Rattle.update_machine.specs.Packets.{is_packet}
 use Rattle.update_machine.proofs.CallerLemmas.{count_of_append, last_given_append}
-use Rattle.journal_reports.specs.Summary.{CountsHaveRoom, counted_with, counts_of, is_cached, is_closed, is_dropped, is_entered, is_left, is_lost, is_sent, is_stuck, one_more}
+use Rattle.journal_reports.specs.Summary.{CountsHaveRoom, counted_with, item_counts, is_cached, is_closed, is_dropped, is_entered, is_left, is_lost, is_sent, is_stuck, one_more}
 
 count_more : (test : Item → Bool) (before : List Item) (item : Item)
     → count_of test (before ++ item ∷ []) ≡ one_more (test item) (count_of test before)
@@ -32,7 +32,7 @@ told_more tells before item other =
     go (Some x) earlier = refl
 
 pub counts_more : (before : List Item) (item : Item)
-    → counts_of (before ++ item ∷ []) ≡ counted_with (counts_of before) item
+    → item_counts (before ++ item ∷ []) ≡ counted_with (item_counts before) item
 unfolding current_mark retired_mark
 counts_more before item = rw (
   count_more is_packet before item,
@@ -48,7 +48,7 @@ counts_more before item = rw (
   told_more gives_retired before item 0,
 ) refl
 
-pub counts_start : counts_of [] ≡ record {
+pub counts_start : item_counts [] ≡ record {
   packets = 0;
   closed = 0;
   delivered = 0;
@@ -64,7 +64,7 @@ pub counts_start : counts_of [] ≡ record {
 unfolding current_mark retired_mark
 counts_start = refl
 
-pub counts_room : (items : List Item) → length items + 1 < 2 ^ 64 → CountsHaveRoom (counts_of items)
+pub counts_room : (items : List Item) → length items + 1 < 2 ^ 64 → CountsHaveRoom (item_counts items)
 counts_room items room = record {
   packets = omega (arith, count_by-le-length is_packet items, room);
   closed = omega (arith, count_by-le-length is_closed items, room);

@@ -8,10 +8,10 @@ use Rattle.update_machine.specs.Marks.{current_mark}
 use Rattle.control_laws.proofs.Grown.{boot_more, current_more, up_more}
 use Rattle.convergence_laws.proofs.Downs.{waited_more}
 use Rattle.journal_reports.specs.declared.status.SwitchStatus.{SwitchStatus}
-use Rattle.journal_reports.specs.Judging.{status_after, status_in, status_item}
+use Rattle.journal_reports.specs.Judging.{status_with, status_in, status_item}
 
 status_more : (before : List Item) (item : Item) (s : ℕ)
-    → status_in (before ++ item ∷ []) s ≡ status_after item (status_in before s)
+    → status_in (before ++ item ∷ []) s ≡ status_with item (status_in before s)
 status_more before item s =
     rw (
       up_more before item s,
@@ -21,7 +21,7 @@ status_more before item s =
     ) refl
 
 status_told : (told : List Item) (item : Item) (s : ℕ)
-    → status_in (told ++ status_item item) s ≡ status_after item (status_in told s)
+    → status_in (told ++ status_item item) s ≡ status_with item (status_in told s)
 status_told told (item.Down switch) s = status_more told (item.Down switch) s
 status_told told (item.Booted switch boot) s = status_more told (item.Booted switch boot) s
 status_told told (item.OverNow switch) s = status_more told (item.OverNow switch) s
@@ -44,9 +44,9 @@ item_more items i next within is =
 
 pub status_of_item : (items : List Item) (i s : ℕ) (next : Item) (status after : SwitchStatus)
     → i < length items → next ≡ get_or items i next → status ≡ status_in (take i items) s
-    → after ≡ status_after next status → after ≡ status_in (take (i + 1) items) s
+    → after ≡ status_with next status → after ≡ status_in (take (i + 1) items) s
 status_of_item items i s next status after within is was now =
-    now ∙ ap (status_after next) was ∙ sym (status_more (take i items) next s)
+    now ∙ ap (status_with next) was ∙ sym (status_more (take i items) next s)
     ∙ ap (λ js. status_in js s) (sym (item_more items i next within is))
 
 pub told_of_item : (items : List Item) (i s : ℕ) (next : Item) (told after : List Item)

@@ -19,7 +19,7 @@ use Rattle.convergence_laws.proofs.Received.{delivered_append}
 use Rattle.journal_reports.specs.declared.status.SwitchStatus.{SwitchStatus}
 use Rattle.journal_reports.specs.declared.traffic.Traffic.{Traffic}
 use Rattle.journal_reports.specs.Judging.{SaysAsMuch, concerned_switch, has_mark, is_named, matters_to, status_in, switch_of_message}
-use Rattle.journal_reports.specs.Buckets.{AreEmpty, IsKept}
+use Rattle.journal_reports.specs.Buckets.{AreEmpty, IsKeptInBucket}
 use Rattle.journal_reports.specs.Traffic.{AreTraffic, ConcernsOne, IsAdded, IsAfter, IsMet, IsTraffic}
 use Rattle.journal_reports.proofs.Buckets.{kept_through, none_kept}
 use Rattle.journal_reports.proofs.SayingAsMuch.{matters_too, no_cache_rule, replaces_of, says_of}
@@ -145,7 +145,7 @@ kept_on : (journal after : List Item) (s : ℕ) (next : Item) (marks : List Bool
     → ((n : ℕ) → has_mark marks n ≡ was_delivered (next ∷ after) n)
     → IsTraffic journal after s row → IsAfter marks next row now answer → (message : Message)
     → IsTrue (matters journal s message (next ∷ after))
-    → IsKept now.buckets.items message ↔ IsReplaced message (next ∷ after)
+    → IsKeptInBucket now.buckets.items message ↔ IsReplaced message (next ∷ after)
 kept_on journal after s (item.Sent number later) marks row now answer right is step message matter = (
   λ kept. elim ((step.kept is.count message).0 kept) [
     | inl old ↦ inr ((is.kept message matter).0 old)
@@ -216,7 +216,7 @@ traffic_stays journal after s next row other is = record {
   where
     by_item : (next : Item) → is_named s (concerned_switch next) ≡ false → (message : Message)
         → IsTrue (matters journal s message (next ∷ after))
-        → IsKept row.buckets.items message ↔ IsReplaced message (next ∷ after)
+        → IsKeptInBucket row.buckets.items message ↔ IsReplaced message (next ∷ after)
     by_item (item.Sent number later) other message matter = (
       λ kept. inr ((is.kept message matter).0 kept),
       λ replaced. elim replaced [
@@ -349,30 +349,30 @@ pub after_sent : {E : Type 0} (marks : List Bool) (number : ℕ) (message : Mess
     → OnOk result (now.status ≡ row.status) → OnOk result (now.is_in_boot ≡ row.is_in_boot)
     → OnOk result (length now.buckets.items ≡ length row.buckets.items)
     → OnOk result (length row.buckets.items ≡ 64 → (other : Message)
-    → IsKept now.buckets.items other
-    ↔ (IsKept row.buckets.items other ⊎ IsAdded row delivered message other))
+    → IsKeptInBucket now.buckets.items other
+    ↔ (IsKeptInBucket row.buckets.items other ⊎ IsAdded row delivered message other))
     → IfOk result (λ answer. IsTrue answer
     ↔ (IsTrue (matters_to row.status row.is_in_boot message)
-    → IsTrue delivered ⊎ IsKept row.buckets.items message))
+    → IsTrue delivered ⊎ IsKeptInBucket row.buckets.items message))
     → IfOk result (λ answer. IsAfter marks (item.Sent number message) row now answer)
 after_sent marks number message row now delivered (Ok answer) is status in_boot count kept received =
     record {
       status = status;
       in_boot = in_boot ∙ and_not row.is_in_boot;
       count = count;
-      kept = λ many other. subst (λ d. IsKept now.buckets.items other
-          ↔ (IsKept row.buckets.items other ⊎ IsAdded row d message other)) is (kept many other);
+      kept = λ many other. subst (λ d. IsKeptInBucket now.buckets.items other
+          ↔ (IsKeptInBucket row.buckets.items other ⊎ IsAdded row d message other)) is (kept many other);
       met = subst (λ d. IsTrue answer
           ↔ (IsTrue (matters_to row.status row.is_in_boot message)
-          → IsTrue d ⊎ IsKept row.buckets.items message)) is received;
+          → IsTrue d ⊎ IsKeptInBucket row.buckets.items message)) is received;
     }
 after_sent marks number message row now delivered (Err e) is status in_boot count kept received = tt
 
 -- a message that doesn't matter, or that another one replaces, is passed over
 pub passed_over : (row : Traffic) (delivered : Bool) (message other : Message)
-    → (IsTrue (matters_to row.status row.is_in_boot message) → IsKept row.buckets.items message)
-    → IsKept row.buckets.items other
-    ↔ (IsKept row.buckets.items other ⊎ IsAdded row delivered message other)
+    → (IsTrue (matters_to row.status row.is_in_boot message) → IsKeptInBucket row.buckets.items message)
+    → IsKeptInBucket row.buckets.items other
+    ↔ (IsKeptInBucket row.buckets.items other ⊎ IsAdded row delivered message other)
 passed_over row delivered message other said = (
   λ kept. inl kept,
   λ either. elim either [

@@ -1,6 +1,6 @@
 -- What says as much as another message.
 use Rattle.std.proofs.Common.{ℕ, ◌≡◌, ◌⊎◌, Some, ◌&&◌, ◌||◌, ◌==◌, Bool, true, false, refl, ap, sym, subst, ◌∙◌, arith, inl, inr}
-use Rattle.std.specs.Prelude.{IsTrue, IsFalse, nat_le}
+use Rattle.std.specs.Prelude.{IsTrue, IsFalse}
 use Rattle.std.proofs.lemmas.Bool.{and_parts, eq-eqb, eqb-true, or_right}
 use Rattle.std.proofs.lemmas.Bool.Decides.{nat_tests}
 use Rattle.control_laws.proofs.Facts.{own}
@@ -95,18 +95,15 @@ pub record Covers (later earlier : Body) : Type 0 where
   replaces : replaces_body later earlier ≡ true
   lists : HaveSameLists later earlier
 
-up_itself : (n : ℕ) → nat_le n n ≡ true
-up_itself n = grind (arith, nat_tests)
-
 body_itself : (body : Body) → IsFalse (is_cache_rule body) → Covers body body
 body_itself (Install boot tables) plain =
     record { replaces = rw (own boot, own tables.version) refl; lists = refl }
 body_itself (OpenAt boot version) plain =
     record { replaces = rw (own boot, own version) refl; lists = tt }
 body_itself (Stamp boot version touched) plain =
-    record { replaces = rw (own boot, up_itself version) refl; lists = inr refl }
+    record { replaces = rw (own boot, own version) refl; lists = inr refl }
 body_itself (Collect boot version) plain =
-    record { replaces = rw (own boot, up_itself version) refl; lists = tt }
+    record { replaces = rw (own boot, own version) refl; lists = tt }
 body_itself (Advertise advert) plain = record {
   replaces = rw (own advert.origin, own advert.boot, own advert.seq, own advert.up) refl;
   lists = tt;
@@ -115,7 +112,7 @@ body_itself (Hello s boot) plain = record { replaces = rw (own s, own boot) refl
 body_itself (Installed s boot version) plain =
     record { replaces = rw (own s, own boot, own version) refl; lists = tt }
 body_itself (Stamped s boot version) plain =
-    record { replaces = rw (own s, own boot, up_itself version) refl; lists = tt }
+    record { replaces = rw (own s, own boot, own version) refl; lists = tt }
 body_itself body plain = absurd cc
 
 -- both matter to the same switches in the same status

@@ -19,11 +19,11 @@ subject _ = 0
 abbrev pub bucket_of : Body → ℕ
 bucket_of body = if nat_lt (subject body) 64 then subject body else 0
 
-abbrev pub messages_of : Bucket → List Message
-messages_of bucket = bucket.messages.items
+abbrev pub bucket_messages : Bucket → List Message
+bucket_messages bucket = bucket.messages.items
 
-abbrev pub messages_in : List Bucket → ℕ → List Message
-messages_in buckets c = option_map_or messages_of (slice_get buckets c) []
+abbrev pub messages_at : List Bucket → ℕ → List Message
+messages_at buckets c = option_map_or bucket_messages (slice_get buckets c) []
 
 -- one of the messages says as much as this one
 abbrev pub HasSaying : List Message → Message → Type 0
@@ -31,8 +31,8 @@ HasSaying [] message = ⊥
 HasSaying (kept ∷ messages) message = SaysAsMuch kept message ⊎ HasSaying messages message
 
 -- so does one in its bucket
-abbrev pub IsKept : List Bucket → Message → Type 0
-IsKept buckets message = HasSaying (messages_in buckets (bucket_of message.body)) message
+abbrev pub IsKeptInBucket : List Bucket → Message → Type 0
+IsKeptInBucket buckets message = HasSaying (messages_at buckets (bucket_of message.body)) message
 
 -- all buckets, and no message is in them
 pub record AreEmpty (buckets : List Bucket) : Type 0 where

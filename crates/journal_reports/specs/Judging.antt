@@ -1,7 +1,9 @@
 -- How the judge of a quiet network tests a message: whether it matters to a switch, and whether it
 -- replaces another one. That this decides whether the network is quiet is its contract.
-use Rattle.std.specs.Prelude.{⊤, ℕ, ◌≡◌, ◌⊎◌, Bool, true, false, not, ◌&&◌, ◌||◌, ◌==◌, nat_le, nat_lt, Option, Some, None, unwrap_or, option_map, List, [], ◌∷◌, IsTrue, slice_index_or}
-use Rattle.std.specs.Option.{option_map_or}
+use Rattle.std.specs.Prelude.{⊤, ℕ, ◌≡◌, ◌⊎◌, Bool, true, false, not, ◌&&◌, ◌||◌, ◌==◌, nat_eq, nat_lt, Option, Some, None, unwrap_or, option_map, List, [], ◌∷◌, IsTrue, slice_index_or}
+use Rattle.std.specs.Option.{option_eq, option_map_or}
+use Rattle.ctrl_msg.specs.Bodies.{body_boot}
+use Rattle.ctrl_msg.specs.Kinds.{body_version}
 use Rattle.ctrl_msg.specs.declared.message.Body.{Body}
 use Rattle.ctrl_msg.specs.declared.message.Body.TheVariants.{Install, OpenAt, Stamp, Collect, Advertise, Hello, Installed, Stamped}
 use Rattle.ctrl_msg.specs.declared.message.Message.{Message}
@@ -25,8 +27,8 @@ MarksOneMore number before after = (n : ℕ)
 
 -- ---- the status of a switch
 
-abbrev pub status_after : Item → SwitchStatus → SwitchStatus
-status_after item status = record {
+abbrev pub status_with : Item → SwitchStatus → SwitchStatus
+status_with item status = record {
   switch = status.switch;
   is_up = unwrap_or (gives_up status.switch item) status.is_up;
   boot = unwrap_or (gives_boot status.switch item) status.boot;
@@ -70,27 +72,49 @@ matters_to status in_boot message = elim message.to [
 
 -- ---- which messages replace others
 
+-- the switch that says this to the controller
+abbrev pub speaking_switch : Body → Option ℕ
+speaking_switch body = option_map (λ (of : ℕ × ℕ). of.0) (speaker body)
+
 abbrev pub is_same : Advert → Advert → Bool
 is_same one other = one.origin == other.origin && one.boot == other.boot && one.seq == other.seq
     && one.up == other.up
 
+-- of one kind, other than cache rules and adverts
+abbrev pub is_same_kind : Body → Body → Bool
+is_same_kind (Install boot tables) (Install of earlier) = true
+is_same_kind (OpenAt boot version) (OpenAt of earlier) = true
+is_same_kind (Stamp boot version touched) (Stamp of earlier others) = true
+is_same_kind (Collect boot version) (Collect of earlier) = true
+is_same_kind (Hello s boot) (Hello t of) = true
+is_same_kind (Installed s boot version) (Installed t of earlier) = true
+is_same_kind (Stamped s boot version) (Stamped t of earlier) = true
+is_same_kind _ _ = false
+
+-- what is said of a version holds for those before it too
+abbrev pub holds_for_earlier_versions : Body → Bool
+holds_for_earlier_versions (Stamp boot version touched) = true
+holds_for_earlier_versions (Collect boot version) = true
+holds_for_earlier_versions (Stamped s boot version) = true
+holds_for_earlier_versions _ = false
+
+-- of one version, if of any; or of a greater one, where that will do
+abbrev pub is_enough : Bool → Option ℕ → Option ℕ → Bool
+is_enough rises (Some version) (Some old) = version == old || (rises && nat_lt old version)
+is_enough rises _ _ = true
+
+abbrev pub is_version_enough : Body → Body → Bool
+is_version_enough later earlier =
+    is_enough (holds_for_earlier_versions later) (body_version later) (body_version earlier)
+
 -- the body says what the other one does, of the same or a greater version, or of the same or a
 -- newer advert; of tables the version alone is compared, and of touched words nothing
 abbrev pub replaces_body : Body → Body → Bool
-replaces_body (Install boot tables) (Install of earlier) =
-    boot == of && tables.version == earlier.version
-replaces_body (OpenAt boot version) (OpenAt of earlier) = boot == of && version == earlier
-replaces_body (Stamp boot version touched) (Stamp of earlier others) =
-    boot == of && nat_le earlier version
-replaces_body (Collect boot version) (Collect of earlier) = boot == of && nat_le earlier version
 replaces_body (Advertise advert) (Advertise earlier) =
     is_same advert earlier || (advert.origin == earlier.origin && is_newer advert earlier)
-replaces_body (Hello s boot) (Hello t of) = s == t && boot == of
-replaces_body (Installed s boot version) (Installed t of earlier) =
-    s == t && boot == of && version == earlier
-replaces_body (Stamped s boot version) (Stamped t of earlier) =
-    s == t && boot == of && nat_le earlier version
-replaces_body _ _ = false
+replaces_body later earlier = is_same_kind later earlier
+    && option_eq nat_eq (speaking_switch later) (speaking_switch earlier)
+    && option_eq nat_eq (body_boot later) (body_boot earlier) && is_version_enough later earlier
 
 abbrev pub is_same_receiver : Place → Place → Bool
 is_same_receiver (receiver.Switch s) (receiver.Switch t) = s == t
@@ -118,10 +142,6 @@ abbrev pub has_mark : List Bool → ℕ → Bool
 has_mark marks number = slice_index_or marks number false
 
 -- ---- which switch an item concerns
-
--- the switch that says this to the controller
-abbrev pub speaking_switch : Body → Option ℕ
-speaking_switch body = option_map (λ (of : ℕ × ℕ). of.0) (speaker body)
 
 -- the switch that a message is to, or of
 abbrev pub switch_of_message : Message → Option ℕ

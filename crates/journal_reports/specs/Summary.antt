@@ -51,8 +51,8 @@ is_sent _ = false
 -- ---- the summary
 
 -- how many items of each kind there are, and the marks at the end; as travelling, all that came in
-abbrev pub counts_of : List Item → Summary
-counts_of journal = record {
+abbrev pub item_counts : List Item → Summary
+item_counts journal = record {
   packets = count_of is_packet journal;
   closed = count_of is_closed journal;
   delivered = count_of is_left journal;
@@ -71,7 +71,7 @@ abbrev pub with_travelling : Summary → Summary
 with_travelling s = record s { travelling = s.travelling - (s.delivered + s.dropped + s.lost + s.stuck) }
 
 abbrev pub summary_of : List Item → Summary
-summary_of journal = with_travelling (counts_of journal)
+summary_of journal = with_travelling (item_counts journal)
 
 -- ---- one more item
 

@@ -7,7 +7,7 @@ use Rattle.journal.specs.declared.item.Item.TheVariants as item
 use Rattle.update_machine.specs.Quiet.{IsReplaced, begins_boot, matters}
 use Rattle.journal_reports.specs.declared.traffic.Traffic.{Traffic}
 use Rattle.journal_reports.specs.Judging.{SaysAsMuch, concerned_switch, has_mark, is_named, matters_to, status_in}
-use Rattle.journal_reports.specs.Buckets.{IsKept}
+use Rattle.journal_reports.specs.Buckets.{IsKeptInBucket}
 
 -- the switch's status at the end of the journal; whether these last items of it begin none of its
 -- boots; and what replaces a message that matters is among the kept ones where they send such a
@@ -17,7 +17,7 @@ pub record IsTraffic (journal after : List Item) (s : ℕ) (row : Traffic) : Typ
   pub in_boot : row.is_in_boot ≡ not (list_any (begins_boot s) after)
   pub count : length row.buckets.items ≡ 64
   pub kept : (message : Message) → IsTrue (matters journal s message after)
-      → IsKept row.buckets.items message ↔ IsReplaced message after
+      → IsKeptInBucket row.buckets.items message ↔ IsReplaced message after
 
 -- these are the switches, by their numbers
 abbrev pub AreTraffic : List Item → List Item → List Traffic → Type 0
@@ -40,7 +40,7 @@ Adds marks row _ other = ⊥
 abbrev pub IsMet : List Bool → Traffic → Item → Type 0
 IsMet marks row (item.Sent number message) =
     IsTrue (matters_to row.status row.is_in_boot message)
-    → IsTrue (has_mark marks number) ⊎ IsKept row.buckets.items message
+    → IsTrue (has_mark marks number) ⊎ IsKeptInBucket row.buckets.items message
 IsMet marks row _ = ⊤
 
 -- what one item before them makes of a switch, and the answer to it
@@ -51,8 +51,8 @@ pub record IsAfter (marks : List Bool) (item : Item) (before after : Traffic) (a
       ≡ (before.is_in_boot && not (begins_boot before.status.switch item))
   pub count : length after.buckets.items ≡ length before.buckets.items
   pub kept : length before.buckets.items ≡ 64 → (other : Message)
-      → IsKept after.buckets.items other
-      ↔ (IsKept before.buckets.items other ⊎ Adds marks before item other)
+      → IsKeptInBucket after.buckets.items other
+      ↔ (IsKeptInBucket before.buckets.items other ⊎ Adds marks before item other)
   pub met : IsTrue answer ↔ IsMet marks before item
 
 -- the item concerns one of the switches

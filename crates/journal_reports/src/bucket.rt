@@ -1,7 +1,7 @@
 //! Messages of a switch that are kept, by buckets: what says as much as a message is in its bucket.
 ghost use Rattle.std.specs.Prelude.{◌≡◌, ◌↔◌, ◌⊎◌, length, IfOk, IsTrue, OnOk};
 ghost use Rattle.ctrl_msg.specs.declared.message.Message.{Message};
-ghost use Rattle.journal_reports.specs.Buckets.{AreEmpty, HasSaying, IsKept, bucket_of, subject};
+ghost use Rattle.journal_reports.specs.Buckets.{AreEmpty, HasSaying, IsKeptInBucket, bucket_of, subject};
 ghost use Rattle.journal_reports.specs.Judging.{SaysAsMuch};
 
 use crate::replacing::says_as_much;
@@ -33,7 +33,7 @@ pub fn empty_buckets(alloc: Global) -> Result<Vec<Bucket>, AllocError>
 
 /// Whether one of the messages in the buckets says as much as this one.
 pub fn is_kept(buckets: &[Bucket], message: &Message) -> bool
-    ensures { IsTrue result ↔ IsKept buckets.now message.now }
+    ensures { IsTrue result ↔ IsKeptInBucket buckets.now message.now }
 {
     let bucket = bucket_of(&message.body) as usize;
     bucket < buckets.len() && is_said(&buckets[bucket].messages, message)
@@ -58,8 +58,8 @@ fn is_said(messages: &[SharedMessage], message: &Message) -> bool
 pub fn keep(buckets: &mut Vec<Bucket>, message: &SharedMessage) -> Result<(), AllocError>
     ensures count { OnOk result (length buckets.new.items ≡ length buckets.old.items) }
     ensures kept { OnOk result (length buckets.old.items ≡ 64 → (other : Message) →
-        IsKept buckets.new.items other
-        ↔ (IsKept buckets.old.items other ⊎ SaysAsMuch message.now other)) }
+        IsKeptInBucket buckets.new.items other
+        ↔ (IsKeptInBucket buckets.old.items other ⊎ SaysAsMuch message.now other)) }
 {
     let bucket = bucket_of(&message.get().body) as usize;
     if bucket >= buckets.len() {

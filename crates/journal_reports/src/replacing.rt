@@ -2,7 +2,7 @@
 ghost use Rattle.std.specs.Prelude.{◌≡◌, ◌↔◌, ◌||◌, false, IsTrue};
 ghost use Rattle.std.specs.Option.{option_map_or};
 ghost use Rattle.update_machine.specs.Quiet.{are_old_tables, carries_boot, is_advert, is_of_boot, is_old_answer, speaker};
-ghost use Rattle.journal_reports.specs.Judging.{HaveSameLists, SaysAsMuch, matters_to, replaces_message, replaces_body};
+ghost use Rattle.journal_reports.specs.Judging.{HaveSameLists, SaysAsMuch, holds_for_earlier_versions, is_same_kind, is_version_enough, matters_to, replaces_body, replaces_message, speaking_switch};
 
 use crate::status::SwitchStatus;
 use ctrl_msg::{are_same_tables, are_same_words};
@@ -118,69 +118,64 @@ fn replaces_body(later: &Body, earlier: &Body) -> bool
     ensures { result ≡ replaces_body later.now earlier.now }
 {
     match (later, earlier) {
-        (
-            Body::Install { boot, tables },
-            Body::Install {
-                boot: of,
-                tables: old,
-            },
-        ) => boot == of && tables.tables().version == old.tables().version,
-        (
-            Body::OpenAt { boot, version },
-            Body::OpenAt {
-                boot: of,
-                version: old,
-            },
-        ) => boot == of && version == old,
-        (
-            Body::Stamp { boot, version, .. },
-            Body::Stamp {
-                boot: of,
-                version: old,
-                ..
-            },
-        )
-        | (
-            Body::Collect { boot, version },
-            Body::Collect {
-                boot: of,
-                version: old,
-            },
-        ) => boot == of && old <= version,
         (Body::Advertise { advert }, Body::Advertise { advert: old }) => {
             advert == old || (advert.origin == old.origin && advert.is_newer(old))
         }
-        (
-            Body::Hello { switch, boot },
-            Body::Hello {
-                switch: who,
-                boot: of,
-            },
-        ) => switch == who && boot == of,
-        (
-            Body::Installed {
-                switch,
-                boot,
-                version,
-            },
-            Body::Installed {
-                switch: who,
-                boot: of,
-                version: old,
-            },
-        ) => switch == who && boot == of && version == old,
-        (
-            Body::Stamped {
-                switch,
-                boot,
-                version,
-            },
-            Body::Stamped {
-                switch: who,
-                boot: of,
-                version: old,
-            },
-        ) => switch == who && boot == of && old <= version,
+        _ => {
+            is_same_kind(later, earlier)
+                && speaks(later) == speaks(earlier)
+                && later.boot() == earlier.boot()
+                && is_version_enough(later, earlier)
+        }
+    }
+}
+
+// Whether both are of one kind, other than cache rules and adverts.
+fn is_same_kind(later: &Body, earlier: &Body) -> bool
+    ensures { result ≡ is_same_kind later.now earlier.now }
+{
+    match (later, earlier) {
+        (Body::Install { .. }, Body::Install { .. })
+        | (Body::OpenAt { .. }, Body::OpenAt { .. })
+        | (Body::Stamp { .. }, Body::Stamp { .. })
+        | (Body::Collect { .. }, Body::Collect { .. })
+        | (Body::Hello { .. }, Body::Hello { .. })
+        | (Body::Installed { .. }, Body::Installed { .. })
+        | (Body::Stamped { .. }, Body::Stamped { .. }) => true,
+        _ => false,
+    }
+}
+
+/// The switch that says this to the controller.
+pub fn speaks(body: &Body) -> Option<u32>
+    ensures { result ≡ speaking_switch body.now }
+{
+    match body {
+        Body::Hello { switch, .. }
+        | Body::Installed { switch, .. }
+        | Body::Stamped { switch, .. } => Some(*switch),
+        _ => None,
+    }
+}
+
+// Whether the later one speaks of the earlier one's version, if that has one; or of a greater one,
+// where it holds for those before it too.
+fn is_version_enough(later: &Body, earlier: &Body) -> bool
+    ensures { result ≡ is_version_enough later.now earlier.now }
+{
+    match (later.version(), earlier.version()) {
+        (Some(version), Some(old)) => {
+            version == old || (holds_for_earlier_versions(later) && old < version)
+        }
+        _ => true,
+    }
+}
+
+fn holds_for_earlier_versions(body: &Body) -> bool
+    ensures { result ≡ holds_for_earlier_versions body.now }
+{
+    match body {
+        Body::Stamp { .. } | Body::Collect { .. } | Body::Stamped { .. } => true,
         _ => false,
     }
 }

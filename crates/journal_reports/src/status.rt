@@ -1,6 +1,6 @@
 //! What a journal says of a switch, at its end.
 ghost use Rattle.std.specs.Prelude.{ℕ, ◌≡◌, ◌++◌, IfOk, OnOk};
-ghost use Rattle.journal_reports.specs.Judging.{is_missed, status_after, status_in, status_item};
+ghost use Rattle.journal_reports.specs.Judging.{is_missed, status_with, status_in, status_item};
 
 use journal::Item;
 use std::alloc::{AllocError, Global};
@@ -43,7 +43,7 @@ impl SwitchStatus {
 
     // What one more item makes of it.
     fn go_on(&mut self, item: &Item)
-        ensures { self.new ≡ status_after item.now self.old }
+        ensures { self.new ≡ status_with item.now self.old }
     {
         match item {
             Item::Down { switch } => {

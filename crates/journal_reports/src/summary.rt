@@ -1,5 +1,5 @@
 ghost use Rattle.std.specs.Prelude.{◌≡◌};
-ghost use Rattle.journal_reports.specs.Summary.{CountsHaveRoom, counted_with, counts_of, with_travelling, summary_of};
+ghost use Rattle.journal_reports.specs.Summary.{CountsHaveRoom, counted_with, item_counts, with_travelling, summary_of};
 
 use journal::{How, Item, Journal};
 
@@ -36,7 +36,7 @@ pub fn summarize(journal: &Journal) -> Summary
 
 // Counts the items in one pass: as travelling, all that came in.
 fn count(items: &[Item]) -> Summary
-    ensures { result ≡ counts_of items.now }
+    ensures { result ≡ item_counts items.now }
 {
     let mut counts = Summary {
         packets: 0,

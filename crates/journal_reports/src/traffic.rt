@@ -3,13 +3,13 @@ ghost use Rattle.std.specs.Prelude.{ℕ, ◌≡◌, ◌<◌, ◌⊎◌, ◌↔�
 ghost use Rattle.std.specs.List.{list_all};
 ghost use Rattle.ctrl_msg.specs.declared.message.Message.{Message};
 ghost use Rattle.journal_reports.specs.declared.traffic.Traffic.{Traffic};
-ghost use Rattle.journal_reports.specs.Buckets.{IsKept};
-ghost use Rattle.journal_reports.specs.Judging.{concerned_switch, is_missed, is_named, matters_to, speaking_switch, switch_of_message};
+ghost use Rattle.journal_reports.specs.Buckets.{IsKeptInBucket};
+ghost use Rattle.journal_reports.specs.Judging.{concerned_switch, is_missed, is_named, matters_to, switch_of_message};
 ghost use Rattle.journal_reports.specs.Traffic.{AreTraffic, ConcernsOne, IsAdded, IsAfter};
 
 use crate::bucket::{Bucket, empty_buckets, is_kept, keep};
 use crate::deliveries::is_marked;
-use crate::replacing::matters;
+use crate::replacing::{matters, speaks};
 use crate::status::{SwitchStatus, status_items};
 use journal::{Body, Item, Message, Place, SharedMessage};
 use std::alloc::{AllocError, Global};
@@ -56,12 +56,12 @@ impl Traffic {
         ensures count { OnOk result
             (length self.new.buckets.items ≡ length self.old.buckets.items) }
         ensures kept { OnOk result (length self.old.buckets.items ≡ 64 → (other : Message) →
-            IsKept self.new.buckets.items other
-            ↔ (IsKept self.old.buckets.items other
+            IsKeptInBucket self.new.buckets.items other
+            ↔ (IsKeptInBucket self.old.buckets.items other
             ⊎ IsAdded self.old is_delivered message.now other)) }
         ensures received { IfOk result (λ answer. IsTrue answer
             ↔ (IsTrue (matters_to self.old.status self.old.is_in_boot message.now)
-            → IsTrue is_delivered ⊎ IsKept self.old.buckets.items message.now)) }
+            → IsTrue is_delivered ⊎ IsKeptInBucket self.old.buckets.items message.now)) }
     {
         if !matters(message.get(), &self.status, self.is_in_boot) {
             return Ok(true);
@@ -148,17 +148,5 @@ fn party(message: &Message) -> Option<u32>
     match message.to {
         Place::Switch(to) => Some(to),
         Place::Controller => speaks(&message.body),
-    }
-}
-
-// The switch that says this to the controller.
-fn speaks(body: &Body) -> Option<u32>
-    ensures { result ≡ speaking_switch body.now }
-{
-    match body {
-        Body::Hello { switch, .. }
-        | Body::Installed { switch, .. }
-        | Body::Stamped { switch, .. } => Some(*switch),
-        _ => None,
     }
 }

@@ -8,10 +8,10 @@ use Rattle.std.proofs.lemmas.List.{take-append-drop}
 use Rattle.std.proofs.lemmas.List.Elements.{All-weaker}
 use Rattle.std.proofs.lemmas.List.Splits.{slice_split_at}
 use Rattle.std.proofs.lemmas.List.Sums.{AllPass-from_list_all}
-use Rattle.trace_audit.specs.Told.{is_word, words_left, words_of}
+use Rattle.trace_audit.specs.Told.{has_no_blank, words_left, words_of}
 use Rattle.trace_audit.proofs.Lines.{first_part}
 
-pub word_before : (word text : List ℕ) → is_word word ≡ true → length word < length text
+pub word_before : (word text : List ℕ) → has_no_blank word ≡ true → length word < length text
     → take (length word) text ≡ word → get_or text (length word) 0 ≡ 32
     → words_of text ≡ word ∷ words_of (drop (length word + 1) text)
 word_before word text plain room front blank =

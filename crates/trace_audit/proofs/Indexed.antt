@@ -1,9 +1,12 @@
 -- An index of a policy's rows: how it grows, and that what it finds is the first match.
-use Rattle.std.proofs.Common.{◌≡◌, ◌≢◌, ◌∙◌, ℕ, suc, zero, ◌+◌, ◌*◌, ◌/◌, ◌-◌, ◌^◌, ◌<◌, ◌≤◌, ◌&&◌, Bool, true, false, ltb, Option, Some, None, MatchOption, List, [], ◌∷◌, ◌++◌, length, get_or, set, take, replicate, filter, slice_get, All, Contains, refl, sym, ap, subst, inl, inr, arith}
+use Rattle.std.proofs.Common.{◌≡◌, ◌≢◌, ◌∙◌, ℕ, suc, zero, ◌+◌, ◌*◌, ◌/◌, ◌-◌, ◌^◌, ◌<◌, ◌≤◌, ◌&&◌, ◌==◌, cond, not, Bool, true, false, ltb, Option, Some, None, MatchOption, List, [], ◌∷◌, ◌++◌, length, get_or, set, take, replicate, filter, slice_get, All, Contains, refl, sym, ap, subst, inl, inr, arith}
+use Rattle.std.specs.List.{position_or_len}
 use Rattle.std.specs.Option.{option_map_or}
-use Rattle.std.proofs.lemmas.Bool.{and_cases, and_parts, both_ways, cases_eq, cases_lt, cond_both, eqb-true, false≢true, ltb-false, ltb-true, true≢false}
+use Rattle.std.proofs.lemmas.Bool.{and_cases, and_parts, both_ways, cases_eq, cases_lt, cond_both, eq-eqb, eqb-true, false≢true, ltb-false, ltb-true, true≢false}
 use Rattle.std.proofs.lemmas.List.{length-replicate, length-set, length_push, take_more}
-use Rattle.std.proofs.lemmas.List.Elements.{All-filter, All-head, Contains-append_right, Contains-push_cases, filter_passes}
+use Rattle.std.proofs.lemmas.List.Folds.{position_or_len_push}
+use Rattle.std.proofs.lemmas.List.Sums.{passes_at_first, prefix_len-le-length}
+use Rattle.std.proofs.lemmas.List.Elements.{All-filter, All-head, All-push, Contains-append_right, filter_passes}
 use Rattle.std.proofs.lemmas.Nat.{shr_split}
 use Rattle.std.proofs.lemmas.Option.{get_or_from_slice_get, same_Some, slice_get-get_or, slice_get_read, slice_get_within}
 use Rattle.five_tuple.specs.Header.{AddressBlock, fields_of, prefix_matches, proto_matches, range_matches}
@@ -17,7 +20,7 @@ use Rattle.policy_rules.specs.SoundPolicies.{IsPolicy, IsSoundRow}
 use Rattle.policy_rules.specs.declared.policy.Action.{Action}
 use Rattle.policy_rules.specs.declared.policy.Hit.{Hit}
 use Rattle.policy_rules.specs.declared.policy.Row.{Row}
-use Rattle.trace_audit.specs.Index.{IsBest, IsBetter, IsIndexOf, IsIndexUpTo, IsLastBefore, IsMatchIn, IsReached, IsSoundShape, LackSlot, Notes, better_of, shape_of, slot_of, slot_of_row}
+use Rattle.trace_audit.specs.Index.{AreShapesOf, HasShape, IsBest, IsBetter, IsIndexOf, IsIndexUpTo, IsLastBefore, IsMatchIn, IsNoHigher, IsSoundShape, LackSlot, Notes, better_of, is_shape, shape_of_row, shape_place, slot_of, slot_of_row}
 use Rattle.trace_audit.specs.declared.index.Index.{Index}
 use Rattle.trace_audit.specs.declared.index.Shape.{Shape}
 
@@ -81,64 +84,154 @@ both_blocks true true c d e h = (refl, refl)
 both_blocks true false c d e h = absurd (false≢true h)
 both_blocks false b c d e h = absurd (false≢true h)
 
--- a header is sought in the slot of each row that matches it
-slot_same : (row : Row) (fields : Fields) (src dst : ℕ) → IsSoundRow row
-    → row_matches row fields ≡ true → src ≡ (block_round fields.src row.src.len).address
-    → dst ≡ (block_round fields.dst row.dst.len).address → slot_of_row row ≡ slot_of src dst
-slot_same row fields src dst sound matches s d =
-    let both = both_blocks (prefix_matches row.src fields.src) (prefix_matches row.dst fields.dst)
-    (range_matches row.sport fields.sport) (range_matches row.dport fields.dport)
-    (proto_matches row.proto fields.proto) matches in
-    ap (λ n. slot_of n row.dst.address) (sym (s ∙ same_start row.src fields.src sound.src both.0))
-    ∙ ap (λ n. slot_of src n) (sym (d ∙ same_start row.dst fields.dst sound.dst both.1))
-
 sound_row : (rows : List Row) (k : ℕ) (row : Row) → IsPolicy rows → slice_get rows k ≡ Some row
     → IsSoundRow row
 sound_row rows k row policy there =
     subst IsSoundRow (get_or_from_slice_get rows k row row there)
     (policy.sound k row (slice_get_within rows k row there))
 
-shape_sound : (row : Row) → IsSoundRow row → IsSoundShape (shape_of row)
+pub has_shape : (shapes : List Shape) (rows : List Row) (k : ℕ) (row : Row) → AreShapesOf rows shapes
+    → slice_get rows k ≡ Some row → HasShape shapes row
+has_shape shapes rows k row are there =
+    subst (HasShape shapes) (get_or_from_slice_get rows k row row there)
+    (are.there k row (slice_get_within rows k row there))
+
+-- the shape at the place of a row's shape is the row's
+own_shape : (shapes : List Shape) (row : Row) (shape : Shape)
+    → slice_get shapes (shape_place shapes row) ≡ Some shape → shape_of_row row ≡ shape
+own_shape shapes row shape there =
+    let place = shape_place shapes row in
+    let within = slice_get_within shapes place shape there in
+    let passes = passes_at_first (is_shape (shape_of_row row)) shapes shape within in
+    let is : is_shape (shape_of_row row) shape ≡ true =
+    subst (λ (other : Shape). is_shape (shape_of_row row) other ≡ true)
+    (get_or_from_slice_get shapes place shape shape there) passes in
+    let both = and_parts (shape.src == row.src.len) (shape.dst == row.dst.len) is in
+    let src = eqb-true shape.src row.src.len both.0 in
+    let dst = eqb-true shape.dst row.dst.len both.1 in
+    ap (λ (n : ℕ). record { src = n; dst = row.dst.len }) (sym src)
+    ∙ ap (λ (n : ℕ). record { src = shape.src; dst = n }) (sym dst)
+
+-- ---- the shapes of rows
+
+module _ (shapes : List Shape) (shape : Shape) where
+  -- where a shape is behind one more: at its place, if it was there
+  place_pushed : (other : Shape) → position_or_len (is_shape other) (shapes ++ shape ∷ [])
+      ≡ cond (position_or_len (is_shape other) shapes == length shapes)
+      (length shapes + cond (is_shape other shape) 0 1) (position_or_len (is_shape other) shapes)
+  place_pushed other = position_or_len_push (is_shape other) shapes shape
+
+  kept_pushed : (row : Row) → HasShape shapes row → HasShape (shapes ++ shape ∷ []) row
+  kept_pushed row has =
+      let place = shape_place shapes row in
+      let more = length_push shapes shape in
+      subst (λ n. n < length (shapes ++ shape ∷ [])) (sym (place_pushed (shape_of_row row)))
+      (cond_both (place == length shapes)
+      (length shapes + cond (is_shape (shape_of_row row) shape) 0 1) place
+      (λ n. n < length (shapes ++ shape ∷ []))
+      (λ yes. absurd (omega (arith, eqb-true place (length shapes) yes, has)))
+      (λ no. omega (arith, has, more)))
+
+  there_pushed : position_or_len (is_shape shape) (shapes ++ shape ∷ [])
+      < length (shapes ++ shape ∷ [])
+  there_pushed =
+      let place = position_or_len (is_shape shape) shapes in
+      let most = prefix_len-le-length (λ x. not (is_shape shape x)) shapes in
+      let more = length_push shapes shape in
+      let own : cond {A = ℕ} (is_shape shape shape) 0 1 ≡ 0 =
+      rw (eq-eqb shape.src shape.src refl, eq-eqb shape.dst shape.dst refl) refl in
+      subst (λ n. n < length (shapes ++ shape ∷ [])) (sym (place_pushed shape))
+      (cond_both (place == length shapes) (length shapes + cond (is_shape shape shape) 0 1) place
+      (λ n. n < length (shapes ++ shape ∷ [])) (λ yes. omega (arith, own, more))
+      (λ no. omega (arith, most, more)))
+
+  pub notes_pushed : Notes shapes shape (shapes ++ shape ∷ [])
+  notes_pushed = record {
+    there = there_pushed;
+    kept = kept_pushed;
+    sound = λ one all. All-push IsSoundShape shapes shape all one;
+  }
+
+shape_sound : (row : Row) → IsSoundRow row → IsSoundShape (shape_of_row row)
 shape_sound row sound = record { src = sound.src.len; dst = sound.dst.len }
+
+pub shapes_none : (rows : List Row) (shapes : List Shape) → shapes ≡ [] → AreShapesOf [] shapes
+shapes_none rows shapes none = record {
+  sound = subst (All IsSoundShape) (sym none) (λ k d within. absurd (omega (arith, within)));
+  there = λ k d within. absurd (omega (arith, within));
+}
+
+-- one more row, whose shape was noted
+pub shapes_more : (rows : List Row) (i : ℕ) (row : Row) (before after : List Shape)
+    → IsPolicy rows → i < length rows → slice_get rows i ≡ Some row
+    → Notes before (shape_of_row row) after → AreShapesOf (take i rows) before
+    → AreShapesOf (take (i + 1) rows) after
+shapes_more rows i row before after policy within there notes are = record {
+  sound = notes.sound (shape_sound row (sound_row rows i row policy there)) are.sound;
+  there = subst (All (HasShape after)) (sym (take_more rows i row within))
+      (All-push (HasShape after) (take i rows) (get_or rows i row)
+      (λ k d inside. notes.kept (get_or (take i rows) k d) (are.there k d inside))
+      (subst (HasShape after) (sym (get_or_from_slice_get rows i row row there)) notes.there));
+}
+
+-- a header is sought in the slot of each row that matches it
+slot_same : (shapes : List Shape) (row : Row) (fields : Fields) (shape : Shape) (src dst : ℕ)
+    → IsSoundRow row → row_matches row fields ≡ true → shape_of_row row ≡ shape
+    → src ≡ (block_round fields.src shape.src).address
+    → dst ≡ (block_round fields.dst shape.dst).address
+    → slot_of_row shapes row ≡ slot_of (length shapes) (shape_place shapes row) src dst
+slot_same shapes row fields shape src dst sound matches own s d =
+    let n = length shapes in
+    let place = shape_place shapes row in
+    let s : src ≡ (block_round fields.src row.src.len).address =
+    s ∙ ap (λ (x : Shape). (block_round fields.src x.src).address) (sym own) in
+    let d : dst ≡ (block_round fields.dst row.dst.len).address =
+    d ∙ ap (λ (x : Shape). (block_round fields.dst x.dst).address) (sym own) in
+    let both = both_blocks (prefix_matches row.src fields.src) (prefix_matches row.dst fields.dst)
+    (range_matches row.sport fields.sport) (range_matches row.dport fields.dport)
+    (proto_matches row.proto fields.proto) matches in
+    ap (λ a. slot_of n place a row.dst.address)
+    (sym (s ∙ same_start row.src fields.src sound.src both.0))
+    ∙ ap (λ a. slot_of n place src a) (sym (d ∙ same_start row.dst fields.dst sound.dst both.1))
 
 -- ---- one more row
 
-lack_more : (rows : List Row) (slot from bound : ℕ) (row : Row) → slice_get rows bound ≡ Some row
-    → slot_of_row row ≢ slot → LackSlot rows slot from bound → LackSlot rows slot from (bound + 1)
-lack_more rows slot from bound row here other lack = λ k next above below there.
-    elim (cases_lt k bound) [
-      | inl less ↦ lack k next above less there
-      | inr more ↦ subst (λ (r : Row). slot_of_row r ≢ slot)
-          (one_item rows bound k row next here (omega arith) there) other
-    ]
+module _ (shapes : List Shape) (rows : List Row) where
+  lack_more : (slot from bound : ℕ) (row : Row) → slice_get rows bound ≡ Some row
+      → slot_of_row shapes row ≢ slot → LackSlot shapes rows slot from bound
+      → LackSlot shapes rows slot from (bound + 1)
+  lack_more slot from bound row here other lack = λ k next above below there.
+      elim (cases_lt k bound) [
+        | inl less ↦ lack k next above less there
+        | inr more ↦ subst (λ (r : Row). slot_of_row shapes r ≢ slot)
+            (one_item rows bound k row next here (omega arith) there) other
+      ]
 
-last_more : (rows : List Row) (slot bound : ℕ) (row : Row) (at : Option ℕ)
-    → slice_get rows bound ≡ Some row → slot_of_row row ≢ slot → IsLastBefore rows slot bound at
-    → IsLastBefore rows slot (bound + 1) at
-last_more rows slot bound row None here other lack =
-    lack_more rows slot 0 bound row here other lack
-last_more rows slot bound row (Some place) here other (first, below, there, is, lack) = (
-  first,
-  omega (arith, below),
-  there,
-  is,
-  lack_more rows slot (place + 1) bound row here other lack,
-)
+  last_more : (slot bound : ℕ) (row : Row) (at : Option ℕ) → slice_get rows bound ≡ Some row
+      → slot_of_row shapes row ≢ slot → IsLastBefore shapes rows slot bound at
+      → IsLastBefore shapes rows slot (bound + 1) at
+  last_more slot bound row None here other lack = lack_more slot 0 bound row here other lack
+  last_more slot bound row (Some place) here other (first, below, there, is, lack) = (
+    first,
+    omega (arith, below),
+    there,
+    is,
+    lack_more slot (place + 1) bound row here other lack,
+  )
 
-last_here : (rows : List Row) (bound : ℕ) (row : Row) → slice_get rows bound ≡ Some row
-    → IsLastBefore rows (slot_of_row row) (bound + 1) (Some bound)
-last_here rows bound row here =
-    (row, omega arith, here, refl, λ k next above below there. absurd (omega (arith, above, below)))
+  last_here : (bound : ℕ) (row : Row) → slice_get rows bound ≡ Some row
+      → IsLastBefore shapes rows (slot_of_row shapes row) (bound + 1) (Some bound)
+  last_here bound row here =
+      (row, omega arith, here, refl, λ k next above below there. absurd (omega (arith, above, below)))
 
 -- an index of no row
-pub none_indexed : (rows : List Row) (index : Index) → index.shapes.items ≡ []
+pub none_indexed : (rows : List Row) (index : Index) → AreShapesOf rows index.shapes.items
     → index.last.items ≡ replicate 4096 None → index.earlier.items ≡ []
     → IsIndexUpTo rows 0 index
 none_indexed rows index shapes last earlier = record {
-  sound = subst (All IsSoundShape) (sym shapes) (λ k d within. absurd (omega (arith, within)));
-  shapes = λ k row below there. absurd (omega (arith, below));
+  shapes = shapes;
   slots = ap length last ∙ length-replicate {A = Option ℕ} 4096 None;
-  last = λ slot at there. subst (IsLastBefore rows slot 0)
+  last = λ slot at there. subst (IsLastBefore index.shapes.items rows slot 0)
       (get_replicate 4096 None slot at (ap (λ xs. slice_get xs slot) (sym last) ∙ there))
       (λ k row above below there. absurd (omega (arith, below)));
   places = ap length earlier;
@@ -148,32 +241,40 @@ none_indexed rows index shapes last earlier = record {
 
 module _ (rows : List Row) (bound : ℕ) (row : Row) (at : Option ℕ) (old new : Index)
     (here : slice_get rows bound ≡ Some row) (is : IsIndexUpTo rows bound old)
-    (was : slice_get old.last.items (slot_of_row row) ≡ Some at)
-    (last : new.last.items ≡ set old.last.items (slot_of_row row) (Some bound))
+    (was : slice_get old.last.items (slot_of_row old.shapes.items row) ≡ Some at)
+    (last : new.last.items ≡ set old.last.items (slot_of_row old.shapes.items row) (Some bound))
     (earlier : new.earlier.items ≡ old.earlier.items ++ at ∷ []) where
+  abbrev own_shapes : List Shape
+  own_shapes = old.shapes.items
+
+  abbrev own_slot : ℕ
+  own_slot = slot_of_row own_shapes row
+
   last_next : (slot : ℕ) (next : Option ℕ) → slice_get new.last.items slot ≡ Some next
-      → IsLastBefore rows slot (bound + 1) next
+      → IsLastBefore own_shapes rows slot (bound + 1) next
   last_next slot next there =
-      let there : slice_get (set old.last.items (slot_of_row row) (Some bound)) slot ≡ Some next =
+      let there : slice_get (set old.last.items own_slot (Some bound)) slot ≡ Some next =
       ap (λ xs. slice_get xs slot) (sym last) ∙ there in
-      elim (cases_eq slot (slot_of_row row)) [
+      elim (cases_eq slot own_slot) [
         | inl same ↦
-            let now = get_set_same old.last.items (slot_of_row row) (Some bound)
-            (slice_get_within old.last.items (slot_of_row row) at was) in
+            let now = get_set_same old.last.items own_slot (Some bound)
+            (slice_get_within old.last.items own_slot at was) in
             let place : Some bound ≡ next =
-            one_item (set old.last.items (slot_of_row row) (Some bound)) (slot_of_row row) slot
+            one_item (set old.last.items own_slot (Some bound)) own_slot slot
             (Some bound) next now same there in
-            subst (λ n. IsLastBefore rows n (bound + 1) next) (sym same)
-            (subst (IsLastBefore rows (slot_of_row row) (bound + 1)) place
-            (last_here rows bound row here))
+            subst (λ n. IsLastBefore own_shapes rows n (bound + 1) next) (sym same)
+            (subst (IsLastBefore own_shapes rows own_slot (bound + 1)) place
+            (last_here own_shapes rows bound row here))
         | inr other ↦
-            let before = sym (get_set_other old.last.items (slot_of_row row) slot (Some bound)
-            other) ∙ there in
-            last_more rows slot bound row next here (λ e. other (sym e)) (is.last slot next before)
+            let before = sym (get_set_other old.last.items own_slot slot (Some bound) other)
+            ∙ there in
+            last_more own_shapes rows slot bound row next here (λ e. other (sym e))
+            (is.last slot next before)
       ]
 
   earlier_next : (k : ℕ) (next : Row) (place : Option ℕ) → slice_get rows k ≡ Some next
-      → slice_get new.earlier.items k ≡ Some place → IsLastBefore rows (slot_of_row next) k place
+      → slice_get new.earlier.items k ≡ Some place
+      → IsLastBefore own_shapes rows (slot_of_row own_shapes next) k place
   earlier_next k next place there got =
       let got : slice_get (old.earlier.items ++ at ∷ []) k ≡ Some place =
       ap (λ xs. slice_get xs k) (sym earlier) ∙ got in
@@ -187,29 +288,23 @@ module _ (rows : List Row) (bound : ℕ) (row : Row) (at : Option ℕ) (old new 
             let same = one_item rows bound k row next here e there in
             let now = get_push_at old.earlier.items at k (e ∙ sym is.places) in
             let item : at ≡ place = same_Some at place (sym now ∙ got) in
-            subst (λ n. IsLastBefore rows (slot_of_row next) n place) (sym e)
-            (subst (λ (r : Row). IsLastBefore rows (slot_of_row r) bound place) same
-            (subst (IsLastBefore rows (slot_of_row row) bound) item
-            (is.last (slot_of_row row) at was)))
+            subst (λ n. IsLastBefore own_shapes rows (slot_of_row own_shapes next) n place) (sym e)
+            (subst (λ (r : Row). IsLastBefore own_shapes rows (slot_of_row own_shapes r) bound place)
+            same (subst (IsLastBefore own_shapes rows own_slot bound) item (is.last own_slot at was)))
       ]
 
   -- the index with the row at its bound
-  pub next_indexed : (shape : Shape) → shape ≡ shape_of row → IsPolicy rows
-      → Notes old.shapes.items shape new.shapes.items → IsIndexUpTo rows (bound + 1) new
-  next_indexed shape e policy notes = record {
-    sound = notes.sound (subst IsSoundShape (sym e) (shape_sound row
-        (sound_row rows bound row policy here))) is.sound;
-    shapes = λ k next below there. elim (cases_lt k bound) [
-      | inl less ↦ notes.kept (shape_of next) (is.shapes k next less there)
-      | inr more ↦ subst (λ (r : Row). Contains new.shapes.items (shape_of r))
-          (one_item rows bound k row next here (omega (arith, below, more)) there)
-          (subst (Contains new.shapes.items) e notes.there)
-    ];
-    slots =
-        ap length last ∙ length-set old.last.items (slot_of_row row) (Some bound) ∙ is.slots;
-    last = last_next;
+  pub next_indexed : new.shapes.items ≡ own_shapes → IsIndexUpTo rows (bound + 1) new
+  next_indexed kept = record {
+    shapes = subst (AreShapesOf rows) (sym kept) is.shapes;
+    slots = ap length last ∙ length-set old.last.items own_slot (Some bound) ∙ is.slots;
+    last = λ slot next there. subst
+        (λ (xs : List Shape). IsLastBefore xs rows slot (bound + 1) next) (sym kept)
+        (last_next slot next there);
     places = ap length earlier ∙ length_push old.earlier.items at ∙ ap (λ n. n + 1) is.places;
-    earlier = earlier_next;
+    earlier = λ k next place there got. subst
+        (λ (xs : List Shape). IsLastBefore xs rows (slot_of_row xs next) k place) (sym kept)
+        (earlier_next k next place there got);
   }
 
 -- ---- the better of a row and a hit
@@ -228,15 +323,15 @@ module _ (row : Row) (fields : Fields) (hit : Hit) where
   abbrev above : Bool
   above = option_map_or (λ p. ltb p row.priority) hit.rule true
 
-  better_kept : (other : Row) → IsReached hit other → IsReached (better_of row fields hit) other
+  better_kept : (other : Row) → IsNoHigher hit other → IsNoHigher (better_of row fields hit) other
   better_kept other reached =
-      cond_both (above && row_matches row fields) (hit_of (Some row)) hit (λ h. IsReached h other)
+      cond_both (above && row_matches row fields) (hit_of (Some row)) hit (λ h. IsNoHigher h other)
       (λ yes. less_or hit.rule row.priority other.priority
       (and_parts above (row_matches row fields) yes).0 reached) (λ no. reached)
 
-  better_reached : row_matches row fields ≡ true → IsReached (better_of row fields hit) row
+  better_reached : row_matches row fields ≡ true → IsNoHigher (better_of row fields hit) row
   better_reached matches =
-      cond_both (above && row_matches row fields) (hit_of (Some row)) hit (λ h. IsReached h row)
+      cond_both (above && row_matches row fields) (hit_of (Some row)) hit (λ h. IsNoHigher h row)
       (λ yes. omega arith) (λ no. elim (and_cases above (row_matches row fields) no) [
         | inl below ↦ not_less hit.rule row.priority below
         | inr not ↦ absurd (both_ways (row_matches row fields) not matches)
@@ -252,14 +347,14 @@ module _ (row : Row) (fields : Fields) (hit : Hit) where
 -- ---- the rows of a slot, from the last one on
 
 -- those from some bound on were looked at, and this is the last one before it
-pub record IsWalked (rows : List Row) (slot : ℕ) (fields : Fields) (first hit : Hit)
-    (at : Option ℕ) : Type 0 where
+pub record IsWalked (shapes : List Shape) (rows : List Row) (slot : ℕ) (fields : Fields)
+    (first hit : Hit) (at : Option ℕ) : Type 0 where
   pub bound : ℕ
-  pub last : IsLastBefore rows slot bound at
+  pub last : IsLastBefore shapes rows slot bound at
   pub matching : IsMatchIn rows fields first → IsMatchIn rows fields hit
-  pub kept : (row : Row) → IsReached first row → IsReached hit row
+  pub kept : (row : Row) → IsNoHigher first row → IsNoHigher hit row
   pub reached : (k : ℕ) (row : Row) → bound ≤ k → slice_get rows k ≡ Some row
-      → slot_of_row row ≡ slot → row_matches row fields ≡ true → IsReached hit row
+      → slot_of_row shapes row ≡ slot → row_matches row fields ≡ true → IsNoHigher hit row
 
 -- the place of the one to look at, and one more
 abbrev pub places_left : Option ℕ → ℕ
@@ -268,7 +363,7 @@ places_left (Some place) = place + 1
 
 pub walk_begins : (rows : List Row) (slot : ℕ) (fields : Fields) (hit : Hit) (at : Option ℕ)
     (index : Index) → IsIndexOf rows index → slice_get index.last.items slot ≡ Some at
-    → IsWalked rows slot fields hit hit at
+    → IsWalked index.shapes.items rows slot fields hit hit at
 walk_begins rows slot fields hit at index is there = record {
   bound = length rows;
   last = is.last slot at there;
@@ -278,18 +373,22 @@ walk_begins rows slot fields hit at index is there = record {
       (omega (arith, above, slice_get_within rows k row got));
 }
 
-falls : (rows : List Row) (slot place : ℕ) (next : Option ℕ) → IsLastBefore rows slot place next
+falls : (shapes : List Shape) (rows : List Row) (slot place : ℕ) (next : Option ℕ) → IsLastBefore shapes rows slot place next
     → places_left next < places_left (Some place)
-falls rows slot place None is = omega arith
-falls rows slot place (Some other) is = omega (arith, is.1)
+falls shapes rows slot place None is = omega arith
+falls shapes rows slot place (Some other) is = omega (arith, is.1)
 
 -- where the next one to look at was read, and its row
 module _ {rows : List Row} {slot : ℕ} {fields : Fields} {first hit : Hit} {at : Option ℕ}
-    (walked : IsWalked rows slot fields first hit at) {index : Index} (is : IsIndexOf rows index)
+    {index : Index} (walked : IsWalked index.shapes.items rows slot fields first hit at)
+    (is : IsIndexOf rows index)
     {place : ℕ} (now : at ≡ Some place) {row : Row} (here : row ≡ get_or rows place row)
     {next : Option ℕ} (there : next ≡ get_or index.earlier.items place next) where
-  walked_now : IsWalked rows slot fields first hit (Some place)
-  walked_now = subst (IsWalked rows slot fields first hit) now walked
+  abbrev shapes : List Shape
+  shapes = index.shapes.items
+
+  walked_now : IsWalked shapes rows slot fields first hit (Some place)
+  walked_now = subst (IsWalked shapes rows slot fields first hit) now walked
 
   within : place < length rows
   within = let w = walked_now in slice_get_within rows place w.last.0 w.last.2
@@ -297,32 +396,32 @@ module _ {rows : List Row} {slot : ℕ} {fields : Fields} {first hit : Hit} {at 
   own_row : slice_get rows place ≡ Some row
   own_row = slice_get_read rows (length rows) place row refl within here
 
-  before : IsLastBefore rows (slot_of_row row) place next
+  before : IsLastBefore shapes rows (slot_of_row shapes row) place next
   before = is.earlier place row next own_row
       (slice_get_read index.earlier.items (length rows) place next (sym is.places) within there)
 
   -- the one behind it is before it
   pub walk_falls : places_left next < places_left at
   walk_falls = subst (λ (o : Option ℕ). places_left next < places_left o) (sym now)
-      (falls rows (slot_of_row row) place next before)
+      (falls shapes rows (slot_of_row shapes row) place next before)
 
   pub walk_on : {better : Hit} → better ≡ better_of row fields hit
-      → IsWalked rows slot fields first better next
+      → IsWalked shapes rows slot fields first better next
   walk_on e =
       let w = walked_now in
       let same : w.last.0 ≡ row = same_Some w.last.0 row (sym w.last.2 ∙ own_row) in
-      let own : slot_of_row row ≡ slot = ap slot_of_row (sym same) ∙ w.last.3 in
-      subst (λ h. IsWalked rows slot fields first h next) (sym e) (
+      let own : slot_of_row shapes row ≡ slot = ap (slot_of_row shapes) (sym same) ∙ w.last.3 in
+      subst (λ h. IsWalked shapes rows slot fields first h next) (sym e) (
       record {
         bound = place;
-        last = subst (λ n. IsLastBefore rows n place next) own before;
+        last = subst (λ n. IsLastBefore shapes rows n place next) own before;
         matching = λ m. better_matching row fields hit rows (contains_at rows place row own_row)
             (w.matching m);
         kept = λ other reached. better_kept row fields hit other (w.kept other reached);
         reached = λ k other above got lies matches. elim (cases_eq k place) [
           | inl at ↦
               let one = one_item rows place k row other own_row at got in
-              subst (IsReached (better_of row fields hit)) one
+              subst (IsNoHigher (better_of row fields hit)) one
               (better_reached row fields hit
               (subst (λ (r : Row). row_matches r fields ≡ true) (sym one) matches))
           | inr more ↦ elim (cases_lt k w.bound) [
@@ -334,9 +433,9 @@ module _ {rows : List Row} {slot : ℕ} {fields : Fields} {first hit : Hit} {at 
       }
       )
 
-pub walk_ends : (rows : List Row) (slot : ℕ) (fields : Fields) (first hit : Hit)
-    → IsWalked rows slot fields first hit None → IsBetter rows slot fields first hit
-walk_ends rows slot fields first hit w = record {
+pub walk_ends : (shapes : List Shape) (rows : List Row) (slot : ℕ) (fields : Fields) (first hit : Hit)
+    → IsWalked shapes rows slot fields first hit None → IsBetter shapes rows slot fields first hit
+walk_ends shapes rows slot fields first hit w = record {
   matching = w.matching;
   kept = w.kept;
   reached = λ k row got lies matches. elim (cases_lt k w.bound) [
@@ -347,50 +446,50 @@ walk_ends rows slot fields first hit w = record {
 
 -- ---- one shape after another
 
--- the rows of these shapes were looked at
-pub record IsSought (rows : List Row) (fields : Fields) (shapes : List Shape) (hit : Hit) : Type 0
-  where
-    pub matching : IsMatchIn rows fields hit
-    pub reached : (k : ℕ) (row : Row) → slice_get rows k ≡ Some row
-        → Contains shapes (shape_of row) → row_matches row fields ≡ true → IsReached hit row
+-- the rows of the shapes before this place were looked at
+pub record IsSought (shapes : List Shape) (rows : List Row) (fields : Fields) (place : ℕ)
+    (hit : Hit) : Type 0 where
+  pub matching : IsMatchIn rows fields hit
+  pub reached : (k : ℕ) (row : Row) → slice_get rows k ≡ Some row
+      → shape_place shapes row < place → row_matches row fields ≡ true → IsNoHigher hit row
 
-pub sought_none : (rows : List Row) (fields : Fields) → IsSought rows fields [] (hit_of None)
-sought_none rows fields = record {
+pub sought_none : (shapes : List Shape) (rows : List Row) (fields : Fields)
+    → IsSought shapes rows fields 0 (hit_of None)
+sought_none shapes rows fields = record {
   matching = refl;
-  reached = λ k row got has matches. absurd (omega (arith, has.1));
+  reached = λ k row got before matches. absurd (omega (arith, before));
 }
 
-pub sought_more : (rows : List Row) (fields : Fields) (shapes : List Shape) (i : ℕ) (shape : Shape)
-    (src dst : ℕ) (hit better : Hit) → IsPolicy rows → i < length shapes
-    → shape ≡ get_or shapes i shape → src ≡ (block_round fields.src shape.src).address
+pub sought_more : (shapes : List Shape) (rows : List Row) (fields : Fields) (place : ℕ)
+    (shape : Shape) (src dst : ℕ) (hit better : Hit) → IsPolicy rows
+    → slice_get shapes place ≡ Some shape → src ≡ (block_round fields.src shape.src).address
     → dst ≡ (block_round fields.dst shape.dst).address
-    → IsBetter rows (slot_of src dst) fields hit better → IsSought rows fields (take i shapes) hit
-    → IsSought rows fields (take (i + 1) shapes) better
-sought_more rows fields shapes i shape src dst hit better policy within item s d b sought =
-    record {
-      matching = b.matching sought.matching;
-      reached = λ k row got has matches.
-          let has : Contains (take i shapes ++ shape ∷ []) (shape_of row) =
-          subst (λ (xs : List Shape). Contains xs (shape_of row))
-          (take_more shapes i shape within ∙ ap (λ (x : Shape). take i shapes ++ x ∷ []) (sym item))
-          has in
-          elim (Contains-push_cases (take i shapes) shape (shape_of row) has) [
-            | inl before ↦ b.kept row (sought.reached k row got before matches)
-            | inr now ↦
-                b.reached k row got (slot_same row fields src dst
-                (sound_row rows k row policy got) matches
-                (s ∙ ap (λ (x : Shape). (block_round fields.src x.src).address) now)
-                (d ∙ ap (λ (x : Shape). (block_round fields.dst x.dst).address) now)) matches
-          ];
-    }
+    → IsBetter shapes rows (slot_of (length shapes) place src dst) fields hit better
+    → IsSought shapes rows fields place hit → IsSought shapes rows fields (place + 1) better
+sought_more shapes rows fields place shape src dst hit better policy there s d b sought = record {
+  matching = b.matching sought.matching;
+  reached = λ k row got before matches. elim (cases_lt (shape_place shapes row) place) [
+    | inl less ↦ b.kept row (sought.reached k row got less matches)
+    | inr more ↦
+        let at : shape_place shapes row ≡ place = omega (arith, before, more) in
+        let own = own_shape shapes row shape (ap (slice_get shapes) at ∙ there) in
+        let slot : slot_of_row shapes row ≡ slot_of (length shapes) place src dst =
+        slot_same shapes row fields shape src dst (sound_row rows k row policy got) matches own s d
+        ∙ ap (λ n. slot_of (length shapes) n src dst) at in
+        b.reached k row got slot matches
+  ];
+}
 
 pub sought_all : (rows : List Row) (fields : Fields) (index : Index) (hit : Hit)
-    → IsIndexOf rows index → IsSought rows fields index.shapes.items hit → IsBest rows fields hit
+    → IsIndexOf rows index
+    → IsSought index.shapes.items rows fields (length index.shapes.items) hit
+    → IsBest rows fields hit
 sought_all rows fields index hit is sought = record {
   matching = sought.matching;
   reached = λ k d within matches.
       let got = slice_get-get_or rows k d within in
-      sought.reached k (get_or rows k d) got (is.shapes k (get_or rows k d) within got) matches;
+      sought.reached k (get_or rows k d) got
+      (has_shape index.shapes.items rows k (get_or rows k d) is.shapes got) matches;
 }
 
 -- ---- the first match

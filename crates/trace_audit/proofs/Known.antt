@@ -11,10 +11,10 @@ use Rattle.policy_rules.specs.declared.policy.Hit.{Hit}
 use Rattle.policy_rules.specs.declared.policy.Row.{Row}
 use Rattle.update_machine.specs.Machine.{End, Ends, Dropped, LeftBy, Lost, Stuck, Machine, Packet, with_packet}
 use Rattle.trace_audit.specs.Decided.{AreJustified, DecidesOther, EntersOther, HasDecision, HasEntered, IsBetween, IsDecidedOnce, IsJustified, IsMark, IsWaiting, RetiresUpTo, all_told, policies_from, policies_told, policies_with, with_told}
-use Rattle.trace_audit.specs.Reading.{AreGood, Follows, Line, Open, Reads, State, Whole, first_state, newest_policy, policy_by}
+use Rattle.trace_audit.specs.Reading.{AreGood, Follows, TraceLine, Open, ReadsAll, TraceState, Whole, first_state, latest_policy, made_policy}
 use Rattle.trace_audit.specs.Told.{Told}
 use Rattle.trace_audit.specs.Told as told
-use Rattle.trace_audit.specs.Verdicts.{IsVerdict}
+use Rattle.trace_audit.specs.Verdicts.{IsAuditVerdict}
 use Rattle.trace_audit.specs.declared.trace.Verdict.{Verdict}
 use Rattle.trace_audit.specs.declared.trace.Verdict.TheVariants.{Yes, No}
 
@@ -92,7 +92,7 @@ IsPacketIf files ts i None = All (EntersOther i) ts × All (DecidesOther i) ts
 IsPacketIf files ts i (Some packet) = HasEntered ts i packet.header packet.entry_mark
     × IsDecidedIf files ts i packet.decision
 
-pub record IsKnown (files : List PolicyFile) (ts : List Told) (state : State) : Type 0 where
+pub record IsKnown (files : List PolicyFile) (ts : List Told) (state : TraceState) : Type 0 where
   pub policies : state.machine.policies ≡ policies_told files ts
   pub mark : IsMark ts state.machine.mark
   pub waits : IsWaitingIf ts state.pending
@@ -155,17 +155,17 @@ policies_on : (files : List PolicyFile) (ts : List Told) (t : Told) (old new : L
     → old ≡ policies_told files ts → new ≡ policies_with files old t
     → new ≡ policies_told files (ts ++ t ∷ [])
 policies_on files ts t old new known e = e ∙ ap (λ x. policies_with files x t) known
-    ∙ sym (policies_more files (option_to_list (policy_by files 1 None)) ts t)
+    ∙ sym (policies_more files (option_to_list (made_policy files 1 None)) ts t)
 
 -- the next version's policy is added
 submits_next : (files : List PolicyFile) (policies : List (List Row)) (file version : ℕ)
     (policy : List Row) → version ≡ length policies + 1
-    → policy_by files file (newest_policy policies) ≡ Some policy
+    → made_policy files file (latest_policy policies) ≡ Some policy
     → policies ++ policy ∷ [] ≡ policies_with files policies (told.Submitted file version)
 submits_next files policies file version policy newest there =
     ap (λ (o : Option (List Row)). policies ++ option_to_list o) (sym there)
     ∙ ap (λ (b : Bool). cond b
-    (policies ++ option_to_list (policy_by files file (newest_policy policies))) policies)
+    (policies ++ option_to_list (made_policy files file (latest_policy policies))) policies)
     (sym (eq-eqb version (length policies + 1) newest))
 
 -- ---- a step that leaves the packets as they are, or puts one
@@ -203,7 +203,7 @@ known_at : (files : List PolicyFile) (ts : List Told) (packets : ℕ → Option 
     → IsPacketIf files ts i o
 known_at files ts packets i o e known = subst (IsPacketIf files ts i) e (known i)
 
-module _ (files : List PolicyFile) (ts : List Told) (old new : State) (known : IsKnown files ts old)
+module _ (files : List PolicyFile) (ts : List Told) (old new : TraceState) (known : IsKnown files ts old)
   where
     still_waits : (t : Told) → new.pending ≡ old.pending → IsBetween t
         → IsWaitingIf (ts ++ t ∷ []) new.pending
@@ -361,27 +361,27 @@ module _ (files : List PolicyFile) (ts : List Told) (old new : State) (known : I
 -- ---- all that is told
 
 -- what was told leads from one state to another, one thing after another
-abbrev pub FollowsAll : List PolicyFile → State → List Told → State → Type 0
+abbrev pub FollowsAll : List PolicyFile → TraceState → List Told → TraceState → Type 0
 FollowsAll files old [] new = new ≡ old
 FollowsAll files old (t ∷ ts) new =
-    (middle : State) × Follows files old t middle × FollowsAll files middle ts new
+    (middle : TraceState) × Follows files old t middle × FollowsAll files middle ts new
 
-pub reads_told : (files : List PolicyFile) (old : State) (lines : List Line) (new : State)
-    → Reads files old lines new → FollowsAll files old (all_told lines) new
+pub reads_told : (files : List PolicyFile) (old : TraceState) (lines : List TraceLine) (new : TraceState)
+    → ReadsAll files old lines new → FollowsAll files old (all_told lines) new
 reads_told files old [] new r = r
 reads_told files old (Whole text ∷ lines) new r =
     subst (λ (o : Option Told). FollowsAll files old (with_told o (all_told lines)) new)
     (sym r.1.1) (r.0, r.1.2, reads_told files r.0 lines new r.2)
 reads_told files old (Open text ∷ lines) new r = absurd r.1
 
-follows_split : (files : List PolicyFile) (old new : State) (ts more : List Told)
+follows_split : (files : List PolicyFile) (old new : TraceState) (ts more : List Told)
     → FollowsAll files old (ts ++ more) new
-    → (middle : State) × FollowsAll files old ts middle × FollowsAll files middle more new
+    → (middle : TraceState) × FollowsAll files old ts middle × FollowsAll files middle more new
 follows_split files old new [] more r = (old, refl, r)
 follows_split files old new (t ∷ ts) more r =
     let w = follows_split files r.0 new ts more r.2 in (w.0, (r.0, r.1, w.1), w.2)
 
-known_all : (files : List PolicyFile) (ts : List Told) (old : State) (more : List Told) (new : State)
+known_all : (files : List PolicyFile) (ts : List Told) (old : TraceState) (more : List Told) (new : TraceState)
     → FollowsAll files old more new → IsKnown files ts old → IsKnown files (ts ++ more) new
 known_all files ts old [] new r known =
     subst (λ (xs : List Told). IsKnown files xs new) (sym (append-nil ts))
@@ -410,7 +410,7 @@ not_undecided files ts i a d none =
     (subst (λ (xs : List Told). Contains xs t) (sym d.decision)
     (Contains-append_right d.before (t ∷ d.after) t there)) refl
 
-decides_other : (files : List PolicyFile) (ts : List Told) (old : State) (t : Told) (new : State)
+decides_other : (files : List PolicyFile) (ts : List Told) (old : TraceState) (t : Told) (new : TraceState)
     (i : ℕ) (a : Action) → IsKnown files ts old → HasDecision files ts i a → Follows files old t new
     → DecidesOther i t
 decides_other files ts old (told.Decided j version rule action) new i a known d f = λ same.
@@ -425,8 +425,8 @@ decides_other files ts old (told.Retired version) new i a known d f = tt
 decides_other files ts old (told.Ended packet end) new i a known d f = tt
 decides_other files ts old told.Nothing new i a known d f = tt
 
-none_later : (files : List PolicyFile) (ts : List Told) (old : State) (more : List Told)
-    (new : State) (i : ℕ) (a : Action) → IsKnown files ts old → HasDecision files ts i a
+none_later : (files : List PolicyFile) (ts : List Told) (old : TraceState) (more : List Told)
+    (new : TraceState) (i : ℕ) (a : Action) → IsKnown files ts old → HasDecision files ts i a
     → FollowsAll files old more new → All (DecidesOther i) more
 none_later files ts old [] new i a known d r = All-nil (DecidesOther i)
 none_later files ts old (t ∷ more) new i a known d r =
@@ -444,11 +444,11 @@ decided_as files ts i None a d e = absurd cc
 decided_as files ts i (Some hit) a d e =
     let same : hit.action ≡ a = cc in subst (HasDecision files ts i) same d
 
-module _ (files : List PolicyFile) (before : List Told) (state : State)
-    (known : IsKnown files before state) (after : List Told) (new : State) (i : ℕ) where
+module _ (files : List PolicyFile) (before : List Told) (state : TraceState)
+    (known : IsKnown files before state) (after : List Told) (new : TraceState) (i : ℕ) where
   decided_once : (end : End) (a : Action) (e : Ends state.machine i end new.machine)
       → option_map (λ (hit : Hit). hit.action) e.packet.decision ≡ Some a
-      → (last : State) → FollowsAll files state (told.Ended i end ∷ after) last
+      → (last : TraceState) → FollowsAll files state (told.Ended i end ∷ after) last
       → IsDecidedOnce files before after i a
   decided_once end a e may last r =
       let d : HasDecision files before i a = decided_as files before i e.packet.decision a
@@ -460,7 +460,7 @@ module _ (files : List PolicyFile) (before : List Told) (state : State)
             (none_later files before state (told.Ended i end ∷ after) last i a known d r);
       }
 
-  ends_justified : (end : End) → Ends state.machine i end new.machine → (last : State)
+  ends_justified : (end : End) → Ends state.machine i end new.machine → (last : TraceState)
       → FollowsAll files state (told.Ended i end ∷ after) last
       → IsJustified files before after i end
   ends_justified Dropped e last r = decided_once Dropped action.Drop e e.may last r
@@ -468,7 +468,7 @@ module _ (files : List PolicyFile) (before : List Told) (state : State)
   ends_justified Lost e last r = tt
   ends_justified Stuck e last r = tt
 
-good_justified : (files : List PolicyFile) (lines : List Line) → AreGood files lines
+good_justified : (files : List PolicyFile) (lines : List TraceLine) → AreGood files lines
     → AreJustified files lines
 good_justified files lines good = λ before after i end order.
     let all : FollowsAll files (first_state files) (before ++ told.Ended i end ∷ after) good.0 =
@@ -479,7 +479,7 @@ good_justified files lines good = λ before after i end order.
     (known_all files [] (first_state files) before w.0 w.1 (known_first files)) after w.2.0 i end
     w.2.1.0 good.0 w.2
 
-pub verdict_justified : (files : List PolicyFile) (lines : List Line) (verdict : Verdict)
-    → IsVerdict files lines verdict → verdict ≡ Yes → AreJustified files lines
+pub verdict_justified : (files : List PolicyFile) (lines : List TraceLine) (verdict : Verdict)
+    → IsAuditVerdict files lines verdict → verdict ≡ Yes → AreJustified files lines
 verdict_justified files lines Yes v e = good_justified files lines v
 verdict_justified files lines (No line) v e = absurd cc

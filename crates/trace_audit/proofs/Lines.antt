@@ -4,8 +4,8 @@ use Rattle.std.specs.List.{onto_first}
 use Rattle.std.proofs.lemmas.List.Splits.{length-slice_split}
 use Rattle.five_tuple.specs.Texts.{parts_round}
 use Rattle.policy_rules.specs.declared.file.PolicyFile.{PolicyFile}
-use Rattle.trace_audit.specs.Reading.{Follows, Whole, Open, State, lines_of, lines_of_parts, open_line}
-use Rattle.trace_audit.specs.Seen.{IsRead, IsTaken}
+use Rattle.trace_audit.specs.Reading.{Follows, Whole, Open, TraceState, lines_of, lines_of_parts, open_line}
+use Rattle.trace_audit.specs.Seen.{IsLineRead, IsTaken}
 use Rattle.trace_audit.specs.Told.{Told, is_row_number, told_of}
 
 -- ---- parts
@@ -65,18 +65,18 @@ lines_open rest some e = ap lines_of_parts e ∙ open_some rest some
 
 -- ---- what a line tells
 
-read_by : (files : List PolicyFile) (old new : State) (text : List ℕ) (t : Told) (good : Bool)
-    → told_of text ≡ Some t → IsTaken files old t new good → IsRead files old (Whole text) new good
+read_by : (files : List PolicyFile) (old new : TraceState) (text : List ℕ) (t : Told) (good : Bool)
+    → told_of text ≡ Some t → IsTaken files old t new good → IsLineRead files old (Whole text) new good
 read_by files old new text t true e h = (t, e, h)
 read_by files old new text t false e h = λ other r.
     let same : r.0 ≡ t = cc in h other (subst (λ x. Follows files old x other) same r.2)
 
-pub line_read : {E : Type 0} (files : List PolicyFile) (old new : State) (text : List ℕ) (t : Told)
+pub line_read : {E : Type 0} (files : List PolicyFile) (old new : TraceState) (text : List ℕ) (t : Told)
     (good : Result Bool E) → told_of text ≡ Some t → IfOk good (IsTaken files old t new)
-    → IfOk good (IsRead files old (Whole text) new)
+    → IfOk good (IsLineRead files old (Whole text) new)
 line_read files old new text t (Ok good) e h = read_by files old new text t good e h
 line_read files old new text t (Err error) e h = tt
 
-pub line_unread : (files : List PolicyFile) (old new : State) (text : List ℕ)
-    → told_of text ≡ None → IsRead files old (Whole text) new false
+pub line_unread : (files : List PolicyFile) (old new : TraceState) (text : List ℕ)
+    → told_of text ≡ None → IsLineRead files old (Whole text) new false
 line_unread files old new text e = λ other r. absurd cc

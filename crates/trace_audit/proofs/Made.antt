@@ -4,21 +4,21 @@ use Rattle.std.specs.Result.{result_ok}
 use Rattle.policy_rules.specs.declared.file.PolicyFile.{PolicyFile}
 use Rattle.policy_rules.specs.declared.policy.Row.{Row}
 use Rattle.update_machine.specs.Setting.{made_by}
-use Rattle.trace_audit.specs.Reading.{file_in, policy_by}
+use Rattle.trace_audit.specs.Reading.{numbered_file, made_policy}
 
 -- of the file of a number
 pub policy_of : {E : Type 0} (files : List PolicyFile) (file : ℕ) (given : Option PolicyFile)
     (newest : Option (List Row)) (made : Result (Option (List Row)) E)
-    → given ≡ file_in files file
+    → given ≡ numbered_file files file
     → IfOk made (λ policy. policy ≡ result_ok (made_by given newest))
-    → IfOk made (λ policy. policy ≡ policy_by files file newest)
+    → IfOk made (λ policy. policy ≡ made_policy files file newest)
 policy_of files file given newest made e is =
     subst (λ (this : Option PolicyFile). IfOk made (λ policy. policy ≡ result_ok (made_by this newest)))
     e is
 
 -- a file that isn't there makes none
 pub no_policy : (files : List PolicyFile) (file : ℕ) (newest : Option (List Row))
-    → None ≡ file_in files file → None ≡ policy_by files file newest
+    → None ≡ numbered_file files file → None ≡ made_policy files file newest
 no_policy files file newest e =
     ap (λ (this : Option PolicyFile). result_ok (made_by this newest)) e
 

@@ -16,22 +16,22 @@ use Rattle.policy_rules.specs.declared.policy.Row.{Row}
 use Rattle.policy_rules.proofs.CallerLemmas.{IsPolicy-applied, first_match-only}
 use Rattle.update_machine.specs.Machine.{End, Machine, Packet, Decides, Ends, Enters, Submits, with_packet}
 use Rattle.update_machine.specs.Setting.{made_by}
-use Rattle.trace_audit.specs.Reading.{Follows, Line, Whole, Open, ReadsLine, Reads, State, file_in, first_state, newest_policy, policy_by}
+use Rattle.trace_audit.specs.Reading.{Follows, TraceLine, Whole, Open, ReadsLine, ReadsAll, TraceState, numbered_file, first_state, latest_policy, made_policy}
 use Rattle.trace_audit.specs.Told.{Told}
 use Rattle.trace_audit.specs.Told as told
 
 -- ---- some lines and more
 
-pub reads_join : (files : List PolicyFile) (old middle new : State) (lines more : List Line)
-    → Reads files old lines middle → Reads files middle more new
-    → Reads files old (lines ++ more) new
-reads_join files old middle new [] more r s = subst (λ state. Reads files state more new) r s
+pub reads_join : (files : List PolicyFile) (old middle new : TraceState) (lines more : List TraceLine)
+    → ReadsAll files old lines middle → ReadsAll files middle more new
+    → ReadsAll files old (lines ++ more) new
+reads_join files old middle new [] more r s = subst (λ state. ReadsAll files state more new) r s
 reads_join files old middle new (line ∷ lines) more r s =
     (r.0, r.1, reads_join files r.0 middle new lines more r.2 s)
 
-pub reads_split : (files : List PolicyFile) (old new : State) (lines more : List Line)
-    → Reads files old (lines ++ more) new
-    → (middle : State) × Reads files old lines middle × Reads files middle more new
+pub reads_split : (files : List PolicyFile) (old new : TraceState) (lines more : List TraceLine)
+    → ReadsAll files old (lines ++ more) new
+    → (middle : TraceState) × ReadsAll files old lines middle × ReadsAll files middle more new
 reads_split files old new [] more r = (old, refl, r)
 reads_split files old new (line ∷ lines) more r =
     let w = reads_split files r.0 new lines more r.2 in (w.0, (r.0, r.1, w.1), w.2)
@@ -74,26 +74,26 @@ ok_of (Ok given) rows e = let same : given ≡ rows = cc in ap Ok same
 ok_of (Err why) rows e = absurd cc
 
 made_in : (files : List PolicyFile) (file : ℕ) (newest : Option (List Row)) (rows : List Row)
-    → All IsPolicyFile files → IfSome newest IsPolicy → policy_by files file newest ≡ Some rows
+    → All IsPolicyFile files → IfSome newest IsPolicy → made_policy files file newest ≡ Some rows
     → IsPolicy rows
 made_in files file newest rows own sound e =
-    sound_by (file_in files file) newest rows (file_by files file (file == 0) own) sound
-    (ok_of (made_by (file_in files file) newest) rows e)
+    sound_by (numbered_file files file) newest rows (file_by files file (file == 0) own) sound
+    (ok_of (made_by (numbered_file files file) newest) rows e)
 
 -- the last of policies, if there is one
 newest_sound : (policies : List (List Row)) → All IsPolicy policies
-    → IfSome (newest_policy policies) IsPolicy
+    → IfSome (latest_policy policies) IsPolicy
 newest_sound policies sound =
-    at_place IsPolicy policies (length policies - 1) (newest_policy policies) sound refl
+    at_place IsPolicy policies (length policies - 1) (latest_policy policies) sound refl
 
-abbrev pub ArePolicies : State → Type 0
+abbrev pub ArePolicies : TraceState → Type 0
 ArePolicies state = All IsPolicy state.machine.policies
 
-policies_stay : (old new : State) → new.machine.policies ≡ old.machine.policies → ArePolicies old
+policies_stay : (old new : TraceState) → new.machine.policies ≡ old.machine.policies → ArePolicies old
     → ArePolicies new
 policies_stay old new e sound = subst (All IsPolicy) (sym e) sound
 
-follows_sound : (files : List PolicyFile) (old : State) (t : Told) (new : State)
+follows_sound : (files : List PolicyFile) (old : TraceState) (t : Told) (new : TraceState)
     → All IsPolicyFile files → ArePolicies old → Follows files old t new → ArePolicies new
 follows_sound files old (told.Row header) new own sound f =
     policies_stay old new (ap (λ s. s.machine.policies) f) sound
@@ -102,7 +102,7 @@ follows_sound files old (told.Entered packet) new own sound f =
 follows_sound files old (told.Submitted file version) new own sound f =
     subst (All IsPolicy) (sym (ap (λ m. m.policies) f.0.after))
     (All-push IsPolicy old.machine.policies f.0.policy sound
-    (made_in files file (newest_policy old.machine.policies) f.0.policy own
+    (made_in files file (latest_policy old.machine.policies) f.0.policy own
     (newest_sound old.machine.policies sound) f.0.there))
 follows_sound files old (told.Retired version) new own sound f =
     policies_stay old new (ap (λ m. m.policies) f.0.after) sound
@@ -118,7 +118,7 @@ follows_sound files old told.Nothing new own sound f =
 pub some_same : {A : Type 0} (a b : A) (o : Option A) → o ≡ Some a → o ≡ Some b → a ≡ b
 some_same a b o p q = cc
 
-state_same : (a b : State) → a.machine ≡ b.machine → a.pending ≡ b.pending → a ≡ b
+state_same : (a b : TraceState) → a.machine ≡ b.machine → a.pending ≡ b.pending → a ≡ b
 state_same a b m p =
     ap (λ (x : Machine). record { machine = x; pending = a.pending }) m
     ∙ ap (λ (x : Option Header). record { machine = b.machine; pending = x }) p
@@ -164,7 +164,7 @@ ends_one old number end a b r s = r.after
     (some_same r.packet s.packet _ r.entered s.entered)
     ∙ sym s.after
 
-follows_one : (files : List PolicyFile) (old : State) (t : Told) (a b : State) → ArePolicies old
+follows_one : (files : List PolicyFile) (old : TraceState) (t : Told) (a b : TraceState) → ArePolicies old
     → Follows files old t a → Follows files old t b → a ≡ b
 follows_one files old (told.Row header) a b sound r s = r ∙ sym s
 follows_one files old (told.Entered packet) a b sound r s =
@@ -183,31 +183,31 @@ follows_one files old (told.Ended packet end) a b sound r s =
     state_same a b (ends_one old.machine packet end a.machine b.machine r.0 s.0) (r.1 ∙ sym s.1)
 follows_one files old told.Nothing a b sound r s = r ∙ sym s
 
-pub line_one : (files : List PolicyFile) (old : State) (line : Line) (a b : State) → ArePolicies old
+pub line_one : (files : List PolicyFile) (old : TraceState) (line : TraceLine) (a b : TraceState) → ArePolicies old
     → ReadsLine files old line a → ReadsLine files old line b → a ≡ b
 line_one files old (Whole text) a b sound r s =
     follows_one files old r.0 a b sound r.2
     (subst (λ t. Follows files old t b) (some_same s.0 r.0 _ s.1 r.1) s.2)
 line_one files old (Open text) a b sound r s = absurd r
 
-line_sound : (files : List PolicyFile) (old : State) (line : Line) (new : State)
+line_sound : (files : List PolicyFile) (old : TraceState) (line : TraceLine) (new : TraceState)
     → All IsPolicyFile files → ArePolicies old → ReadsLine files old line new → ArePolicies new
 line_sound files old (Whole text) new own sound r = follows_sound files old r.0 new own sound r.2
 line_sound files old (Open text) new own sound r = absurd r
 
 pub first_sound : (files : List PolicyFile) → All IsPolicyFile files → ArePolicies (first_state files)
-first_sound files own = by (policy_by files 1 None) refl
+first_sound files own = by (made_policy files 1 None) refl
   where
-    by : (made : Option (List Row)) → policy_by files 1 None ≡ made
+    by : (made : Option (List Row)) → made_policy files 1 None ≡ made
         → All IsPolicy (option_to_list made)
     by None e = All-nil IsPolicy
     by (Some rows) e =
         All-cons IsPolicy rows [] (made_in files 1 None rows own tt e) (All-nil IsPolicy)
 
-pub reads_one : (files : List PolicyFile) (old : State) (lines : List Line) (a b : State)
-    → All IsPolicyFile files → ArePolicies old → Reads files old lines a → Reads files old lines b
+pub reads_one : (files : List PolicyFile) (old : TraceState) (lines : List TraceLine) (a b : TraceState)
+    → All IsPolicyFile files → ArePolicies old → ReadsAll files old lines a → ReadsAll files old lines b
     → a ≡ b
 reads_one files old [] a b own sound r s = r ∙ sym s
 reads_one files old (line ∷ lines) a b own sound r s =
     reads_one files r.0 lines a b own (line_sound files old line r.0 own sound r.1) r.2
-    (subst (λ m. Reads files m lines b) (line_one files old line s.0 r.0 sound s.1 r.1) s.2)
+    (subst (λ m. ReadsAll files m lines b) (line_one files old line s.0 r.0 sound s.1 r.1) s.2)

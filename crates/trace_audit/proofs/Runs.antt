@@ -11,11 +11,11 @@ use Rattle.journal.specs.declared.item.Item.TheVariants as item
 use Rattle.update_machine.specs.Machine.{Dropped, LeftBy, Lost, Machine, Runs, Stuck, Submits}
 use Rattle.update_machine.specs.Setting.{Setting}
 use Rattle.trace_audit.specs.Decided.{all_told}
-use Rattle.trace_audit.specs.Reading.{AreGood, Follows, Line, State, first_state, newest_policy, policy_by}
+use Rattle.trace_audit.specs.Reading.{AreGood, Follows, TraceLine, TraceState, first_state, latest_policy, made_policy}
 use Rattle.trace_audit.specs.Run.{AreItems, AreItemsOf, AreRun}
 use Rattle.trace_audit.specs.Told.{Told}
 use Rattle.trace_audit.specs.Told as told
-use Rattle.trace_audit.specs.Verdicts.{IsVerdict}
+use Rattle.trace_audit.specs.Verdicts.{IsAuditVerdict}
 use Rattle.trace_audit.specs.declared.trace.Verdict.{Verdict}
 use Rattle.trace_audit.specs.declared.trace.Verdict.TheVariants.{Yes, No}
 use Rattle.trace_audit.proofs.Known.{FollowsAll, IsKnown, IsWaitingIf, after_told, known_first, reads_told}
@@ -43,10 +43,10 @@ RunsAnywhere files old items new =
 
 module _ (files : List PolicyFile) where
   -- what was told is the items of a run
-  follows_run : (ts : List Told) (old : State) (t : Told) (new : State) → IsKnown files ts old
+  follows_run : (ts : List Told) (old : TraceState) (t : Told) (new : TraceState) → IsKnown files ts old
       → Follows files old t new
       → (items : List Item) × AreItemsOf ts t items × RunsAnywhere files old.machine items new.machine
-  follows_run ts old (told.Row header) new known f = ([], refl, λ setting same. ap (λ (s : State). s.machine) f)
+  follows_run ts old (told.Row header) new known f = ([], refl, λ setting same. ap (λ (s : TraceState). s.machine) f)
   follows_run ts old (told.Entered packet) new known f = (
     item.Entered packet 0 f.0 ∷ [],
     (0, f.0, subst (IsWaitingIf ts) f.1 known.waits, refl),
@@ -58,7 +58,7 @@ module _ (files : List PolicyFile) where
     λ setting same. (
       new.machine,
       subst (λ (all : List PolicyFile). Submits old.machine version
-          (policy_by all file (newest_policy old.machine.policies)) new.machine) (sym same) f.0,
+          (made_policy all file (latest_policy old.machine.policies)) new.machine) (sym same) f.0,
       refl,
     ),
   )
@@ -83,12 +83,12 @@ module _ (files : List PolicyFile) where
     (0, NoRoute, Exit 0, [], refl),
     λ setting same. (new.machine, f.0, refl),
   )
-  follows_run ts old told.Nothing new known f = ([], refl, λ setting same. ap (λ (s : State). s.machine) f)
+  follows_run ts old told.Nothing new known f = ([], refl, λ setting same. ap (λ (s : TraceState). s.machine) f)
 
-  told_run : (ts : List Told) (old : State) (more : List Told) (new : State) → IsKnown files ts old
+  told_run : (ts : List Told) (old : TraceState) (more : List Told) (new : TraceState) → IsKnown files ts old
       → FollowsAll files old more new
       → (items : List Item) × AreItems ts more items × RunsAnywhere files old.machine items new.machine
-  told_run ts old [] new known r = ([], refl, λ setting same. ap (λ (s : State). s.machine) r)
+  told_run ts old [] new known r = ([], refl, λ setting same. ap (λ (s : TraceState). s.machine) r)
   told_run ts old (t ∷ more) new known r =
       let first = follows_run ts old t r.0 known r.1 in
       let others = told_run (ts ++ t ∷ []) r.0 more new (after_told files ts old r.0 known t r.1) r.2 in (
@@ -98,7 +98,7 @@ module _ (files : List PolicyFile) where
             (first.2 setting same) (others.2 setting same),
       )
 
-good_run : (files : List PolicyFile) (lines : List Line) → AreGood files lines → AreRun files lines
+good_run : (files : List PolicyFile) (lines : List TraceLine) → AreGood files lines → AreRun files lines
 good_run files lines good =
     let w = told_run files [] (first_state files) (all_told lines) good.0 (known_first files)
     (reads_told files (first_state files) lines good.0 good.1) in
@@ -112,7 +112,7 @@ good_run files lines good =
       );
     }
 
-pub verdict_run : (files : List PolicyFile) (lines : List Line) (verdict : Verdict)
-    → IsVerdict files lines verdict → verdict ≡ Yes → AreRun files lines
+pub verdict_run : (files : List PolicyFile) (lines : List TraceLine) (verdict : Verdict)
+    → IsAuditVerdict files lines verdict → verdict ≡ Yes → AreRun files lines
 verdict_run files lines Yes v e = good_run files lines v
 verdict_run files lines (No line) v e = absurd cc

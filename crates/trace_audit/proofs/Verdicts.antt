@@ -5,20 +5,20 @@ use Rattle.std.proofs.lemmas.Bool.{eqb-true}
 use Rattle.std.proofs.lemmas.List.{take-append-drop, take_at}
 use Rattle.policy_rules.specs.PolicyFiles.{IsPolicyFile}
 use Rattle.policy_rules.specs.declared.file.PolicyFile.{PolicyFile}
-use Rattle.trace_audit.specs.Reading.{AreGood, Line, Reads, ReadsLine, State, first_state, lines_of}
-use Rattle.trace_audit.specs.Verdicts.{IsFirstBad, IsVerdict}
+use Rattle.trace_audit.specs.Reading.{AreGood, TraceLine, ReadsAll, ReadsLine, TraceState, first_state, lines_of}
+use Rattle.trace_audit.specs.Verdicts.{IsFirstBad, IsAuditVerdict}
 use Rattle.trace_audit.specs.declared.trace.Verdict.{Verdict}
 use Rattle.trace_audit.specs.declared.trace.Verdict.TheVariants.{Yes, No}
 use Rattle.trace_audit.proofs.Readings.{first_sound, reads_join, reads_one, reads_split}
 
 -- the lines of a good trace's front are good
-good_front : (files : List PolicyFile) (lines more : List Line) → AreGood files (lines ++ more)
+good_front : (files : List PolicyFile) (lines more : List TraceLine) → AreGood files (lines ++ more)
     → AreGood files lines
 good_front files lines more good =
     let w = reads_split files (first_state files) good.0 lines more good.1 in (w.0, w.1)
 
-pub verdict_exact : (files : List PolicyFile) (lines : List Line) (verdict : Verdict)
-    → IsVerdict files lines verdict → (verdict ≡ Yes) ↔ AreGood files lines
+pub verdict_exact : (files : List PolicyFile) (lines : List TraceLine) (verdict : Verdict)
+    → IsAuditVerdict files lines verdict → (verdict ≡ Yes) ↔ AreGood files lines
 verdict_exact files lines Yes v = (λ _. v, λ _. refl)
 verdict_exact files lines (No line) v = (
   λ e. absurd cc,
@@ -30,15 +30,15 @@ verdict_exact files lines (No line) v = (
 -- ---- so far
 
 -- the lines before what is left were good and led to this state, and so many were counted
-pub record IsSoFar (files : List PolicyFile) (trace rest : List ℕ) (line : ℕ) (state : State) : Type 0 where
-  pub done : List Line
+pub record IsSoFar (files : List PolicyFile) (trace rest : List ℕ) (line : ℕ) (state : TraceState) : Type 0 where
+  pub done : List TraceLine
   pub lines : lines_of trace ≡ done ++ lines_of rest
   pub counted : line ≡ min (length done) 4294967295
-  pub read : Reads files (first_state files) done state
+  pub read : ReadsAll files (first_state files) done state
 
-first_bad : (files : List PolicyFile) (state : State) (done more : List Line) (line : Line)
-    → All IsPolicyFile files → Reads files (first_state files) done state
-    → ((other : State) → ReadsLine files state line other → ⊥)
+first_bad : (files : List PolicyFile) (state : TraceState) (done more : List TraceLine) (line : TraceLine)
+    → All IsPolicyFile files → ReadsAll files (first_state files) done state
+    → ((other : TraceState) → ReadsLine files state line other → ⊥)
     → IsFirstBad files (done ++ line ∷ more) (length done + 1)
 first_bad files state done more line own read bad =
     let front : take (length done + 1 - 1) (done ++ line ∷ more) ≡ done =
@@ -60,11 +60,11 @@ first_bad files state done more line own read bad =
           bad w.2.0 (subst (λ s. ReadsLine files s line w.2.0) same w.2.1);
     }
 
-pub bad_here : (files : List PolicyFile) (trace rest : List ℕ) (line : ℕ) (state : State)
-    (this : Line) (more : List Line) → All IsPolicyFile files → IsSoFar files trace rest line state
-    → lines_of rest ≡ this ∷ more → ((other : State) → ReadsLine files state this other → ⊥)
+pub bad_here : (files : List PolicyFile) (trace rest : List ℕ) (line : ℕ) (state : TraceState)
+    (this : TraceLine) (more : List TraceLine) → All IsPolicyFile files → IsSoFar files trace rest line state
+    → lines_of rest ≡ this ∷ more → ((other : TraceState) → ReadsLine files state this other → ⊥)
     → (number : ℕ) → number ≡ min (line + 1) 4294967295
-    → IsVerdict files (lines_of trace) (No number)
+    → IsAuditVerdict files (lines_of trace) (No number)
 bad_here files trace rest line state this more own so_far e bad number counted =
     let lines : lines_of trace ≡ so_far.done ++ this ∷ more =
     so_far.lines ∙ ap (λ xs. so_far.done ++ xs) e in
@@ -75,8 +75,8 @@ bad_here files trace rest line state this more own so_far e bad number counted =
       omega arith,
     )
 
-pub good_here : (files : List PolicyFile) (trace rest next : List ℕ) (line : ℕ) (old new : State)
-    (this : Line) → IsSoFar files trace rest line old → lines_of rest ≡ this ∷ lines_of next
+pub good_here : (files : List PolicyFile) (trace rest next : List ℕ) (line : ℕ) (old new : TraceState)
+    (this : TraceLine) → IsSoFar files trace rest line old → lines_of rest ≡ this ∷ lines_of next
     → ReadsLine files old this new → (number : ℕ) → number ≡ min (line + 1) 4294967295
     → IsSoFar files trace next number new
 good_here files trace rest next line old new this so_far e good number counted =
@@ -98,7 +98,7 @@ pub nil_left : (rest : List ℕ) → (length rest == 0) ≡ true → rest ≡ []
 nil_left [] e = refl
 nil_left (byte ∷ rest) e = absurd (omega (arith, eqb-true _ _ e))
 
-pub all_good : (files : List PolicyFile) (trace : List ℕ) (line : ℕ) (state : State)
+pub all_good : (files : List PolicyFile) (trace : List ℕ) (line : ℕ) (state : TraceState)
     → lines_of [] ≡ [] → IsSoFar files trace [] line state → AreGood files (lines_of trace)
 all_good files trace line state none so_far =
     let lines : lines_of trace ≡ so_far.done =

@@ -8,7 +8,7 @@ use Rattle.policy_rules.specs.declared.policy.Action.TheVariants as action
 use Rattle.policy_rules.specs.declared.policy.Hit.{Hit}
 use Rattle.policy_rules.specs.declared.policy.Row.{Row}
 use Rattle.update_machine.specs.Machine.{End, Dropped, LeftBy}
-use Rattle.trace_audit.specs.Reading.{IsPrinted, Line, Open, Whole, newest_policy, policy_by}
+use Rattle.trace_audit.specs.Reading.{IsPrinted, TraceLine, Open, Whole, latest_policy, made_policy}
 use Rattle.trace_audit.specs.Told.{Told, told_of}
 use Rattle.trace_audit.specs.Told as told
 
@@ -19,7 +19,7 @@ with_told None more = more
 with_told (Some first) more = first ∷ more
 
 -- what these lines tell, in order; each good line tells one thing
-abbrev pub all_told : List Line → List Told
+abbrev pub all_told : List TraceLine → List Told
 all_told [] = []
 all_told (Whole text ∷ lines) = with_told (told_of text) (all_told lines)
 all_told (Open text ∷ lines) = all_told lines
@@ -30,7 +30,7 @@ all_told (Open text ∷ lines) = all_told lines
 -- policy that its file makes
 abbrev pub policies_with : List PolicyFile → List (List Row) → Told → List (List Row)
 policies_with files policies (told.Submitted file version) = if version == length policies + 1
-    then policies ++ option_to_list (policy_by files file (newest_policy policies)) else policies
+    then policies ++ option_to_list (made_policy files file (latest_policy policies)) else policies
 policies_with files policies _ = policies
 
 abbrev pub policies_from : List PolicyFile → List (List Row) → List Told → List (List Row)
@@ -40,7 +40,7 @@ policies_from files policies (first ∷ more) =
 
 -- of the first file, and those that were submitted; the first version's first
 abbrev pub policies_told : List PolicyFile → List Told → List (List Row)
-policies_told files ts = policies_from files (option_to_list (policy_by files 1 None)) ts
+policies_told files ts = policies_from files (option_to_list (made_policy files 1 None)) ts
 
 -- no version above this one is retired by it
 abbrev pub RetiresUpTo : ℕ → Told → Type 0
@@ -124,7 +124,7 @@ IsJustified files before after packet (LeftBy port) =
     IsDecidedOnce files before after packet (action.Out port)
 IsJustified files before after packet _ = ⊤
 
-abbrev pub AreJustified : List PolicyFile → List Line → Type 0
+abbrev pub AreJustified : List PolicyFile → List TraceLine → Type 0
 AreJustified files lines = (before after : List Told) (packet : ℕ) (end : End)
     → all_told lines ≡ before ++ told.Ended packet end ∷ after
     → IsJustified files before after packet end

@@ -1,5 +1,6 @@
 -- An index of a policy's rows: which of them lie in one slot, and which are looked at for a header.
-use Rattle.std.specs.Prelude.{ℕ, ◌≡◌, ◌≢◌, ◌+◌, ◌*◌, ◌/◌, ◌%◌, ◌^◌, ◌<◌, ◌≤◌, ◌&&◌, nat_lt, true, if◌then◌else◌, Option, Some, None, MatchOption, List, All, Contains, length, slice_get}
+use Rattle.std.specs.Prelude.{ℕ, ◌≡◌, ◌≢◌, ◌+◌, ◌*◌, ◌/◌, ◌%◌, ◌^◌, ◌<◌, ◌≤◌, ◌==◌, ◌&&◌, Bool, nat_lt, true, if◌then◌else◌, Option, Some, None, MatchOption, List, All, Contains, length, slice_get}
+use Rattle.std.specs.List.{position_or_len}
 use Rattle.std.specs.Option.{option_map_or}
 use Rattle.five_tuple.specs.declared.header.Fields.{Fields}
 use Rattle.policy_rules.specs.Policy.{row_matches}
@@ -10,17 +11,20 @@ use Rattle.policy_rules.specs.declared.policy.Row.{Row}
 use Rattle.trace_audit.specs.declared.index.Index.{Index}
 use Rattle.trace_audit.specs.declared.index.Shape.{Shape}
 
--- ---- slots
+-- ---- shapes
 
--- of blocks that begin with these addresses: the highest 12 bits of a mixture of 32
-abbrev pub slot_of : ℕ → ℕ → ℕ
-slot_of src dst = (src * 2654435769 % 2 ^ 32 + dst * 2246822519 % 2 ^ 32) % 2 ^ 32 / 2 ^ 20
+abbrev pub shape_of_row : Row → Shape
+shape_of_row row = record { src = row.src.len; dst = row.dst.len }
 
-abbrev pub slot_of_row : Row → ℕ
-slot_of_row row = slot_of row.src.address row.dst.address
+abbrev pub is_shape : Shape → Shape → Bool
+is_shape shape other = other.src == shape.src && other.dst == shape.dst
 
-abbrev pub shape_of : Row → Shape
-shape_of row = record { src = row.src.len; dst = row.dst.len }
+-- the place of the row's shape among the shapes
+abbrev pub shape_place : List Shape → Row → ℕ
+shape_place shapes row = position_or_len (is_shape (shape_of_row row)) shapes
+
+abbrev pub HasShape : List Shape → Row → Type 0
+HasShape shapes row = shape_place shapes row < length shapes
 
 pub record IsSoundShape (shape : Shape) : Type 0 where
   pub src : shape.src ≤ 32
@@ -28,33 +32,53 @@ pub record IsSoundShape (shape : Shape) : Type 0 where
 
 -- shapes with one more, where it isn't there yet
 pub record Notes (before : List Shape) (shape : Shape) (after : List Shape) : Type 0 where
-  pub there : Contains after shape
-  pub kept : (other : Shape) → Contains before other → Contains after other
+  pub there : position_or_len (is_shape shape) after < length after
+  pub kept : (row : Row) → HasShape before row → HasShape after row
   pub sound : IsSoundShape shape → All IsSoundShape before → All IsSoundShape after
 
+-- sound ones, and each row's
+pub record AreShapesOf (rows : List Row) (shapes : List Shape) : Type 0 where
+  pub sound : All IsSoundShape shapes
+  pub there : All (HasShape shapes) rows
+
+-- ---- slots
+
+-- of 32 bits, from both addresses
+abbrev pub mixed_of : ℕ → ℕ → ℕ
+mixed_of src dst = (src * 2654435769 % 2 ^ 32 + dst * 2246822519 % 2 ^ 32) % 2 ^ 32
+
+-- of blocks that begin with these addresses: each of so many shapes has an equal share of 4,096
+-- slots, and this is one of the share of the shape at this place
+abbrev pub slot_of : ℕ → ℕ → ℕ → ℕ → ℕ
+slot_of shapes place src dst =
+    place * (4096 / shapes) + mixed_of src dst * (4096 / shapes) / 2 ^ 32
+
+abbrev pub slot_of_row : List Shape → Row → ℕ
+slot_of_row shapes row =
+    slot_of (length shapes) (shape_place shapes row) row.src.address row.dst.address
+
 -- none of the rows from one place on and before the other is in the slot
-abbrev pub LackSlot : List Row → ℕ → ℕ → ℕ → Type 0
-LackSlot rows slot from bound = (k : ℕ) (row : Row) → from ≤ k → k < bound
-    → slice_get rows k ≡ Some row → slot_of_row row ≢ slot
+abbrev pub LackSlot : List Shape → List Row → ℕ → ℕ → ℕ → Type 0
+LackSlot shapes rows slot from bound = (k : ℕ) (row : Row) → from ≤ k → k < bound
+    → slice_get rows k ≡ Some row → slot_of_row shapes row ≢ slot
 
 -- the place of the last row before the bound that is in the slot, if one is
-abbrev pub IsLastBefore : List Row → ℕ → ℕ → Option ℕ → Type 0
-IsLastBefore rows slot bound None = LackSlot rows slot 0 bound
-IsLastBefore rows slot bound (Some place) = (row : Row) × (place < bound)
-    × (slice_get rows place ≡ Some row) × (slot_of_row row ≡ slot)
-    × LackSlot rows slot (place + 1) bound
+abbrev pub IsLastBefore : List Shape → List Row → ℕ → ℕ → Option ℕ → Type 0
+IsLastBefore shapes rows slot bound None = LackSlot shapes rows slot 0 bound
+IsLastBefore shapes rows slot bound (Some place) = (row : Row) × (place < bound)
+    × (slice_get rows place ≡ Some row) × (slot_of_row shapes row ≡ slot)
+    × LackSlot shapes rows slot (place + 1) bound
 
 -- the index has the rows before this bound
 pub record IsIndexUpTo (rows : List Row) (bound : ℕ) (index : Index) : Type 0 where
-  pub sound : All IsSoundShape index.shapes.items
-  pub shapes : (k : ℕ) (row : Row) → k < bound → slice_get rows k ≡ Some row
-      → Contains index.shapes.items (shape_of row)
+  pub shapes : AreShapesOf rows index.shapes.items
   pub slots : length index.last.items ≡ 4096
   pub last : (slot : ℕ) (at : Option ℕ) → slice_get index.last.items slot ≡ Some at
-      → IsLastBefore rows slot bound at
+      → IsLastBefore index.shapes.items rows slot bound at
   pub places : length index.earlier.items ≡ bound
   pub earlier : (k : ℕ) (row : Row) (at : Option ℕ) → slice_get rows k ≡ Some row
-      → slice_get index.earlier.items k ≡ Some at → IsLastBefore rows (slot_of_row row) k at
+      → slice_get index.earlier.items k ≡ Some at
+      → IsLastBefore index.shapes.items rows (slot_of_row index.shapes.items row) k at
 
 abbrev pub IsIndexOf : List Row → Index → Type 0
 IsIndexOf rows index = IsIndexUpTo rows (length rows) index
@@ -68,8 +92,8 @@ IsMatchIn rows fields hit = MatchOption hit.rule (hit.action ≡ Drop)
     × (row.priority ≡ priority) × (row.action ≡ hit.action))
 
 -- the row has no greater priority than the hit
-abbrev pub IsReached : Hit → Row → Type 0
-IsReached hit row = MatchOption hit.rule ⊥ (λ priority. row.priority ≤ priority)
+abbrev pub IsNoHigher : Hit → Row → Type 0
+IsNoHigher hit row = MatchOption hit.rule ⊥ (λ priority. row.priority ≤ priority)
 
 -- the better of the row, where it matches, and of the hit
 abbrev pub better_of : Row → Fields → Hit → Hit
@@ -78,13 +102,14 @@ better_of row fields hit =
     && row_matches row fields then hit_of (Some row) else hit
 
 -- with the matching rows of a slot, a hit that reaches what the first one reaches
-pub record IsBetter (rows : List Row) (slot : ℕ) (fields : Fields) (first hit : Hit) : Type 0 where
+pub record IsBetter (shapes : List Shape) (rows : List Row) (slot : ℕ) (fields : Fields)
+    (first hit : Hit) : Type 0 where
   pub matching : IsMatchIn rows fields first → IsMatchIn rows fields hit
-  pub kept : (row : Row) → IsReached first row → IsReached hit row
-  pub reached : (k : ℕ) (row : Row) → slice_get rows k ≡ Some row → slot_of_row row ≡ slot
-      → row_matches row fields ≡ true → IsReached hit row
+  pub kept : (row : Row) → IsNoHigher first row → IsNoHigher hit row
+  pub reached : (k : ℕ) (row : Row) → slice_get rows k ≡ Some row
+      → slot_of_row shapes row ≡ slot → row_matches row fields ≡ true → IsNoHigher hit row
 
 -- a matching row's hit, or the default, which each matching row has no greater priority than
 pub record IsBest (rows : List Row) (fields : Fields) (hit : Hit) : Type 0 where
   pub matching : IsMatchIn rows fields hit
-  pub reached : All (λ row. row_matches row fields ≡ true → IsReached hit row) rows
+  pub reached : All (λ row. row_matches row fields ≡ true → IsNoHigher hit row) rows

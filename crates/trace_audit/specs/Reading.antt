@@ -9,6 +9,7 @@ use Rattle.policy_rules.specs.declared.file.PolicyFile.{PolicyFile}
 use Rattle.policy_rules.specs.declared.policy.Hit.{Hit}
 use Rattle.policy_rules.specs.declared.policy.Row.{Row}
 use Rattle.update_machine.specs.Machine.{Machine, Decides, Ends, Enters, Retires, Submits}
+use Rattle.update_machine.specs.Marks.{most_versions}
 use Rattle.update_machine.specs.Setting.{made_by}
 use Rattle.trace_audit.specs.Told.{Told, told_of}
 use Rattle.trace_audit.specs.Told as told
@@ -16,37 +17,33 @@ use Rattle.trace_audit.specs.Told as told
 -- ---- policies
 
 -- the file of a number, from 1, if it is there
-abbrev pub file_in : List PolicyFile → ℕ → Option PolicyFile
-file_in files file = if file == 0 then None else slice_get files (file - 1)
+abbrev pub numbered_file : List PolicyFile → ℕ → Option PolicyFile
+numbered_file files file = if file == 0 then None else slice_get files (file - 1)
 
 -- the policy that it has, or makes of the newest one, if there is one
-abbrev pub policy_by : List PolicyFile → ℕ → Option (List Row) → Option (List Row)
-policy_by files file newest = result_ok (made_by (file_in files file) newest)
+abbrev pub made_policy : List PolicyFile → ℕ → Option (List Row) → Option (List Row)
+made_policy files file newest = result_ok (made_by (numbered_file files file) newest)
 
-abbrev pub newest_policy : List (List Row) → Option (List Row)
-newest_policy policies = slice_get policies (length policies - 1)
+abbrev pub latest_policy : List (List Row) → Option (List Row)
+latest_policy policies = slice_get policies (length policies - 1)
 
 -- ---- states
 
 -- what a reader knows: the machine, and the header of a packet's row that waits for its entry
-pub record State : Type 0 where
+pub record TraceState : Type 0 where
   pub machine : Machine
   pub pending : Option Header
 
 -- the policy of the first file, the mark 0, no packets, and no header that waits
-abbrev pub first_state : List PolicyFile → State
+abbrev pub first_state : List PolicyFile → TraceState
 first_state files = record {
   machine = record {
-    policies = option_to_list (policy_by files 1 None);
+    policies = option_to_list (made_policy files 1 None);
     mark = 0;
     packets = λ _. None;
   };
   pending = None;
 }
-
--- at most so many versions are submitted
-abbrev pub most_versions : ℕ
-most_versions = 64
 
 -- a decision is printed in these texts
 pub record IsPrinted (rule action : List ℕ) (hit : Hit) : Type 0 where
@@ -54,12 +51,12 @@ pub record IsPrinted (rule action : List ℕ) (hit : Hit) : Type 0 where
   pub of_action : action ≡ action_text hit.action
 
 -- what is told leads from one state to another
-abbrev pub Follows : List PolicyFile → State → Told → State → Type 0
+abbrev pub Follows : List PolicyFile → TraceState → Told → TraceState → Type 0
 Follows files old (told.Row header) new = new ≡ record old { pending = header }
 Follows files old (told.Entered packet) new = (header : Header) × (old.pending ≡ Some header)
     × Enters old.machine packet header new.machine × (new.pending ≡ None)
 Follows files old (told.Submitted file version) new =
-    Submits old.machine version (policy_by files file (newest_policy old.machine.policies))
+    Submits old.machine version (made_policy files file (latest_policy old.machine.policies))
     new.machine
     × (version ≤ most_versions) × (new.pending ≡ old.pending)
 Follows files old (told.Retired version) new =
@@ -74,38 +71,38 @@ Follows files old told.Nothing new = new ≡ old
 -- ---- lines
 
 -- a line that its line feed ends, or what stands behind the last line feed
-pub data Line : Type 0 where
-  Whole : (text : List ℕ) → Line
-  Open : (text : List ℕ) → Line
+pub data TraceLine : Type 0 where
+  Whole : (text : List ℕ) → TraceLine
+  Open : (text : List ℕ) → TraceLine
 
 -- the lines of the parts that stand round line feeds
-abbrev pub open_line : List ℕ → List Line
+abbrev pub open_line : List ℕ → List TraceLine
 open_line [] = []
 open_line (byte ∷ bytes) = Open (byte ∷ bytes) ∷ []
 
-abbrev pub lines_of_parts : List (List ℕ) → List Line
+abbrev pub lines_of_parts : List (List ℕ) → List TraceLine
 lines_of_parts [] = []
 lines_of_parts (rest ∷ []) = open_line rest
 lines_of_parts (text ∷ next ∷ parts) = Whole text ∷ lines_of_parts (next ∷ parts)
 
-unfoldable pub lines_of : List ℕ → List Line
+unfoldable pub lines_of : List ℕ → List TraceLine
 lines_of trace = lines_of_parts (parts_round 10 trace)
 
 -- a good line leads from one state to another; one without its line feed is bad
-abbrev pub ReadsLine : List PolicyFile → State → Line → State → Type 0
+abbrev pub ReadsLine : List PolicyFile → TraceState → TraceLine → TraceState → Type 0
 ReadsLine files old (Whole text) new =
     (told : Told) × (told_of text ≡ Some told) × Follows files old told new
 ReadsLine files old (Open text) new = ⊥
 
-abbrev pub IsGoodLine : List PolicyFile → State → Line → Type 0
-IsGoodLine files old line = (new : State) × ReadsLine files old line new
+abbrev pub IsGoodLine : List PolicyFile → TraceState → TraceLine → Type 0
+IsGoodLine files old line = (new : TraceState) × ReadsLine files old line new
 
 -- good lines, one after another
-abbrev pub Reads : List PolicyFile → State → List Line → State → Type 0
-Reads files old [] new = new ≡ old
-Reads files old (line ∷ lines) new =
-    (middle : State) × ReadsLine files old line middle × Reads files middle lines new
+abbrev pub ReadsAll : List PolicyFile → TraceState → List TraceLine → TraceState → Type 0
+ReadsAll files old [] new = new ≡ old
+ReadsAll files old (line ∷ lines) new =
+    (middle : TraceState) × ReadsLine files old line middle × ReadsAll files middle lines new
 
 -- all these lines are good, from the beginning on
-abbrev pub AreGood : List PolicyFile → List Line → Type 0
-AreGood files lines = (new : State) × Reads files (first_state files) lines new
+abbrev pub AreGood : List PolicyFile → List TraceLine → Type 0
+AreGood files lines = (new : TraceState) × ReadsAll files (first_state files) lines new

@@ -12,7 +12,7 @@ use Rattle.journal.specs.declared.item.Item.TheVariants as item
 use Rattle.update_machine.specs.Machine.{Dropped, IsRun, LeftBy, Lost, Stuck}
 use Rattle.update_machine.specs.Setting.{Setting}
 use Rattle.trace_audit.specs.Decided.{IsWaiting, all_told}
-use Rattle.trace_audit.specs.Reading.{IsPrinted, Line}
+use Rattle.trace_audit.specs.Reading.{IsPrinted, TraceLine}
 use Rattle.trace_audit.specs.Told.{Told}
 use Rattle.trace_audit.specs.Told as told
 
@@ -43,7 +43,7 @@ AreItems before (first ∷ more) items = (front rest : List Item) × (items ≡ 
 
 -- the moves that the lines tell are a run of the machine that has these files of policies and
 -- changes, on whatever network
-pub record AreRun (files : List PolicyFile) (lines : List Line) : Type 0 where
+pub record AreRun (files : List PolicyFile) (lines : List TraceLine) : Type 0 where
   pub moves : List Item
   pub told : AreItems [] (all_told lines) moves
   pub run : (setting : Setting) → setting.files ≡ files → IsRun setting moves

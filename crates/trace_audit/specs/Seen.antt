@@ -9,21 +9,21 @@ use Rattle.policy_rules.specs.declared.policy.Action.{Action}
 use Rattle.policy_rules.specs.declared.policy.Action.TheVariants.{Drop, Out}
 use Rattle.policy_rules.specs.declared.policy.Hit.{Hit}
 use Rattle.update_machine.specs.Machine.{End, Dropped, LeftBy, Lost, Stuck, Packet}
-use Rattle.trace_audit.specs.Reading.{Follows, Line, ReadsLine, State}
+use Rattle.trace_audit.specs.Reading.{Follows, TraceLine, ReadsLine, TraceState}
 use Rattle.trace_audit.specs.Told.{Told}
 use Rattle.trace_audit.specs.Told as told
 use Rattle.trace_audit.specs.declared.auditor.Auditor.{Auditor}
-use Rattle.trace_audit.specs.declared.packets.Ending.{Ending}
-use Rattle.trace_audit.specs.declared.packets.Ending.TheVariants.{Going, AsDecided}
-use Rattle.trace_audit.specs.declared.packets.Ending.TheVariants as ending
-use Rattle.trace_audit.specs.declared.packets.Packet as code_packet
+use Rattle.trace_audit.specs.declared.packets.PacketEnd.{PacketEnd}
+use Rattle.trace_audit.specs.declared.packets.PacketEnd.TheVariants.{Going, AsDecided}
+use Rattle.trace_audit.specs.declared.packets.PacketEnd.TheVariants as ending
+use Rattle.trace_audit.specs.declared.packets.TracePacket.{TracePacket}
 use Rattle.trace_audit.specs.declared.packets.Packets.{Packets}
-use Rattle.trace_audit.specs.declared.packets.Rule.{Rule}
-use Rattle.trace_audit.specs.declared.packets.Rule.TheVariants.{Undecided, Default, Row}
+use Rattle.trace_audit.specs.declared.packets.DecidedBy.{DecidedBy}
+use Rattle.trace_audit.specs.declared.packets.DecidedBy.TheVariants.{Undecided, Default, Row}
 use Rattle.trace_audit.specs.declared.told.End as code_end
 use Rattle.trace_audit.specs.declared.told.End.TheVariants as end
-use Rattle.trace_audit.specs.declared.told.Told as code_told
-use Rattle.trace_audit.specs.declared.told.Told.TheVariants as line
+use Rattle.trace_audit.specs.declared.told.LineMeaning.{LineMeaning}
+use Rattle.trace_audit.specs.declared.told.LineMeaning.TheVariants as line
 
 abbrev pub end_seen : code_end.End → End
 end_seen end.Dropped = Dropped
@@ -31,7 +31,7 @@ end_seen (end.LeftBy port) = LeftBy port
 end_seen end.Lost = Lost
 end_seen end.Stuck = Stuck
 
-abbrev pub told_seen : code_told.Told → Told
+abbrev pub told_seen : LineMeaning → Told
 told_seen (line.Row header) = told.Row header
 told_seen (line.Entered packet) = told.Entered packet
 told_seen (line.Submitted file version) = told.Submitted file version
@@ -42,11 +42,11 @@ told_seen (line.Ended packet end) = told.Ended packet (end_seen end)
 told_seen line.Nothing = told.Nothing
 
 -- what the decision of a packet says, where it has one
-abbrev pub action_seen : code_packet.Packet → Action
+abbrev pub action_seen : TracePacket → Action
 action_seen p = if p.is_out then Out p.port else Drop
 
 -- the decision of this rule
-abbrev pub decision_by : Rule → ℕ → Action → Option Hit
+abbrev pub decision_by : DecidedBy → ℕ → Action → Option Hit
 decision_by Undecided priority action = None
 decision_by Default priority action = Some (record { rule = None; action = action })
 decision_by Row priority action = Some (record { rule = Some priority; action = action })
@@ -56,13 +56,13 @@ abbrev pub end_by : Action → End
 end_by Drop = Dropped
 end_by (Out port) = LeftBy port
 
-abbrev pub ending_by : Ending → Action → Option End
+abbrev pub ending_by : PacketEnd → Action → Option End
 ending_by Going action = None
 ending_by AsDecided action = Some (end_by action)
 ending_by ending.Lost action = Some Lost
 ending_by ending.Stuck action = Some Stuck
 
-abbrev pub packet_seen : code_packet.Packet → Packet
+abbrev pub packet_seen : TracePacket → Packet
 packet_seen p = record {
   header = header_of (record {
     src = p.src;
@@ -86,7 +86,7 @@ packets_seen p number = option_map packet_seen
     (option_or (run_get p.first p.run.items number) (get nat_cmp p.others number))
 
 -- the machine, and the header that waits
-abbrev pub state_seen : Auditor → State
+abbrev pub state_seen : Auditor → TraceState
 state_seen a = record {
   machine = record {
     policies = a.policies.items;
@@ -101,11 +101,11 @@ abbrev pub with_one : (ℕ → Option Packet) → ℕ → Packet → ℕ → Opt
 with_one packets number packet = λ other. if other == number then Some packet else packets other
 
 -- what was told led from one state to another; or it leads to none
-abbrev pub IsTaken : List PolicyFile → State → Told → State → Bool → Type 0
+abbrev pub IsTaken : List PolicyFile → TraceState → Told → TraceState → Bool → Type 0
 IsTaken files old told new good = MatchBool good
-    (Follows files old told new) ((other : State) → Follows files old told other → ⊥)
+    (Follows files old told new) ((other : TraceState) → Follows files old told other → ⊥)
 
 -- the same of a line
-abbrev pub IsRead : List PolicyFile → State → Line → State → Bool → Type 0
-IsRead files old line new good = MatchBool good
-    (ReadsLine files old line new) ((other : State) → ReadsLine files old line other → ⊥)
+abbrev pub IsLineRead : List PolicyFile → TraceState → TraceLine → TraceState → Bool → Type 0
+IsLineRead files old line new good = MatchBool good
+    (ReadsLine files old line new) ((other : TraceState) → ReadsLine files old line other → ⊥)

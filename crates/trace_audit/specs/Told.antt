@@ -41,12 +41,12 @@ words_left None = []
 words_left (Some text) = words_of text.now
 
 -- no blank in it
-abbrev pub is_word : List ℕ → Bool
-is_word word = list_all (λ b. not (b == 32)) word
+abbrev pub has_no_blank : List ℕ → Bool
+has_no_blank word = list_all (λ b. not (b == 32)) word
 
 -- the first word is taken, and said is whether it passes
-abbrev pub TakesNext : List (List ℕ) → (List ℕ → Bool) → List (List ℕ) → Bool → Type 0
-TakesNext old passes new said = (next : List ℕ) × (old ≡ next ∷ new) × (said ≡ passes next)
+abbrev pub TakesWord : List (List ℕ) → (List ℕ → Bool) → List (List ℕ) → Bool → Type 0
+TakesWord old passes new said = (next : List ℕ) × (old ≡ next ∷ new) × (said ≡ passes next)
 
 -- none or more than one
 abbrev pub IsNoSingle : List (List ℕ) → Type 0
@@ -172,13 +172,13 @@ abbrev pub indented_told : List (List ℕ) → Option Told
 indented_told (second ∷ word ∷ args) = if bytes_eq second [] then item_told word args else None
 indented_told _ = None
 
-abbrev pub told_by : List (List ℕ) → Option Told
-told_by (first ∷ args) =
+abbrev pub told_by_words : List (List ℕ) → Option Told
+told_by_words (first ∷ args) =
     if bytes_eq first (codes "row") then row_told args else
     if bytes_eq first (codes "meter") || bytes_eq first (codes "quiet") then any_told args else
     if bytes_eq first [] then indented_told args else None
-told_by [] = None
+told_by_words [] = None
 
 -- what a line tells; none where it is bad whatever stands before it
 unfoldable pub told_of : List ℕ → Option Told
-told_of line = told_by (words_of line)
+told_of line = told_by_words (words_of line)

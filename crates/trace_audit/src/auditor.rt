@@ -3,15 +3,15 @@ ghost use Rattle.std.specs.Result.{result_ok};
 ghost use Rattle.policy_rules.specs.Applied.{applied};
 ghost use Rattle.policy_rules.specs.declared.file.PolicyFile.{PolicyFile};
 ghost use Rattle.update_machine.specs.Machine.{MayEnd};
-ghost use Rattle.trace_audit.specs.Reading.{file_in, first_state, newest_policy, policy_by};
+ghost use Rattle.trace_audit.specs.Reading.{numbered_file, first_state, latest_policy, made_policy};
 ghost use Rattle.update_machine.specs.Setting.{made_by};
 ghost use Rattle.trace_audit.specs.Seen.{IsTaken, end_seen, packet_seen, state_seen, told_seen};
 ghost use Rattle.trace_audit.specs.Told as told;
 
-use crate::index::Version;
-use crate::packets::{Packet, Packets};
+use crate::index::IndexedPolicy;
+use crate::packets::{Packets, TracePacket};
 use crate::printed::is_printed;
-use crate::told::{End, Told};
+use crate::told::{End, LineMeaning};
 use policy_rules::{Action, Amendment, ApplyError, Header, Policy, PolicyFile, apply};
 use std::alloc::{AllocError, Global};
 
@@ -22,7 +22,7 @@ const MAX_VERSIONS: u32 = 64;
 /// mark, the packets, and the header of a packet's row that waits for its entry.
 #[derive(Drop)]
 pub(crate) struct Auditor {
-    policies: Vec<Version>,
+    policies: Vec<IndexedPolicy>,
     mark: u32,
     packets: Packets,
     pending: Option<Header>,
@@ -30,23 +30,23 @@ pub(crate) struct Auditor {
 
 /// The policy that a file has, or makes of the newest one, if there is one.
 #[tactic(auto, using(crate::proofs::Made::policy_of, crate::proofs::Made::no_policy))]
-fn policy_by(
+fn made_policy(
     alloc: Global,
     files: &[PolicyFile],
     file: u32,
     newest: Option<&Policy>,
 ) -> Result<Option<Policy>, AllocError>
-    ensures { IfOk result (λ made. made ≡ policy_by files.now file (option_copied newest.entry)) }
+    ensures { IfOk result (λ made. made ≡ made_policy files.now file (option_copied newest.entry)) }
 {
-    match file_in(files, file) {
+    match numbered_file(files, file) {
         Some(file) => made_by(alloc, file, newest),
         None => Ok(None),
     }
 }
 
 // The file of this number, from 1, if it is there.
-fn file_in(files: &[PolicyFile], file: u32) -> Option<&PolicyFile>
-    ensures { option_copied result ≡ file_in files.now file }
+fn numbered_file(files: &[PolicyFile], file: u32) -> Option<&PolicyFile>
+    ensures { option_copied result ≡ numbered_file files.now file }
 {
     if file == 0 {
         return None;
@@ -93,8 +93,8 @@ impl Auditor {
         ensures { IfOk result (λ auditor. state_seen auditor ≡ first_state files.now) }
     {
         let mut policies = Vec::new(alloc);
-        if let Some(policy) = policy_by(alloc, files, 1, None)? {
-            policies.push(Version::new(alloc, policy)?)?;
+        if let Some(policy) = made_policy(alloc, files, 1, None)? {
+            policies.push(IndexedPolicy::new(alloc, policy)?)?;
         }
         Ok(Auditor {
             policies,
@@ -106,7 +106,7 @@ impl Auditor {
 
     // The policy of the newest version, if there is one.
     fn newest(&self) -> Option<&Policy>
-        ensures { option_copied result ≡ newest_policy self.now.policies.items }
+        ensures { option_copied result ≡ latest_policy self.now.policies.items }
     {
         match self.policies.last() {
             Some(version) => Some(version.policy()),
@@ -124,7 +124,8 @@ impl Auditor {
         if self.packets.get(number).is_some() {
             return Ok(false);
         }
-        self.packets.put(number, Packet::new(header, self.mark))?;
+        self.packets
+            .put(number, TracePacket::new(header, self.mark))?;
         self.pending = None;
         Ok(true)
     }
@@ -141,10 +142,10 @@ impl Auditor {
         if version > MAX_VERSIONS || version as usize != self.policies.len() + 1 {
             return Ok(false);
         }
-        match policy_by(alloc, files, file, self.newest())? {
+        match made_policy(alloc, files, file, self.newest())? {
             None => Ok(false),
             Some(policy) => {
-                self.policies.push(Version::new(alloc, policy)?)?;
+                self.policies.push(IndexedPolicy::new(alloc, policy)?)?;
                 Ok(true)
             }
         }
@@ -210,32 +211,32 @@ impl Auditor {
         &mut self,
         alloc: Global,
         files: &[PolicyFile],
-        told: &Told,
+        told: &LineMeaning,
     ) -> Result<bool, AllocError>
         ensures { IfOk result (IsTaken files.now (state_seen self.old) (told_seen told.now) (state_seen self.new)) }
     {
         match *told {
-            Told::Row(header) => {
+            LineMeaning::Row(header) => {
                 self.pending = header;
                 Ok(true)
             }
-            Told::Entered(packet) => self.enter(packet),
-            Told::Submitted { file, version } => self.submit(alloc, files, file, version),
-            Told::Retired(version) => Ok(self.retire(version)),
-            Told::Decided {
+            LineMeaning::Entered(packet) => self.enter(packet),
+            LineMeaning::Submitted { file, version } => self.submit(alloc, files, file, version),
+            LineMeaning::Retired(version) => Ok(self.retire(version)),
+            LineMeaning::Decided {
                 packet,
                 version,
                 rule,
                 action,
             } => self.decide(packet, version, rule, action),
-            Told::Ended { packet, end } => self.end(packet, end),
-            Told::Nothing => Ok(true),
+            LineMeaning::Ended { packet, end } => self.end(packet, end),
+            LineMeaning::Nothing => Ok(true),
         }
     }
 }
 
 // Whether the packet may end so.
-fn may_end(packet: &Packet, end: End) -> bool
+fn may_end(packet: &TracePacket, end: End) -> bool
     ensures { IsTrue result ↔ MayEnd (packet_seen packet.now) (end_seen end) }
 {
     match end {

@@ -1,8 +1,8 @@
-ghost use Rattle.std.specs.Prelude.{◌≡◌, ◌<◌, ◌+◌, List, IfOk, OnOk, length};
+ghost use Rattle.std.specs.Prelude.{◌≡◌, ◌<◌, ◌+◌, List, IfOk, IfSome, OnOk, length, position};
 ghost use Rattle.policy_rules.specs.Exports.{IsFirstMatch, IsPolicy};
 ghost use Rattle.policy_rules.specs.declared.policy.Hit.{Hit};
 ghost use Rattle.policy_rules.specs.declared.policy.Row.{Row};
-ghost use Rattle.trace_audit.specs.Index.{IsBest, IsBetter, IsIndexOf, IsIndexUpTo, Notes, better_of, shape_of, slot_of, slot_of_row};
+ghost use Rattle.trace_audit.specs.Index.{AreShapesOf, HasShape, IsBest, IsBetter, IsIndexOf, IsIndexUpTo, Notes, better_of, is_shape, shape_of_row, slot_of, slot_of_row};
 
 use five_tuple::{Fields, Header, Prefix};
 use policy_rules::{Hit, Policy, Row, policy_laws};
@@ -10,7 +10,7 @@ use std::alloc::{AllocError, Global};
 use std::marker::Model;
 
 /// The lengths of a row's blocks of source and destination addresses.
-#[derive(Clone, Copy, PartialEq, Eq)]
+#[derive(Clone, Copy)]
 pub(crate) struct Shape {
     pub src: u32,
     pub dst: u32,
@@ -19,9 +19,13 @@ pub(crate) struct Shape {
 /// So many slots the rows of a policy are laid in.
 const SLOTS: usize = 4096;
 
+/// An index is made where there are so many rows for each shape, or more.
+const ROWS_A_SHAPE: usize = 16;
+
 /// The rows of a policy by their blocks of addresses, so that few are looked at for a header: tuple
 /// space search (Srinivasan, Suri, Varghese, "Packet Classification using Tuple Space Search").
-/// Rows whose blocks begin with the same addresses lie in one slot.
+/// Each shape has a share of the slots of its own, and of it one slot is looked into for a header.
+/// So no row is looked at twice, whatever the rows are.
 #[derive(Drop)]
 pub(crate) struct Index {
     // The shapes that rows have.
@@ -32,15 +36,16 @@ pub(crate) struct Index {
     earlier: Vec<Option<u32>>,
 }
 
-/// A policy that was submitted, with an index of its rows. Contracts see the rows.
+/// A policy that was submitted, with an index of its rows where they have few shapes. Contracts see
+/// the rows.
 #[derive(Drop)]
-pub(crate) struct Version {
+pub(crate) struct IndexedPolicy {
     policy: Policy,
-    index: Index,
+    index: Option<Index>,
 }
 
-impl Model for Version {
-    ghost use Rattle.std.specs.Prelude.{List};
+impl Model for IndexedPolicy {
+    ghost use Rattle.std.specs.Prelude.{List, IfSome};
     ghost use Rattle.policy_rules.specs.declared.policy.Row.{Row};
     ghost use Rattle.trace_audit.specs.Index.{IsIndexOf};
 
@@ -48,25 +53,38 @@ impl Model for Version {
 
     ghost view = { λ version. version.policy };
 
-    ghost invariant = { λ version. IsIndexOf version.policy version.index };
+    ghost invariant = { λ version. IfSome version.index (IsIndexOf version.policy) };
 }
 
-// The slot of blocks that begin with these addresses.
-fn slot(src: u32, dst: u32) -> usize
-    ensures slot { result ≡ slot_of src dst }
+// The slot of blocks that begin with these addresses, of the shape at this place.
+fn slot(shapes: &[Shape], place: usize, src: u32, dst: u32) -> usize
+    requires { place < length shapes.now }
+    ensures slot { result ≡ slot_of (length shapes.now) place src dst }
     ensures bound { result < 4096 }
 {
     let mixed = src
         .wrapping_mul(2_654_435_769)
         .wrapping_add(dst.wrapping_mul(2_246_822_519));
-    (mixed >> 20) as usize
+    let share = SLOTS / shapes.len();
+    place * share + ((u64::from(mixed) * share as u64) >> 32) as usize
 }
 
-fn slot_of_row(row: &Row) -> usize
-    ensures slot { result ≡ slot_of_row row.now }
+// The place of the shape among the others, if it is there.
+fn place_of(shapes: &[Shape], shape: Shape) -> Option<usize>
+    ensures { result ≡ position (is_shape shape) shapes.now }
+{
+    shapes
+        .iter()
+        .position(|other| other.src == shape.src && other.dst == shape.dst)
+}
+
+fn slot_of_row(shapes: &[Shape], row: &Row) -> usize
+    requires { HasShape shapes.now row.now }
+    ensures slot { result ≡ slot_of_row shapes.now row.now }
     ensures bound { result < 4096 }
 {
-    slot(row.src.address, row.dst.address)
+    let place = place_of(shapes, Shape::of(row)).unwrap();
+    slot(shapes, place, row.src.address, row.dst.address)
 }
 
 // The better of the row, where it matches, and of the hit.
@@ -86,7 +104,7 @@ fn better(row: &Row, fields: &Fields, hit: Hit) -> Hit
 
 impl Shape {
     fn of(row: &Row) -> Shape
-        ensures { result ≡ shape_of row.now }
+        ensures { result ≡ shape_of_row row.now }
     {
         Shape {
             src: row.src.len,
@@ -99,18 +117,35 @@ impl Shape {
 fn note(shapes: &mut Vec<Shape>, shape: Shape) -> Result<(), AllocError>
     ensures { OnOk result (Notes shapes.old.items shape shapes.new.items) }
 {
-    if !shapes.contains(&shape) {
+    if place_of(shapes, shape).is_none() {
         shapes.push(shape)?;
     }
     Ok(())
 }
 
+// The shapes of the rows, if they are few.
+fn shapes_of(alloc: Global, rows: &[Row]) -> Result<Option<Vec<Shape>>, AllocError>
+    requires { IsPolicy rows.now }
+    ensures { IfOk result (λ some. IfSome some (λ shapes. AreShapesOf rows.now shapes.items)) }
+{
+    let most = rows.len() / ROWS_A_SHAPE;
+    let mut shapes = Vec::new(alloc);
+    for row in rows {
+        note(&mut shapes, Shape::of(row))?;
+        if shapes.len() > most {
+            return Ok(None);
+        }
+    }
+    Ok(Some(shapes))
+}
+
 impl Index {
-    fn new(alloc: Global) -> Result<Index, AllocError>
-        ensures { (rows : List Row) → IfOk result (IsIndexUpTo rows 0) }
+    fn new(alloc: Global, shapes: Vec<Shape>) -> Result<Index, AllocError>
+        ensures { (rows : List Row) → AreShapesOf rows shapes.items
+            → IfOk result (IsIndexUpTo rows 0) }
     {
         Ok(Index {
-            shapes: Vec::new(alloc),
+            shapes,
             last: vec![in alloc; None; SLOTS]?,
             earlier: Vec::new(alloc),
         })
@@ -118,36 +153,37 @@ impl Index {
 
     // Adds the row at this place.
     fn add(&mut self, rows: &[Row], place: u32) -> Result<(), AllocError>
-        requires rows { IsPolicy rows.now }
         requires place { place < length rows.now }
         requires index { IsIndexUpTo rows.now place self.old }
         ensures { OnOk result (IsIndexUpTo rows.now (place + 1) self.new) }
     {
-        let row = &rows[place as usize];
-        note(&mut self.shapes, Shape::of(row))?;
-        let slot = slot_of_row(row);
+        let slot = slot_of_row(&self.shapes, &rows[place as usize]);
         let before = self.last[slot];
         self.earlier.push(before)?;
         self.last[slot] = Some(place);
         Ok(())
     }
 
-    fn of(alloc: Global, rows: &[Row]) -> Result<Index, AllocError>
+    // An index of the rows, where they have few shapes: with more, a scan costs less.
+    fn of(alloc: Global, rows: &[Row]) -> Result<Option<Index>, AllocError>
         requires { IsPolicy rows.now }
-        ensures { IfOk result (IsIndexOf rows.now) }
+        ensures { IfOk result (λ some. IfSome some (IsIndexOf rows.now)) }
     {
-        let mut index = Index::new(alloc)?;
+        let Some(shapes) = shapes_of(alloc, rows)? else {
+            return Ok(None);
+        };
+        let mut index = Index::new(alloc, shapes)?;
         for place in 0..rows.len() as u32 {
             index.add(rows, place)?;
         }
-        Ok(index)
+        Ok(Some(index))
     }
 
     // The best of the hit and of the rows in the slot that match.
     fn best_in(&self, rows: &[Row], slot: usize, fields: &Fields, hit: Hit) -> Hit
         requires index { IsIndexOf rows.now self.now }
         requires slot { slot < 4096 }
-        ensures { IsBetter rows.now slot fields.now hit result }
+        ensures { IsBetter self.now.shapes.items rows.now slot fields.now hit result }
     {
         let mut best = hit;
         let mut at = self.last[slot];
@@ -165,25 +201,26 @@ impl Index {
         ensures { IsBest rows.now fields.now result }
     {
         let mut best = Hit::DEFAULT;
-        for shape in &self.shapes {
+        for (place, shape) in self.shapes.iter().enumerate() {
             let src = Prefix::new(fields.src, shape.src);
             let dst = Prefix::new(fields.dst, shape.dst);
-            best = self.best_in(rows, slot(src.address, dst.address), fields, best);
+            let slot = slot(&self.shapes, place, src.address, dst.address);
+            best = self.best_in(rows, slot, fields, best);
         }
         best
     }
 }
 
-impl Version {
+impl IndexedPolicy {
     /// The version that has this policy.
     ///
     /// # Errors
     /// Want of memory alone.
-    pub fn new(alloc: Global, policy: Policy) -> Result<Version, AllocError>
+    pub fn new(alloc: Global, policy: Policy) -> Result<IndexedPolicy, AllocError>
         ensures { IfOk result (λ version. version ≡ policy) }
     {
         let index = Index::of(alloc, policy.rows())?;
-        Ok(Version { policy, index })
+        Ok(IndexedPolicy { policy, index })
     }
 
     /// Its policy.
@@ -199,6 +236,10 @@ impl Version {
         ensures only { (hit : Hit) → IsFirstMatch self.now header.now hit → hit ≡ result }
     {
         policy_laws();
-        self.index.best(self.policy.rows(), &header.fields())
+        let rows = self.policy.rows();
+        match &self.index {
+            Some(index) => index.best(rows, &header.fields()),
+            None => self.policy.scan(header),
+        }
     }
 }

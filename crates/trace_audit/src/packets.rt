@@ -10,7 +10,7 @@ use std::collections::BTreeMap;
 
 /// Which rule decided a packet.
 #[derive(Clone, Copy)]
-pub(crate) enum Rule {
+pub(crate) enum DecidedBy {
     /// None yet.
     Undecided,
     Default,
@@ -20,7 +20,7 @@ pub(crate) enum Rule {
 
 /// How a packet ended.
 #[derive(Clone, Copy)]
-pub(crate) enum Ending {
+pub(crate) enum PacketEnd {
     /// Not yet.
     Going,
     /// As its decision says.
@@ -31,7 +31,7 @@ pub(crate) enum Ending {
 
 /// What the machine knows of a packet, in few bytes: a trace may have millions of them.
 #[derive(Clone, Copy)]
-pub(crate) struct Packet {
+pub(crate) struct TracePacket {
     src: u32,
     dst: u32,
     // The mark as it came in.
@@ -43,21 +43,21 @@ pub(crate) struct Packet {
     sport: u16,
     dport: u16,
     proto: u8,
-    rule: Rule,
+    rule: DecidedBy,
     is_out: bool,
-    ending: Ending,
+    ending: PacketEnd,
 }
 
-const _: () = prove!(size_of::<Packet>() <= 28);
+const _: () = prove!(size_of::<TracePacket>() <= 28);
 
-impl Packet {
+impl TracePacket {
     /// A packet that came in with this header under this mark.
-    pub fn new(header: Header, mark: u32) -> Packet
+    pub fn new(header: Header, mark: u32) -> TracePacket
         ensures { packet_seen result ≡
             record { header = header; entry_mark = mark; decision = None; end = None } }
     {
         let fields = header.fields();
-        Packet {
+        TracePacket {
             src: fields.src,
             dst: fields.dst,
             entry_mark: mark,
@@ -66,9 +66,9 @@ impl Packet {
             sport: fields.sport,
             dport: fields.dport,
             proto: fields.proto,
-            rule: Rule::Undecided,
+            rule: DecidedBy::Undecided,
             is_out: false,
-            ending: Ending::Going,
+            ending: PacketEnd::Going,
         }
     }
 
@@ -108,8 +108,8 @@ impl Packet {
         ensures { result ≡ option_map (λ hit. hit.action) (packet_seen self.now).decision }
     {
         match self.rule {
-            Rule::Undecided => None,
-            Rule::Default | Rule::Row => Some(self.decided_action()),
+            DecidedBy::Undecided => None,
+            DecidedBy::Default | DecidedBy::Row => Some(self.decided_action()),
         }
     }
 
@@ -118,25 +118,25 @@ impl Packet {
         ensures { result ≡ is_some (packet_seen self.now).end }
     {
         match self.ending {
-            Ending::Going => false,
-            Ending::AsDecided | Ending::Lost | Ending::Stuck => true,
+            PacketEnd::Going => false,
+            PacketEnd::AsDecided | PacketEnd::Lost | PacketEnd::Stuck => true,
         }
     }
 
     /// The packet with this decision.
-    pub fn decided(self, hit: Hit) -> Packet
+    pub fn decided(self, hit: Hit) -> TracePacket
         requires { (packet_seen self).end ≡ None }
         ensures { packet_seen result ≡ record (packet_seen self) { decision = Some hit } }
     {
         let (rule, priority) = match hit.rule {
-            Some(priority) => (Rule::Row, priority),
-            None => (Rule::Default, 0),
+            Some(priority) => (DecidedBy::Row, priority),
+            None => (DecidedBy::Default, 0),
         };
         let (is_out, port) = match hit.action {
             Action::Out(port) => (true, port),
             Action::Drop => (false, 0),
         };
-        Packet {
+        TracePacket {
             rule,
             priority,
             is_out,
@@ -146,16 +146,16 @@ impl Packet {
     }
 
     /// The packet with this end.
-    pub fn ended(self, end: End) -> Packet
+    pub fn ended(self, end: End) -> TracePacket
         requires { MayEnd (packet_seen self) (end_seen end) }
         ensures { packet_seen result ≡ record (packet_seen self) { end = Some (end_seen end) } }
     {
         let ending = match end {
-            End::Dropped | End::LeftBy(_) => Ending::AsDecided,
-            End::Lost => Ending::Lost,
-            End::Stuck => Ending::Stuck,
+            End::Dropped | End::LeftBy(_) => PacketEnd::AsDecided,
+            End::Lost => PacketEnd::Lost,
+            End::Stuck => PacketEnd::Stuck,
         };
-        Packet { ending, ..self }
+        TracePacket { ending, ..self }
     }
 }
 
@@ -165,9 +165,9 @@ pub(crate) struct Packets {
     // The number of the first one of the run.
     first: u32,
     // Packets whose numbers follow one another, as in the trace of a replay.
-    run: Vec<Packet>,
+    run: Vec<TracePacket>,
     // In order: a trace may choose numbers that a hash would put in one group.
-    others: BTreeMap<u32, Packet>,
+    others: BTreeMap<u32, TracePacket>,
 }
 
 impl Packets {
@@ -183,7 +183,7 @@ impl Packets {
     }
 
     // The packet of the run that has this number, if one has it.
-    fn in_run(&self, number: u32) -> Option<Packet>
+    fn in_run(&self, number: u32) -> Option<TracePacket>
         ensures { result ≡ run_get self.now.first self.now.run.items number }
     {
         let place = number.checked_sub(self.first)?;
@@ -191,7 +191,7 @@ impl Packets {
     }
 
     /// The packet of this number, if there is one.
-    pub fn get(&self, number: u32) -> Option<Packet>
+    pub fn get(&self, number: u32) -> Option<TracePacket>
         ensures { option_map packet_seen result ≡ packets_seen self.now number }
     {
         match self.in_run(number) {
@@ -204,7 +204,7 @@ impl Packets {
     ///
     /// # Errors
     /// Want of memory alone.
-    pub fn put(&mut self, number: u32, packet: Packet) -> Result<(), AllocError>
+    pub fn put(&mut self, number: u32, packet: TracePacket) -> Result<(), AllocError>
         ensures { OnOk result (packets_seen self.new ≡ with_one (packets_seen self.old) number (packet_seen packet)) }
     {
         if self.run.is_empty() {

@@ -3,7 +3,7 @@ ghost use Rattle.std.specs.List.{list_any};
 ghost use Rattle.five_tuple.specs.Texts.{number_up_to, parts_round};
 ghost use Rattle.update_machine.specs.Machine as machine;
 ghost use Rattle.trace_audit.specs.Seen.{end_seen, told_seen};
-ghost use Rattle.trace_audit.specs.Told.{alone_told, any_told, decided_told, ended_told, entered_told, indented_told, is_row_number, item_told, left_told, number_of_word, packet_row_told, retired_told, row_told, silent_words, stuck_told, submitted_told, told_by, told_of, version_of_word};
+ghost use Rattle.trace_audit.specs.Told.{alone_told, any_told, decided_told, ended_told, entered_told, indented_told, is_row_number, item_told, left_told, number_of_word, packet_row_told, retired_told, row_told, silent_words, stuck_told, submitted_told, told_by_words, told_of, version_of_word};
 
 use crate::words::{Words, cut_near};
 use five_tuple::{Header, read_fields, read_number};
@@ -21,7 +21,7 @@ pub(crate) enum End {
 
 /// What a line tells.
 #[derive(Clone, Copy)]
-pub(crate) enum Told<'a> {
+pub(crate) enum LineMeaning<'a> {
     /// A row of the schedule, with its header where it is a packet's.
     Row(Option<Header>),
     Entered(u32),
@@ -81,7 +81,7 @@ fn is_row_number(word: &[u8]) -> bool
 
 // ---- rows
 
-fn read_packet_row<'a>(row: &[u8], mut words: Words<'a>) -> Option<Told<'a>>
+fn read_packet_row<'a>(row: &[u8], mut words: Words<'a>) -> Option<LineMeaning<'a>>
     ensures { option_map told_seen result ≡ packet_row_told row.now words.entry }
 {
     let switch = words.next()?;
@@ -94,22 +94,22 @@ fn read_packet_row<'a>(row: &[u8], mut words: Words<'a>) -> Option<Told<'a>>
         return None;
     }
     let fields = read_fields(src, dst, sport, dport, proto)?;
-    Some(Told::Row(Some(Header::pack(&fields))))
+    Some(LineMeaning::Row(Some(Header::pack(&fields))))
 }
 
-fn read_row<'a>(mut words: Words<'a>) -> Option<Told<'a>>
+fn read_row<'a>(mut words: Words<'a>) -> Option<LineMeaning<'a>>
     ensures { option_map told_seen result ≡ row_told words.entry }
 {
     let row = words.next()?;
     match words.next_is(b"packet".as_slice()) {
         Some(true) => read_packet_row(row, words),
-        Some(false) | None => Some(Told::Row(None)),
+        Some(false) | None => Some(LineMeaning::Row(None)),
     }
 }
 
 // ---- moves
 
-fn read_entered<'a>(mut words: Words<'a>) -> Option<Told<'a>>
+fn read_entered<'a>(mut words: Words<'a>) -> Option<LineMeaning<'a>>
     ensures { option_map told_seen result ≡ entered_told words.entry }
 {
     let packet = words.next()?;
@@ -117,10 +117,10 @@ fn read_entered<'a>(mut words: Words<'a>) -> Option<Told<'a>>
     if !is_name(switch) {
         return None;
     }
-    Some(Told::Entered(number(packet)?))
+    Some(LineMeaning::Entered(number(packet)?))
 }
 
-fn read_submitted<'a>(mut words: Words<'a>) -> Option<Told<'a>>
+fn read_submitted<'a>(mut words: Words<'a>) -> Option<LineMeaning<'a>>
     ensures { option_map told_seen result ≡ submitted_told words.entry }
 {
     let first = words.next()?;
@@ -130,20 +130,20 @@ fn read_submitted<'a>(mut words: Words<'a>) -> Option<Told<'a>>
     if first != b"file".as_slice() || second != b"version".as_slice() {
         return None;
     }
-    Some(Told::Submitted {
+    Some(LineMeaning::Submitted {
         file: number(file)?,
         version: number(version)?,
     })
 }
 
-fn read_retired<'a>(words: Words<'a>) -> Option<Told<'a>>
+fn read_retired<'a>(words: Words<'a>) -> Option<LineMeaning<'a>>
     ensures { option_map told_seen result ≡ retired_told words.entry }
 {
     let version = number(words.last()?)?;
-    Some(Told::Retired(version))
+    Some(LineMeaning::Retired(version))
 }
 
-fn read_decided<'a>(mut words: Words<'a>) -> Option<Told<'a>>
+fn read_decided<'a>(mut words: Words<'a>) -> Option<LineMeaning<'a>>
     ensures { option_map told_seen result ≡ decided_told words.entry }
 {
     let packet = words.next()?;
@@ -155,7 +155,7 @@ fn read_decided<'a>(mut words: Words<'a>) -> Option<Told<'a>>
     if !words.has_more() || !is_rule || !is_how {
         return None;
     }
-    Some(Told::Decided {
+    Some(LineMeaning::Decided {
         packet: number(packet)?,
         version: self::version(version)?,
         rule,
@@ -163,14 +163,14 @@ fn read_decided<'a>(mut words: Words<'a>) -> Option<Told<'a>>
     })
 }
 
-fn read_ended<'a>(end: End, words: Words<'a>) -> Option<Told<'a>>
+fn read_ended<'a>(end: End, words: Words<'a>) -> Option<LineMeaning<'a>>
     ensures { option_map told_seen result ≡ ended_told (end_seen end) words.entry }
 {
     let packet = number(words.last()?)?;
-    Some(Told::Ended { packet, end })
+    Some(LineMeaning::Ended { packet, end })
 }
 
-fn read_left<'a>(mut words: Words<'a>) -> Option<Told<'a>>
+fn read_left<'a>(mut words: Words<'a>) -> Option<LineMeaning<'a>>
     ensures { option_map told_seen result ≡ left_told words.entry }
 {
     let packet = words.next()?;
@@ -181,19 +181,19 @@ fn read_left<'a>(mut words: Words<'a>) -> Option<Told<'a>>
     }
     let packet = number(packet)?;
     let port = read_number(port, 4_294_967_295)?;
-    Some(Told::Ended {
+    Some(LineMeaning::Ended {
         packet,
         end: End::LeftBy(port as u32),
     })
 }
 
-fn read_stuck<'a>(mut words: Words<'a>) -> Option<Told<'a>>
+fn read_stuck<'a>(mut words: Words<'a>) -> Option<LineMeaning<'a>>
     ensures { option_map told_seen result ≡ stuck_told words.entry }
 {
     let packet = words.next()?;
     let _more = words.next()?;
     let packet = number(packet)?;
-    Some(Told::Ended {
+    Some(LineMeaning::Ended {
         packet,
         end: End::Stuck,
     })
@@ -202,19 +202,19 @@ fn read_stuck<'a>(mut words: Words<'a>) -> Option<Told<'a>>
 // ---- lines
 
 // Any bytes behind a blank.
-fn read_any<'a>(mut words: Words<'a>) -> Option<Told<'a>>
+fn read_any<'a>(mut words: Words<'a>) -> Option<LineMeaning<'a>>
     ensures { option_map told_seen result ≡ any_told words.entry }
 {
     let _more = words.next()?;
-    Some(Told::Nothing)
+    Some(LineMeaning::Nothing)
 }
 
 // Nothing more.
-fn read_alone<'a>(mut words: Words<'a>) -> Option<Told<'a>>
+fn read_alone<'a>(mut words: Words<'a>) -> Option<LineMeaning<'a>>
     ensures { option_map told_seen result ≡ alone_told words.entry }
 {
     match words.next() {
-        None => Some(Told::Nothing),
+        None => Some(LineMeaning::Nothing),
         Some(_) => None,
     }
 }
@@ -254,7 +254,7 @@ fn is_silent(word: &[u8]) -> bool
 }
 
 #[tactic(auto, unfolding(crate::specs::Told::item_told))]
-fn read_item<'a>(word: &[u8], words: Words<'a>) -> Option<Told<'a>>
+fn read_item<'a>(word: &[u8], words: Words<'a>) -> Option<LineMeaning<'a>>
     ensures { option_map told_seen result ≡ item_told word.now words.entry }
 {
     if word == b"entered".as_slice() {
@@ -284,7 +284,7 @@ fn read_item<'a>(word: &[u8], words: Words<'a>) -> Option<Told<'a>>
 
 // An item, behind its two blanks. Those that each packet has are tried first.
 #[tactic(auto, unfolding(crate::specs::Told::item_told))]
-fn read_known_item<'a>(mut words: Words<'a>) -> Option<Told<'a>>
+fn read_known_item<'a>(mut words: Words<'a>) -> Option<LineMeaning<'a>>
     ensures { option_map told_seen result ≡ indented_told ([] ∷ words.entry) }
 {
     if words.take(b"decided".as_slice()) {
@@ -301,7 +301,7 @@ fn read_known_item<'a>(mut words: Words<'a>) -> Option<Told<'a>>
 }
 
 // An item stands behind two blanks.
-fn read_indented<'a>(mut words: Words<'a>) -> Option<Told<'a>>
+fn read_indented<'a>(mut words: Words<'a>) -> Option<LineMeaning<'a>>
     ensures { option_map told_seen result ≡ indented_told words.entry }
 {
     let second = words.next()?;
@@ -314,7 +314,7 @@ fn read_indented<'a>(mut words: Words<'a>) -> Option<Told<'a>>
 
 /// What a line tells; `None` where it is bad whatever stands before it.
 #[tactic(auto, unfolding(crate::specs::Told::told_of))]
-pub(crate) fn read_line<'a>(line: &'a [u8]) -> Option<Told<'a>>
+pub(crate) fn read_line<'a>(line: &'a [u8]) -> Option<LineMeaning<'a>>
     ensures { option_map told_seen result ≡ told_of line.now }
 {
     match line {
@@ -325,8 +325,8 @@ pub(crate) fn read_line<'a>(line: &'a [u8]) -> Option<Told<'a>>
 }
 
 // What a line tells, by its words.
-fn read_words<'a>(mut words: Words<'a>) -> Option<Told<'a>>
-    ensures { option_map told_seen result ≡ told_by words.entry }
+fn read_words<'a>(mut words: Words<'a>) -> Option<LineMeaning<'a>>
+    ensures { option_map told_seen result ≡ told_by_words words.entry }
 {
     let first = words.next()?;
     if first == b"row".as_slice() {

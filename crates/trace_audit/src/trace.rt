@@ -3,8 +3,8 @@ ghost use Rattle.policy_rules.specs.PolicyFiles.{IsPolicyFile};
 ghost use Rattle.trace_audit.specs.Decided.{AreJustified};
 ghost use Rattle.trace_audit.specs.Reading.{AreGood, Whole, lines_of};
 ghost use Rattle.trace_audit.specs.Run.{AreRun};
-ghost use Rattle.trace_audit.specs.Seen.{IsRead, state_seen};
-ghost use Rattle.trace_audit.specs.Verdicts.{IsVerdict};
+ghost use Rattle.trace_audit.specs.Seen.{IsLineRead, state_seen};
+ghost use Rattle.trace_audit.specs.Verdicts.{IsAuditVerdict};
 ghost use Rattle.trace_audit.specs.declared.trace.Verdict.TheVariants.{Yes};
 
 use crate::auditor::Auditor;
@@ -31,7 +31,7 @@ pub enum Verdict {
 /// # Errors
 /// Want of memory alone.
 pub fn audit(alloc: Global, trace: &[u8], files: &[PolicyFile]) -> Result<Verdict, AllocError>
-    ensures verdict { IfOk result (IsVerdict files.now (lines_of trace.now)) }
+    ensures verdict { IfOk result (IsAuditVerdict files.now (lines_of trace.now)) }
     ensures exactly { IfOk result
         (λ verdict. (verdict ≡ Yes) ↔ AreGood files.now (lines_of trace.now)) }
     ensures run { IfOk result (λ verdict. verdict ≡ Yes → AreRun files.now (lines_of trace.now)) }
@@ -89,7 +89,7 @@ fn take_line(
     line: &[u8],
 ) -> Result<bool, AllocError>
     ensures { IfOk result
-        (IsRead files.now (state_seen auditor.old) (Whole line.now) (state_seen auditor.new)) }
+        (IsLineRead files.now (state_seen auditor.old) (Whole line.now) (state_seen auditor.new)) }
 {
     match read_line(line) {
         Some(told) => auditor.take(alloc, files, &told),

@@ -1,5 +1,5 @@
 ghost use Rattle.std.specs.Prelude.{◌≡◌, ◌∷◌, ◌==◌, ◌||◌, [], IfNone, IfSome, IsTrue, List, MatchBool, bytes_eq, position, ℕ};
-ghost use Rattle.trace_audit.specs.Told.{IsCut, IsNoSingle, TakesNext, is_word, words_of};
+ghost use Rattle.trace_audit.specs.Told.{IsCut, IsNoSingle, TakesWord, has_no_blank, words_of};
 
 use memchr::memchr;
 use std::marker::Model;
@@ -49,7 +49,7 @@ pub(crate) fn cut_near(text: &[u8], byte: u8) -> Option<(&[u8], &[u8])>
 // What stands behind the word and a blank, where the text begins with them.
 #[inline(always)]
 fn behind<'a>(text: &'a [u8], word: &[u8]) -> Option<&'a [u8]>
-    requires { IsTrue (is_word word.now) }
+    requires { IsTrue (has_no_blank word.now) }
     ensures { IfSome result (λ rest. words_of text.now ≡ word.now ∷ words_of rest.now) }
 {
     if text.len() <= word.len() {
@@ -136,7 +136,7 @@ impl<'a> Words<'a> {
     /// Takes the next word where it is this one and words stand behind it, and says whether it is.
     #[inline(always)]
     pub fn take(&mut self, word: &[u8]) -> bool
-        requires { IsTrue (is_word word.now) }
+        requires { IsTrue (has_no_blank word.now) }
         ensures { MatchBool result (self.old ≡ word.now ∷ self.new) (self.new ≡ self.old) }
     {
         let Some(rest) = self.rest else {
@@ -154,8 +154,8 @@ impl<'a> Words<'a> {
     /// Takes the next word, if there is one, and says whether it is this one.
     #[inline(always)]
     pub fn next_is(&mut self, word: &[u8]) -> Option<bool>
-        requires { IsTrue (is_word word.now) }
-        ensures some { IfSome result (TakesNext self.old (λ next. bytes_eq next word.now) self.new) }
+        requires { IsTrue (has_no_blank word.now) }
+        ensures some { IfSome result (TakesWord self.old (λ next. bytes_eq next word.now) self.new) }
         ensures none { IfNone result (self.old ≡ []) }
     {
         if self.take(word) {
@@ -168,10 +168,10 @@ impl<'a> Words<'a> {
     /// The same of one of two words.
     #[inline(always)]
     pub fn next_is_either(&mut self, one: &[u8], other: &[u8]) -> Option<bool>
-        requires one { IsTrue (is_word one.now) }
-        requires other { IsTrue (is_word other.now) }
+        requires one { IsTrue (has_no_blank one.now) }
+        requires other { IsTrue (has_no_blank other.now) }
         ensures some { IfSome result
-            (TakesNext self.old (λ next. bytes_eq next one.now || bytes_eq next other.now) self.new) }
+            (TakesWord self.old (λ next. bytes_eq next one.now || bytes_eq next other.now) self.new) }
         ensures none { IfNone result (self.old ≡ []) }
     {
         if self.take(one) {

@@ -6,7 +6,7 @@ use Rattle.std.proofs.lemmas.List.Elements.{All-head, All-tail}
 use Rattle.std.proofs.lemmas.List.Splits.{length-slice_split}
 use Rattle.five_tuple.specs.Texts.{parts_round}
 use Rattle.policy_rules.specs.declared.file.PolicyFile.{PolicyFile}
-use Rattle.trace_audit.specs.Reading.{Line, Reads, State, Whole, lines_of, lines_of_parts}
+use Rattle.trace_audit.specs.Reading.{TraceLine, ReadsAll, TraceState, Whole, lines_of, lines_of_parts}
 use Rattle.trace_audit.specs.Told.{told_of}
 use Rattle.trace_audit.specs.Told as told
 use Rattle.trace_texts.specs.Texts.{IsLastLine}
@@ -42,7 +42,7 @@ lines_each line (item ∷ items) rest own =
     ∙ ap (λ lines. Whole (line item) ∷ lines)
     (lines_each line items rest (All-tail (λ i. IsOneLine (line i)) item items own))
 
-pub none_behind : (lines : List Line) → lines ++ lines_of [] ≡ lines
+pub none_behind : (lines : List TraceLine) → lines ++ lines_of [] ≡ lines
 unfolding lines_of
 none_behind lines = append-nil lines
 
@@ -53,8 +53,8 @@ last_told text is = elim is.begins [
   | inr quiet ↦ ap told_of quiet ∙ silent is.rest
 ]
 
-pub last_read : (files : List PolicyFile) (state : State) (last : List (List ℕ))
-    → All IsLastLine last → Reads files state (map (λ text. Whole text) last) state
+pub last_read : (files : List PolicyFile) (state : TraceState) (last : List (List ℕ))
+    → All IsLastLine last → ReadsAll files state (map (λ text. Whole text) last) state
 last_read files state [] are = refl
 last_read files state (text ∷ last) are = (
   state,

@@ -18,7 +18,7 @@ use Rattle.steps.specs.declared.step.Event.{Event}
 use Rattle.steps.specs.declared.step.Event.TheVariants.{One, Flush, Drain}
 use Rattle.steps.specs.declared.step.Step.{Step}
 use Rattle.steps.specs.declared.step.Step.TheVariants.{Packet, Hop, Deliver}
-use Rattle.trace_audit.specs.Reading.{Reads, Whole, first_state, lines_of}
+use Rattle.trace_audit.specs.Reading.{ReadsAll, Whole, first_state, lines_of}
 use Rattle.update_machine.specs.Causes.{HasCause, HaveCauses}
 use Rattle.update_machine.specs.Folds.{count_of}
 use Rattle.update_machine.proofs.CallerLemmas.{answers_so_far, begins_itself}
@@ -180,4 +180,4 @@ texts_good laws setting events journal full last is own play most numbered are =
     lines_each (item_line net) journal (with_line_feeds last)
     (λ k d within. item_one_line names net is.net (get_or journal k d))
     ∙ ap (λ more. map (λ first. Whole (item_line net first)) journal ++ more) behind in
-    (read.0, subst (λ ls. Reads setting.files (first_state setting.files) ls read.0) (sym lines) read.1)
+    (read.0, subst (λ ls. ReadsAll setting.files (first_state setting.files) ls read.0) (sym lines) read.1)

@@ -29,7 +29,7 @@ use Rattle.update_machine.specs.Machine as machine
 use Rattle.update_machine.specs.Packets.{is_packet, next_packet}
 use Rattle.update_machine.specs.Setting.{Setting, made_by}
 use Rattle.update_machine.specs.Versions.{is_submission}
-use Rattle.trace_audit.specs.Reading.{Follows, Line, Reads, State, Whole}
+use Rattle.trace_audit.specs.Reading.{Follows, TraceLine, ReadsAll, TraceState, Whole}
 use Rattle.trace_texts.proofs.Told.{IsReadable, TextLaws, line_told, told_item}
 
 -- what is pending behind an item
@@ -42,7 +42,7 @@ pending_after pending (item.Row row step) = row_pending step
 pending_after pending (item.Entered packet switch header) = None
 pending_after pending _ = pending
 
-abbrev at : Machine → Option Header → State
+abbrev at : Machine → Option Header → TraceState
 at now pending = record { machine = now; pending = pending }
 
 -- a packet enters with the header that is pending
@@ -273,16 +273,16 @@ module _ (laws : TextLaws) (ports : PortLaws) (setting : Setting) (sound : IsNet
       small packet takes.packet takes.entered
   readable before old new first takes cause small few is = tt
 
-  abbrev line : Item → Line
+  abbrev line : Item → TraceLine
   line first = Whole (item_line setting.net first)
 
   -- the line of the next item is good
   line_reads : (before : List Item) (old new : Machine) (pending : Option Header) (first : Item)
-      (items : List Item) (rest : List Line) (last : State)
+      (items : List Item) (rest : List TraceLine) (last : TraceState)
       → Known setting before old (first ∷ items) → Takes setting old first new
       → IsNext pending first → IsEntryReadable setting.net first
-      → Reads setting.files (at new (pending_after pending first)) rest last
-      → Reads setting.files (at old pending) (line first ∷ rest) last
+      → ReadsAll setting.files (at new (pending_after pending first)) rest last
+      → ReadsAll setting.files (at old pending) (line first ∷ rest) last
   line_reads before old new pending first items rest last known takes next entry reads = (
     at new (pending_after pending first),
     (
@@ -322,11 +322,11 @@ module _ (laws : TextLaws) (ports : PortLaws) (setting : Setting) (sound : IsNet
 
   -- ---- all items, and lines that tell nothing behind them
 
-  pub reads_from : (ends : List Line) → ((state : State) → Reads setting.files state ends state)
+  pub reads_from : (ends : List TraceLine) → ((state : TraceState) → ReadsAll setting.files state ends state)
       → (before : List Item) (old : Machine) (pending : Option Header) (items : List Item)
       (new : Machine) → Known setting before old items → EachEnters before items
       → Runs setting old items new
-      → (last : State) × Reads setting.files (at old pending) (map line items ++ ends) last
+      → (last : TraceState) × ReadsAll setting.files (at old pending) (map line items ++ ends) last
   reads_from ends closed before old pending [] new known enters runs =
       (at old pending, closed (at old pending))
   reads_from ends closed before old pending (item.Row row (Packet s header) ∷ []) new known enters

@@ -26,7 +26,7 @@ use Rattle.steps.specs.Steps.{HasSwitch, max_number}
 use Rattle.steps.specs.declared.step.Step.{Step}
 use Rattle.steps.specs.declared.step.Step.TheVariants.{Packet}
 use Rattle.update_machine.specs.Machine.{Dropped, LeftBy, Lost, Stuck}
-use Rattle.trace_audit.specs.Told.{Told, any_told, is_row_number, item_told, number_of_word, packet_row_told, pair_told, row_told, told_by, told_of, words_of}
+use Rattle.trace_audit.specs.Told.{Told, any_told, is_row_number, item_told, number_of_word, packet_row_told, pair_told, row_told, told_by_words, told_of, words_of}
 use Rattle.trace_audit.specs.Told as told
 use Rattle.trace_texts.proofs.Pieces.{action_word, address_word, first_word, name_is, name_word, number_word, one_word, proto_word, row_parts, row_word, rule_word}
 
@@ -269,7 +269,7 @@ module _ (laws : TextLaws) (net : Net) (sound : IsNet net) where
       → told_of (packet_at net (codes "  entered") packet switch) ≡ Some (told.Entered packet)
   unfolding told_of item_told
   entered_line_told packet switch most there =
-      ap told_by (words_at (codes "  entered") packet switch)
+      ap told_by_words (words_at (codes "  entered") packet switch)
       ∙ ap (λ (b : Bool). cond b (option_map told.Entered (number_of_word (decimal packet))) None)
       (name_is laws.names net sound switch there)
       ∙ ap (option_map told.Entered) (number packet most)
@@ -279,23 +279,23 @@ module _ (laws : TextLaws) (net : Net) (sound : IsNet net) where
       ≡ Some (told.Submitted file version)
   unfolding told_of item_told
   submitted_line_told file version some few =
-      ap told_by (words_both (codes "  submitted file") (codes "version") file version)
+      ap told_by_words (words_both (codes "  submitted file") (codes "version") file version)
       ∙ pair_both told.Submitted _ _ file version (number file some) (number version few)
 
   -- of one number alone
   number_line_told : (text : List ℕ) (tells : ℕ → Told) (n : ℕ) → n ≤ max_number
-      → told_by (words_of text ++ decimal n ∷ []) ≡ option_map tells (number_of_word (decimal n))
+      → told_by_words (words_of text ++ decimal n ∷ []) ≡ option_map tells (number_of_word (decimal n))
       → told_of (with_number text n) ≡ Some (tells n)
   unfolding told_of
   number_line_told text tells n most is =
-      ap told_by (words_number text n) ∙ is ∙ ap (option_map tells) (number n most)
+      ap told_by_words (words_number text n) ∙ is ∙ ap (option_map tells) (number n most)
 
   left_line_told : (packet port : ℕ) → packet ≤ max_number → port ≤ 4294967295
       → told_of (two_text (codes "  out") packet (codes " port ") port)
       ≡ Some (told.Ended packet (LeftBy port))
   unfolding told_of item_told
   left_line_told packet port most small =
-      ap told_by (words_both (codes "  out") (codes "port") packet port)
+      ap told_by_words (words_both (codes "  out") (codes "port") packet port)
       ∙ pair_both (λ i p. told.Ended i (LeftBy p)) _ _ packet port (number packet most)
       (laws.number 4294967295 port small (omega (arith, small)))
 
@@ -304,7 +304,7 @@ module _ (laws : TextLaws) (net : Net) (sound : IsNet net) where
       ≡ Some (told.Ended packet Stuck)
   unfolding told_of item_told
   stuck_line_told packet switch cause most =
-      ap told_by (words_next (packet_at net (codes "  stuck") packet switch) [] cause
+      ap told_by_words (words_next (packet_at net (codes "  stuck") packet switch) [] cause
       ∙ ap (λ ws. ws ++ words_of cause) (words_at (codes "  stuck") packet switch))
       ∙ ap (option_map (λ i. told.Ended i Stuck)) (number packet most)
 
@@ -366,7 +366,7 @@ module _ (laws : TextLaws) (net : Net) (sound : IsNet net) where
   decided_read : (packet version : ℕ) (rule action how more : List ℕ) (others : List (List ℕ))
       → packet ≤ max_number → version ≤ max_number
       → (bytes_eq how (codes "cache") || bytes_eq how (codes "authority")) ≡ true
-      → told_by ([] ∷ [] ∷ codes "decided" ∷ decimal packet ∷ (118 ∷ decimal version)
+      → told_by_words ([] ∷ [] ∷ codes "decided" ∷ decimal packet ∷ (118 ∷ decimal version)
       ∷ codes "rule" ∷ rule ∷ action ∷ how ∷ more ∷ others)
       ≡ Some (told.Decided packet version rule action)
   unfolding item_told
@@ -383,7 +383,7 @@ module _ (laws : TextLaws) (net : Net) (sound : IsNet net) where
   unfolding told_of
   decided_line_told packet version rule action how most few =
       let h = how_is how in
-      ap told_by (decided_words packet version rule action (how_text net how)
+      ap told_by_words (decided_words packet version rule action (how_text net how)
       ∙ ap (λ (ws : List (List ℕ)). [] ∷ [] ∷ codes "decided" ∷ decimal packet
       ∷ (118 ∷ decimal version) ∷ codes "rule" ∷ rule_text rule ∷ action_text action ∷ ws) h.words)
       ∙ decided_read packet version (rule_text rule) (action_text action) h.how h.more h.others

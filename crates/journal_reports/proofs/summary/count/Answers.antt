@@ -1,6 +1,6 @@
 use Rattle.std.proofs.Common.{◌∙◌, ◌∷◌, [], ◌++◌, ap, sym, take}
 use Rattle.std.proofs.lemmas.List.{take_more}
-use Rattle.journal_reports.specs.Summary.{counted_with, counts_of}
+use Rattle.journal_reports.specs.Summary.{counted_with, item_counts}
 use Rattle.journal_reports.proofs.Counts.{counts_more, counts_start}
 use Rattle.journal_reports.proofs.summary.count.Goals as goal
 
@@ -14,5 +14,5 @@ loop-item-preserved c =
     let item = c.item-item.result in
     c.note.ensures ∙ ap (λ counts. counted_with counts item) c.loop-item.invariant
     ∙ sym (counts_more (take i items) item)
-    ∙ ap counts_of (ap (λ x. take i items ++ x ∷ []) c.item-item.is
+    ∙ ap item_counts (ap (λ x. take i items ++ x ∷ []) c.item-item.is
     ∙ sym (take_more items i item c.loop-item-test.true))

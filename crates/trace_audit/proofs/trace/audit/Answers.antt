@@ -1,7 +1,7 @@
 use Rattle.std.proofs.Common.{◌∙◌, [], length, ap, arith, subst, sym}
 use Rattle.trace_audit.specs.Reading.{Open, Whole, lines_of}
-use Rattle.trace_audit.specs.Seen.{IsRead, state_seen}
-use Rattle.trace_audit.specs.Verdicts.{IsVerdict}
+use Rattle.trace_audit.specs.Seen.{IsLineRead, state_seen}
+use Rattle.trace_audit.specs.Verdicts.{IsAuditVerdict}
 use Rattle.trace_audit.specs.declared.trace.Verdict.TheVariants.{No, Yes}
 use Rattle.trace_audit.proofs.Known.{verdict_justified}
 use Rattle.trace_audit.proofs.Lines.{lines_next, lines_nil, lines_open}
@@ -14,7 +14,7 @@ returns-in-None c =
     let rest = c.loop-rest.rest.now in
     let lines = lines_of c.args.trace.now in
     let verdict = No c.saturating_add-line.result in
-    let is : IsVerdict c.args.files.now lines verdict =
+    let is : IsAuditVerdict c.args.files.now lines verdict =
     bad_here c.args.files.now c.args.trace.now rest c.loop-rest.line (state_seen c.loop-rest.auditor)
     (Open rest) [] c.files_are_sound.ensures c.loop-rest.invariant
     (lines_open rest (some_left rest (sym c.is_empty.ensures ∙ c.loop-rest-test.true))
@@ -31,12 +31,12 @@ returns-then-not-good c =
     let rest = c.loop-rest.rest.now in
     let lines = lines_of c.args.trace.now in
     let verdict = No c.saturating_add-line.result in
-    let is : IsVerdict c.args.files.now lines verdict =
+    let is : IsAuditVerdict c.args.files.now lines verdict =
     bad_here c.args.files.now c.args.trace.now rest c.loop-rest.line (state_seen c.loop-rest.auditor)
     (Whole c.in-Some.text.now) (lines_of c.in-Some.next.now) c.files_are_sound.ensures
     c.loop-rest.invariant
     (lines_next rest c.in-Some.text.now c.in-Some.next.now c.in-Some.ensures)
-    (subst (λ good. IsRead c.args.files.now (state_seen c.loop-rest.auditor)
+    (subst (λ good. IsLineRead c.args.files.now (state_seen c.loop-rest.auditor)
     (Whole c.in-Some.text.now) (state_seen c.take_line.new.auditor) good) c.if-not-good.true
     c.in_ok-good-in-Some.ensures) _ c.saturating_add-line.ensures in
     record {
@@ -60,7 +60,7 @@ loop-rest-preserved c =
     (state_seen c.loop-rest.auditor) (state_seen c.take_line.new.auditor)
     (Whole c.in-Some.text.now) c.loop-rest.invariant
     (lines_next rest c.in-Some.text.now c.in-Some.next.now c.in-Some.ensures)
-    (subst (λ good. IsRead c.args.files.now (state_seen c.loop-rest.auditor)
+    (subst (λ good. IsLineRead c.args.files.now (state_seen c.loop-rest.auditor)
     (Whole c.in-Some.text.now) (state_seen c.take_line.new.auditor) good) c.if-not-good.false
     c.in_ok-good-in-Some.ensures) _ c.saturating_add-line.ensures
 
@@ -68,7 +68,7 @@ pub returns : goal.returns
 returns c =
     let rest = c.loop-rest.rest.now in
     let lines = lines_of c.args.trace.now in
-    let is : IsVerdict c.args.files.now lines Yes =
+    let is : IsAuditVerdict c.args.files.now lines Yes =
     all_good c.args.files.now c.args.trace.now c.loop-rest.line (state_seen c.loop-rest.auditor)
     lines_nil
     (subst (λ left. IsSoFar c.args.files.now c.args.trace.now left c.loop-rest.line

@@ -1,5 +1,5 @@
 use Rattle.std.proofs.Common.{subst}
-use Rattle.journal_reports.specs.Buckets.{IsKept}
+use Rattle.journal_reports.specs.Buckets.{IsKeptInBucket}
 use Rattle.journal_reports.proofs.Reading.{passed_over}
 use Rattle.journal_reports.proofs.traffic.Traffic.take_message.Goals as goal
 
@@ -7,6 +7,6 @@ pub returns-then-is_kept-clause-kept : goal.returns-then-is_kept-clause-kept
 returns-then-is_kept-clause-kept c = λ count other.
     let row = c.args.self.now in
     passed_over row c.args.is_delivered c.args.message.now other
-    (λ matter. subst (IsKept row.buckets.items) c.get-2.ensures
-    (subst (λ buckets. IsKept buckets c.get-2.result.now) c.deref.ensures.value
+    (λ matter. subst (IsKeptInBucket row.buckets.items) c.get-2.ensures
+    (subst (λ buckets. IsKeptInBucket buckets c.get-2.result.now) c.deref.ensures.value
     (c.is_kept.ensures.0 c.if-is_kept.true)))

@@ -1,36 +1,45 @@
-use Rattle.std.proofs.Common.{◌∙◌, ◌+◌, ◌≤◌, length, take, get_or, sym, subst, ap, arith}
-use Rattle.std.proofs.lemmas.List.{get_or_default, take_all}
+use Rattle.std.proofs.Common.{◌≡◌, ◌∙◌, List, length, get_or, slice_get, sym, subst, ap, arith}
+use Rattle.std.proofs.lemmas.Option.{slice_get-get_or}
 use Rattle.five_tuple.specs.Header.{AddressBlock}
-use Rattle.trace_audit.specs.Index.{IsBetter}
+use Rattle.trace_audit.specs.Index.{IsBetter, slot_of}
 use Rattle.trace_audit.specs.declared.index.Shape.{Shape}
 use Rattle.trace_audit.proofs.Indexed.{IsSought, sought_all, sought_more}
 use Rattle.trace_audit.proofs.index.Index.best.Goals as goal
 
-pub loop-shape-preserved : goal.loop-shape-preserved
-loop-shape-preserved c =
+pub loop-place-preserved : goal.loop-place-preserved
+loop-place-preserved c =
+    let shapes = c.args.self.now.shapes.items in
     let rows = c.args.rows.now in
     let fields = c.args.fields.now in
+    let first = c.loop-place.best in
     let better = c.best_in-best.result in
-    let shapes = c.deref-shape-items.result.now in
-    let same = c.deref-shape-items.ensures.value in
-    let i = c.loop-shape.shape-index in
-    let shape : Shape = get_or shapes i (record { src = 0; dst = 0 }) in
-    subst (λ xs. IsSought rows fields (take (i + 1) xs) better) same
-    (sought_more rows fields shapes i shape c.src.inside.address c.dst.inside.address
-    c.loop-shape.best better c.requires.rows c.loop-shape-test.true
-    (get_or_default shapes i (record { src = 0; dst = 0 }) shape c.loop-shape-test.true)
+    let place = c.loop-place.place in
+    let read = c.deref-shape-items.result.now in
+    let none : Shape = record { src = 0; dst = 0 } in
+    let shape : Shape = get_or read place none in
+    let src = c.src.inside.address in
+    let dst = c.dst.inside.address in
+    sought_more shapes rows fields place shape src dst first better c.requires.rows
+    (ap (λ xs. slice_get xs place) (sym c.deref-shape-items.ensures.value)
+    ∙ slice_get-get_or read place none c.loop-place-test.true)
     (ap (λ (p : AddressBlock). p.address) (c.src.view_is ∙ c.new-src.ensures.block))
     (ap (λ (p : AddressBlock). p.address) (c.dst.view_is ∙ c.new-dst.ensures.block))
-    (subst (λ n. IsBetter rows n fields c.loop-shape.best better) c.slot.ensures.slot
+    (subst (λ n. IsBetter shapes rows n fields first better)
+    (c.slot-slot.ensures.slot
+    ∙ ap (λ (xs : List Shape). slot_of (length xs) place src dst) c.deref.ensures.value)
     c.best_in-best.ensures)
-    (subst (λ xs. IsSought rows fields (take i xs) c.loop-shape.best) (sym same)
-    c.loop-shape.invariant))
+    c.loop-place.invariant
 
 pub returns : goal.returns
 returns c =
     let shapes = c.args.self.now.shapes.items in
-    let all : length shapes ≤ c.loop-shape.shape-index =
-    omega (arith, c.loop-shape-test.false, ap length c.deref-shape-items.ensures.value) in
-    sought_all c.args.rows.now c.args.fields.now c.args.self.now c.loop-shape.best c.requires.index
-    (subst (λ xs. IsSought c.args.rows.now c.args.fields.now xs c.loop-shape.best)
-    (take_all c.loop-shape.shape-index shapes all) c.loop-shape.invariant)
+    let all : c.loop-place.place ≡ length shapes =
+    omega (
+      arith,
+      c.loop-place-test.false,
+      c.loop-place.auto.place-end,
+      ap length c.deref-shape-items.ensures.value,
+    ) in
+    sought_all c.args.rows.now c.args.fields.now c.args.self.now c.loop-place.best c.requires.index
+    (subst (λ n. IsSought shapes c.args.rows.now c.args.fields.now n c.loop-place.best) all
+    c.loop-place.invariant)

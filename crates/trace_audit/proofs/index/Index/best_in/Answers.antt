@@ -15,6 +15,7 @@ loop-at-preserved c =
 pub returns : goal.returns
 returns c =
     let none : c.loop-at.at ≡ None = search rules in
-    walk_ends c.args.rows.now c.args.slot c.args.fields.now c.args.hit c.loop-at.best
-    (subst (IsWalked c.args.rows.now c.args.slot c.args.fields.now c.args.hit c.loop-at.best) none
-    c.loop-at.invariant)
+    let shapes = c.args.self.now.shapes.items in
+    walk_ends shapes c.args.rows.now c.args.slot c.args.fields.now c.args.hit c.loop-at.best
+    (subst (IsWalked shapes c.args.rows.now c.args.slot c.args.fields.now c.args.hit c.loop-at.best)
+    none c.loop-at.invariant)

@@ -5,7 +5,7 @@ use Rattle.std.specs.Option.{option_or}
 use Rattle.std.proofs.lemmas.Bool.{eqb-true, ne_eqb}
 use Rattle.std.proofs.lemmas.List.{nil_from_length}
 use Rattle.trace_audit.specs.Seen.{packet_seen, run_get}
-use Rattle.trace_audit.specs.declared.packets.Packet.{Packet}
+use Rattle.trace_audit.specs.declared.packets.TracePacket.{TracePacket}
 use Rattle.trace_audit.proofs.Numbered.{push_here, push_there, run_below, run_past, seen_put, set_here, set_there}
 use Rattle.trace_audit.proofs.packets.Packets.put.Goals as goal
 use Rattle.trace_audit.proofs.packets.Packets.put.Goals.{then-number-self+else-place-len+else-place-len-2, else-number-self}
@@ -15,7 +15,7 @@ returns-then-is_empty c =
     let old = c.args.self.now in
     let number = c.args.number in
     let item = c.args.packet in
-    let others : ℕ → Option Packet = get nat_cmp old.others in
+    let others : ℕ → Option TracePacket = get nat_cmp old.others in
     let items = c.in_ok-push.ensures.items in
     let none : length old.run.items ≡ 0 = sym old.run.ok.0
     ∙ eqb-true old.run.len 0 (sym c.is_empty.ensures ∙ c.if-is_empty.true) in
@@ -37,7 +37,7 @@ returns-then-place-len c =
     let old = c.args.self.now in
     let number = c.args.number in
     let item = c.args.packet in
-    let others : ℕ → Option Packet = get nat_cmp old.others in
+    let others : ℕ → Option TracePacket = get nat_cmp old.others in
     let within : number - old.first < length old.run.items =
     omega (arith, c.if-place-len.true, c.len.ensures, old.run.ok.0) in
     let above = c.if-number-self.true in
@@ -54,7 +54,7 @@ returns-then-place-len-2 c =
     let old = c.args.self.now in
     let number = c.args.number in
     let item = c.args.packet in
-    let others : ℕ → Option Packet = get nat_cmp old.others in
+    let others : ℕ → Option TracePacket = get nat_cmp old.others in
     let items = c.in_ok-push-2.ensures.items in
     let end : number - old.first ≡ length old.run.items =
     omega (arith, c.if-place-len-2.true, c.len-then-number-self.ensures, old.run.ok.0) in

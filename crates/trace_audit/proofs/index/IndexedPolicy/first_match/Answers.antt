@@ -1,0 +1,33 @@
+use Rattle.std.proofs.Common.{◌∙◌, sym, subst}
+use Rattle.five_tuple.specs.Header.{fields_of}
+use Rattle.policy_rules.specs.Policy.{IsFirstMatch}
+use Rattle.policy_rules.specs.SoundPolicies.{IsPolicy}
+use Rattle.trace_audit.specs.Index.{IsBest}
+use Rattle.trace_audit.proofs.Indexed.{best_first}
+use Rattle.trace_audit.proofs.index.IndexedPolicy.first_match.Goals as goal
+
+indexed : (c : goal.After-best) → IsFirstMatch c.args.self.now c.args.header.now c.best.result
+indexed c =
+    let rows = c.args.self.now in
+    let header = c.args.header.now in
+    let hit = c.best.result in
+    best_first rows header hit
+    (subst (λ xs. IsBest xs (fields_of header) hit) (c.rows-rows.ensures.rows ∙ c.self.view_is)
+    (subst (λ f. IsBest c.rows-rows.result.now f hit) c.fields.ensures c.best.ensures))
+
+pub returns-in-Some-clause-is : goal.returns-in-Some-clause-is
+returns-in-Some-clause-is = indexed
+
+pub returns-in-Some-clause-only : goal.returns-in-Some-clause-only
+returns-in-Some-clause-only c = λ hit first.
+    let one = c.policy_laws.ensures.one c.args.self.now c.args.header.now in
+    let policy = subst IsPolicy c.self.view_is c.rows-rows.ensures.policy in
+    one hit policy first ∙ sym (one c.best.result policy (indexed c))
+
+pub returns-in-None-clause-only : goal.returns-in-None-clause-only
+returns-in-None-clause-only c = λ hit first.
+    let one = c.policy_laws.ensures.one c.args.self.now c.args.header.now in
+    let policy = subst IsPolicy c.self.view_is c.rows-rows.ensures.policy in
+    let is = subst (λ xs. IsFirstMatch xs c.args.header.now c.scan.result) c.self.view_is
+    c.scan.ensures.first_match in
+    one hit policy first ∙ sym (one c.scan.result policy is)
