@@ -1,8 +1,9 @@
 //! A placement of the partitions that a play asked, with a lower peak where one is found.
-ghost use Rattle.std.specs.Prelude.{◌≡◌, ◌<◌, ◌^◌, ◌⊎◌, All, IfOk, IsTrue, Ok, Option, Some, length};
+ghost use Rattle.std.specs.Prelude.{◌≡◌, ◌<◌, ◌≤◌, ◌^◌, ◌⊎◌, All, IfOk, IsTrue, Ok, Option, Some, length, sum};
 ghost use Rattle.std.specs.Option.{ForSome};
 ghost use Rattle.net_file.specs.Net.{IsNet};
 ghost use Rattle.partition.specs.Plan.{IsPlan, rooms_of};
+ghost use Rattle.rebalance.specs.Spread.{IsProposal};
 ghost use Rattle.shelf.specs.Shelf.{Files};
 ghost use Rattle.command_line.specs.Commands as grammar;
 ghost use Rattle.command_line.specs.Commands.{ReplayCommand};
@@ -12,6 +13,7 @@ ghost use Rattle.difane_cli.specs.declared.status.Status.TheVariants as status;
 use crate::inputs::PlayInputs;
 use crate::playing::answer_laws;
 use crate::status::{Ended, Status, write_pieces};
+use base::Failure;
 use controller::Plan;
 use itoa::Buffer;
 use journal::Journal;
@@ -147,8 +149,7 @@ fn find_proposal(
     let rooms = rooms_of(alloc, net)?;
     let old = targets_of(alloc, hosted)?;
     let old_peak = peak(&weights, &old);
-    let found = spread(alloc, &sizes, &weights, &rooms, net.backups);
-    let new = proposed(&weights, found, old)?;
+    let new = proposed_targets(alloc, &sizes, &weights, &rooms, net.backups, old)?;
     let new_peak = peak(&weights, &new);
     let bound = bound(&weights, &rooms);
     let plan = plan.with_targets(alloc, new)?;
@@ -158,6 +159,31 @@ fn find_proposal(
         new_peak,
         bound,
     })
+}
+
+// The targets that are proposed for partitions of these sizes and weights in place of the old ones.
+fn proposed_targets(
+    alloc: Global,
+    sizes: &[u32],
+    weights: &[u64],
+    rooms: &[u32],
+    backups: u32,
+    old: Vec<Targets>,
+) -> Result<Vec<Targets>, AllocError>
+    requires each { length sizes.now ≡ length weights.now }
+    requires old { length old.items ≡ length weights.now }
+    requires partitions { length weights.now < 2 ^ 32 }
+    requires switches { length rooms.now ≤ 64 }
+    requires backups { backups ≤ 3 }
+    requires small { sum weights.now < 2 ^ 64 }
+    ensures { IfOk result (λ new.
+        IsProposal sizes.now weights.now rooms.now backups old.items new.items) }
+{
+    match spread(alloc, sizes, weights, rooms, backups) {
+        Ok(new) => Ok(proposed(weights, Some(new), old)),
+        Err(Failure::Refused(_)) => Ok(proposed(weights, None, old)),
+        Err(Failure::NoMemory) => Err(AllocError),
+    }
 }
 
 // How many rules each partition has.
