@@ -2,7 +2,7 @@
 ghost use Rattle.std.specs.Prelude.{◌≡◌, ◌<◌, ◌≤◌, ◌^◌, ◌⊎◌, All, IfOk, IsTrue, Ok, Option, Some, length, sum};
 ghost use Rattle.std.specs.Option.{ForSome};
 ghost use Rattle.net_file.specs.Net.{IsNet};
-ghost use Rattle.partition.specs.Plan.{IsPlan, rooms_of};
+ghost use Rattle.partition.specs.Plan.{IsPlan};
 ghost use Rattle.rebalance.specs.Spread.{IsProposal};
 ghost use Rattle.shelf.specs.Shelf.{Files};
 ghost use Rattle.command_line.specs.Commands as grammar;
@@ -14,7 +14,7 @@ use crate::inputs::PlayInputs;
 use crate::playing::answer_laws;
 use crate::status::{Ended, Status, write_pieces};
 use base::Failure;
-use controller::Plan;
+use controller::{Plan, rooms_of};
 use itoa::Buffer;
 use journal::Journal;
 use meters::Meter;
@@ -207,12 +207,4 @@ fn targets_of(alloc: Global, hosted: &[(Partition, Targets)]) -> Result<Vec<Targ
         all.push(*targets)?;
     }
     Ok(all)
-}
-
-// For how many rules each switch has room.
-fn rooms_of(alloc: Global, net: &Net) -> Result<Vec<u32>, AllocError>
-    ensures { IfOk result (λ rooms. rooms.items ≡ rooms_of net.now) }
-{
-    let rows = net.switches.items();
-    rows.iter().map(|row| row.room).collect(alloc)
 }
