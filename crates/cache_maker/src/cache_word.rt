@@ -11,10 +11,7 @@ ghost use Rattle.cache_maker.specs.Differing.{HasHighest, HaveHighest, IsHighest
 
 use five_tuple::Header;
 use policy_rules::Rule;
-use ternary::{Word, covers_laws, exact_laws, free_laws, meet_laws};
-
-/// The mask of all bits of a header's number.
-const ALL_BITS: u128 = (1 << 104) - 1;
+use ternary::{ALL_BITS, Word, covers_laws, exact_laws, free_laws, meet_laws};
 
 /// The least number that has bits in its upper half.
 const HALF: u128 = 1 << 64;
