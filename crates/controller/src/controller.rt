@@ -63,7 +63,7 @@ impl Controller {
         ensures rule { IfOk result IsController }
     {
         let switches = net.switches.items().len() as u32;
-        // The plan is sound.
+        // For the proof: a plan that is read is sound.
         let _ = plan.hosted();
         let mut versions = Vec::new(alloc);
         versions.push(Version::new(alloc, 1, plan, Touched::all(), switches)?)?;
@@ -248,7 +248,7 @@ impl Controller {
             (IsLeft self.old (next_kept self.old plan touched) self.new NoMemory) }
         ensures rule { StaysController self.old self.new }
     {
-        // The plan is sound.
+        // For the proof: a plan that is read is sound.
         let _ = plan.hosted();
         let number = self.marks.count() + 1;
         let version = Version::new(alloc, number, plan, touched, self.marks.switches())?;
@@ -266,6 +266,7 @@ impl Controller {
         ensures after { SettlesWith self.now.marks self.now.plans self.now }
         ensures rule { IsController self.now }
     {
+        // For the proof: marks that are read are sound.
         let _ = &self.marks;
         settling_laws();
         Sends::from_items(Vec::new(alloc))

@@ -39,7 +39,7 @@ mod version;
 pub use controller::Controller;
 pub use plan::Plan;
 pub use plan_error::PlanError;
-pub use planning::compile;
+pub use planning::{compile, rooms_of};
 pub use sends::{Act, Sends};
 pub use tables::tables_of;
 pub use touching::touched;

@@ -52,16 +52,16 @@ impl Plan {
     pub fn new(
         alloc: Global,
         policy: Policy,
-        parts: &[Partition],
+        parts: Vec<Partition>,
         targets: &[Targets],
     ) -> Result<Plan, AllocError>
-        requires each { length targets.now ≡ length parts.now }
+        requires each { length targets.now ≡ length parts.items }
         requires sound { IsSoundPlan (record {
           policy = policy;
-          hosted = zip parts.now targets.now;
+          hosted = zip parts.items targets.now;
         }) }
         ensures policy { IfOk result (λ plan. plan.policy ≡ policy) }
-        ensures hosted { IfOk result (λ plan. plan.hosted ≡ zip parts.now targets.now) }
+        ensures hosted { IfOk result (λ plan. plan.hosted ≡ zip parts.items targets.now) }
     {
         let hosted = host_each(alloc, parts, targets)?;
         let rows = rows_of(alloc, &hosted)?;
@@ -91,7 +91,7 @@ impl Plan {
     {
         let parts = parts_of(alloc, self.hosted())?;
         let policy = self.policy().clone()?;
-        let plan = Plan::new(alloc, policy, &parts, &targets)?;
+        let plan = Plan::new(alloc, policy, parts, &targets)?;
         Ok(plan)
     }
 
@@ -130,17 +130,13 @@ impl Clone for Plan {
 // The partitions with their targets.
 fn host_each(
     alloc: Global,
-    parts: &[Partition],
+    parts: Vec<Partition>,
     targets: &[Targets],
 ) -> Result<Vec<(Partition, Targets)>, AllocError>
-    requires { length targets.now ≡ length parts.now }
-    ensures { IfOk result (λ hosted. hosted.items ≡ zip parts.now targets.now) }
+    ensures { IfOk result (λ hosted. hosted.items ≡ zip parts.items targets.now) }
 {
-    let mut hosted = Vec::with_capacity(alloc, parts.len())?;
-    for (place, part) in parts.iter().enumerate() {
-        hosted.push((part.clone()?, targets[place]))?;
-    }
-    Ok(hosted)
+    let targets = targets.iter().copied();
+    parts.into_iter().zip(targets).collect(alloc)
 }
 
 // The partitions without their targets.

@@ -36,7 +36,7 @@ pub fn compile(alloc: Global, policy: &Policy, net: &Net) -> Result<Plan, PlanEr
     let rooms = rooms_of(alloc, net)?;
     let targets = place(alloc, &sizes, &rooms, net.backups)?;
     let policy = policy.clone()?;
-    let plan = Plan::new(alloc, policy, &parts, &targets)?;
+    let plan = Plan::new(alloc, policy, parts, &targets)?;
     Ok(plan)
 }
 
@@ -52,8 +52,11 @@ fn sizes_of(alloc: Global, parts: &[Partition]) -> Result<Vec<u32>, AllocError>
     Ok(sizes)
 }
 
-// For how many rules each switch has room.
-fn rooms_of(alloc: Global, net: &Net) -> Result<Vec<u32>, AllocError>
+/// For how many rules each switch has room.
+///
+/// # Errors
+/// Out of memory alone.
+pub fn rooms_of(alloc: Global, net: &Net) -> Result<Vec<u32>, AllocError>
     ensures { IfOk result (λ rooms. rooms.items ≡ rooms_of net.now) }
 {
     let rows = net.switches.items();

@@ -9,10 +9,7 @@ ghost use Rattle.cut_tree.specs.Nodes.{LiesIn};
 
 use crate::counters::Counters;
 use policy_rules::Rule;
-use ternary::Word;
-
-/// The mask of all 104 bits of a header number.
-const ALL_BITS: u128 = (1 << 104) - 1;
+use ternary::{ALL_BITS, Word};
 
 /// What it costs to cut a region at a bit.
 #[derive(Clone, Copy)]

@@ -46,6 +46,7 @@ pub fn narrow_half(
     requires within { All (LiesIn region.now) rules.now }
     ensures { IfOk result (λ kept. kept.items ≡ side_of rules.now region.now bit one) }
 {
+    // For the proof: a region is a word.
     let _ = region.mask();
     let whole = region.fix(bit, one).mask();
     let mut kept = Vec::with_capacity(alloc, rules.len())?;
@@ -72,6 +73,7 @@ fn with_bit(word: &Word, bit: u32, one: bool) -> Option<Word>
         IsTrue (covers_of region word.now) → result ≡ meet_of word.now (fix_of region bit one) }
 {
     holds_laws();
+    // For the proof: a word that is read is one.
     let _ = word.mask();
     if !word.is_fixed(bit) {
         return Some(word.fix(bit, one));

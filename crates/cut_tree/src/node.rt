@@ -30,6 +30,7 @@ impl Node {
         ensures rules { IfOk result (λ node. node.rules.items ≡ narrow rules.now region.now) }
         ensures region { IfOk result (λ node. node.region ≡ region.now) }
     {
+        // For the proof: a region is a word.
         let _ = region.mask();
         let rules = narrow(alloc, rules, region)?;
         Ok(Node {

@@ -79,8 +79,8 @@ fn grow(alloc: Global, node: Node, cap: u32, room: &mut u32) -> Result<Tree, Fai
     let high = grow(alloc, high, cap, room)?;
     Ok(Tree::Cut {
         bit,
-        low: boxed(alloc, low)?,
-        high: boxed(alloc, high)?,
+        low: Box::new(alloc, low)?,
+        high: Box::new(alloc, high)?,
     })
 }
 
@@ -96,11 +96,4 @@ fn leaf(node: Node, room: &mut u32) -> Result<Tree, Failure<TooManyLeaves>>
     let Node { rules, region } = node;
     let rules = Rules::new(rules)?;
     Ok(Tree::Leaf { region, rules })
-}
-
-fn boxed(alloc: Global, tree: Tree) -> Result<Box<Tree>, AllocError>
-    ensures { IfOk result (λ boxed. boxed.value ≡ tree) }
-{
-    let boxed = Box::new(alloc, tree)?;
-    Ok(boxed)
 }

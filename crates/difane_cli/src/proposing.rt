@@ -1,8 +1,9 @@
 //! A placement of the partitions that a play asked, with a lower peak where one is found.
-ghost use Rattle.std.specs.Prelude.{◌≡◌, ◌<◌, ◌^◌, ◌⊎◌, All, IfOk, IsTrue, Ok, Option, Some, length};
+ghost use Rattle.std.specs.Prelude.{◌≡◌, ◌<◌, ◌≤◌, ◌^◌, ◌⊎◌, All, IfOk, IsTrue, Ok, Option, Some, length, sum};
 ghost use Rattle.std.specs.Option.{ForSome};
 ghost use Rattle.net_file.specs.Net.{IsNet};
-ghost use Rattle.partition.specs.Plan.{IsPlan, rooms_of};
+ghost use Rattle.partition.specs.Plan.{IsPlan};
+ghost use Rattle.rebalance.specs.Spread.{IsProposal};
 ghost use Rattle.shelf.specs.Shelf.{Files};
 ghost use Rattle.command_line.specs.Commands as grammar;
 ghost use Rattle.command_line.specs.Commands.{ReplayCommand};
@@ -12,7 +13,8 @@ ghost use Rattle.difane_cli.specs.declared.status.Status.TheVariants as status;
 use crate::inputs::PlayInputs;
 use crate::playing::answer_laws;
 use crate::status::{Ended, Status, write_pieces};
-use controller::Plan;
+use base::Failure;
+use controller::{Plan, rooms_of};
 use itoa::Buffer;
 use journal::Journal;
 use meters::Meter;
@@ -147,8 +149,7 @@ fn find_proposal(
     let rooms = rooms_of(alloc, net)?;
     let old = targets_of(alloc, hosted)?;
     let old_peak = peak(&weights, &old);
-    let found = spread(alloc, &sizes, &weights, &rooms, net.backups);
-    let new = proposed(&weights, found, old)?;
+    let new = proposed_targets(alloc, &sizes, &weights, &rooms, net.backups, old)?;
     let new_peak = peak(&weights, &new);
     let bound = bound(&weights, &rooms);
     let plan = plan.with_targets(alloc, new)?;
@@ -158,6 +159,31 @@ fn find_proposal(
         new_peak,
         bound,
     })
+}
+
+// The targets that are proposed for partitions of these sizes and weights in place of the old ones.
+fn proposed_targets(
+    alloc: Global,
+    sizes: &[u32],
+    weights: &[u64],
+    rooms: &[u32],
+    backups: u32,
+    old: Vec<Targets>,
+) -> Result<Vec<Targets>, AllocError>
+    requires each { length sizes.now ≡ length weights.now }
+    requires old { length old.items ≡ length weights.now }
+    requires partitions { length weights.now < 2 ^ 32 }
+    requires switches { length rooms.now ≤ 64 }
+    requires backups { backups ≤ 3 }
+    requires small { sum weights.now < 2 ^ 64 }
+    ensures { IfOk result (λ new.
+        IsProposal sizes.now weights.now rooms.now backups old.items new.items) }
+{
+    match spread(alloc, sizes, weights, rooms, backups) {
+        Ok(new) => Ok(proposed(weights, Some(new), old)),
+        Err(Failure::Refused(_)) => Ok(proposed(weights, None, old)),
+        Err(Failure::NoMemory) => Err(AllocError),
+    }
 }
 
 // How many rules each partition has.
@@ -181,12 +207,4 @@ fn targets_of(alloc: Global, hosted: &[(Partition, Targets)]) -> Result<Vec<Targ
         all.push(*targets)?;
     }
     Ok(all)
-}
-
-// For how many rules each switch has room.
-fn rooms_of(alloc: Global, net: &Net) -> Result<Vec<u32>, AllocError>
-    ensures { IfOk result (λ rooms. rooms.items ≡ rooms_of net.now) }
-{
-    let rows = net.switches.items();
-    rows.iter().map(|row| row.room).collect(alloc)
 }

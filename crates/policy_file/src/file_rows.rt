@@ -11,11 +11,8 @@ use crate::error::{PolicyError, PolicyRefusal};
 use crate::row::{is_heading, read_row};
 use base::InRow;
 use csv_records::{ByteRecord, Records};
-use policy_rules::{Edit, Row};
+use policy_rules::{Edit, MAX_ROWS, Row};
 use std::alloc::{AllocError, Global};
-
-/// The most rows of a file.
-const MAX_ROWS: usize = 2000;
 
 /// A row of a file, of one kind.
 pub trait FileRow: Drop {

@@ -176,6 +176,7 @@ fn check_edits(alloc: Global, edits: &[Edit]) -> Result<(), Failure<Repeated>>
     let mut number = 0u32;
     for edit in edits {
         number += 1;
+        // For the proof: the fields of an edit are as their types have them.
         edit_is_sound(edit);
         if !is_new(&mut removed, &mut added, edit)? {
             return Err(Failure::Refused(Repeated { edit: number }));

@@ -12,8 +12,8 @@ use std::alloc::{AllocError, Global};
 use std::collections::HashSet;
 use thiserror::Error;
 
-/// The most rows of a policy to which a change was applied.
-const MAX_ROWS: usize = 2000;
+/// The most rows of a policy or a change, as a file has them, and of a policy that a change makes.
+pub const MAX_ROWS: usize = 2000;
 
 /// With at most so many edits, priorities are sought in a list.
 const FEW_EDITS: usize = 16;

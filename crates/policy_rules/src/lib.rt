@@ -39,7 +39,7 @@ mod targets;
 mod words;
 
 pub use amendment::{Amendment, Edit, Repeated};
-pub use applying::{ApplyError, Inapplicable, apply};
+pub use applying::{ApplyError, Inapplicable, MAX_ROWS, apply};
 pub use file::PolicyFile;
 pub use five_tuple::{Fields, Header, PortRange, Prefix, Proto};
 pub use laws::{amendment_laws, policy_laws, row_words_laws, rule_list_laws};

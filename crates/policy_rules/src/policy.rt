@@ -191,6 +191,7 @@ fn check_rows(alloc: Global, rows: &[Row]) -> Result<(), Failure<SamePriority>>
     let mut number = 0u32;
     for row in rows {
         number += 1;
+        // For the proof: the fields of a row are as their types have them.
         row_is_sound(row);
         if !seen.insert(row.priority)? {
             return Err(Failure::Refused(SamePriority { row: number }));
@@ -206,6 +207,7 @@ fn are_falling(rows: &[Row]) -> bool
 {
     let mut above = 1u64 << 32;
     for row in rows {
+        // For the proof: the fields of a row are as their types have them.
         row_is_sound(row);
         let priority = u64::from(row.priority);
         if priority >= above {

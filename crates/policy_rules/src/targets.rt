@@ -3,7 +3,7 @@ ghost use Rattle.std.specs.Prelude.{◌≡◌, ◌≤◌, ◌<◌, ◌⊎◌, �
 use std::marker::Model;
 
 /// The most switches that one partition names.
-const MOST: usize = 4;
+const MAX_TARGETS: usize = 4;
 
 /// One to four numbers of switches, in order: a partition's authority switch and after it the
 /// backups.
@@ -12,7 +12,7 @@ const MOST: usize = 4;
 #[derive(Clone, Copy, Debug, PartialEq, Eq)]
 pub struct Targets {
     // The list, and 0 at the places past its end.
-    places: [u32; MOST],
+    places: [u32; MAX_TARGETS],
     len: u8,
 }
 
@@ -37,10 +37,10 @@ impl Targets {
         ensures list { IfSome result (λ targets. targets ≡ switches.now) }
         ensures none { IsNone result ↔ ((length switches.now ≡ 0) ⊎ (4 < length switches.now)) }
     {
-        if switches.is_empty() || switches.len() > MOST {
+        if switches.is_empty() || switches.len() > MAX_TARGETS {
             return None;
         }
-        let mut places = [0; MOST];
+        let mut places = [0; MAX_TARGETS];
         places[..switches.len()].copy_from_slice(switches);
         Some(Targets {
             places,

@@ -38,11 +38,6 @@ abbrev pub counted_fault : {T : Type 0} → ℕ → Result T Error → ℕ
 counted_fault faults (Ok done) = faults
 counted_fault faults (Err error) = fault_of_kind (error_kind error) faults
 
--- how often what was opened failed, and never where nothing was
-abbrev pub faults_of : {R : Type 0} → (R → ReaderState) → Result R Error → ℕ
-faults_of state (Ok reader) = (state reader).faults
-faults_of state (Err error) = 0
-
 -- what a reader had left, where that is known, is what was read of it; or it is longer than this,
 -- where that is the answer. A read that failed or found no memory says nothing of it
 abbrev pub IsReadOf : Option (List ℕ) → ℕ → Result (Vec ℕ Global) ShelfError → Type 0

@@ -3,12 +3,12 @@
 //! Contracts see the bytes that a reader of std has left (`remaining`) and those that a writer holds
 //! (`contents`), where its type says them. When a call of std fails they don't see. So a reader is
 //! what counts its faults here: an error is told where the count rose, and nowhere else.
-ghost use Rattle.std.specs.Prelude.{◌≡◌, ◌≤◌, ◌++◌, if◌then◌else◌, IfErr, IfOk, IfSome, OnOk, length};
+ghost use Rattle.std.specs.Prelude.{◌≡◌, ◌≢◌, ◌≤◌, ◌++◌, if◌then◌else◌, IfErr, IfOk, IfSome, OnOk, length};
+ghost use Rattle.std.specs.Io.KnownBytes.{Keeps, WriteAppends};
 ghost use Rattle.std.specs.IoError.{error_kind};
 ghost use Rattle.shelf.specs.Sink.{next_count};
 ghost use Rattle.shelf.specs.Shelf.{is_read_fault};
-ghost use Rattle.shelf.specs.Streams.{GainsFront, HasFront, IsReadOf, ReaderState, cause_by_kind, counted_fault, faults_of};
-ghost use Rattle.shelf.specs.declared.source.ShelfError.TheVariants.{Missing};
+ghost use Rattle.shelf.specs.Streams.{GainsFront, HasFront, IsReadOf, ReaderState, counted_fault};
 
 use crate::source::ShelfError;
 use std::alloc::Global;
@@ -120,37 +120,45 @@ pub fn read_up_to<R: Reader>(
     }
 }
 
-/// All that is left of what was opened, where that is at most `limit` bytes.
-///
-/// # Errors
-/// Where nothing was opened, by the kind of that error: `NoMemory`, or `Missing`. Else as
-/// `read_up_to`.
-pub fn read_opened<R: Reader>(
-    alloc: Global,
-    opened: &mut io::Result<R>,
-    limit: u64,
-) -> Result<Vec<u8>, ShelfError>
-    ensures read { IfOk opened.old (λ reader. IsReadOf (R.state reader).left limit result) }
-    ensures not_opened { IfErr opened.old (λ error.
-        result ≡ Err (cause_by_kind (error_kind error) Missing)) }
-    ensures within { IfOk result (λ content. length content.items ≤ limit) }
-    ensures faults { faults_of R.state opened.new
-        ≡ (if is_read_fault result then next_count (faults_of R.state opened.old)
-        else faults_of R.state opened.old) }
-{
-    match opened {
-        Ok(reader) => read_up_to(alloc, reader, limit),
-        Err(error) => Err(ShelfError::by_kind(error, ShelfError::Missing)),
-    }
-}
-
 /// Writes some of the piece from its front, says how many bytes, and flushes the stream, so that a
-/// fault of the device is noticed. Where the flush fails the stream has some of the piece.
-pub(crate) fn write_through<W: Write>(stream: &mut W, piece: &[u8]) -> io::Result<usize>
+/// fault of the device is noticed. Where the flush fails the stream has some of the piece. What a
+/// signal interrupts is tried again.
+pub fn write_through<W: Write>(stream: &mut W, piece: &[u8]) -> io::Result<usize>
     ensures within { IfOk result (λ taken. taken ≤ length piece.now) }
     ensures gains { GainsFront piece.now result (W.contents stream.old) (W.contents stream.new) }
+    ensures retried { IfErr result (λ error. error_kind error ≢ ErrorKind.Interrupted) }
 {
-    let taken = stream.write(piece)?;
-    stream.flush()?;
+    let taken = write_front(stream, piece)?;
+    flush(stream)?;
     Ok(taken)
+}
+
+// Writes some of the piece from its front. The tries are counted, so that they end.
+fn write_front<W: Write>(stream: &mut W, piece: &[u8]) -> io::Result<usize>
+    ensures within { IfOk result (λ taken. taken ≤ length piece.now) }
+    ensures appends { WriteAppends (W.contents stream.old) (W.contents stream.new)
+        result piece.now }
+    ensures retried { IfErr result (λ error. error_kind error ≢ ErrorKind.Interrupted) }
+{
+    for _ in 0..u64::MAX {
+        match stream.write(piece) {
+            Err(error) if error.kind() == ErrorKind::Interrupted => {}
+            written => return written,
+        }
+    }
+    Err(io::Error::from(ErrorKind::TimedOut))
+}
+
+// Flushes the stream. The tries are counted, so that they end.
+fn flush<W: Write>(stream: &mut W) -> io::Result<()>
+    ensures keeps { Keeps (W.contents stream.old) (W.contents stream.new) }
+    ensures retried { IfErr result (λ error. error_kind error ≢ ErrorKind.Interrupted) }
+{
+    for _ in 0..u64::MAX {
+        match stream.flush() {
+            Err(error) if error.kind() == ErrorKind::Interrupted => {}
+            flushed => return flushed,
+        }
+    }
+    Err(io::Error::from(ErrorKind::TimedOut))
 }

@@ -2,13 +2,13 @@
 //!
 //! Nothing is known here of what a file holds or of what reaches a stream of the system, so neither
 //! is known to contracts. Of readers and writers whose bytes are known, these lines are proved:
-//! what `read_opened` answers, and what a `StdSink` takes.
+//! what `read_up_to` returns, and what a `StdSink` takes.
 ghost use Rattle.std.specs.Prelude.{◌≡◌, ◌≤◌, None, false, length, IfOk, ◌≢◌, if◌then◌else◌};
 ghost use Rattle.shelf.specs.Sink.{next_count};
 
 use crate::output::{Sink, SinkError};
 use crate::source::{Shelf, ShelfError};
-use crate::streams::{CountedReader, read_opened, write_through};
+use crate::streams::{CountedReader, read_up_to, write_through};
 use std::fs::File;
 use std::io::Write;
 use std::marker::Model;
@@ -45,6 +45,17 @@ impl<R: Files + AllocGlobal + Drop> DiskShelf<R> {
             reads: 0,
         }
     }
+
+    // The content of the file of this name, which is missing where it can't be opened.
+    fn open_and_read(&self, name: &str, limit: u64) -> Result<Vec<u8>, ShelfError>
+        ensures { IfOk result (λ content. length content.items ≤ limit) }
+    {
+        let file = File::open(&self.system, name).map_err(|error| ShelfError::by_kind(
+            &error,
+            ShelfError::Missing,
+        ))?;
+        read_up_to(self.system.alloc(), &mut CountedReader::new(file), limit)
+    }
 }
 
 impl<R: Files + AllocGlobal + Drop> Shelf for DiskShelf<R> {
@@ -61,8 +72,7 @@ impl<R: Files + AllocGlobal + Drop> Shelf for DiskShelf<R> {
         ensures within { IfOk result (λ content. length content.items ≤ limit) }
     {
         self.reads = self.reads.saturating_add(1);
-        let mut opened = File::open(&self.system, name).map(CountedReader::new);
-        let content = read_opened(self.system.alloc(), &mut opened, limit);
+        let content = self.open_and_read(name, limit);
         if matches!(
             content,
             Err(ShelfError::Failed | ShelfError::Missing | ShelfError::TooLong)
@@ -77,7 +87,7 @@ impl<R: Files + AllocGlobal + Drop> Shelf for DiskShelf<R> {
 ///
 /// Its model is the bytes that the stream holds, where its type says them, and the count of its
 /// faults, which rises at each error and where the stream takes nothing of a piece that has bytes.
-/// Its writes take no memory. As a sink its bytes aren't known, since an error may leave a part of
+/// A write that a signal interrupts is no error, and is tried again. Its writes take no memory. As a sink its bytes aren't known, since an error may leave a part of
 /// a piece with the stream.
 #[derive(Drop)]
 pub struct StdSink<W: Write + Drop> {

@@ -6,10 +6,7 @@ ghost use Rattle.table_tree.specs.Regions.{IsCutBit, all_fix, some_fix};
 
 use crate::node::Candidate;
 use cut_tree::free_bits;
-use ternary::Word;
-
-/// The mask of all 104 bits of a header number.
-const ALL_BITS: u128 = (1 << 104) - 1;
+use ternary::{ALL_BITS, Word};
 
 /// The bit at which these regions, which meet a region, are parted: of its free bits the least one
 /// that all of them fix, else the least one that some one fixes. `None` where no one fixes any.

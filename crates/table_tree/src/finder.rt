@@ -108,6 +108,7 @@ impl Finder {
         ensures sound { AreSoundTables self.now.tables }
         ensures header { IsHeader header.now }
     {
+        // For the proof: a header that is read is one.
         let _ = header.number();
         match own_place(self.tables.auth.items(), partition) {
             Some(own) => self.first_at(own, header),

@@ -59,6 +59,7 @@ fn numbered(alloc: Global, rows: &[PartRow]) -> Result<Vec<Candidate>, AllocErro
     let mut candidates = Vec::with_capacity(alloc, rows.len())?;
     for row in rows {
         let place = candidates.len() as u32;
+        // For the proof: a region is a word.
         let _ = row.region.mask();
         candidates.push(Candidate {
             place,
@@ -80,17 +81,10 @@ fn meeting(
 {
     let mut kept = Vec::with_capacity(alloc, candidates.len())?;
     for candidate in candidates {
-        if !meets(&candidate.region, region) {
+        if !candidate.region.meets(region) {
             continue;
         }
         kept.push(*candidate)?;
     }
     Ok(kept)
-}
-
-#[tactic(auto, using(ternary::proofs::CallerLemmas::meet_is_some))]
-fn meets(a: &Word, b: &Word) -> bool
-    ensures { result ≡ meets a.now b.now }
-{
-    a.meet(b).is_some()
 }

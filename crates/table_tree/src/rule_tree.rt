@@ -90,6 +90,7 @@ fn ranked(alloc: Global, rules: &[Rule]) -> Result<Vec<Rule>, AllocError>
     let mut ranked = Vec::with_capacity(alloc, rules.len())?;
     for rule in rules {
         let rank = ranked.len() as u32;
+        // For the proof: a word that is read is one.
         let _ = rule.word.mask();
         ranked.push(Rule { rank, ..*rule })?;
     }

@@ -26,4 +26,4 @@ mod word;
 pub use laws::{
     any_laws, covers_laws, exact_laws, fix_laws, free_bits_laws, free_laws, holds_laws, meet_laws,
 };
-pub use word::Word;
+pub use word::{ALL_BITS, Word};

@@ -2,13 +2,13 @@ ghost use Rattle.std.specs.Prelude.{◌≡◌, ◌≢◌, ◌^◌, ◌<◌, ◌�
 ghost use Rattle.std.specs.Int.{bit_at, from_bool};
 ghost use Rattle.ternary.specs.Word.{WordValue, holds, word_text};
 ghost use Rattle.ternary.specs.WordBits.{IsWord};
-ghost use Rattle.ternary.specs.Meets.{AgreesOnMask, Includes, AreDisjoint, IsMeet, any_word, exact_word, meet_of, covers_of, with_bit, is_fixed_of, fix_of, free_of};
+ghost use Rattle.ternary.specs.Meets.{AgreesOnMask, Includes, AreDisjoint, IsMeet, any_word, exact_word, meet_of, meets, covers_of, with_bit, is_fixed_of, fix_of, free_of};
 
 use std::fmt;
 use std::marker::Model;
 
 /// The mask of all 104 bits of a header number.
-const ALL_BITS: u128 = (1 << 104) - 1;
+pub const ALL_BITS: u128 = (1 << 104) - 1;
 
 /// A set of header numbers, given by the bits that it fixes: a header is in it where it agrees with
 /// the value on each bit of the mask.
@@ -125,6 +125,14 @@ impl Word {
         ensures words { IsWord self.now × IsWord other.now }
     {
         self.mask & other.mask == self.mask && other.value & self.mask == self.value
+    }
+
+    /// Whether some header is held by both words.
+    #[tactic(auto, using(crate::proofs::CallerLemmas::meet_is_some))]
+    pub fn meets(&self, other: &Word) -> bool
+        ensures { result ≡ meets self.now other.now }
+    {
+        self.meet(other).is_some()
     }
 
     /// Whether this bit, counted from the lowest, is fixed.

@@ -54,6 +54,7 @@ impl Tunnel {
     ) -> Tunnel
         ensures { result ≡ tunnel_begun packet header ingress leg targets route down }
     {
+        // For the proof: a route that is read is one.
         let _ = route.items();
         Tunnel {
             packet,

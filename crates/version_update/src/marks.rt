@@ -232,6 +232,7 @@ impl Marks {
         requires last { version ≤ self.now.count }
         ensures { result ≡ has_acked (record_of self.now s) version }
     {
+        // For the proof: marks that are read are sound.
         let _ = self.count();
         self.ledger.record(s).has_acked(version)
     }

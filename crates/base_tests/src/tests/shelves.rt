@@ -5,7 +5,8 @@ use shelf::{
 };
 use std::alloc::{AllocError, Global};
 use std::fs::OpenOptions;
-use std::io::BufWriter;
+use std::io;
+use std::io::{BufWriter, ErrorKind, Write};
 use std::test::Fail;
 
 fn one_file(alloc: Global) -> Result<Vec<(String, Vec<u8>)>, AllocError> {
@@ -118,4 +119,40 @@ fn tells_a_failed_flush(rt: HostRuntime) -> Result<(), Fail> {
     let held_back = BufWriter::new(rt.alloc(), room.as_mut_slice())?;
     assert!(rt; StdSink::new(held_back).write(b"four").err() == Some(SinkError::Failed));
     Ok(())
+}
+
+// A stream whose first write and first flush a signal interrupts.
+#[derive(Drop)]
+struct Signalled {
+    wrote: bool,
+    flushed: bool,
+}
+
+// Nothing, where it was done before, and else that a signal interrupted it.
+fn once_interrupted(done: &mut bool) -> io::Result<()> {
+    if *done {
+        return Ok(());
+    }
+    *done = true;
+    Err(io::Error::from(ErrorKind::Interrupted))
+}
+
+impl Write for Signalled {
+    fn write(&mut self, bytes: &[u8]) -> io::Result<usize> {
+        once_interrupted(&mut self.wrote)?;
+        Ok(bytes.len())
+    }
+
+    fn flush(&mut self) -> io::Result<()> {
+        once_interrupted(&mut self.flushed)
+    }
+}
+
+#[test]
+fn writes_again_what_is_interrupted(rt: HostRuntime) {
+    let stream = Signalled {
+        wrote: false,
+        flushed: false,
+    };
+    assert!(rt; StdSink::new(stream).write(b"four") == Ok(4));
 }

@@ -3,7 +3,7 @@ use base::Failure;
 use journal::{Action, How, Item, Journal};
 use placement::{NoRoom, place};
 use policy_rules::Targets;
-use rebalance::{bound, peak, spread, weights};
+use rebalance::{bound, peak, proposed, spread, weights};
 use std::alloc::{AllocError, Global};
 use std::test::Fail;
 
@@ -85,5 +85,18 @@ fn a_spread_lowers_the_peak(rt: HostRuntime) -> Result<(), Fail> {
     assert!(rt; bound(&[1, 0, 2], &[0, 8, 8]) == 2 && bound(&[1, 0, 2], &[0]) == 0);
     let refused = spread(alloc, &[3], &[0], &[2], 0).err();
     assert!(rt; refused == Some(Failure::Refused(NoRoom { partition: 0 })));
+    Ok(())
+}
+
+#[test]
+fn a_refused_spread_keeps_the_old_placement(rt: HostRuntime) -> Result<(), Fail> {
+    // By weight two small partitions come first, one on each switch, and the great one finds none.
+    let alloc = rt.alloc();
+    let (sizes, weights, rooms) = ([2, 1, 1], [0, 1, 1], [2, 2]);
+    let old = place(alloc, &sizes, &rooms, 0)?;
+    let refused = spread(alloc, &sizes, &weights, &rooms, 0).err();
+    assert!(rt; refused == Some(Failure::Refused(NoRoom { partition: 0 })));
+    assert!(rt; are_at(&old, &[0, 1, 1]));
+    assert!(rt; are_at(&proposed(&weights, None, old), &[0, 1, 1]));
     Ok(())
 }

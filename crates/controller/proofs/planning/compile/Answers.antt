@@ -51,7 +51,6 @@ new-requires-clause-sound c =
     rw (
       c.in_ok-policy.ensures.cases,
       c.deref-5.ensures.value,
-      c.deref-6.ensures.value,
       c.in_ok-parts.ensures.parts,
     ) sound
 
@@ -61,7 +60,6 @@ returns-clause-plan c =
     rw (
       c.in_ok-plan.ensures.hosted,
       c.deref-5.ensures.value,
-      c.deref-6.ensures.value,
       c.in_ok-parts.ensures.parts,
     ) (planned_at _ _ _ _ _ _ _ ready c.in_ok-targets.ensures.value)
 
@@ -72,7 +70,6 @@ returns-clause-parts c =
     rw (
       c.in_ok-plan.ensures.hosted,
       c.deref-5.ensures.value,
-      c.deref-6.ensures.value,
       c.in_ok-parts.ensures.parts,
     ) (c.plan_laws.ensures.holds _ _ _ c.in_ok-rules.ensures.policy c.requires planned)
 

@@ -60,8 +60,8 @@ pub returns-clause-tree : goal.returns-clause-tree
 returns-clause-tree t c =
     let is = cut_is t (goal.at.returns-clause-tree t c).After-grow in
     rw (
-      c.in_ok-boxed.ensures,
-      c.in_ok-boxed-2.ensures,
+      c.in_ok-new.ensures.ok,
+      c.in_ok-new-2.ensures.ok,
       c.in_ok-low-2.ensures.tree,
       c.in_ok-high-2.ensures.tree,
     ) (sym is)
@@ -69,7 +69,7 @@ returns-clause-tree t c =
 pub returns-clause-defined : goal.returns-clause-defined
 returns-clause-defined t c =
     let node = c.args.node in
-    rw (c.in_ok-boxed.ensures, c.in_ok-boxed-2.ensures)
+    rw (c.in_ok-new.ensures.ok, c.in_ok-new-2.ensures.ok)
     (defined_at c.args.cap node.rules.items node.region c.least_cut-bit.result _ _ _ _ _ _
     (omega arith) c.least_cut-bit.ensures.least c.in_ok-low.ensures.rules
     c.in_ok-low.ensures.region c.in_ok-high.ensures.rules c.in_ok-high.ensures.region

@@ -1,6 +1,5 @@
 -- What the lists that were made say, and so what the proposal is.
 use Rattle.std.proofs.Common.{◌≡◌, ◌∙◌, List, length, ap, arith}
-use Rattle.std.proofs.lemmas.Result.{IfOk-weaker}
 use Rattle.partition.specs.Plan.{Hosted}
 use Rattle.rebalance.specs.Loads.{weights_of}
 use Rattle.rebalance.specs.Spread.{IsProposal}
@@ -26,12 +25,8 @@ chosen : (c : In_ok-new)
     → IsProposal c.in_ok-sizes.sizes.items c.in_ok-weights.weights.items
     c.in_ok-rooms.rooms.items c.args.net.now.backups c.in_ok-old.old.items c.in_ok-new.new.items
 chosen c =
-    let spread = rw (c.deref-3.ensures.value, c.deref-4.ensures.value, c.deref-5.ensures.value)
-    at c.spread-found.ensures.spread in
-    let lacks = rw (c.deref-3.ensures.value, c.deref-4.ensures.value, c.deref-5.ensures.value)
-    at c.spread-found.ensures.refused in
-    (rw c.deref-6.ensures.value at c.in_ok-new.ensures) c.in_ok-sizes.sizes.items
-    c.in_ok-rooms.rooms.items c.args.net.now.backups spread lacks
+    rw (c.deref-3.ensures.value, c.deref-4.ensures.value, c.deref-5.ensures.value)
+    at c.in_ok-new.ensures
 
 new_number : (c : In_ok-new)
     → length c.in_ok-old.old.items ≡ length c.in_ok-weights.weights.items
@@ -50,40 +45,35 @@ peak-old_peak-requires-clause-each c =
     (as_many_targets _ _ _ _ _ _ _
     (measured (goal.at.peak-old_peak-requires-clause-each c).In_ok-old))
 
-pub spread-found-requires-clause-each : goal.spread-found-requires-clause-each
-spread-found-requires-clause-each c =
+pub proposed_targets-requires-clause-each : goal.proposed_targets-requires-clause-each
+proposed_targets-requires-clause-each c =
     rw (c.deref-3.ensures.value, c.deref-4.ensures.value)
     (as_many_sizes _ _ _ _ _ _ _
-    (measured (goal.at.spread-found-requires-clause-each c).In_ok-old))
+    (measured (goal.at.proposed_targets-requires-clause-each c).In_ok-old))
 
-pub spread-found-requires-clause-partitions : goal.spread-found-requires-clause-partitions
-spread-found-requires-clause-partitions c =
+pub proposed_targets-requires-clause-partitions : goal.proposed_targets-requires-clause-partitions
+proposed_targets-requires-clause-partitions c =
     omega (
       arith,
       ap length c.deref-4.ensures.value,
       as_many_asked _ _ _ _ _ _ _
-          (measured (goal.at.spread-found-requires-clause-partitions c).In_ok-old),
+          (measured (goal.at.proposed_targets-requires-clause-partitions c).In_ok-old),
       c.requires.plan.few,
     )
 
-pub spread-found-requires-clause-switches : goal.spread-found-requires-clause-switches
-spread-found-requires-clause-switches c =
+pub proposed_targets-requires-clause-switches : goal.proposed_targets-requires-clause-switches
+proposed_targets-requires-clause-switches c =
     rw (c.deref-5.ensures.value, c.in_ok-rooms.ensures) (few_rooms c.args.net.now c.requires.net)
 
-pub proposed-requires-clause-old : goal.proposed-requires-clause-old
-proposed-requires-clause-old c =
-    rw c.deref-6.ensures.value
-    (as_many_targets _ _ _ _ _ _ _ (measured (goal.at.proposed-requires-clause-old c).In_ok-old))
-
-pub proposed-requires-clause-new : goal.proposed-requires-clause-new
-proposed-requires-clause-new c =
-    rw c.deref-6.ensures.value
-    (IfOk-weaker c.spread-found.result _ _ (λ new is. is.number)
-    (rw c.deref-4.ensures.value at c.spread-found.ensures.spread))
+pub proposed_targets-requires-clause-old : goal.proposed_targets-requires-clause-old
+proposed_targets-requires-clause-old c =
+    rw c.deref-4.ensures.value
+    (as_many_targets _ _ _ _ _ _ _
+    (measured (goal.at.proposed_targets-requires-clause-old c).In_ok-old))
 
 pub peak-new_peak-requires-clause-each : goal.peak-new_peak-requires-clause-each
 peak-new_peak-requires-clause-each c =
-    rw (c.deref-7.ensures.value, c.deref-8.ensures.value)
+    rw (c.deref-6.ensures.value, c.deref-7.ensures.value)
     (new_number (goal.at.peak-new_peak-requires-clause-each c).In_ok-new
     (as_many_targets _ _ _ _ _ _ _
     (measured (goal.at.peak-new_peak-requires-clause-each c).In_ok-old)))
@@ -109,5 +99,5 @@ returns c =
     (chosen (goal.at.returns c).In_ok-new) c.in_ok-plan.ensures.policy
     c.in_ok-plan.ensures.hosted c.in_ok-plan.ensures.leads
     (rw (c.deref.ensures.value, c.deref-2.ensures.value) at c.peak-old_peak.ensures)
-    (rw (c.deref-7.ensures.value, c.deref-8.ensures.value) at c.peak-new_peak.ensures)
-    (rw (c.deref-9.ensures.value, c.deref-10.ensures.value) at c.bound-bound.ensures)
+    (rw (c.deref-6.ensures.value, c.deref-7.ensures.value) at c.peak-new_peak.ensures)
+    (rw (c.deref-8.ensures.value, c.deref-9.ensures.value) at c.bound-bound.ensures)

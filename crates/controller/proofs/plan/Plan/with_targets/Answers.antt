@@ -9,7 +9,6 @@ pub new-requires-clause-sound : goal.new-requires-clause-sound
 new-requires-clause-sound c =
     rw (
       c.deref.ensures.value,
-      c.deref-2.ensures.value,
       c.in_ok-parts.ensures,
       c.hosted.ensures.hosted,
       c.in_ok-policy.ensures.cases,
@@ -21,9 +20,9 @@ new-requires-clause-sound c =
 pub returns-clause-hosted : goal.returns-clause-hosted
 returns-clause-hosted c =
     c.in_ok-plan.ensures.hosted
-    ∙ ap (λ parts. zip parts c.deref-2.result.now)
-    (c.deref.ensures.value ∙ c.in_ok-parts.ensures ∙ ap (map part_of) c.hosted.ensures.hosted)
-    ∙ ap (zip (map part_of c.args.self.hosted)) c.deref-2.ensures.value
+    ∙ ap (λ parts. zip parts c.deref.result.now)
+    (c.in_ok-parts.ensures ∙ ap (map part_of) c.hosted.ensures.hosted)
+    ∙ ap (zip (map part_of c.args.self.hosted)) c.deref.ensures.value
 
 pub returns-clause-leads : goal.returns-clause-leads
 returns-clause-leads c = λ some.
