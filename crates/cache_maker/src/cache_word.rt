@@ -10,7 +10,7 @@ ghost use Rattle.cache_maker.specs.Differing.{IsWithout, differing_bits, is_met,
 
 use five_tuple::Header;
 use policy_rules::Rule;
-use ternary::{ALL_BITS, Word, covers_laws, exact_laws, free_laws, meet_laws};
+use ternary::{Word, covers_laws, exact_laws, free_laws, meet_laws};
 
 /// The least number that has bits in its upper half.
 const HALF: u128 = 1 << 64;
