@@ -33,7 +33,7 @@ use Rattle.update_machine.specs.Travels.{packets_at}
 use Rattle.update_machine.specs.Ways.{targets_of}
 use Rattle.update_machine.specs.LinkMasks.{near}
 use Rattle.update_machine.proofs.CallerLemmas.{have_append, last_given_append, links_keep}
-use Rattle.refinement.specs.Linking.{AreRelinked, all_adverts_sent, near_all}
+use Rattle.world_log.specs.Linking.{AreRelinked, all_adverts_sent, near_all}
 use Rattle.steps.specs.Steps.{IsStep}
 use Rattle.world_log.specs.Sending.{MaySend, act_items}
 use Rattle.refinement.specs.Refinement.{RefineJournal, Control, is_up_link, up_links}

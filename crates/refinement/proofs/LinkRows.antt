@@ -34,7 +34,8 @@ use Rattle.update_machine.specs.Pieces.{link_items, nothing, piece}
 use Rattle.update_machine.specs.Setting.{Setting}
 use Rattle.update_machine.specs.LinkMasks.{near}
 use Rattle.update_machine.proofs.CallerLemmas.{last_given_append}
-use Rattle.refinement.specs.Linking.{AreRelinked, SetsLink, all_adverts_sent, link_step, near_all}
+use Rattle.refinement.specs.Links.{link_step}
+use Rattle.world_log.specs.Linking.{AreRelinked, SetsLink, all_adverts_sent, near_all}
 use Rattle.refinement.specs.Refinement.{RefineJournal, Control, is_up_link, up_links}
 use Rattle.travelling.specs.Travelling.{Flights}
 use Rattle.refinement.proofs.Delivering.{nothing_happens}

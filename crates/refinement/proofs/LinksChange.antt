@@ -46,7 +46,7 @@ use Rattle.update_machine.specs.Pieces.{piece}
 use Rattle.update_machine.specs.Setting.{Setting}
 use Rattle.update_machine.specs.SwitchNumbers.{switches_of}
 use Rattle.update_machine.proofs.CallerLemmas.{count_of_append}
-use Rattle.refinement.specs.Linking.{AreRelinked, all_adverts_sent, near_all}
+use Rattle.world_log.specs.Linking.{AreRelinked, all_adverts_sent, near_all}
 use Rattle.world_log.specs.Sending.{MaySend, act_items, act_posts}
 use Rattle.world_log.proofs.Sends.{posts_as_acts, sent_as_acts}
 use Rattle.refinement.specs.Refinement.{RefineJournal, AreUp, AreUsable, Control, up_links}

@@ -28,7 +28,7 @@ use Rattle.update_machine.specs.Setting.{Setting}
 use Rattle.update_machine.specs.Boots.{is_to_switch}
 use Rattle.update_machine.specs.LinkMasks.{near}
 use Rattle.update_machine.proofs.CallerLemmas.{last_given_append}
-use Rattle.refinement.specs.Linking.{AreRelinked, all_adverts_sent, near_all}
+use Rattle.world_log.specs.Linking.{AreRelinked, all_adverts_sent, near_all}
 use Rattle.refinement.specs.Refinement.{RefineJournal, Control, is_up_link, up_links}
 use Rattle.refinement.specs.Bags.{IsBagOf}
 use Rattle.travelling.specs.Travelling.{Flights}

@@ -27,7 +27,7 @@ use Rattle.update_machine.specs.LinkMasks.{near}
 use Rattle.update_machine.specs.Pieces.{piece, resent_by_switch}
 use Rattle.update_machine.specs.Setting.{Setting}
 use Rattle.update_machine.proofs.CallerLemmas.{near_stays}
-use Rattle.refinement.specs.Linking.{adverts_again}
+use Rattle.world_log.specs.Linking.{adverts_again}
 use Rattle.steps.specs.Steps.{IsStep}
 use Rattle.world_log.specs.Sending.{MayNote, act_items, act_posts}
 use Rattle.refinement.specs.Refinement.{RefineJournal, Control}

@@ -25,7 +25,7 @@ use Rattle.update_machine.specs.Setting.{Setting, setting_of, IsSetting, NamesOw
 use Rattle.update_machine.specs.Travels.{travels}
 use Rattle.update_machine.specs.Versions.{policy_at, plan_at}
 use Rattle.update_machine.proofs.CallerLemmas.{first_version_is, setting_begun, start_laws}
-use Rattle.refinement.specs.Linking.{AreNear}
+use Rattle.world_log.specs.Linking.{AreNear}
 use Rattle.refinement.specs.Begun.{switch_begun}
 use Rattle.refinement.specs.Refinement.{RefineJournal, is_up_link}
 use Rattle.refinement.specs.Flights.{flight_in}

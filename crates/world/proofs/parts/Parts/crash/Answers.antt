@@ -9,7 +9,7 @@ use Rattle.journal.specs.declared.item.Item.TheVariants as item
 use Rattle.steps.specs.declared.step.Step.TheVariants.{Crash}
 use Rattle.switch_core.specs.State.{SwitchValue}
 use Rattle.update_machine.specs.Messages.{sent_from}
-use Rattle.refinement.specs.Linking.{all_adverts_sent, near_all}
+use Rattle.world_log.specs.Linking.{all_adverts_sent, near_all}
 use Rattle.world.specs.Parts.{control_in, setting_in}
 use Rattle.refinement.specs.Refinement.{RefineJournal}
 use Rattle.travelling.specs.Travelling.{WithoutAt, numbers_at}

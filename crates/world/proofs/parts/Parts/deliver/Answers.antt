@@ -13,7 +13,7 @@ use Rattle.steps.specs.declared.step.Step.TheVariants.{Deliver}
 use Rattle.switch_core.specs.Hearing.{IsSoundBody, replies}
 use Rattle.update_machine.specs.Messages.{sent_from}
 use Rattle.world.specs.Parts.{setting_in}
-use Rattle.refinement.specs.Linking.{all_adverts_sent, near_all}
+use Rattle.world_log.specs.Linking.{all_adverts_sent, near_all}
 use Rattle.world_log.specs.Sending.{MayNote, MaySend, act_items, act_posts}
 use Rattle.refinement.proofs.Delivering.{found_there}
 use Rattle.world_log.specs.Writing.{IsPart}

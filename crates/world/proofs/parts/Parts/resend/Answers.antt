@@ -5,7 +5,7 @@ use Rattle.controller.specs.declared.sends.Act.{Act}
 use Rattle.controller.specs.declared.sends.Act.TheVariants.{Post}
 use Rattle.journal.specs.declared.item.Item.TheVariants as item
 use Rattle.steps.specs.declared.step.Step.TheVariants.{Resend}
-use Rattle.refinement.specs.Linking.{adverts_again}
+use Rattle.world_log.specs.Linking.{adverts_again}
 use Rattle.world.specs.Parts.{control_in, setting_in}
 use Rattle.world_log.specs.Sending.{MayNote, act_items, act_posts}
 use Rattle.world.proofs.Frame.{files_stay, goes_nothing, goes_quiet, net_stays, none_in, nothing_goes, plane_stays}

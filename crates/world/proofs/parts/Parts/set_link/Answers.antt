@@ -6,7 +6,8 @@ use Rattle.controller.specs.Controller.{newest_policy}
 use Rattle.journal.specs.declared.item.Item.{Item}
 use Rattle.journal.specs.declared.item.Item.TheVariants as item
 use Rattle.update_machine.specs.Messages.{sent_from}
-use Rattle.refinement.specs.Linking.{all_adverts_sent, link_step, near_all}
+use Rattle.refinement.specs.Links.{link_step}
+use Rattle.world_log.specs.Linking.{all_adverts_sent, near_all}
 use Rattle.world.specs.Parts.{HasBegun, setting_in}
 use Rattle.world.specs.declared.parts.Parts.{Parts}
 use Rattle.world.specs.State.{comes_in}
