@@ -77,8 +77,15 @@ pub begun_refines : (net : Net) (files : List PolicyFile) (plan : PlanValue)
     → plan_of plan.policy net ≡ Ok plan.hosted
     → switches ≡ map (switch_begun net plan.hosted) (range_with_len 0 (length net.switches))
     → controller ≡ first_controller (length net.switches) plan → AreNear net near
-    → RefineJournal (setting_of net files) [] switches [] 0
-    (record { controller = controller; posts = []; links = near; near = near })
+    → RefineJournal (setting_of net files) [] (record {
+      switches = switches;
+      travelling = [];
+      packets = 0;
+      controller = controller;
+      posts = [];
+      links = near;
+      near = near;
+    })
 unfolding RefineJournal flight_in travels next_packet
 begun_refines net files plan switches controller near sound whole given ports is made first_is
     masks =
@@ -95,8 +102,7 @@ begun_refines net files plan switches controller near sound whole given ports is
       reached = record {
         steps = [];
         own = All-nil (λ next. IsStep setting.net (length setting.files) next.step);
-        written =
-            refl;
+        written = refl;
       };
       many = many;
       each = λ s d there.

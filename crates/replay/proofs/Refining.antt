@@ -3,17 +3,11 @@ use Rattle.std.proofs.Common.{ℕ, ◌≤◌, arith}
 use Rattle.steps.specs.Limits.{max_events}
 use Rattle.update_machine.specs.Answers.{IsReached}
 use Rattle.update_machine.specs.Packets.{next_packet}
-use Rattle.world.specs.State.{RefinesJournal, WorldValue, setting_at}
+use Rattle.world.specs.State.{RefinesJournal, WorldValue, setting_at, state_at}
 use Rattle.refinement.specs.Refinement.{RefineJournal, Refinement}
 
 pub tie_of : (world : WorldValue) → RefinesJournal world
-    → Refinement (setting_at world) world.journal world.switches world.travelling world.packets
-    (record {
-      controller = world.controller;
-      posts = world.bag;
-      links = world.links;
-      near = world.near;
-    })
+    → Refinement (setting_at world) world.journal (state_at world)
 unfolding RefineJournal
 tie_of world refines = refines
 
