@@ -21,13 +21,11 @@ use Rattle.refinement.proofs.Switches.{switch_is}
 module _ {setting : Setting} {journal : List Item} {state : NetworkState}
     (refines : RefineJournal setting journal state) where
   pub known_of : Known setting journal
-  unfolding RefineJournal
   known_of = reached_known setting journal refines.sound refines.reached
 
   -- the links of a switch are as the journal says
   pub mask_is : (s : ℕ) → s < length setting.net.switches
       → slice_index state.near s ≡ near setting journal s
-  unfolding RefineJournal
   mask_is s there = refines.usable s (omega (arith, there, refines.sound.net.few_switches))
 
   pub seen : (s : ℕ) (w : SwitchValue) → s < length setting.net.switches
@@ -45,7 +43,6 @@ module _ {setting : Setting} {journal : List Item} {state : NetworkState}
 
   pub standing_of : (i : ℕ) (t : Flight) → flight state.travelling i ≡ Some t
       → IsStanding setting journal i t
-  unfolding RefineJournal
   standing_of i t its =
       standing_by setting journal i t (reached_known setting journal refines.sound refines.reached)
       (sym (refines.packet i ∙ flight_now setting journal i) ∙ its)
@@ -58,7 +55,6 @@ module _ {setting : Setting} {journal : List Item} {state : NetworkState}
   -- the switch where it came in is below 64
   pub ingress_below : (i : ℕ) (t : Flight) → flight state.travelling i ≡ Some t
       → t.tunnel.ingress < 64
-  unfolding RefineJournal
   ingress_below i t its =
       let standing : IsStanding setting journal i t =
       standing_of i t its in
@@ -72,7 +68,6 @@ module _ {setting : Setting} {journal : List Item} {state : NetworkState}
   -- its switch is there
   pub within_here : (i : ℕ) (t : Flight) (s : ℕ) → flight state.travelling i ≡ Some t
       → s ≡ here t.tunnel → s < length state.switches
-  unfolding RefineJournal
   within_here i t s its at =
       let standing : IsStanding setting journal i t =
       standing_of i t its in

@@ -92,7 +92,6 @@ module _ {setting : Setting} {journal : List Item} {state : NetworkState}
   -- it has a next boot
   pub boot_next : own.is_up ≡ false → length state.posts < 990_000
       → CanRestart own
-  unfolding RefineJournal
   boot_next down room =
       let fit : NumbersFit setting journal = subst (NumbersFit setting)
       (sym refines.reached.written) (fit_in_room setting refines.reached.steps refines.sound.net
@@ -127,7 +126,6 @@ module _ {setting : Setting} {journal : List Item} {state : NetworkState}
   hello = to_controller (Hello s boot)
 
   number_is : next_message now ≡ length state.posts + 1
-  unfolding RefineJournal
   number_is =
       (messages_keep journal (item.Row row (Restart s) ∷ booted ∷ []) (refl, (refl, tt))).next
       ∙ refines.bag.many
@@ -153,7 +151,7 @@ module _ {setting : Setting} {journal : List Item} {state : NetworkState}
   -- a switch that is down serves not, nor does one that just booted
   serves_now : (x : ℕ) (b : Bool) → own.is_up ≡ false → (s == x) ≡ b
       → serves now x ≡ serves journal x
-  unfolding serves RefineJournal
+  unfolding serves
   serves_now x b down is =
       ap (λ js. serves js x) (sym split)
       ∙ ap (λ o. unwrap_or o true) (last_given_append (gives_serving x) rowed (booted ∷ []))
@@ -236,7 +234,7 @@ module _ {setting : Setting} {journal : List Item} {state : NetworkState}
         switches = set state.switches s changed;
         posts = state.posts ++ new_post hello ∷ [];
       })
-  unfolding RefineJournal act_items act_posts
+  unfolding act_items act_posts
   boot_refines changed down changed_is =
       refines_told refines (record state {
         switches = set state.switches s changed;

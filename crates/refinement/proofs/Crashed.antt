@@ -103,7 +103,7 @@ module _ {setting : Setting} {journal : List Item} {state : NetworkState}
       → IsStep setting.net (length setting.files) (Crash s)
       → own ≡ get_or state.switches s own → own.is_up ≡ false
       → WroteOne setting journal row (Crash s) item.Nothing state
-  unfolding RefineJournal switch_of
+  unfolding switch_of
   stays_down row s own may own_at down =
       nothing_happens refines row (Crash s) may
       (λ q. refl) (down_piece setting journal row s (sym (ap (λ (w : SwitchValue). w.is_up)
@@ -144,7 +144,6 @@ module _ {setting : Setting} {journal : List Item} {state : NetworkState}
   split = append_assoc journal (item.Row row (Crash s) ∷ item.Down s ∷ []) losts
 
   own_is : own ≡ switch_of setting journal s
-  unfolding RefineJournal
   own_is = own_at ∙ refines.each s own within
 
   was_up : is_up journal s ≡ true
@@ -211,7 +210,6 @@ module _ {setting : Setting} {journal : List Item} {state : NetworkState}
       omega (arith, row_sum, down_sum, losts_bring_none packets)
 
   changes : LinksChange setting journal row (Crash s) told state others state.links state.posts
-  unfolding RefineJournal
   changes = record {
     may = may;
     piece_is = up_piece setting journal row s was_up;
@@ -271,7 +269,6 @@ module _ {setting : Setting} {journal : List Item} {state : NetworkState}
   -- the packets on their way
   left : (after : Flights) → WithoutAt state.travelling s after → (i : ℕ)
       → flight after i ≡ flight_in setting (journal ++ all) i
-  unfolding RefineJournal
   left after without i =
       without i
       ∙ ap (λ b. if b then None else flight state.travelling i)

@@ -89,7 +89,6 @@ module _ {setting : Setting} {journal : List Item} {state : NetworkState}
       → ((q : ℕ) → IsFalse (concerns_calls q journal (item.Row row step)))
       → piece setting journal row step ≡ item.Row row step ∷ nothing
       → WroteOne setting journal row step item.Nothing state
-  unfolding RefineJournal
   nothing_happens row step may uncalled is = (
     is,
     refines_one refines state.posts state.switches row step item.Nothing
@@ -110,7 +109,6 @@ module _ {setting : Setting} {journal : List Item} {state : NetworkState}
   -- by whether the bag has it
   piece_by : (b : Bool) → is_post_deliverable state.posts n ≡ b
       → piece setting journal row (Forget n) ≡ first ∷ (if b then one ∷ [] else nothing)
-  unfolding RefineJournal
   piece_by b is = forget_piece setting journal row n
       ∙ ap (λ c. first ∷ (if c then one ∷ [] else nothing))
       (deliverable_as journal state.posts n refines.bag ∙ is)
@@ -118,7 +116,6 @@ module _ {setting : Setting} {journal : List Item} {state : NetworkState}
   pub forgotten_refines : is_post_deliverable state.posts n ≡ true
       → WroteOne setting journal row (Forget n) one
       (record state { posts = with_forgotten state.posts n })
-  unfolding RefineJournal
   forgotten_refines there =
       let is = piece_by true there in
       let bag = subst (λ js. IsBagOf js (with_forgotten state.posts n))

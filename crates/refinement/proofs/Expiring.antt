@@ -128,7 +128,6 @@ module _ {setting : Setting} {journal : List Item} {state : NetworkState}
       → found ≡ option_map (λ entry. entry.message) (slice_get own.cache.entries place)
       → WroteOne setting journal row (Expire s place) (expired_item s place found)
       (record state { switches = set state.switches s changed })
-  unfolding RefineJournal
   expired_refines row s place own changed found
       may
       own_at changed_is found_is =

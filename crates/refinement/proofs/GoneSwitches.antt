@@ -72,12 +72,10 @@ module _ {setting : Setting} {journal : List Item} {state : NetworkState}
     first = item.Row row (Confirm s) ∷ item.OverNow s ∷ []
 
     bag_behind : IsBagOf (journal ++ first) state.posts
-    unfolding RefineJournal
     bag_behind = bag_on journal first state.posts (refl, (refl, tt)) refines.bag
 
     confirms_so : AreWritten setting journal first acts new
         (piece setting journal row (Confirm s))
-    unfolding RefineJournal
     confirms_so = confirms setting journal row s state.controller new
         (reached_known setting journal refines.sound refines.reached).caused refines.controller
         (own_up ∙ down) (switch_known refines s may) settles
@@ -91,7 +89,6 @@ module _ {setting : Setting} {journal : List Item} {state : NetworkState}
     pub gone_refines : RefineJournal setting (journal ++ item.Row row (Confirm s) ∷ item.OverNow s
         ∷ act_items (length state.posts + 1) acts)
         (record state { controller = new; posts = state.posts ++ act_posts acts })
-    unfolding RefineJournal
     gone_refines = refines_told refines (record state { controller = new }) row (Confirm s)
         (item.OverNow s ∷ []) acts
         (search (rules, gone_piece, bag_behind, confirms_so, switches_stay, links_stay, up_stay))

@@ -29,7 +29,6 @@ module _ {setting : Setting} {journal : List Item} {state : NetworkState}
   pub hear_ready : (n s : ℕ) (message : Message) → IsMessageOf state.posts n message
       → message.to ≡ receiver.Switch s
       → (s < length state.switches) × (s < 64) × IsSoundBody message.body
-  unfolding RefineJournal
   hear_ready n s message there to =
       let sent : message_of journal n ≡ Some (to_switch s message.body) =
       sent_as journal state.posts n message refines.bag there
@@ -46,5 +45,4 @@ module _ {setting : Setting} {journal : List Item} {state : NetworkState}
   -- the mask of its links
   pub usable_here : (s : ℕ) → s < 64
       → get_or state.near s 0 ≡ near setting journal s
-  unfolding RefineJournal
   usable_here s below = refines.usable s below

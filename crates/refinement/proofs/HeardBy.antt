@@ -82,7 +82,6 @@ module _ {setting : Setting} {journal : List Item} {state : NetworkState}
   pub undelivered : (row n : ℕ) → IsStep setting.net (length setting.files) (Deliver n)
       → is_post_deliverable state.posts n ≡ false
       → WroteOne setting journal row (Deliver n) item.Nothing state
-  unfolding RefineJournal
   undelivered row n may none =
       nothing_happens refines row (Deliver n) may (λ q. refl)
       (none_piece setting journal row n (deliverable_as journal state.posts n refines.bag ∙ none))
@@ -101,7 +100,6 @@ module _ {setting : Setting} {journal : List Item} {state : NetworkState}
     (refines : RefineJournal setting journal state) where
   pub is_there : (row n : ℕ) (message : Message) → IsMessageOf state.posts n message
       → IsThere setting journal state.posts row n message
-  unfolding RefineJournal
   is_there row n message there = record {
     sent = sent_as journal state.posts n message refines.bag there;
     deliverable = deliverable_as journal state.posts n refines.bag ∙ ap is_some there.frames_are;
@@ -149,7 +147,6 @@ module _ {setting : Setting} {journal : List Item} {state : NetworkState}
   -- what it names is there
   pub names_known : (n : ℕ) (message : Message) → IsMessageOf state.posts n message
       → message.to ≡ receiver.Controller → NamesThere message.body state.controller.marks
-  unfolding RefineJournal
   names_known n message there to =
       names_there setting journal n message.body state.controller.marks
       (reached_known setting journal refines.sound refines.reached).tables.names
@@ -172,7 +169,6 @@ module _ {setting : Setting} {journal : List Item} {state : NetworkState}
   first = item.Row row (Deliver n) ∷ item.Delivered n ∷ []
 
   heard_so : AreWritten setting journal first acts new (piece setting journal row (Deliver n))
-  unfolding RefineJournal
   heard_so = hears setting journal row n message.body state.controller new
       (reached_known setting journal refines.sound refines.reached).caused refines.controller
       its.deliverable (its.sent ∙ ap Some (as_told message to))
@@ -189,7 +185,6 @@ module _ {setting : Setting} {journal : List Item} {state : NetworkState}
         controller = new;
         posts = with_delivered state.posts n;
       })
-  unfolding RefineJournal
   control_told =
       let each : (s : ℕ) (d : SwitchValue) → s < length state.switches → get_or state.switches s d
       ≡ switch_of setting (grown journal row (Deliver n) (item.Delivered n)) s =
@@ -231,7 +226,6 @@ module _ {setting : Setting} {journal : List Item} {state : NetworkState}
   mine = is_there refines row n message there
 
   own_is : own ≡ switch_of setting journal s
-  unfolding RefineJournal
   own_is = own_at ∙ refines.each s own within
 
   abbrev messages : List Message
@@ -241,7 +235,6 @@ module _ {setting : Setting} {journal : List Item} {state : NetworkState}
   reply_acts = map PostAct messages
 
   hears_shut : HearsShut setting journal n s message.body
-  unfolding RefineJournal
   hears_shut = hearing_refines.shut setting journal n s message.body refines.sound.net (record {
     sent = mine.sent ∙ ap Some (as_sent message s to);
     names = (reached_known setting journal refines.sound refines.reached).tables.names;
@@ -277,7 +270,6 @@ module _ {setting : Setting} {journal : List Item} {state : NetworkState}
         switches = set state.switches s changed;
         posts = with_delivered state.posts n;
       })
-  unfolding RefineJournal
   shut_told =
       let each : (q : ℕ) (d : SwitchValue) → q < length state.switches
       → get_or (set state.switches s changed) q d

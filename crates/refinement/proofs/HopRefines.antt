@@ -3,6 +3,7 @@ use Rattle.std.proofs.Common.{ℕ, ◌≡◌, ◌+◌, ◌<◌, ◌==◌, Bool, 
 use Rattle.std.specs.Prelude.{is_some}
 use Rattle.std.proofs.lemmas.Bool.Decides.{nat_tests}
 use Rattle.std.proofs.lemmas.List.{length-set}
+use Rattle.message_bag.specs.Posts.{Post}
 use Rattle.journal.specs.declared.item.Item.{Item}
 use Rattle.journal.specs.declared.item.Item.TheVariants as item
 use Rattle.net_file.specs.declared.ports.Ports.{Ports}
@@ -128,7 +129,6 @@ module _ {setting : Setting} {journal : List Item} {state : NetworkState}
   pub hop_left : (row i : ℕ) → IsStep setting.net (length setting.files) (Hop i)
       → is_some (flight state.travelling i) ≡ false
       → WroteOne setting journal row (Hop i) item.Nothing state
-  unfolding RefineJournal
   hop_left row i may resting =
       let off : travels journal i ≡ false =
       sym (ap is_some (refines.packet i) ∙ travels_as setting journal i) ∙ resting in

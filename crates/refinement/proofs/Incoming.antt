@@ -6,6 +6,7 @@ use Rattle.std.proofs.lemmas.List.Sums.{sum_by-cons}
 use Rattle.five_tuple.specs.declared.header.Header.{Header}
 use Rattle.net_file.specs.Owners.{AreOwners}
 use Rattle.net_file.specs.declared.ports.Ports.{Ports}
+use Rattle.message_bag.specs.Posts.{Post}
 use Rattle.journal.specs.declared.item.Item.{Item}
 use Rattle.journal.specs.declared.item.Item.TheVariants as item
 use Rattle.steps.specs.declared.step.Step.{Step}
@@ -41,12 +42,10 @@ module _ {setting : Setting} {journal : List Item} {state : NetworkState}
     (refines : RefineJournal setting journal state) where
   -- its number has 32 bits
   pub come_fits : next_packet journal ≤ 4000000000 → state.packets + 1 ≤ 4000000000
-  unfolding RefineJournal
   come_fits few = omega
       (arith, refines.counted, few)
 
   pub counted_is : next_packet journal ≡ state.packets + 1
-  unfolding RefineJournal
   counted_is = refines.counted
 
 module _ {setting : Setting} {journal : List Item} {state : NetworkState}

@@ -190,7 +190,6 @@ module _ {setting : Setting} {journal : List Item} {state : NetworkState}
 
   -- its ends are switches
   pub ends_below : (one < 64) × (two < 64)
-  unfolding RefineJournal
   ends_below =
       let back : HasLink setting.net two one =
       link_laws.both_ways setting.net.links two one ∙ linked in (
@@ -208,7 +207,6 @@ module _ {setting : Setting} {journal : List Item} {state : NetworkState}
 
   -- the mask of one end has the other one where the link is up
   end_is : has (get_or state.links one 0) two ≡ is_link_up journal one two
-  unfolding RefineJournal
   end_is =
       ap (λ mask. has mask two) (refines.up one ends_below.0)
       ∙ has_mask (are_linked (up_links setting journal) one) two ends_below.1
@@ -286,7 +284,6 @@ module _ {setting : Setting} {journal : List Item} {state : NetworkState}
 
     up_now : (s k : ℕ) → s < 64 → k < 64
         → has (get_or links s 0) k ≡ are_linked (up_links setting now) s k
-    unfolding RefineJournal
     up_now s k small below =
         sets s k small below
         ∙ ap (λ b. if joins s k link then up else b) (ap (λ mask. has mask k) (refines.up s small)
@@ -299,7 +296,6 @@ module _ {setting : Setting} {journal : List Item} {state : NetworkState}
         ∙ sym (up_linked setting now s k)
 
     changes : LinksChange setting journal row step told state state.switches links state.posts
-    unfolding RefineJournal
     changes = record {
       may = may;
       piece_is = piece_so;

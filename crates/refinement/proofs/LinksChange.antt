@@ -63,7 +63,6 @@ module _ {setting : Setting} {journal : List Item} {state : NetworkState}
       → IsStep setting.net (length setting.files) step
       → piece setting journal row step ≡ item.Row row step ∷ first ++ rest
       → HaveCauses (HasItemCause setting) [] (journal ++ item.Row row step ∷ first)
-  unfolding RefineJournal
   caused_first row step first rest may is =
       have_front (HasItemCause setting) [] (journal ++ item.Row row step ∷ first) rest
       (subst (HaveCauses (HasItemCause setting) []) (ap (λ items. journal ++ items) is
@@ -74,7 +73,6 @@ module _ {setting : Setting} {journal : List Item} {state : NetworkState}
   -- each switch has a next number for its own advert
   pub next_left : length state.posts < 990_000
       → (q : ℕ) → q < length state.switches → HasNextSeq (switch_of setting journal q)
-  unfolding RefineJournal
   next_left room q below =
       let fit : NumbersFit setting journal = subst (NumbersFit setting)
       (sym refines.reached.written) (fit_in_room setting refines.reached.steps refines.sound.net
@@ -83,7 +81,6 @@ module _ {setting : Setting} {journal : List Item} {state : NetworkState}
 
   pub numbers_left : length state.posts < 990_000
       → All (λ (switch : SwitchValue). switch.seq < 2 ^ 32 - 1) state.switches
-  unfolding RefineJournal
   numbers_left room = λ q d below.
       subst (λ (w : SwitchValue). w.seq < 2 ^ 32 - 1) (sym (refines.each q d below))
       (next_left room q below).now
@@ -105,7 +102,6 @@ module _ {setting : Setting} {journal : List Item} {state : NetworkState}
 
   stays : (q : ℕ) (d : SwitchValue) → (s == q) ≡ false → q < length state.switches
       → switch_of setting journal q ≡ get_or with_one q d
-  unfolding RefineJournal
   stays q d is below = sym (refines.each q d below)
       ∙ sym (get_or-set_other state.switches s q changed d (λ e. let own : (s == q) ≡ true =
       ap (λ k. s == k) e ∙ eq-eqb s s refl in absurd cc))
@@ -218,7 +214,6 @@ module _ {setting : Setting} {journal : List Item} {row : ℕ} {step : Step} {fi
   number = length state.posts + 1
 
   can : CanRelink setting journal now links state.near others
-  unfolding RefineJournal
   can =
       let caused = caused_first refines row step first (link_changes setting journal now)
       changes.may changes.piece_is in record {
@@ -273,7 +268,6 @@ module _ {setting : Setting} {journal : List Item} {row : ℕ} {step : Step} {fi
       → flight state.travelling i ≡ flight_in setting (journal ++ (item.Row row step ∷ first
       ++ act_items (length state.posts + 1)
       (map PostAct (all_adverts_sent state.near (near_all links others) others)))) i
-  unfolding RefineJournal
   unmoved none i = refines.packet i
       ∙ sym (flight_stays setting journal all i
       (reached_known setting journal refines.sound refines.reached)

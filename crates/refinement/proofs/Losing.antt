@@ -71,7 +71,6 @@ module _ {setting : Setting} {journal : List Item} {state : NetworkState}
     (refines : RefineJournal setting journal state) (row i : ℕ) where
   -- it travels where the table has it
   travels_there : travels journal i ≡ is_some (flight state.travelling i)
-  unfolding RefineJournal
   travels_there = sym (ap is_some (refines.packet i) ∙ travels_as setting journal i)
 
   -- so this is its piece
@@ -87,7 +86,6 @@ module _ {setting : Setting} {journal : List Item} {state : NetworkState}
       → is_some (flight state.travelling i) ≡ true → WithOne state.travelling i None after
       → RefineJournal setting (journal ++ item.Row row (Lose i) ∷ item.Lost i ∷ [])
       (record state { travelling = after })
-  unfolding RefineJournal
   lost after may travelling without =
       refines_silent refines state.switches after state.packets row (Lose i) (item.Lost i ∷ [])
       (record {

@@ -51,7 +51,6 @@ module _ {setting : Setting} {journal : List Item} {state : NetworkState}
       (one : Item) → WritesOne setting journal row step one state.switches others posts
       → RefineJournal setting (grown journal row step one)
       (record state { switches = others; posts = posts })
-  unfolding RefineJournal
   refines_one posts others row step one writes =
       let items : List Item = item.Row row step ∷ one ∷ [] in
       refines_taken refines (record state { switches = others; posts = posts }) row step

@@ -57,7 +57,6 @@ module _ {setting : Setting} {journal : List Item} {state : NetworkState}
   its = is_there refines row n message there
 
   own_is : own ≡ switch_of setting journal s
-  unfolding RefineJournal
   own_is = own_at ∙ refines.each s own within
 
   changed_so : changed ≡ with_message (switch_of setting journal s) n message.body
@@ -74,7 +73,6 @@ module _ {setting : Setting} {journal : List Item} {state : NetworkState}
       (item.Opened s stamp ∷ [])
 
   hears_open : HearsOpening setting journal n s message.body stamp
-  unfolding RefineJournal
   hears_open = hearing_refines.opening setting journal n s stamp message.body (record {
     sent = its.sent ∙ ap Some (as_sent message s to);
     names = (reached_known setting journal refines.sound refines.reached).tables.names;
@@ -113,7 +111,6 @@ module _ {setting : Setting} {journal : List Item} {state : NetworkState}
       ap (λ js. is_up_link js link) (sym split) ∙ same_up journal row n s stamp link)
 
   changes : LinksChange setting journal row (Deliver n) told state others state.links posts
-  unfolding RefineJournal
   changes = record {
     may = may;
     piece_is = piece_so;

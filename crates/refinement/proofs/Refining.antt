@@ -56,7 +56,6 @@ module _ {setting : Setting} {journal : List Item} {state : NetworkState}
       → piece setting journal row step ≡ item.Row row step ∷ items
       → IsFalse (asks_controller journal step)
       → IsControllerOf setting (stepped journal row step items) state.controller
-  unfolding RefineJournal
   controller_stays row step items is not_told =
       subst (λ more. IsControllerOf setting (journal ++ more) state.controller) is
       (steps_leave setting journal row step state.controller
@@ -86,20 +85,17 @@ module _ {setting : Setting} {journal : List Item} {state : NetworkState}
     (refines : RefineJournal setting journal state) (items : List Item) where
   pub links_stay : NoneConcern concerns_links journal items
       → AreUsable setting (journal ++ items) state.near
-  unfolding RefineJournal
   links_stay none = λ s below. refines.usable s below
       ∙ sym (near_stays setting s journal items none)
 
   pub up_stay : NoneConcern concerns_links journal items
       → AreUp setting (journal ++ items) state.links
-  unfolding RefineJournal
   up_stay none = up_stays setting journal items state.links none refines.up
 
   pub switches_stay : ((s : ℕ) → NoneConcern (concerns_known s) journal items)
       → ((s : ℕ) → NoneConcern (concerns_calls s) journal items)
       → (s : ℕ) (d : SwitchValue) → s < length state.switches
       → get_or state.switches s d ≡ switch_of setting (journal ++ items) s
-  unfolding RefineJournal
   switches_stay none calls s d there =
       refines.each s d there ∙ sym (kept_is setting s journal items (none s) (calls s))
 
@@ -153,7 +149,6 @@ module _ {setting : Setting} {journal : List Item} {state : NetworkState}
   pub refines_taken : (later : NetworkState) (row : ℕ) (step : Step) (items : List Item)
       → IsTaken setting journal row step items state later
       → RefineJournal setting (journal ++ item.Row row step ∷ items) later
-  unfolding RefineJournal
   refines_taken later row step items taken =
       record {
         sound = refines.sound;
@@ -174,16 +169,13 @@ module _ {setting : Setting} {journal : List Item} {state : NetworkState}
 module _ {setting : Setting} {journal : List Item} {state : NetworkState}
     (refines : RefineJournal setting journal state) where
   pub packets_are : (i : ℕ) → flight state.travelling i ≡ flight_in setting journal i
-  unfolding RefineJournal
   packets_are = refines.packet
 
   pub switches_are : (s : ℕ) (d : SwitchValue) → s < length state.switches
       → get_or state.switches s d ≡ switch_of setting journal s
-  unfolding RefineJournal
   switches_are = refines.each
 
   pub numbered : next_message journal ≡ length state.posts + 1
-  unfolding RefineJournal
   numbered = refines.bag.many
 
 -- ---- a step of packets
@@ -199,7 +191,6 @@ module _ {setting : Setting} {journal : List Item} {state : NetworkState}
         packets = next;
         posts = state.posts ++ posts_in items;
       })
-  unfolding RefineJournal
   refines_more others after next row step items steps counted =
       refines_taken refines (record state {
         switches = others;

@@ -84,7 +84,6 @@ module _ {setting : Setting} {journal : List Item} {state : NetworkState}
       → IsStep setting.net (length setting.files) step → piece setting journal row step
       ≡ item.Row row step ∷ first ++ act_items (length state.posts + 1) acts
       → length posts ≡ length state.posts → length state.posts < 990_000 → MayNote posts acts
-  unfolding RefineJournal
   may_note row step first posts acts may is
       as_many room =
       let number = length state.posts + 1 in

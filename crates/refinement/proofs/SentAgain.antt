@@ -115,7 +115,6 @@ module _ {setting : Setting} {journal : List Item} {state : NetworkState}
       ∙ sym (kept_is setting s journal (item.Row row (Resend s) ∷ []) (refl, tt) (refl, tt))
 
   near_is : get_or state.near s 0 ≡ near setting rowed s
-  unfolding RefineJournal
   near_is = refines.usable s (omega (arith, may, refines.sound.net.few_switches))
       ∙ sym (near_stays setting s journal (item.Row row (Resend s) ∷ []) (refl, tt))
 
@@ -129,7 +128,6 @@ module _ {setting : Setting} {journal : List Item} {state : NetworkState}
       (held_adverts setting rowed s)
 
   acts_are : acts ≡ acts_of_resend setting rowed s state.controller
-  unfolding RefineJournal
   acts_are = ap (λ told. map Post told ++ resend_acts state.controller s)
       (ap (λ n. adverts_again s n (get_or state.near s 0) own) refines.many
       ∙ ap (λ n. adverts_again s (length setting.net.switches) n own) near_is
@@ -140,7 +138,6 @@ module _ {setting : Setting} {journal : List Item} {state : NetworkState}
 
   pub silent : (length acts == 0) ≡ true
       → WroteOne setting journal row (Resend s) item.Nothing state
-  unfolding RefineJournal
   silent none =
       nothing_happens refines row (Resend s) may
       (λ q. refl) (resends_nothing setting journal row s state.controller
@@ -151,13 +148,11 @@ module _ {setting : Setting} {journal : List Item} {state : NetworkState}
 
   module _ (some : (length acts == 0) ≡ false) where
     bag_behind : IsBagOf rowed state.posts
-    unfolding RefineJournal
     bag_behind = bag_on journal (item.Row row (Resend s) ∷ []) state.posts (refl, tt) refines.bag
 
     resent_so : AreWritten setting journal (item.Row row (Resend s) ∷ [])
         (acts_of_resend setting rowed s state.controller) state.controller
         (piece setting journal row (Resend s))
-    unfolding RefineJournal
     resent_so = resends_some setting journal row s state.controller
         (reached_known setting journal refines.sound refines.reached).caused refines.controller
         (switch_known refines s may) (λ e. some_there acts some (acts_are ∙ e))
@@ -173,7 +168,6 @@ module _ {setting : Setting} {journal : List Item} {state : NetworkState}
     pub again_refines : RefineJournal setting (journal ++ item.Row row (Resend s)
         ∷ act_items (length state.posts + 1) acts)
         (record state { posts = state.posts ++ act_posts acts })
-    unfolding RefineJournal
     again_refines = refines_told refines state row (Resend s) [] acts (record {
       may = may;
       piece_is = again_piece;

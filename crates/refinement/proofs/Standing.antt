@@ -69,7 +69,7 @@ module _ {setting : Setting} {journal : List Item} {state : NetworkState}
     (refines : RefineJournal setting journal state) (s : ℕ) where
   -- where a packet stands by its route, it stands by the journal
   same_switch : (i : ℕ) → stands_at s (flight state.travelling i) ≡ travels_at journal s i
-  unfolding RefineJournal flight_in what_is_known
+  unfolding flight_in what_is_known
   same_switch i = by_travels (travels journal i) refl
     where
       by_travels : (b : Bool) → travels journal i ≡ b
@@ -94,7 +94,7 @@ module _ {setting : Setting} {journal : List Item} {state : NetworkState}
 
   -- so these are the packets that the journal says
   pub numbers_are : numbers_at state.travelling s ≡ packets_at journal s
-  unfolding RefineJournal numbers_at next_packet
+  unfolding numbers_at next_packet
   numbers_are =
       let knows : Known setting journal = reached_known setting journal refines.sound
       refines.reached in

@@ -86,7 +86,7 @@ pub begun_refines : (net : Net) (files : List PolicyFile) (plan : PlanValue)
       links = near;
       near = near;
     })
-unfolding RefineJournal flight_in travels next_packet
+unfolding flight_in travels next_packet
 begun_refines net files plan switches controller near sound whole given ports is made first_is
     masks =
     let setting : Setting = setting_of net files in

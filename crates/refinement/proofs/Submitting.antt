@@ -53,7 +53,6 @@ module _ {setting : Setting} {journal : List Item} {state : NetworkState}
       → (policy_in setting journal (version_count journal) ≡ Some newest)
       × (policy_in setting (journal ++ item.Row row step ∷ [])
       (version_count (journal ++ item.Row row step ∷ [])) ≡ Some newest)
-  unfolding RefineJournal
   newest_refines row step newest is =
       let here : List Item = journal ++ item.Row row step ∷ [] in
       let keep : PoliciesKeep journal here =
@@ -129,7 +128,7 @@ module _ {setting : Setting} {journal : List Item} {state : NetworkState}
       → piece setting journal row (Update file)
       ≡ item.Row row (Update file) ∷ item.Refused file code ∷ []
       → RefineJournal setting (grown journal row (Update file) (item.Refused file code)) state
-  unfolding RefineJournal act_items act_posts
+  unfolding act_items act_posts
   refused_refines code is =
       let one : Item = item.Refused file code in
       let controller = subst (λ more. IsControllerOf setting (journal ++ more) state.controller)
@@ -157,12 +156,10 @@ module _ {setting : Setting} {journal : List Item} {state : NetworkState}
       acts = submit_acts state.controller.marks (next_kept state.controller plan touched) new
 
       bag_behind : IsBagOf (grown journal row (Update file) one) state.posts
-      unfolding RefineJournal
       bag_behind = bag_on journal (first one) state.posts (refl, (refl, tt)) refines.bag
 
       submits_so : AreWritten setting journal (first one) acts new
           (piece setting journal row (Update file))
-      unfolding RefineJournal
       submits_so = submits setting journal row file state.controller new plan touched
           (reached_known setting journal refines.sound refines.reached).caused refines.controller
           of_next live versions submitted
@@ -176,7 +173,6 @@ module _ {setting : Setting} {journal : List Item} {state : NetworkState}
       pub submitted_refines : RefineJournal setting (journal ++ item.Row row (Update file) ∷ one
           ∷ act_items (length state.posts + 1) acts)
           (record state { controller = new; posts = state.posts ++ act_posts acts })
-      unfolding RefineJournal
       submitted_refines = refines_told refines (record state { controller = new }) row
           (Update file) (one ∷ []) acts
           (search (rules, submitted_piece, bag_behind, submits_so, switches_stay, links_stay, up_stay))
@@ -194,7 +190,6 @@ module _ {setting : Setting} {journal : List Item} {state : NetworkState}
   pub live_piece : state.controller.marks.count - state.controller.marks.retired ≡ 8
       → piece setting journal row (Update file)
       ≡ item.Row row (Update file) ∷ item.Refused file 16 ∷ []
-  unfolding RefineJournal
   live_piece live = (too_many_live setting journal row file state.controller plan touched
       (reached_known setting journal refines.sound refines.reached).caused refines.controller
       of_next live).same
@@ -202,7 +197,6 @@ module _ {setting : Setting} {journal : List Item} {state : NetworkState}
   pub versions_piece : state.controller.marks.count - state.controller.marks.retired ≢ 8
       → state.controller.marks.count ≡ 64 → piece setting journal row (Update file)
       ≡ item.Row row (Update file) ∷ item.Refused file 17 ∷ []
-  unfolding RefineJournal
   versions_piece live many =
       (too_many_versions setting journal row file state.controller plan touched
       (reached_known setting journal refines.sound refines.reached).caused refines.controller

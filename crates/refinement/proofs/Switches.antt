@@ -12,21 +12,17 @@ module _ {setting : Setting} {journal : List Item} {state : NetworkState}
   -- a switch of the network is there
   pub switch_there : (s : ℕ) → HasSwitch setting.net s
       → s < length state.switches
-  unfolding RefineJournal
   switch_there s own = omega (arith, own, refines.many)
 
   -- the controller knows it
   pub switch_known : (s : ℕ) → HasSwitch setting.net s
       → s < length state.controller.marks.switches
-  unfolding RefineJournal
   switch_known s own = omega (arith, own, refines.controller.marks.many)
 
   -- it is as the journal says
   pub switch_is : (s : ℕ) (w : SwitchValue) → HasSwitch setting.net s
       → w ≡ get_or state.switches s w → w ≡ switch_of setting journal s
-  unfolding RefineJournal
   switch_is s w own its = its ∙ refines.each s w (omega (arith, own, refines.many))
 
   pub few_switches : length state.switches ≤ 64
-  unfolding RefineJournal
   few_switches = omega (arith, refines.many, refines.sound.net.few_switches)

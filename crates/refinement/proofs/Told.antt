@@ -129,7 +129,6 @@ module _ {setting : Setting} {journal : List Item} {state : NetworkState}
         packets = state.packets;
         posts = later.posts ++ act_posts acts;
       })
-  unfolding RefineJournal
   refines_told =
       let linked = links_left setting (journal ++ begun) number acts later.links later.near told.up
       told.usable in record {

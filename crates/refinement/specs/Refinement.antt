@@ -47,7 +47,7 @@ AreUsable setting journal near = (s : ℕ) → s < 64 → slice_index near s ≡
 
 -- the journal is of steps of the network, and the switches, the packets on their way, the
 -- controller, the messages and the links are as it says
-pub record Refinement (setting : Setting) (journal : List Item) (state : NetworkState)
+pub record RefineJournal (setting : Setting) (journal : List Item) (state : NetworkState)
     : Type 0 where
   pub sound : IsSetting setting
   pub reached : IsReached setting journal
@@ -60,6 +60,3 @@ pub record Refinement (setting : Setting) (journal : List Item) (state : Network
   pub bag : IsBagOf journal state.posts
   pub up : AreUp setting journal state.links
   pub usable : AreUsable setting journal state.near
-
-unfoldable pub RefineJournal : Setting → List Item → NetworkState → Type 0
-RefineJournal setting journal state = Refinement setting journal state

@@ -4,11 +4,10 @@ use Rattle.steps.specs.Limits.{max_events}
 use Rattle.update_machine.specs.Answers.{IsReached}
 use Rattle.update_machine.specs.Packets.{next_packet}
 use Rattle.world.specs.State.{RefinesJournal, WorldValue, setting_at, state_at}
-use Rattle.refinement.specs.Refinement.{RefineJournal, Refinement}
+use Rattle.refinement.specs.Refinement.{RefineJournal}
 
 pub tie_of : (world : WorldValue) → RefinesJournal world
-    → Refinement (setting_at world) world.journal (state_at world)
-unfolding RefineJournal
+    → RefineJournal (setting_at world) world.journal (state_at world)
 tie_of world refines = refines
 
 -- its journal is of steps of the network

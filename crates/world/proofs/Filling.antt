@@ -14,11 +14,9 @@ use Rattle.refinement.specs.Refinement.{RefineJournal, NetworkState}
 module _ {setting : Setting} {journal : List Item} {state : NetworkState}
     (refines : RefineJournal setting journal state) where
   pub is_full : FULL_AT ≤ length state.posts → IsFull journal
-  unfolding RefineJournal
   is_full many = omega (arith, refines.bag.many, many)
 
   pub has_room : length state.posts < FULL_AT → HasRoom journal
-  unfolding RefineJournal
   has_room few = omega (arith, refines.bag.many, few)
 
 -- want of memory is another error
