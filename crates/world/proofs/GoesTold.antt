@@ -1,5 +1,5 @@
 -- What a step owes to the frame that writes one item, and then what is sent and done upon it.
-use Rattle.std.proofs.Common.{ℕ, ◌≡◌, ◌+◌, List, [], ◌∷◌, ◌++◌, refl, ap, subst, ◌∙◌, append_assoc, length, rules}
+use Rattle.std.proofs.Common.{ℕ, ◌≡◌, ◌+◌, List, [], ◌∷◌, ◌++◌, refl, ap, sym, subst, ◌∙◌, append_assoc, length, rules}
 use Rattle.std.specs.Prelude.{IsErr, OnErr, OnOk, Result}
 use Rattle.std.proofs.lemmas.Result.{on_ok_weaker}
 use Rattle.message_bag.specs.Posts.{Post}
@@ -71,7 +71,12 @@ goes_told {r} {before} {row} {step} {old} {new} first tail begun number posts mo
     (subst (λ k. OnOk r (new.log.journal ≡ begun ++ tail (k + 1))) tells.number_is tells.written))
     (step_part r old.log.journal begun new.log.journal items (first ∷ items) first refl tells.pushed
     (subst (λ k. OnErr r (IsPart begun (tail (k + 1)) new.log.journal)) tells.number_is tells.part))
-    (both_ok r (λ all refines. rw (all, tells.travelling) refines) tells.posted tells.refines)
+    (both_ok r (λ all refines. subst (λ bag. RefineJournal (setting_in old)
+    (before ++ item.Row row step ∷ first ∷ items) (record (state_in new) { posts = bag })) (sym all)
+    (subst (λ (travelling : Flights). RefineJournal (setting_in old)
+    (before ++ item.Row row step ∷ first ∷ items)
+    (record (state_in new) { travelling = travelling; posts = posts ++ more }))
+    (sym tells.travelling) refines)) tells.posted tells.refines)
 
 -- where the controller's acts are what it writes then
 pub goes_acting : {T E : Type 0} {r : Result T E} {before : List Item} {row : ℕ} {step : Step}

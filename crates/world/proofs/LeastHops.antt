@@ -102,7 +102,7 @@ least_from_in world from next refines least =
 
 pub least_travels_in : (world : WorldValue) (next : Option ℕ) → RefinesJournal world
     → IsNextFrom world.travelling 1 next → next ≡ next_travelling world.journal
-unfolding  what_is_known
+unfolding what_is_known
 least_travels_in world next refines least =
     least_travels world.journal next
     (λ i new. ((reached_known (setting_at world) world.journal refines.sound

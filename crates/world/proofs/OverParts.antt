@@ -1,5 +1,5 @@
 -- The steps of packets over the parts of a world.
-use Rattle.std.proofs.Common.{ℕ, ◌≡◌, ◌+◌, ◌<◌, Some, List, ◌∷◌, ◌++◌, length, get_or, set, arith}
+use Rattle.std.proofs.Common.{ℕ, ◌≡◌, ◌+◌, ◌<◌, Some, List, ◌∷◌, ◌++◌, length, sym, subst, get_or, set, arith}
 use Rattle.std.specs.Prelude.{OnOk, Result, slice_index}
 use Rattle.message_bag.specs.Posts.{Post}
 use Rattle.five_tuple.specs.declared.header.Header.{Header}
@@ -50,7 +50,16 @@ module _ (parts : Parts) (before : List Item) (row s : ℕ) (header : Header) (o
         posts = bag;
       }))
   entries_refine r changed after bag changed_is travels posted =
-      both_ok r (λ same entered. rw same (come_refines ready.refines row s header parts.ports own
+      both_ok r (λ same entered. subst (λ posts. RefineJournal (setting_in parts)
+      (before ++ item.Row row (PacketStep s header) ∷ entered_items (length parts.log.bag + 1)
+      (coming_in (parts.packets + 1) header own.number)
+      (entry own (slice_index parts.near s) parts.ports (parts.packets + 1) header))
+      (record (state_in parts) {
+        switches = set parts.switches.items s changed;
+        travelling = after;
+        packets = parts.packets + 1;
+        posts = posts;
+      })) (sym same) (come_refines ready.refines row s header parts.ports own
       ready.may ready.sound.owners its after changed (switch_there ready.refines s ready.may.0)
       (switch_is ready.refines s own ready.may.0 its) changed_is entered)) posted travels
 
@@ -83,7 +92,13 @@ module _ (parts : Parts) (before : List Item) (row i : ℕ) (t : Flight) (s : �
   hops_refine r changed after bag changed_is travels posted =
       let there : s < length (setting_in parts).net.switches =
       omega (arith, can.at, can.standing.stands.there) in
-      three_ok r (λ answered same left. rw same (hop_refines ready.refines row i t s
+      three_ok r (λ answered same left. subst (λ posts. RefineJournal (setting_in parts)
+      (before ++ item.Row row (Hop i) ∷ hop_written (length parts.log.bag + 1) switch
+      (slice_index parts.near s) parts.ports t) (record (state_in parts) {
+        switches = set parts.switches.items s changed;
+        travelling = after;
+        posts = posts;
+      })) (sym same) (hop_refines ready.refines row i t s
       (slice_index parts.near s) switch parts.ports ready.may can after changed
       (within_here ready.refines i t s its at) (switch_is ready.refines s switch there own) answered
       left)) changed_is posted travels
