@@ -28,7 +28,6 @@ use Rattle.steps.specs.declared.step.Event.{Event}
 use Rattle.update_machine.specs.Setting.{Setting, setting_of, IsSetting, NamesOwnPort}
 use Rattle.world.specs.Files.{first_policy}
 use Rattle.world.specs.State.{RefinesJournal, WorldValue, setting_at}
-use Rattle.refinement.specs.Refinement.{RefineJournal}
 use Rattle.shelf.specs.Shelf.{Files, ShelfState}
 use Rattle.difane_cli.specs.Ending.{Accounts, EndsRead, NeedsReadFault, StopsCheck, status_of}
 use Rattle.difane_cli.specs.Inputs.{and_then, case_files, first_plan, inputs_of, plan_from, read_files, read_net, read_schedule}
@@ -118,7 +117,6 @@ has_plan names net files is =
 
 pub sound_by_tie : (world : WorldValue) → world.is_spent ≡ false
     → (world.is_spent ≡ false → RefinesJournal world) → IsSetting (setting_at world)
-unfolding RefineJournal
 sound_by_tie world able refines = (refines able).sound
 
 -- ---- events

@@ -2,10 +2,8 @@
 use Rattle.std.proofs.Common.{◌≡◌, ◌<◌, ◌≤◌, false, arith}
 use Rattle.update_machine.specs.Packets.{next_packet}
 use Rattle.world.specs.State.{RefinesJournal, WorldValue}
-use Rattle.refinement.specs.Refinement.{RefineJournal}
 
 -- a step may be taken as long as there are few packets
 pub few_packets : (world : WorldValue) → (world.is_spent ≡ false → RefinesJournal world)
     → world.is_spent ≡ false → world.packets < 1000 → next_packet world.journal ≤ 4000000000
-unfolding RefineJournal
 few_packets world refines able few = omega (arith, (refines able).counted, few)

@@ -40,8 +40,7 @@ use Rattle.update_machine.specs.Setting.{Setting}
 use Rattle.update_machine.specs.LinkMasks.{near}
 use Rattle.update_machine.proofs.CallerLemmas.{last_given_append, messages_keep, switch_keeps}
 use Rattle.world_log.specs.Sending.{act_items, act_posts}
-use Rattle.refinement.specs.Refinement.{RefineJournal, Control, is_up_link}
-use Rattle.travelling.specs.Travelling.{Flights}
+use Rattle.refinement.specs.Refinement.{RefineJournal, NetworkState, is_up_link}
 use Rattle.refinement.proofs.Delivering.{nothing_happens}
 use Rattle.refinement.proofs.GoneSwitches.{up_as}
 use Rattle.refinement.proofs.Known.{reached_known}
@@ -59,15 +58,15 @@ same_filter now before (link ∷ links) same =
     ap (λ b. cond b (link ∷ filter now links) (filter now links)) (same link)
     ∙ ap (λ rest. cond (before link) (link ∷ rest) rest) (same_filter now before links same)
 
-module _ (control : Control) (setting : Setting) (journal : List Item)
-    (switches : List SwitchValue) (before : Flights) (count row s : ℕ) (own : SwitchValue)
-    (refines : RefineJournal setting journal switches before count control)
-    (may : IsStep setting.net (length setting.files) (Restart s)) (own_at : own ≡ get_or switches s own) where
-  boot_there : s < length switches
-  boot_there = switch_there control setting journal switches before count s refines may
+module _ {setting : Setting} {journal : List Item} {state : NetworkState}
+    (refines : RefineJournal setting journal state) (row s : ℕ) (own : SwitchValue)
+    (may : IsStep setting.net (length setting.files) (Restart s))
+    (own_at : own ≡ get_or state.switches s own) where
+  boot_there : s < length state.switches
+  boot_there = switch_there refines s may
 
   own_is : own ≡ switch_of setting journal s
-  own_is = switch_is control setting journal switches before count s own refines may own_at
+  own_is = switch_is refines s own may own_at
 
   own_up : is_up journal s ≡ own.is_up
   own_up = sym (up_as setting journal s) ∙ ap (λ (w : SwitchValue). w.is_up) (sym own_is)
@@ -80,10 +79,10 @@ module _ (control : Control) (setting : Setting) (journal : List Item)
       ∙ own_up
 
   pub up_already : own.is_up ≡ true
-      → WroteOne setting journal row (Restart s) item.Nothing switches before count control
+      → WroteOne setting journal row (Restart s) item.Nothing state
   unfolding piece restart_items
   up_already up =
-      nothing_happens control setting journal switches before count row (Restart s) refines may
+      nothing_happens refines row (Restart s) may
       (λ q. refl) (ap (λ b. item.Row row (Restart s) ∷ elim b [
         | true ↦ nothing
         | false ↦ items_then (item.Booted s (boot_of rowed s + 1) ∷ [])
@@ -91,13 +90,11 @@ module _ (control : Control) (setting : Setting) (journal : List Item)
       ]) (rowed_up ∙ up))
 
   -- it has a next boot
-  pub boot_next : own.is_up ≡ false → length control.posts < 990_000
+  pub boot_next : own.is_up ≡ false → length state.posts < 990_000
       → CanRestart own
-  unfolding RefineJournal
   boot_next down room =
       let fit : NumbersFit setting journal = subst (NumbersFit setting)
-      (sym refines.reached.written)
-      (fit_in_room setting refines.reached.steps refines.sound.net
+      (sym refines.reached.written) (fit_in_room setting refines.reached.steps refines.sound.net
       (subst HasRoom refines.reached.written (omega (arith, refines.bag.many, room)))) in
       subst CanRestart (sym own_is)
       (requirements_hold.restart setting journal s fit (own_up ∙ down))
@@ -128,14 +125,14 @@ module _ (control : Control) (setting : Setting) (journal : List Item)
   abbrev hello : Message
   hello = to_controller (Hello s boot)
 
-  number_is : next_message now ≡ length control.posts + 1
-  unfolding RefineJournal
-  number_is = (messages_keep journal (item.Row row (Restart s) ∷ booted ∷ []) (refl, (refl, tt))).next
+  number_is : next_message now ≡ length state.posts + 1
+  number_is =
+      (messages_keep journal (item.Row row (Restart s) ∷ booted ∷ []) (refl, (refl, tt))).next
       ∙ refines.bag.many
 
   pub boot_piece : own.is_up ≡ false → piece setting journal row (Restart s)
       ≡ item.Row row (Restart s) ∷ booted
-      ∷ item.Sent (length control.posts + 1) hello ∷ []
+      ∷ item.Sent (length state.posts + 1) hello ∷ []
   unfolding piece restart_items sent_from
   boot_piece down =
       ap (λ b. item.Row row (Restart s) ∷ elim b [
@@ -149,12 +146,12 @@ module _ (control : Control) (setting : Setting) (journal : List Item)
       ∙ ap (λ js. item.Row row (Restart s) ∷ booted ∷ send_items js (hello_of js s ∷ [])) split
       ∙ ap (λ k. item.Row row (Restart s) ∷ booted ∷ item.Sent k (hello_of now s) ∷ []) number_is
       ∙ ap (λ b. item.Row row (Restart s) ∷ booted
-      ∷ item.Sent (length control.posts + 1) (to_controller (Hello s b)) ∷ []) boot_now
+      ∷ item.Sent (length state.posts + 1) (to_controller (Hello s b)) ∷ []) boot_now
 
   -- a switch that is down serves not, nor does one that just booted
   serves_now : (x : ℕ) (b : Bool) → own.is_up ≡ false → (s == x) ≡ b
       → serves now x ≡ serves journal x
-  unfolding serves RefineJournal
+  unfolding serves
   serves_now x b down is =
       ap (λ js. serves js x) (sym split)
       ∙ ap (λ o. unwrap_or o true) (last_given_append (gives_serving x) rowed (booted ∷ []))
@@ -197,11 +194,11 @@ module _ (control : Control) (setting : Setting) (journal : List Item)
       (serves_now link.two (s == link.two) down refl)))
 
   abbrev items : List Item
-  items = item.Row row (Restart s) ∷ booted ∷ item.Sent (length control.posts + 1) hello ∷ []
+  items = item.Row row (Restart s) ∷ booted ∷ item.Sent (length state.posts + 1) hello ∷ []
 
   caused_rowed : own.is_up ≡ false → HaveCauses (HasItemCause setting) [] rowed
-  caused_rowed down = caused_first control setting journal switches before count row (Restart s)
-      [] (booted ∷ item.Sent (length control.posts + 1) hello ∷ []) refines may (boot_piece down)
+  caused_rowed down = caused_first refines row (Restart s) []
+      (booted ∷ item.Sent (length state.posts + 1) hello ∷ []) may (boot_piece down)
 
   own_now : own.is_up ≡ false → restarted_switch own ≡ switch_of setting now s
   own_now down =
@@ -233,24 +230,26 @@ module _ (control : Control) (setting : Setting) (journal : List Item)
           none false = refl
 
   pub boot_refines : (changed : SwitchValue) → own.is_up ≡ false → changed ≡ restarted_switch own
-      → RefineJournal setting (journal ++ items) (set switches s changed) before count
-      (record control { posts = control.posts ++ new_post hello ∷ [] })
-  unfolding RefineJournal act_items act_posts
+      → RefineJournal setting (journal ++ items) (record state {
+        switches = set state.switches s changed;
+        posts = state.posts ++ new_post hello ∷ [];
+      })
+  unfolding act_items act_posts
   boot_refines changed down changed_is =
-      refines_told control control setting journal switches (set switches s changed) before count
-      row
-      (Restart s) (booted ∷ []) (PostAct hello ∷ []) refines (record {
+      refines_told refines (record state {
+        switches = set state.switches s changed;
+      }) row (Restart s) (booted ∷ []) (PostAct hello ∷ []) (record {
         may = may;
         piece_is = boot_piece down;
         packet = λ i. (refl, (refl, tt));
         packets = (refl, (refl, tt));
-        as_many = length-set switches s changed;
-        each = λ q d below. one_changes setting journal now switches s q changed d (s == q) refl
-            boot_there (changed_is ∙ own_now down) (other_now down q) (refines.each q d below);
-        bag = bag_on journal (item.Row row (Restart s) ∷ booted ∷ []) control.posts
+        as_many = length-set state.switches s changed;
+        each = λ q d below. one_changes setting journal now state.switches s q changed d (s == q)
+            refl boot_there (changed_is ∙ own_now down) (other_now down q) (refines.each q d below);
+        bag = bag_on journal (item.Row row (Restart s) ∷ booted ∷ []) state.posts
             (refl, (refl, tt)) refines.bag;
         number = refl;
-        controller = steps_leave setting journal row (Restart s) control.controller
+        controller = steps_leave setting journal row (Restart s) state.controller
             (reached_known setting journal refines.sound refines.reached).caused refl
             refines.controller;
         up = λ q below. refines.up q below ∙ ap (λ rows. links_of rows q)

@@ -4,7 +4,6 @@ use Rattle.std.proofs.Common.{ℕ, ◌≡◌, ◌+◌, ◌-◌, ◌^◌, ◌<◌
 use Rattle.std.specs.Prelude.{◌&&◌, not, All}
 use Rattle.std.proofs.lemmas.List.{get_or_default, length-set}
 use Rattle.std.proofs.lemmas.List.Sums.{sum_by-cons}
-use Rattle.message_bag.specs.Posts.{new_post}
 use Rattle.controller.specs.declared.sends.Act.{Act}
 use Rattle.controller.specs.declared.sends.Act.TheVariants.{Post as PostAct}
 use Rattle.ctrl_msg.specs.declared.message.Message.{Message}
@@ -33,10 +32,10 @@ use Rattle.update_machine.specs.Travels.{packets_at}
 use Rattle.update_machine.specs.Ways.{targets_of}
 use Rattle.update_machine.specs.LinkMasks.{near}
 use Rattle.update_machine.proofs.CallerLemmas.{have_append, last_given_append, links_keep}
-use Rattle.refinement.specs.Linking.{AreRelinked, all_adverts_sent, near_all}
+use Rattle.world_log.specs.Linking.{AreRelinked, all_adverts_sent, near_all}
 use Rattle.steps.specs.Steps.{IsStep}
 use Rattle.world_log.specs.Sending.{MaySend, act_items}
-use Rattle.refinement.specs.Refinement.{RefineJournal, Control, is_up_link, up_links}
+use Rattle.refinement.specs.Refinement.{RefineJournal, NetworkState, is_up_link, up_links}
 use Rattle.refinement.specs.Flights.{flight_in}
 use Rattle.travelling.specs.Travelling.{Flights, WithoutAt, numbers_at, flight}
 use Rattle.refinement.proofs.ActItems.{SparesActs, acts_apart, acts_unnamed}
@@ -48,7 +47,7 @@ use Rattle.refinement.proofs.Standing.{among, among_numbers, numbers_are}
 use Rattle.refinement.proofs.Switches.{switch_is}
 use Rattle.refinement.proofs.Refining.{same_links}
 use Rattle.refinement.proofs.FactsAlong.{flight_along, flight_now}
-use Rattle.refinement.proofs.LinksChange.{one_relinks, one_advert, one_next, LinksChange, change_piece, change_may, change_refines}
+use Rattle.refinement.proofs.LinksChange.{relinked_state, one_relinks, one_advert, one_next, LinksChange, change_piece, change_may, change_refines}
 
 -- ---- what it writes
 
@@ -97,18 +96,18 @@ pub same_switch : (switches : List SwitchValue) (s : ℕ) (one other : SwitchVal
 same_switch switches s one other within one_at other_at =
     one_at ∙ get_or_default switches s one other within ∙ sym other_at
 
--- nothing happens where it is down
-pub stays_down : (control : Control) (setting : Setting) (journal : List Item)
-    (switches : List SwitchValue) (before : Flights) (count row s : ℕ) (own : SwitchValue)
-    → RefineJournal setting journal switches before count control
-    → IsStep setting.net (length setting.files) (Crash s)
-    → own ≡ get_or switches s own → own.is_up ≡ false
-    → WroteOne setting journal row (Crash s) item.Nothing switches before count control
-unfolding RefineJournal switch_of
-stays_down control setting journal switches before count row s own refines may own_at down =
-    nothing_happens control setting journal switches before count row (Crash s) refines may
-    (λ q. refl) (down_piece setting journal row s (sym (ap (λ (w : SwitchValue). w.is_up)
-    (switch_is control setting journal switches before count s own refines may own_at)) ∙ down))
+module _ {setting : Setting} {journal : List Item} {state : NetworkState}
+    (refines : RefineJournal setting journal state) where
+  -- nothing happens where it is down
+  pub stays_down : (row s : ℕ) (own : SwitchValue)
+      → IsStep setting.net (length setting.files) (Crash s)
+      → own ≡ get_or state.switches s own → own.is_up ≡ false
+      → WroteOne setting journal row (Crash s) item.Nothing state
+  unfolding switch_of
+  stays_down row s own may own_at down =
+      nothing_happens refines row (Crash s) may
+      (λ q. refl) (down_piece setting journal row s (sym (ap (λ (w : SwitchValue). w.is_up)
+      (switch_is refines s own may own_at)) ∙ down))
 
 -- ---- links
 
@@ -118,12 +117,10 @@ fallen_up : (journal : List Item) (row s : ℕ) (link : LinkRow)
 unfolding is_link_up
 fallen_up journal row s link = search (last_given_append)
 
-module _ (control : Control) (setting : Setting) (journal : List Item)
-    (switches : List SwitchValue) (before : Flights) (count row s : ℕ)
-    (own changed : SwitchValue)
-    (refines : RefineJournal setting journal switches before count control)
-    (may : IsStep setting.net (length setting.files) (Crash s)) (within : s < length switches)
-    (own_at : own ≡ get_or switches s own) (changed_is : changed ≡ crashed_switch own)
+module _ {setting : Setting} {journal : List Item} {state : NetworkState}
+    (refines : RefineJournal setting journal state) (row s : ℕ) (own changed : SwitchValue)
+    (may : IsStep setting.net (length setting.files) (Crash s)) (within : s < length state.switches)
+    (own_at : own ≡ get_or state.switches s own) (changed_is : changed ≡ crashed_switch own)
     (up : own.is_up ≡ true) where
   abbrev packets : List ℕ
   packets = packets_at journal s
@@ -147,7 +144,6 @@ module _ (control : Control) (setting : Setting) (journal : List Item)
   split = append_assoc journal (item.Row row (Crash s) ∷ item.Down s ∷ []) losts
 
   own_is : own ≡ switch_of setting journal s
-  unfolding RefineJournal
   own_is = own_at ∙ refines.each s own within
 
   was_up : is_up journal s ≡ true
@@ -198,7 +194,7 @@ module _ (control : Control) (setting : Setting) (journal : List Item)
   }
 
   abbrev others : List SwitchValue
-  others = set switches s changed
+  others = set state.switches s changed
 
   same_up : up_links setting now ≡ up_links setting journal
   same_up = same_links now journal setting.net.links (λ link.
@@ -213,17 +209,15 @@ module _ (control : Control) (setting : Setting) (journal : List Item)
       let down_sum = sum_by-cons (λ x. if is_packet x then 1 else 0) (item.Down s) losts in
       omega (arith, row_sum, down_sum, losts_bring_none packets)
 
-  changes : LinksChange setting journal row (Crash s) told switches others control control.links
-      control.posts
-  unfolding RefineJournal
+  changes : LinksChange setting journal row (Crash s) told state others state.links state.posts
   changes = record {
     may = may;
     piece_is = up_piece setting journal row s was_up;
     not_told = refl;
     none_come = none_come;
-    as_many = length-set switches s changed;
+    as_many = length-set state.switches s changed;
     number = refl;
-    bag = bag_on journal (item.Row row (Crash s) ∷ told) control.posts (
+    bag = bag_on journal (item.Row row (Crash s) ∷ told) state.posts (
       refl,
       (
         refl,
@@ -231,42 +225,37 @@ module _ (control : Control) (setting : Setting) (journal : List Item)
       ),
     ) refines.bag;
     up = λ q below. refines.up q below ∙ ap (λ rows. links_of rows q) (sym same_up);
-    relinks = one_relinks control setting journal switches before count row (Crash s) told s
-        changed refines within leaves (sym crashed_is
+    relinks = one_relinks refines row (Crash s) told s changed within leaves (sym crashed_is
         ∙ sym (ap (λ b. if b then near_changed changed (near setting now s) else changed)
         unchanged));
-    own = one_advert control setting journal switches before count row (Crash s) told s changed
-        refines within leaves
+    own = one_advert refines row (Crash s) told s changed within leaves
         (λ changes. let clash : true ≡ false = sym changes ∙ unchanged in absurd cc);
   }
 
   abbrev messages : List Message
-  messages = all_adverts_sent control.near (near_all control.links others) others
+  messages = all_adverts_sent state.near (near_all state.links others) others
 
   abbrev number : ℕ
-  number = length control.posts + 1
+  number = length state.posts + 1
 
-  numbers : numbers_at before s ≡ packets
-  numbers = numbers_are control setting journal switches before count s refines
+  numbers : numbers_at state.travelling s ≡ packets
+  numbers = numbers_are refines s
 
   pub crash_piece : piece setting journal row (Crash s)
       ≡ item.Row row (Crash s) ∷ item.Down s
-      ∷ map item.Lost (numbers_at before s) ++ sent_from number messages
-  crash_piece = change_piece control setting journal switches others before count row (Crash s)
-      told control.links control.posts refines changes
+      ∷ map item.Lost (numbers_at state.travelling s) ++ sent_from number messages
+  crash_piece = change_piece refines changes
       ∙ ap (λ all. item.Row row (Crash s) ∷ item.Down s
       ∷ map item.Lost all ++ sent_from number messages) (sym numbers)
 
-  pub crash_may : length control.posts < 990_000
-      → MaySend control.posts messages
-  crash_may = change_may control setting journal switches others before count row (Crash s)
-      told control.links control.posts refines changes
+  pub crash_may : length state.posts < 990_000
+      → MaySend state.posts messages
+  crash_may = change_may refines changes
 
   -- each switch has a next number for its own advert
-  pub crash_next : length control.posts < 990_000
+  pub crash_next : length state.posts < 990_000
       → All (λ (switch : SwitchValue). switch.seq < 2 ^ 32 - 1) others
-  crash_next room = one_next control setting journal switches before count row (Crash s) told s
-      changed refines within leaves room (λ next.
+  crash_next room = one_next refines row (Crash s) told s changed within leaves room (λ next.
       subst (λ (w : SwitchValue). w.seq < 2 ^ 32 - 1) (sym changed_is) (omega arith))
 
   -- ---- the parts behind it
@@ -278,13 +267,12 @@ module _ (control : Control) (setting : Setting) (journal : List Item)
   all = item.Row row (Crash s) ∷ told ++ act_items number acts
 
   -- the packets on their way
-  left : (after : Flights) → WithoutAt before s after → (i : ℕ)
+  left : (after : Flights) → WithoutAt state.travelling s after → (i : ℕ)
       → flight after i ≡ flight_in setting (journal ++ all) i
-  unfolding RefineJournal
   left after without i =
       without i
-      ∙ ap (λ b. if b then None else flight before i)
-      (sym (among_numbers before s i) ∙ ap (among i) numbers)
+      ∙ ap (λ b. if b then None else flight state.travelling i)
+      (sym (among_numbers state.travelling s i) ∙ ap (among i) numbers)
       ∙ ap (λ o. if among i packets then None else o)
       (refines.packet i ∙ flight_now setting journal i)
       ∙ sym (flight_along setting journal all i
@@ -301,20 +289,12 @@ module _ (control : Control) (setting : Setting) (journal : List Item)
       (refl, (refl, tt)) (acts_unnamed i number acts))
 
   pub crash_refines : (others_now : List SwitchValue) (after : Flights)
-      → AreRelinked control.near (near_all control.links others) others others_now
-      → WithoutAt before s after
+      → AreRelinked state.near (near_all state.links others) others others_now
+      → WithoutAt state.travelling s after
       → RefineJournal setting (journal ++ (item.Row row (Crash s) ∷ item.Down s
-      ∷ map item.Lost (numbers_at before s) ++ sent_from number messages)) others_now after count
-      (record control {
-        posts = control.posts ++ map new_post messages;
-        near = near_all control.links others;
-      })
+      ∷ map item.Lost (numbers_at state.travelling s) ++ sent_from number messages))
+      (relinked_state state others state.links state.posts others_now after)
   crash_refines others_now after are without =
       subst (λ (losses : List ℕ). RefineJournal setting (journal ++ (item.Row row (Crash s)
-      ∷ item.Down s ∷ map item.Lost losses ++ sent_from number messages)) others_now after count
-      (record control {
-        posts = control.posts ++ map new_post messages;
-        near = near_all control.links others;
-      })) (sym numbers)
-      (change_refines control setting journal switches others before count row (Crash s) told
-      control.links control.posts refines changes others_now after are (left after without))
+      ∷ item.Down s ∷ map item.Lost losses ++ sent_from number messages))
+      (relinked_state state others state.links state.posts others_now after)) (sym numbers) (change_refines refines changes others_now after are (left after without))

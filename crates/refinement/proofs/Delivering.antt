@@ -9,7 +9,6 @@ use Rattle.journal.specs.declared.item.Item.{Item}
 use Rattle.journal.specs.declared.item.Item.TheVariants as item
 use Rattle.steps.specs.declared.step.Step.{Step}
 use Rattle.steps.specs.declared.step.Step.TheVariants.{Forget}
-use Rattle.switch_core.specs.State.{SwitchValue}
 use Rattle.update_machine.specs.Concerns.{concerns_calls}
 use Rattle.update_machine.specs.Messages.{is_deliverable, is_forgotten, was_delivered}
 use Rattle.update_machine.specs.Pieces.{forget_items, nothing, piece}
@@ -17,9 +16,8 @@ use Rattle.steps.specs.Steps.{IsStep}
 use Rattle.update_machine.specs.Setting.{Setting}
 use Rattle.update_machine.specs.Links.{message_of}
 use Rattle.update_machine.proofs.CallerLemmas.{message_keeps}
-use Rattle.refinement.specs.Refinement.{RefineJournal, Control}
+use Rattle.refinement.specs.Refinement.{RefineJournal, NetworkState}
 use Rattle.refinement.specs.Bags.{IsBagOf, post_in}
-use Rattle.travelling.specs.Travelling.{Flights}
 use Rattle.refinement.proofs.OneItem.{WroteOne, refines_one}
 use Rattle.refinement.proofs.Posting.{bag_forgotten, bag_on, some_within}
 use Rattle.refinement.proofs.Refining.{switches_stay}
@@ -44,8 +42,7 @@ deliverable_as journal posts n bag =
     by_flag (Some m) was false = refl
 
 pub sent_as : (journal : List Item) (posts : List Post) (n : ℕ) (message : Message)
-    → IsBagOf journal posts → IsMessageOf posts n message
-    → message_of journal n ≡ Some message
+    → IsBagOf journal posts → IsMessageOf posts n message → message_of journal n ≡ Some message
 unfolding post_in
 sent_as journal posts n message bag is =
     by_flag (message_of journal n) (was_delivered journal n) (is_forgotten journal n)
@@ -86,25 +83,22 @@ forget_piece setting journal row n =
 
 -- ---- a step that does nothing
 
-pub nothing_happens : (control : Control) (setting : Setting) (journal : List Item)
-    (switches : List SwitchValue) (before : Flights) (count row : ℕ) (step : Step)
-    → RefineJournal setting journal switches before count control
-    → IsStep setting.net (length setting.files) step
-    → ((q : ℕ) → IsFalse (concerns_calls q journal (item.Row row step)))
-    → piece setting journal row step ≡ item.Row row step ∷ nothing
-    → WroteOne setting journal row step item.Nothing switches before count control
-unfolding RefineJournal
-nothing_happens control setting journal switches before count row step refines may uncalled is = (
-  is,
-  refines_one control control.posts setting journal switches switches before count row step
-      item.Nothing refines (search (rules, switches_stay, bag_on)),
-)
+module _ {setting : Setting} {journal : List Item} {state : NetworkState}
+    (refines : RefineJournal setting journal state) where
+  pub nothing_happens : (row : ℕ) (step : Step) → IsStep setting.net (length setting.files) step
+      → ((q : ℕ) → IsFalse (concerns_calls q journal (item.Row row step)))
+      → piece setting journal row step ≡ item.Row row step ∷ nothing
+      → WroteOne setting journal row step item.Nothing state
+  nothing_happens row step may uncalled is = (
+    is,
+    refines_one refines state.posts state.switches row step item.Nothing
+        (search (rules, switches_stay, bag_on)),
+  )
 
 -- ---- a message is forgotten
 
-module _ (control : Control) (setting : Setting) (journal : List Item)
-    (switches : List SwitchValue) (before : Flights) (count row n : ℕ)
-    (refines : RefineJournal setting journal switches before count control)
+module _ {setting : Setting} {journal : List Item} {state : NetworkState}
+    (refines : RefineJournal setting journal state) (row n : ℕ)
     (may : IsStep setting.net (length setting.files) (Forget n)) where
   abbrev first : Item
   first = item.Row row (Forget n)
@@ -113,31 +107,28 @@ module _ (control : Control) (setting : Setting) (journal : List Item)
   one = item.Forgotten n
 
   -- by whether the bag has it
-  piece_by : (b : Bool) → is_post_deliverable control.posts n ≡ b
+  piece_by : (b : Bool) → is_post_deliverable state.posts n ≡ b
       → piece setting journal row (Forget n) ≡ first ∷ (if b then one ∷ [] else nothing)
-  unfolding RefineJournal
   piece_by b is = forget_piece setting journal row n
       ∙ ap (λ c. first ∷ (if c then one ∷ [] else nothing))
-      (deliverable_as journal control.posts n refines.bag ∙ is)
+      (deliverable_as journal state.posts n refines.bag ∙ is)
 
-  pub forgotten_refines : is_post_deliverable control.posts n ≡ true
-      → WroteOne setting journal row (Forget n) one switches before count
-      (record control { posts = with_forgotten control.posts n })
-  unfolding RefineJournal
+  pub forgotten_refines : is_post_deliverable state.posts n ≡ true
+      → WroteOne setting journal row (Forget n) one
+      (record state { posts = with_forgotten state.posts n })
   forgotten_refines there =
       let is = piece_by true there in
-      let bag = subst (λ js. IsBagOf js (with_forgotten control.posts n))
+      let bag = subst (λ js. IsBagOf js (with_forgotten state.posts n))
       (append_assoc journal (first ∷ []) (one ∷ []))
-      (bag_forgotten (journal ++ first ∷ []) control.posts n (some_within control.posts n there)
-      (bag_on journal (first ∷ []) control.posts (refl, tt) refines.bag)) in (
+      (bag_forgotten (journal ++ first ∷ []) state.posts n (some_within state.posts n there)
+      (bag_on journal (first ∷ []) state.posts (refl, tt) refines.bag)) in (
         is,
-        refines_one control (with_forgotten control.posts n) setting journal switches
-            switches before count row (Forget n) one refines (search (rules, switches_stay)),
+        refines_one refines (with_forgotten state.posts n) state.switches row (Forget n) one
+            (search (rules, switches_stay)),
       )
 
   -- no such message may be forgotten
-  pub unforgotten : is_post_deliverable control.posts n ≡ false
-      → WroteOne setting journal row (Forget n) item.Nothing switches before count control
+  pub unforgotten : is_post_deliverable state.posts n ≡ false
+      → WroteOne setting journal row (Forget n) item.Nothing state
   unforgotten none =
-      nothing_happens control setting journal switches before count row (Forget n) refines may
-      (λ q. refl) (piece_by false none)
+      nothing_happens refines row (Forget n) may (λ q. refl) (piece_by false none)

@@ -16,9 +16,8 @@ use Rattle.refinement.proofs.Links.{kept_is}
 use Rattle.update_machine.specs.Pieces.{piece}
 use Rattle.steps.specs.Steps.{IsStep}
 use Rattle.update_machine.specs.Setting.{Setting}
-use Rattle.refinement.specs.Refinement.{RefineJournal, Control}
+use Rattle.refinement.specs.Refinement.{RefineJournal, NetworkState}
 use Rattle.refinement.specs.Bags.{IsBagOf}
-use Rattle.travelling.specs.Travelling.{Flights}
 use Rattle.refinement.proofs.OneItem.{WritesOne, WroteOne, grown, refines_one}
 use Rattle.refinement.proofs.Posting.{bag_on}
 use Rattle.refinement.proofs.Switches.{switch_is, switch_there}
@@ -51,8 +50,7 @@ expire_piece : (setting : Setting) (journal : List Item) (row s place : ℕ)
 unfolding piece
 expire_piece setting journal row s place =
     let first : Item = item.Row row (Expire s place) in
-    ap (λ items. first ∷ items)
-    (lives_refine.expires setting (journal ++ first ∷ []) s place
+    ap (λ items. first ∷ items) (lives_refine.expires setting (journal ++ first ∷ []) s place
     ∙ ap (λ (w : SwitchValue). expired_by s place
     (option_map entry_message (slice_get w.cache.entries place)))
     (row_leaves setting journal row s place s)
@@ -82,8 +80,7 @@ none_expired cache place none =
 
 -- the switch itself behind the step
 expired_own : (setting : Setting) (journal : List Item) (row s place : ℕ) (found : Option ℕ)
-    → message_at setting journal s place ≡ found
-    → entry_expired (switch_of setting journal s) place
+    → message_at setting journal s place ≡ found → entry_expired (switch_of setting journal s) place
     ≡ switch_of setting (grown journal row (Expire s place) (expired_item s place found)) s
 expired_own setting journal row s place None none =
     let switch : SwitchValue = switch_of setting journal s in
@@ -109,54 +106,48 @@ expired_other setting journal row s q place (Some message) other =
     kept_is setting q journal (item.Row row (Expire s place) ∷ item.Expired s place message ∷ [])
     (refl, (ap (λ b. b || false) other, tt)) (refl, (refl, tt))
 
--- the item concerns no packet, no message and no call
-expired_writes : (control : Control) (setting : Setting) (journal : List Item)
-    (switches : List SwitchValue) (row s place : ℕ) (changed : SwitchValue) (found : Option ℕ)
-    → IsStep setting.net (length setting.files) (Expire s place) → IsBagOf journal control.posts
-    → piece setting journal row (Expire s place)
-    ≡ item.Row row (Expire s place) ∷ expired_item s place found ∷ []
-    → ((q : ℕ) (d : SwitchValue) → q < length switches → get_or (set switches s changed) q d
-    ≡ switch_of setting (grown journal row (Expire s place) (expired_item s place found)) q)
-    → WritesOne setting journal row (Expire s place) (expired_item s place found) switches
-    (set switches s changed) control.posts
-expired_writes control setting journal switches row s place changed None may bag is each =
-    search (rules, bag_on, length-set)
-expired_writes control setting journal switches row s place changed (Some message) may bag is each =
-    search (rules, bag_on, length-set)
+module _ {setting : Setting} {journal : List Item} {state : NetworkState}
+    (refines : RefineJournal setting journal state) where
+  -- the item concerns no packet, no message and no call
+  expired_writes : (row s place : ℕ) (changed : SwitchValue) (found : Option ℕ)
+      → IsStep setting.net (length setting.files) (Expire s place) → IsBagOf journal state.posts
+      → piece setting journal row (Expire s place)
+      ≡ item.Row row (Expire s place) ∷ expired_item s place found ∷ []
+      → ((q : ℕ) (d : SwitchValue) → q < length state.switches
+      → get_or (set state.switches s changed) q d
+      ≡ switch_of setting (grown journal row (Expire s place) (expired_item s place found)) q)
+      → WritesOne setting journal row (Expire s place) (expired_item s place found) state.switches
+      (set state.switches s changed) state.posts
+  expired_writes row s place changed None may bag is each = search (rules, bag_on, length-set)
+  expired_writes row s place changed (Some message) may bag is each =
+      search (rules, bag_on, length-set)
 
-pub expired_refines : (control : Control) (setting : Setting) (journal : List Item)
-    (switches : List SwitchValue) (before : Flights) (count row s place : ℕ)
-    (own changed : SwitchValue) (found : Option ℕ)
-    → RefineJournal setting journal switches before count control
-    → IsStep setting.net (length setting.files) (Expire s place)
-    → own ≡ get_or switches s own → changed ≡ entry_expired own place
-    → found ≡ option_map (λ entry. entry.message) (slice_get own.cache.entries place)
-    → WroteOne setting journal row (Expire s place) (expired_item s place found)
-    (set switches s changed) before count control
-unfolding RefineJournal
-expired_refines control setting journal switches before count row s place own changed found refines
-    may
-    own_at changed_is found_is =
-    let there : s < length switches =
-    switch_there control setting journal switches before count s refines may.0 in
-    let own_is : own ≡ switch_of setting journal s =
-    switch_is control setting journal switches before count s own refines may.0 own_at in
-    let at : message_at setting journal s place ≡ found =
-    ap (λ (w : SwitchValue). option_map entry_message (slice_get w.cache.entries place))
-    (sym own_is) ∙ sym found_is in
-    let is : piece setting journal row (Expire s place)
-    ≡ item.Row row (Expire s place) ∷ expired_item s place found ∷ [] =
-    expire_piece setting journal row s place
-    ∙ ap (λ o. item.Row row (Expire s place) ∷ expired_item s place o ∷ []) at in (
-      is,
-      refines_one control control.posts setting journal switches (set switches s changed) before
-          count row (Expire s place) (expired_item s place found) refines
-          (expired_writes control setting journal switches row s place changed found may refines.bag
-          is
-          (λ q d below. one_changes setting journal
-          (grown journal row (Expire s place) (expired_item s place found)) switches s q changed d
-          (s == q) refl there
-          (changed_is ∙ ap (λ w. entry_expired w place) own_is
-          ∙ expired_own setting journal row s place found at)
-          (expired_other setting journal row s q place found) (refines.each q d below))),
-    )
+  pub expired_refines : (row s place : ℕ) (own changed : SwitchValue) (found : Option ℕ)
+      → IsStep setting.net (length setting.files) (Expire s place)
+      → own ≡ get_or state.switches s own → changed ≡ entry_expired own place
+      → found ≡ option_map (λ entry. entry.message) (slice_get own.cache.entries place)
+      → WroteOne setting journal row (Expire s place) (expired_item s place found)
+      (record state { switches = set state.switches s changed })
+  expired_refines row s place own changed found
+      may
+      own_at changed_is found_is =
+      let there : s < length state.switches =
+      switch_there refines s may.0 in
+      let own_is : own ≡ switch_of setting journal s =
+      switch_is refines s own may.0 own_at in
+      let at : message_at setting journal s place ≡ found =
+      ap (λ (w : SwitchValue). option_map entry_message (slice_get w.cache.entries place))
+      (sym own_is) ∙ sym found_is in
+      let is : piece setting journal row (Expire s place)
+      ≡ item.Row row (Expire s place) ∷ expired_item s place found ∷ [] =
+      expire_piece setting journal row s place
+      ∙ ap (λ o. item.Row row (Expire s place) ∷ expired_item s place o ∷ []) at in (
+        is,
+        refines_one refines state.posts (set state.switches s changed) row (Expire s place)
+            (expired_item s place found) (expired_writes row s place changed found may refines.bag
+            is (λ q d below. one_changes setting journal
+            (grown journal row (Expire s place) (expired_item s place found)) state.switches s q
+            changed d (s == q) refl there (changed_is ∙ ap (λ w. entry_expired w place) own_is
+            ∙ expired_own setting journal row s place found at)
+            (expired_other setting journal row s q place found) (refines.each q d below))),
+      )

@@ -13,7 +13,7 @@ use Rattle.failover.specs.Adverts.{first_advert, first_adverts, first_of}
 use Rattle.net_file.specs.Net.{IsNet}
 use Rattle.net_file.specs.declared.net.Net.{Net}
 use Rattle.net_file.specs.Owners.{links_of}
-use Rattle.refinement.specs.Linking.{AreNear}
+use Rattle.world_log.specs.Linking.{AreNear}
 
 -- of the neighbours, those of the switches alone are told
 first_same : (near other : List ℕ) (count s : ℕ) (b : Bool) → nat_lt s count ≡ b

@@ -21,9 +21,8 @@ use Rattle.update_machine.proofs.CallerLemmas.{switch_keeps}
 use Rattle.version_update.specs.Marks.{at_switch}
 use Rattle.version_update.specs.Record.{after_over}
 use Rattle.world_log.specs.Sending.{MayNote, act_items, act_posts}
-use Rattle.refinement.specs.Refinement.{RefineJournal, Control}
+use Rattle.refinement.specs.Refinement.{RefineJournal, NetworkState}
 use Rattle.refinement.specs.Bags.{IsBagOf}
-use Rattle.travelling.specs.Travelling.{Flights}
 use Rattle.refinement.proofs.ActItems.{written_is}
 use Rattle.refinement.proofs.Delivering.{nothing_happens}
 use Rattle.refinement.proofs.Known.{reached_known}
@@ -40,64 +39,60 @@ pub up_as : (setting : Setting) (journal : List Item) (s : ℕ)
 unfolding switch_of
 up_as setting journal s = refl
 
-module _ (control : Control) (setting : Setting) (journal : List Item)
-    (switches : List SwitchValue) (before : Flights) (count row s : ℕ) (own : SwitchValue)
-    (refines : RefineJournal setting journal switches before count control)
-    (may : IsStep setting.net (length setting.files) (Confirm s)) (own_at : own ≡ get_or switches s own) where
+module _ {setting : Setting} {journal : List Item} {state : NetworkState}
+    (refines : RefineJournal setting journal state) (row s : ℕ) (own : SwitchValue)
+    (may : IsStep setting.net (length setting.files) (Confirm s))
+    (own_at : own ≡ get_or state.switches s own) where
   own_up : is_up journal s ≡ own.is_up
   own_up = sym (up_as setting journal s) ∙ ap (λ (w : SwitchValue). w.is_up)
-      (sym (switch_is control setting journal switches before count s own refines may own_at))
+      (sym (switch_is refines s own may own_at))
 
   pub still_up : own.is_up ≡ true
-      → WroteOne setting journal row (Confirm s) item.Nothing switches before count control
+      → WroteOne setting journal row (Confirm s) item.Nothing state
   unfolding piece confirm_items
   still_up up =
       let rowed : List Item = journal ++ item.Row row (Confirm s) ∷ [] in
       let here : is_up rowed s ≡ true =
       (switch_keeps setting s journal (item.Row row (Confirm s) ∷ []) (refl, tt)).up
       ∙ own_up ∙ up in
-      nothing_happens control setting journal switches before count row (Confirm s) refines may
+      nothing_happens refines row (Confirm s) may
       (λ q. refl) (ap (λ b. item.Row row (Confirm s) ∷ elim b [
         | true ↦ nothing
         | false ↦ items_then (item.OverNow s ∷ []) (machine.settling setting) rowed
       ]) here)
 
   module _ (new : ControllerValue) (down : own.is_up ≡ false)
-      (settles : SettlesWith (at_switch s after_over control.controller.marks)
-      control.controller.plans new) where
+      (settles : SettlesWith (at_switch s after_over state.controller.marks)
+      state.controller.plans new) where
     abbrev acts : List Act
     acts = settling_acts (current_touched new)
-        (at_switch s after_over control.controller.marks) new.marks
+        (at_switch s after_over state.controller.marks) new.marks
 
     abbrev first : List Item
     first = item.Row row (Confirm s) ∷ item.OverNow s ∷ []
 
-    bag_behind : IsBagOf (journal ++ first) control.posts
-    unfolding RefineJournal
-    bag_behind = bag_on journal first control.posts (refl, (refl, tt)) refines.bag
+    bag_behind : IsBagOf (journal ++ first) state.posts
+    bag_behind = bag_on journal first state.posts (refl, (refl, tt)) refines.bag
 
     confirms_so : AreWritten setting journal first acts new
         (piece setting journal row (Confirm s))
-    unfolding RefineJournal
-    confirms_so = confirms setting journal row s control.controller new
+    confirms_so = confirms setting journal row s state.controller new
         (reached_known setting journal refines.sound refines.reached).caused refines.controller
-        (own_up ∙ down)
-        (switch_known control setting journal switches before count s refines may) settles
+        (own_up ∙ down) (switch_known refines s may) settles
 
     pub gone_piece : piece setting journal row (Confirm s) ≡ item.Row row (Confirm s)
-        ∷ item.OverNow s ∷ act_items (length control.posts + 1) acts
+        ∷ item.OverNow s ∷ act_items (length state.posts + 1) acts
     gone_piece = confirms_so.same
         ∙ ap (λ items. first ++ items) (written_is (journal ++ first) acts
         ∙ ap (λ k. act_items k acts) bag_behind.many)
 
     pub gone_refines : RefineJournal setting (journal ++ item.Row row (Confirm s) ∷ item.OverNow s
-        ∷ act_items (length control.posts + 1) acts) switches before count
-        (record control { controller = new; posts = control.posts ++ act_posts acts })
-    unfolding RefineJournal
-    gone_refines = refines_told control (record control { controller = new }) setting journal
-        switches switches before count row (Confirm s) (item.OverNow s ∷ []) acts refines
+        ∷ act_items (length state.posts + 1) acts)
+        (record state { controller = new; posts = state.posts ++ act_posts acts })
+    gone_refines = refines_told refines (record state { controller = new }) row (Confirm s)
+        (item.OverNow s ∷ []) acts
         (search (rules, gone_piece, bag_behind, confirms_so, switches_stay, links_stay, up_stay))
 
-    pub gone_may : length control.posts < 990_000 → MayNote control.posts acts
-    gone_may = may_note control setting journal switches before count row (Confirm s)
-        (item.OverNow s ∷ []) control.posts acts refines may gone_piece refl
+    pub gone_may : length state.posts < 990_000 → MayNote state.posts acts
+    gone_may = may_note refines row (Confirm s) (item.OverNow s ∷ []) state.posts acts may
+        gone_piece refl

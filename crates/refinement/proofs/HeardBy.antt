@@ -38,9 +38,8 @@ use Rattle.update_machine.specs.Boots.{is_to_switch}
 use Rattle.update_machine.specs.Links.{message_of}
 use Rattle.update_machine.proofs.CallerLemmas.{message_keeps}
 use Rattle.world_log.specs.Sending.{MayNote, MaySend, act_items, act_posts}
-use Rattle.refinement.specs.Refinement.{RefineJournal, Control}
+use Rattle.refinement.specs.Refinement.{RefineJournal, NetworkState}
 use Rattle.refinement.specs.Bags.{IsBagOf}
-use Rattle.travelling.specs.Travelling.{Flights}
 use Rattle.world_log.proofs.Sends.{posts_as_acts, sent_as_acts}
 use Rattle.refinement.proofs.ActItems.{written_is}
 use Rattle.refinement.proofs.Delivering.{deliverable_as, nothing_happens, sent_as}
@@ -77,18 +76,15 @@ none_piece : (setting : Setting) (journal : List Item) (row n : ℕ)
 unfolding piece deliver_items
 none_piece setting journal row n may = ap (delivered_if setting journal row n) may
 
--- no such message may be delivered
-pub undelivered : (control : Control) (setting : Setting) (journal : List Item)
-    (switches : List SwitchValue) (before : Flights) (count row n : ℕ)
-    → RefineJournal setting journal switches before count control
-    → IsStep setting.net (length setting.files) (Deliver n)
-    → is_post_deliverable control.posts n ≡ false
-    → WroteOne setting journal row (Deliver n) item.Nothing switches before count control
-unfolding RefineJournal
-undelivered control setting journal switches before count row n refines may none =
-    nothing_happens control setting journal switches before count row (Deliver n) refines may
-    (λ q. refl)
-    (none_piece setting journal row n (deliverable_as journal control.posts n refines.bag ∙ none))
+module _ {setting : Setting} {journal : List Item} {state : NetworkState}
+    (refines : RefineJournal setting journal state) where
+  -- no such message may be delivered
+  pub undelivered : (row n : ℕ) → IsStep setting.net (length setting.files) (Deliver n)
+      → is_post_deliverable state.posts n ≡ false
+      → WroteOne setting journal row (Deliver n) item.Nothing state
+  undelivered row n may none =
+      nothing_happens refines row (Deliver n) may (λ q. refl)
+      (none_piece setting journal row n (deliverable_as journal state.posts n refines.bag ∙ none))
 
 -- ---- the message
 
@@ -100,38 +96,33 @@ pub record IsThere (setting : Setting) (journal : List Item) (posts : List Post)
   pub bag : IsBagOf (grown journal row (Deliver n) (item.Delivered n)) (with_delivered posts n)
   pub as_many : length (with_delivered posts n) ≡ length posts
 
-pub is_there : (control : Control) (setting : Setting) (journal : List Item)
-    (switches : List SwitchValue) (before : Flights) (count row n : ℕ) (message : Message)
-    → RefineJournal setting journal switches before count control
-    → IsMessageOf control.posts n message
-    → IsThere setting journal control.posts row n message
-unfolding RefineJournal
-is_there control setting journal switches before count row n message refines there = record {
-  sent = sent_as journal control.posts n message refines.bag there;
-  deliverable = deliverable_as journal control.posts n refines.bag ∙ ap is_some there.frames_are;
-  bag = subst (λ js. IsBagOf js (with_delivered control.posts n))
-      (append_assoc journal (item.Row row (Deliver n) ∷ []) (item.Delivered n ∷ []))
-      (bag_delivered (journal ++ item.Row row (Deliver n) ∷ []) control.posts n
-      (within_posts control.posts n _ there.frames_are)
-      (bag_on journal (item.Row row (Deliver n) ∷ []) control.posts (refl, tt) refines.bag));
-  as_many = length_changed (with_status delivered_status) control.posts n;
-}
+module _ {setting : Setting} {journal : List Item} {state : NetworkState}
+    (refines : RefineJournal setting journal state) where
+  pub is_there : (row n : ℕ) (message : Message) → IsMessageOf state.posts n message
+      → IsThere setting journal state.posts row n message
+  is_there row n message there = record {
+    sent = sent_as journal state.posts n message refines.bag there;
+    deliverable = deliverable_as journal state.posts n refines.bag ∙ ap is_some there.frames_are;
+    bag = subst (λ js. IsBagOf js (with_delivered state.posts n))
+        (append_assoc journal (item.Row row (Deliver n) ∷ []) (item.Delivered n ∷ []))
+        (bag_delivered (journal ++ item.Row row (Deliver n) ∷ []) state.posts n
+        (within_posts state.posts n _ there.frames_are)
+        (bag_on journal (item.Row row (Deliver n) ∷ []) state.posts (refl, tt) refines.bag));
+    as_many = length_changed (with_status delivered_status) state.posts n;
+  }
 
--- it is delivered, and then more is written
-pub first_piece : (control : Control) (setting : Setting) (journal : List Item)
-    (switches : List SwitchValue) (before : Flights) (count row n : ℕ) (message : Message)
-    → RefineJournal setting journal switches before count control
-    → IsMessageOf control.posts n message
-    → piece setting journal row (Deliver n) ≡ item.Row row (Deliver n) ∷ item.Delivered n
-    ∷ delivery_items setting journal n (grown journal row (Deliver n) (item.Delivered n))
-first_piece control setting journal switches before count row n message refines there =
-    deliver_piece setting journal row n
-    (is_there control setting journal switches before count row n message refines there).deliverable
+  -- it is delivered, and then more is written
+  pub first_piece : (row n : ℕ) (message : Message) → IsMessageOf state.posts n message
+      → piece setting journal row (Deliver n) ≡ item.Row row (Deliver n) ∷ item.Delivered n
+      ∷ delivery_items setting journal n (grown journal row (Deliver n) (item.Delivered n))
+  first_piece row n message there =
+      deliver_piece setting journal row n (is_there row n message there).deliverable
 
 -- a row leaves a message
 pub row_keeps : (journal : List Item) (row n : ℕ)
     → message_of (journal ++ item.Row row (Deliver n) ∷ []) n ≡ message_of journal n
-row_keeps journal row n = (message_keeps n journal (item.Row row (Deliver n) ∷ []) (refl, tt)).message
+row_keeps journal row n =
+    (message_keeps n journal (item.Row row (Deliver n) ∷ []) (refl, tt)).message
 
 -- a switch to which the message isn't stays
 not_to : (setting : Setting) (journal : List Item) (row n q : ℕ) (message : Message)
@@ -151,57 +142,51 @@ as_told : (message : Message) → message.to ≡ receiver.Controller
     → message ≡ to_controller message.body
 as_told message to = ap (λ p. record { to = p; body = message.body }) to
 
--- what it names is there
-pub names_known : (control : Control) (setting : Setting) (journal : List Item)
-    (switches : List SwitchValue) (before : Flights) (count n : ℕ) (message : Message)
-    → RefineJournal setting journal switches before count control
-    → IsMessageOf control.posts n message → message.to ≡ receiver.Controller
-    → NamesThere message.body control.controller.marks
-unfolding RefineJournal
-names_known control setting journal switches before count n message refines there to =
-    names_there setting journal n message.body control.controller.marks
-    (reached_known setting journal refines.sound refines.reached).tables.names
-    refines.controller.marks
-    (sent_as journal control.posts n message refines.bag there ∙ ap Some (as_told message to))
+module _ {setting : Setting} {journal : List Item} {state : NetworkState}
+    (refines : RefineJournal setting journal state) where
+  -- what it names is there
+  pub names_known : (n : ℕ) (message : Message) → IsMessageOf state.posts n message
+      → message.to ≡ receiver.Controller → NamesThere message.body state.controller.marks
+  names_known n message there to =
+      names_there setting journal n message.body state.controller.marks
+      (reached_known setting journal refines.sound refines.reached).tables.names
+      refines.controller.marks
+      (sent_as journal state.posts n message refines.bag there ∙ ap Some (as_told message to))
 
-module _ (control : Control) (setting : Setting) (journal : List Item)
-    (switches : List SwitchValue) (before : Flights) (count row n : ℕ) (message : Message)
-    (new : ControllerValue) (refines : RefineJournal setting journal switches before count control)
-    (may : IsStep setting.net (length setting.files) (Deliver n)) (there : IsMessageOf control.posts n message)
-    (to : message.to ≡ receiver.Controller)
-    (settles : SettlesWith (marks_after message.body control.controller.marks)
-    control.controller.plans new) where
-  its : IsThere setting journal control.posts row n message
-  its = is_there control setting journal switches before count row n message refines there
+module _ {setting : Setting} {journal : List Item} {state : NetworkState}
+    (refines : RefineJournal setting journal state) (row n : ℕ) (message : Message)
+    (new : ControllerValue) (may : IsStep setting.net (length setting.files) (Deliver n))
+    (there : IsMessageOf state.posts n message) (to : message.to ≡ receiver.Controller)
+    (settles : SettlesWith (marks_after message.body state.controller.marks) state.controller.plans
+    new) where
+  its : IsThere setting journal state.posts row n message
+  its = is_there refines row n message there
 
   abbrev acts : List Act
-  acts = hear_acts message.body control.controller.marks new
+  acts = hear_acts message.body state.controller.marks new
 
   abbrev first : List Item
   first = item.Row row (Deliver n) ∷ item.Delivered n ∷ []
 
   heard_so : AreWritten setting journal first acts new (piece setting journal row (Deliver n))
-  unfolding RefineJournal
-  heard_so = hears setting journal row n message.body control.controller new
+  heard_so = hears setting journal row n message.body state.controller new
       (reached_known setting journal refines.sound refines.reached).caused refines.controller
-      its.deliverable
-      (its.sent ∙ ap Some (as_told message to))
-      (names_known control setting journal switches before count n message refines there to) settles
+      its.deliverable (its.sent ∙ ap Some (as_told message to))
+      (names_known refines n message there to) settles
 
   pub control_piece : piece setting journal row (Deliver n)
-      ≡ item.Row row (Deliver n) ∷ item.Delivered n ∷ act_items (length control.posts + 1) acts
+      ≡ item.Row row (Deliver n) ∷ item.Delivered n ∷ act_items (length state.posts + 1) acts
   control_piece = heard_so.same
       ∙ ap (λ items. first ++ items) (written_is (journal ++ first) acts
       ∙ ap (λ k. act_items k acts) (its.bag.many ∙ ap (λ k. k + 1) its.as_many))
 
-  control_told : IsTold setting journal row (Deliver n) (item.Delivered n ∷ []) acts switches
-      switches control (record control {
+  control_told : IsTold setting journal row (Deliver n) (item.Delivered n ∷ []) acts state
+      (record state {
         controller = new;
-        posts = with_delivered control.posts n;
+        posts = with_delivered state.posts n;
       })
-  unfolding RefineJournal
   control_told =
-      let each : (s : ℕ) (d : SwitchValue) → s < length switches → get_or switches s d
+      let each : (s : ℕ) (d : SwitchValue) → s < length state.switches → get_or state.switches s d
       ≡ switch_of setting (grown journal row (Deliver n) (item.Delivered n)) s =
       λ s d below. refines.each s d below
       ∙ sym (not_to setting journal row n s message its.sent (ap (is_to_switch s) to)) in
@@ -209,22 +194,18 @@ module _ (control : Control) (setting : Setting) (journal : List Item)
 
   pub control_refines : RefineJournal setting (journal ++ item.Row row (Deliver n)
       ∷ item.Delivered n
-      ∷ act_items (length control.posts + 1) acts) switches before count
-      (record control {
-        controller = new;
-        posts = with_delivered control.posts n ++ act_posts acts;
-      })
-  control_refines = refines_told control
-      (record control { controller = new; posts = with_delivered control.posts n }) setting
-      journal switches switches before count row (Deliver n) (item.Delivered n ∷ []) acts refines
-      control_told
+      ∷ act_items (length state.posts + 1) acts)
+      (record state { controller = new; posts = with_delivered state.posts n ++ act_posts acts })
+  control_refines = refines_told refines (record state {
+    controller = new;
+    posts = with_delivered state.posts n;
+  }) row (Deliver n) (item.Delivered n ∷ []) acts control_told
 
   -- and it may be written
-  pub control_may : length control.posts < 990_000
-      → MayNote (with_delivered control.posts n) acts
-  control_may = may_note control setting journal switches before count row (Deliver n)
-      (item.Delivered n ∷ []) (with_delivered control.posts n) acts refines may control_piece
-      its.as_many
+  pub control_may : length state.posts < 990_000
+      → MayNote (with_delivered state.posts n) acts
+  control_may = may_note refines row (Deliver n) (item.Delivered n ∷ [])
+      (with_delivered state.posts n) acts may control_piece its.as_many
 
 -- ---- at a switch that doesn't open
 
@@ -232,20 +213,19 @@ pub as_sent : (message : Message) (s : ℕ) → message.to ≡ receiver.Switch s
     → message ≡ to_switch s message.body
 as_sent message s to = ap (λ p. record { to = p; body = message.body }) to
 
-module _ (control : Control) (setting : Setting) (journal : List Item)
-    (switches : List SwitchValue) (before : Flights) (count row n s : ℕ) (message : Message)
+module _ {setting : Setting} {journal : List Item} {state : NetworkState}
+    (refines : RefineJournal setting journal state) (row n s : ℕ) (message : Message)
     (own changed : SwitchValue) (mask : ℕ)
-    (refines : RefineJournal setting journal switches before count control)
-    (may : IsStep setting.net (length setting.files) (Deliver n)) (there : IsMessageOf control.posts n message)
-    (to : message.to ≡ receiver.Switch s) (within : s < length switches)
-    (own_at : own ≡ get_or switches s own) (near_is : mask ≡ near setting journal s)
+    (may : IsStep setting.net (length setting.files) (Deliver n))
+    (there : IsMessageOf state.posts n message) (to : message.to ≡ receiver.Switch s)
+    (within : s < length state.switches) (own_at : own ≡ get_or state.switches s own)
+    (near_is : mask ≡ near setting journal s)
     (changed_is : changed ≡ with_message own n message.body)
     (shut : opening_stamp own message.body ≡ None) where
-  mine : IsThere setting journal control.posts row n message
-  mine = is_there control setting journal switches before count row n message refines there
+  mine : IsThere setting journal state.posts row n message
+  mine = is_there refines row n message there
 
   own_is : own ≡ switch_of setting journal s
-  unfolding RefineJournal
   own_is = own_at ∙ refines.each s own within
 
   abbrev messages : List Message
@@ -255,7 +235,6 @@ module _ (control : Control) (setting : Setting) (journal : List Item)
   reply_acts = map PostAct messages
 
   hears_shut : HearsShut setting journal n s message.body
-  unfolding RefineJournal
   hears_shut = hearing_refines.shut setting journal n s message.body refines.sound.net (record {
     sent = mine.sent ∙ ap Some (as_sent message s to);
     names = (reached_known setting journal refines.sound refines.reached).tables.names;
@@ -263,70 +242,76 @@ module _ (control : Control) (setting : Setting) (journal : List Item)
   }) (ap (λ w. opening_stamp w message.body) (sym own_is) ∙ shut)
 
   number_is : next_message (grown journal row (Deliver n) (item.Delivered n))
-      ≡ length control.posts + 1
+      ≡ length state.posts + 1
   number_is = mine.bag.many ∙ ap (λ k. k + 1) mine.as_many
 
   items_are : delivery_items setting journal n (grown journal row (Deliver n) (item.Delivered n))
-      ≡ act_items (length control.posts + 1) reply_acts
+      ≡ act_items (length state.posts + 1) reply_acts
   items_are = hears_shut.items row
       ∙ ap (λ k. sent_from k (replies (switch_of setting journal s) (near setting journal s)
       message.body)) number_is
-      ∙ ap (λ w. sent_from (length control.posts + 1) (replies w (near setting journal s)
+      ∙ ap (λ w. sent_from (length state.posts + 1) (replies w (near setting journal s)
       message.body)) (sym own_is)
-      ∙ ap (λ m. sent_from (length control.posts + 1) (replies own m message.body)) (sym near_is)
-      ∙ sym (sent_as_acts (length control.posts + 1) messages)
+      ∙ ap (λ m. sent_from (length state.posts + 1) (replies own m message.body)) (sym near_is)
+      ∙ sym (sent_as_acts (length state.posts + 1) messages)
 
   shut_piece_acts : piece setting journal row (Deliver n)
-      ≡ item.Row row (Deliver n) ∷ item.Delivered n ∷ act_items (length control.posts + 1) reply_acts
+      ≡ item.Row row (Deliver n) ∷ item.Delivered n ∷ act_items (length state.posts + 1) reply_acts
   shut_piece_acts = deliver_piece setting journal row n mine.deliverable
       ∙ ap (λ items. item.Row row (Deliver n) ∷ item.Delivered n ∷ items) items_are
 
   not_controller : is_message_to_controller journal n ≡ false
-  not_controller = ap (λ o. option_map_or (λ (m : Message). is_to_controller m.to) o false) mine.sent
+  not_controller = ap (λ o. option_map_or (λ (m : Message). is_to_controller m.to) o false)
+      mine.sent
       ∙ ap is_to_controller to
 
-  shut_told : IsTold setting journal row (Deliver n) (item.Delivered n ∷ []) reply_acts switches
-      (set switches s changed) control
-      (record control { posts = with_delivered control.posts n })
-  unfolding RefineJournal
+  shut_told : IsTold setting journal row (Deliver n) (item.Delivered n ∷ []) reply_acts state
+      (record state {
+        switches = set state.switches s changed;
+        posts = with_delivered state.posts n;
+      })
   shut_told =
-      let each : (q : ℕ) (d : SwitchValue) → q < length switches → get_or (set switches s changed) q d
+      let each : (q : ℕ) (d : SwitchValue) → q < length state.switches
+      → get_or (set state.switches s changed) q d
       ≡ switch_of setting (grown journal row (Deliver n) (item.Delivered n)) q = λ q d below.
-      one_changes setting journal (grown journal row (Deliver n) (item.Delivered n)) switches s q
-      changed d (s == q) refl within
+      one_changes setting journal (grown journal row (Deliver n) (item.Delivered n)) state.switches
+      s q changed d (s == q) refl within
       (changed_is ∙ ap (λ w. with_message w n message.body) own_is ∙ sym (hears_shut.record_of row))
       (λ other. not_to setting journal row n q message mine.sent
       (ap (is_to_switch q) to ∙ other)) (refines.each q d below) in
-      let controller = steps_leave setting journal row (Deliver n) control.controller
+      let controller = steps_leave setting journal row (Deliver n) state.controller
       (reached_known setting journal refines.sound refines.reached).caused not_controller
       refines.controller in
       search (rules, shut_piece_acts, mine.bag, mine.as_many, length-set, links_stay, up_stay)
 
   pub shut_piece : piece setting journal row (Deliver n)
-      ≡ item.Row row (Deliver n) ∷ item.Delivered n ∷ sent_from (length control.posts + 1) messages
+      ≡ item.Row row (Deliver n) ∷ item.Delivered n ∷ sent_from (length state.posts + 1) messages
   shut_piece = shut_piece_acts
       ∙ ap (λ items. item.Row row (Deliver n) ∷ item.Delivered n ∷ items)
-      (sent_as_acts (length control.posts + 1) messages)
+      (sent_as_acts (length state.posts + 1) messages)
 
   pub shut_refines : RefineJournal setting (journal ++ item.Row row (Deliver n) ∷ item.Delivered n
-      ∷ sent_from (length control.posts + 1) messages) (set switches s changed) before count
-      (record control { posts = with_delivered control.posts n ++ map new_post messages })
-  shut_refines = subst (λ items. RefineJournal setting (journal ++ item.Row row (Deliver n)
-      ∷ item.Delivered n ∷ items) (set switches s changed) before count (record control {
-        posts = with_delivered control.posts n ++ map new_post messages;
-      })) (sent_as_acts (length control.posts + 1) messages)
-      (subst (λ posts. RefineJournal setting (journal ++ item.Row row (Deliver n)
-      ∷ item.Delivered n ∷ act_items (length control.posts + 1) reply_acts) (set switches s changed)
-      before count (record control { posts = with_delivered control.posts n ++ posts }))
+      ∷ sent_from (length state.posts + 1) messages) (record state {
+        switches = set state.switches s changed;
+        posts = with_delivered state.posts n ++ map new_post messages;
+      })
+  shut_refines =
+      let with : List Post → NetworkState = λ posts. record state {
+        switches = set state.switches s changed;
+        posts = posts;
+      } in
+      let posts : List Post = with_delivered state.posts n in
+      subst (λ items. RefineJournal setting (journal ++ item.Row row (Deliver n)
+      ∷ item.Delivered n ∷ items) (with (posts ++ map new_post messages)))
+      (sent_as_acts (length state.posts + 1) messages)
+      (subst (λ more. RefineJournal setting (journal ++ item.Row row (Deliver n)
+      ∷ item.Delivered n ∷ act_items (length state.posts + 1) reply_acts) (with (posts ++ more)))
       (posts_as_acts messages)
-      (refines_told control (record control { posts = with_delivered control.posts n }) setting
-      journal switches (set switches s changed) before count row (Deliver n)
-      (item.Delivered n ∷ []) reply_acts refines shut_told))
+      (refines_told refines (with posts) row (Deliver n) (item.Delivered n ∷ []) reply_acts
+      shut_told))
 
-  pub shut_may : length control.posts < 990_000
-      → MaySend (with_delivered control.posts n) messages
-  shut_may room = may_send (with_delivered control.posts n) messages
-      (may_note control setting journal switches before count row (Deliver n)
-      (item.Delivered n ∷ []) (with_delivered control.posts n) reply_acts refines may
-      shut_piece_acts
-      mine.as_many room)
+  pub shut_may : length state.posts < 990_000
+      → MaySend (with_delivered state.posts n) messages
+  shut_may room = may_send (with_delivered state.posts n) messages
+      (may_note refines row (Deliver n) (item.Delivered n ∷ []) (with_delivered state.posts n)
+      reply_acts may shut_piece_acts mine.as_many room)

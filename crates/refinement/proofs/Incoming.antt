@@ -6,6 +6,7 @@ use Rattle.std.proofs.lemmas.List.Sums.{sum_by-cons}
 use Rattle.five_tuple.specs.declared.header.Header.{Header}
 use Rattle.net_file.specs.Owners.{AreOwners}
 use Rattle.net_file.specs.declared.ports.Ports.{Ports}
+use Rattle.message_bag.specs.Posts.{Post}
 use Rattle.journal.specs.declared.item.Item.{Item}
 use Rattle.journal.specs.declared.item.Item.TheVariants as item
 use Rattle.steps.specs.declared.step.Step.{Step}
@@ -23,7 +24,7 @@ use Rattle.update_machine.specs.Ways.{targets_of}
 use Rattle.packet_laws.specs.OnWay.{IsUnknown}
 use Rattle.packet_laws.specs.Facts.{what_is_known}
 use Rattle.world_log.specs.Packets.{coming_in, entry}
-use Rattle.refinement.specs.Refinement.{RefineJournal, Control}
+use Rattle.refinement.specs.Refinement.{RefineJournal, NetworkState}
 use Rattle.travelling.specs.Travelling.{Flights, WithOne, flight, Standing}
 use Rattle.world_log.specs.Writing.{entered_items, entered_posts, entered_flight}
 use Rattle.refinement.proofs.ComePieces.{come_along, come_called, entered_once}
@@ -37,32 +38,25 @@ use Rattle.refinement.proofs.FactsAlong.{same_targets}
 
 -- ---- the step
 
--- its number has 32 bits
-pub come_fits : (control : Control) (setting : Setting) (journal : List Item)
-    (switches : List SwitchValue)
-    (before : Flights) (count : ℕ) → RefineJournal setting journal switches before count control
-    → next_packet journal ≤ 4000000000 → count + 1 ≤ 4000000000
-unfolding RefineJournal
-come_fits control setting journal switches before count refines few = omega
-    (arith, refines.counted, few)
+module _ {setting : Setting} {journal : List Item} {state : NetworkState}
+    (refines : RefineJournal setting journal state) where
+  -- its number has 32 bits
+  pub come_fits : next_packet journal ≤ 4000000000 → state.packets + 1 ≤ 4000000000
+  come_fits few = omega
+      (arith, refines.counted, few)
 
-pub counted_is : (control : Control) (setting : Setting) (journal : List Item)
-    (switches : List SwitchValue) (before : Flights) (count : ℕ)
-    → RefineJournal setting journal switches before count control → next_packet journal ≡ count + 1
-unfolding RefineJournal
-counted_is control setting journal switches before count refines = refines.counted
+  pub counted_is : next_packet journal ≡ state.packets + 1
+  counted_is = refines.counted
 
-module _ (control : Control) (setting : Setting) (journal : List Item)
-    (switches : List SwitchValue) (before : Flights) (count row s : ℕ) (header : Header)
-    (ports : Ports) (own : SwitchValue)
-    (refines : RefineJournal setting journal switches before count control)
-    (may : IsStep setting.net (length setting.files) (PacketStep s header)) (owners : AreOwners setting.net.switches ports)
-    (its : own ≡ get_or switches s own) where
+module _ {setting : Setting} {journal : List Item} {state : NetworkState}
+    (refines : RefineJournal setting journal state) (row s : ℕ) (header : Header) (ports : Ports)
+    (own : SwitchValue) (may : IsStep setting.net (length setting.files) (PacketStep s header))
+    (owners : AreOwners setting.net.switches ports) (its : own ≡ get_or state.switches s own) where
   abbrev i : ℕ
-  i = count + 1
+  i = state.packets + 1
 
   abbrev near : ℕ
-  near = slice_index control.near s
+  near = slice_index state.near s
 
   abbrev taken : Step
   taken = PacketStep s header
@@ -80,10 +74,10 @@ module _ (control : Control) (setting : Setting) (journal : List Item)
   items = entered_items number (coming_in i header s) answer
 
   knows : Known setting journal
-  knows = known_of control setting journal switches before count refines
+  knows = known_of refines
 
   is_new : next_packet journal ≡ i
-  is_new = counted_is control setting journal switches before count refines
+  is_new = counted_is refines
 
   unknown : IsUnknown (what_is_known journal i)
   unknown = knows.kept.unknown i (omega (arith, is_new))
@@ -91,7 +85,7 @@ module _ (control : Control) (setting : Setting) (journal : List Item)
   comes : ComesTo setting journal i s header own near ports
   comes = record {
     knows = knows;
-    sees = seen control setting journal switches before count s own refines may.0 its;
+    sees = seen refines s own may.0 its;
     there = may.0;
     owners = owners;
     sound = may.1;
@@ -116,32 +110,32 @@ module _ (control : Control) (setting : Setting) (journal : List Item)
   once_in = entered_once number (coming_in i header s) answer
 
   -- so the tie holds behind it
-  steps_of : (after : Flights) → s < length switches
-      → own ≡ switch_of setting journal s
-      → WithOne before i (entered_flight answer) after
-      → Steps setting journal row taken items switches (set switches s (call_counted own)) after
+  steps_of : (after : Flights) → s < length state.switches
+      → own ≡ switch_of setting journal s → WithOne state.travelling i (entered_flight answer) after
+      → Steps setting journal row taken items state.switches
+      (set state.switches s (call_counted own)) after
   steps_of after there own_is with = record {
     may = may;
     piece_is = piece_is;
     not_told = refl;
     sends = sends;
-    as_many = length-set switches s (call_counted own);
+    as_many = length-set state.switches s (call_counted own);
     each = λ q d below.
-        one_changes setting journal (journal ++ first ∷ items) switches s q (call_counted own) d
-        (s == q) refl there
-        (ap call_counted own_is ∙ sym (come_called setting journal row number s (coming_in i header s) answer
+        one_changes setting journal (journal ++ first ∷ items) state.switches s q (call_counted own)
+        d (s == q) refl there (ap call_counted own_is
+        ∙ sym (come_called setting journal row number s (coming_in i header s) answer
         true sends (eq-eqb s s refl)))
         (come_called setting journal row number q (coming_in i header s) answer false sends)
-        (switches_are control setting journal switches before count refines q d below);
+        (switches_are refines q d below);
     travels = λ q. with q
         ∙ come_along setting journal row number taken
         (targets_of setting (looking journal row taken i s header)) (coming_in i header s) answer
-        (flight before q) q (q == i) knows refl unknown unknown.found
+        (flight state.travelling q) q (q == i) knows refl unknown unknown.found
         (come_goes setting journal row i s taken header own near ports comes)
         (λ leg. same_targets setting (journal ++ first ∷ []) (item.Entered i s header ∷ [])
         (refl, tt) leg ∙ same_targets setting journal (first ∷ []) (refl, tt) leg)
         (refl, (are_apart number (journal ++ first ∷ []) items sends).policies)
-        (packets_are control setting journal switches before count refines q);
+        (packets_are refines q);
   }
 
   -- and what it writes and posts, by the number of the switch and of the next message
@@ -150,50 +144,45 @@ module _ (control : Control) (setting : Setting) (journal : List Item)
 
   pub come_piece : piece setting journal row (PacketStep s header)
       ≡ item.Row row (PacketStep s header)
-      ∷ entered_items (length control.posts + 1) (coming_in (count + 1) header own.number)
-      (entry own (slice_index control.near s) ports (count + 1) header)
+      ∷ entered_items (length state.posts + 1) (coming_in (state.packets + 1) header own.number)
+      (entry own (slice_index state.near s) ports (state.packets + 1) header)
   come_piece =
       piece_is
       ∙ ap (λ k. first ∷ entered_items number (coming_in i header k) answer) (sym number_is)
-      ∙ ap (λ n. first ∷ entered_items n at answer)
-      (numbered control setting journal switches before count refines)
+      ∙ ap (λ n. first ∷ entered_items n at answer) (numbered refines)
 
-  pub come_refines : (after : Flights) (changed : SwitchValue) → s < length switches
+  pub come_refines : (after : Flights) (changed : SwitchValue) → s < length state.switches
       → own ≡ switch_of setting journal s → changed ≡ call_counted own
-      → WithOne before (count + 1) (entered_flight
-      (entry own (slice_index control.near s) ports (count + 1) header)) after
+      → WithOne state.travelling (state.packets + 1) (entered_flight
+      (entry own (slice_index state.near s) ports (state.packets + 1) header)) after
       → RefineJournal setting (journal ++ item.Row row (PacketStep s header)
-      ∷ entered_items (length control.posts + 1) (coming_in (count + 1) header own.number)
-      (entry own (slice_index control.near s) ports (count + 1) header))
-      (set switches s changed) after (count + 1) (record control {
-        posts = control.posts ++ entered_posts (coming_in (count + 1) header own.number)
-            (entry own (slice_index control.near s) ports (count + 1) header);
+      ∷ entered_items (length state.posts + 1) (coming_in (state.packets + 1) header own.number)
+      (entry own (slice_index state.near s) ports (state.packets + 1) header)) (record state {
+        switches = set state.switches s changed;
+        travelling = after;
+        packets = state.packets + 1;
+        posts = state.posts
+            ++ entered_posts (coming_in (state.packets + 1) header own.number)
+            (entry own (slice_index state.near s) ports (state.packets + 1) header);
       })
-  come_refines after changed there own_is changed_is with =
+  come_refines after changed there own_is changed_is entered =
       let sum = sum_by-cons (λ x. cond (is_packet x) 1 0) first items in
+      let with : SwitchValue → List Post → NetworkState = λ counted posts. record state {
+        switches = set state.switches s counted;
+        travelling = after;
+        packets = i;
+        posts = state.posts ++ posts;
+      } in
       let kept : RefineJournal setting (journal ++ first ∷ items)
-      (set switches s (call_counted own)) after i
-      (record control { posts = control.posts ++ posts_in items }) =
-      refines_more control setting journal switches (set switches s (call_counted own)) before after
-      count i row taken items refines (steps_of after there own_is with)
-      (omega (arith, sum, once_in)) in
+      (with (call_counted own) (posts_in items)) =
+      refines_more refines (set state.switches s (call_counted own)) after i row taken items
+      (steps_of after there own_is entered) (omega (arith, sum, once_in)) in
       subst (λ n. RefineJournal setting (journal ++ first ∷ entered_items n at answer)
-      (set switches s changed) after i
-      (record control { posts = control.posts ++ entered_posts at answer }))
-      (numbered control setting journal switches before count refines)
+      (with changed (entered_posts at answer))) (numbered refines)
       (subst (λ k. RefineJournal setting
       (journal ++ first ∷ entered_items number (coming_in i header k) answer)
-      (set switches s changed) after i
-      (record control {
-        posts = control.posts
-            ++ entered_posts (coming_in i header k) answer;
-      })) (sym number_is)
-      (subst (λ u. RefineJournal setting (journal ++ first ∷ items) (set switches s u) after i
-      (record control {
-        posts = control.posts
-            ++ entered_posts (coming_in i header s) answer;
-      })) (sym changed_is)
+      (with changed (entered_posts (coming_in i header k) answer))) (sym number_is)
+      (subst (λ u. RefineJournal setting (journal ++ first ∷ items)
+      (with u (entered_posts (coming_in i header s) answer))) (sym changed_is)
       (subst (λ more. RefineJournal setting (journal ++ first ∷ items)
-      (set switches s (call_counted own))
-      after i (record control { posts = control.posts ++ more }))
-      (entered_sends number (coming_in i header s) answer).1 kept)))
+      (with (call_counted own) more)) (entered_sends number (coming_in i header s) answer).1 kept)))

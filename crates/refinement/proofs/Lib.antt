@@ -10,7 +10,6 @@ pub mod Delivered
 pub mod Knowing
 pub mod Asked
 mod SwitchTrials
-pub mod Relinking
 mod Lengths
 mod Planned
 pub mod Spelled

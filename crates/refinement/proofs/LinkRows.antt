@@ -1,6 +1,6 @@
 -- The link of two switches comes back or fails: what its ends are then, what is told of that, and
 -- what the parts are behind it.
-use Rattle.std.proofs.Common.{ℕ, ◌≡◌, ◌+◌, ◌^◌, ◌<◌, ◌==◌, Bool, true, false, cond, Option, Some, None, List, [], ◌∷◌, ◌++◌, refl, ap, sym, ◌∙◌, length, get_or, map, filter, min, max, append_assoc, arith, eqb-true}
+use Rattle.std.proofs.Common.{ℕ, ◌≡◌, ◌+◌, ◌^◌, ◌<◌, ◌==◌, Bool, true, false, cond, Option, Some, None, List, [], ◌∷◌, ◌++◌, refl, ap, sym, ◌∙◌, length, get_or, filter, min, max, append_assoc, arith, eqb-true}
 use Rattle.std.specs.Bool.{beq}
 use Rattle.std.specs.Prelude.{◌||◌, ◌&&◌, if◌then◌else◌, unwrap_or}
 use Rattle.std.specs.Option.{option_or}
@@ -8,7 +8,6 @@ use Rattle.std.specs.List.{list_any}
 use Rattle.std.proofs.lemmas.Bool.{and_parts}
 use Rattle.std.proofs.lemmas.Bool.Decides.{nat_tests}
 use Rattle.ctrl_msg.specs.declared.message.Message.{Message}
-use Rattle.message_bag.specs.Posts.{new_post}
 use Rattle.journal.specs.declared.item.Item.{Item}
 use Rattle.journal.specs.declared.item.Item.TheVariants as item
 use Rattle.base.specs.Masks.{has}
@@ -34,13 +33,13 @@ use Rattle.update_machine.specs.Pieces.{link_items, nothing, piece}
 use Rattle.update_machine.specs.Setting.{Setting}
 use Rattle.update_machine.specs.LinkMasks.{near}
 use Rattle.update_machine.proofs.CallerLemmas.{last_given_append}
-use Rattle.refinement.specs.Linking.{AreRelinked, SetsLink, all_adverts_sent, link_step, near_all}
-use Rattle.refinement.specs.Refinement.{RefineJournal, Control, is_up_link, up_links}
-use Rattle.travelling.specs.Travelling.{Flights}
+use Rattle.refinement.specs.Links.{link_step}
+use Rattle.world_log.specs.Linking.{AreRelinked, SetsLink, all_adverts_sent, near_all}
+use Rattle.refinement.specs.Refinement.{RefineJournal, NetworkState, is_up_link, up_links}
 use Rattle.refinement.proofs.Delivering.{nothing_happens}
 use Rattle.refinement.proofs.OneItem.{WroteOne}
 use Rattle.refinement.proofs.Posting.{bag_on}
-use Rattle.refinement.proofs.LinksChange.{LinksChange, change_piece, change_may, unmoved, change_refines}
+use Rattle.refinement.proofs.LinksChange.{relinked_state, LinksChange, change_piece, change_may, unmoved, change_refines}
 use Rattle.world_log.specs.Sending.{MaySend}
 
 -- ---- links that are up
@@ -117,8 +116,7 @@ up_behind journal row step one two s k up =
     ap (λ o. unwrap_or o true) (last_given_append tells journal
     (item.Row row step ∷ item.LinkIs (min one two) (max one two) up ∷ []))
     ∙ ap (λ b. unwrap_or (option_or (option_or (if b then Some up else None) None)
-    (last_given tells journal)) true)
-    (same_ends one two s k)
+    (last_given tells journal)) true) (same_ends one two s k)
     ∙ by_test (joins s k (record { one = one; two = two })) (last_given tells journal)
   where
     by_test : (b : Bool) (was : Option Bool)
@@ -159,8 +157,7 @@ abbrev items_if : Setting → List Item → List Item → ℕ → ℕ → Bool �
 items_if setting before journal one two up same = elim same [
   | true ↦ nothing
   | false ↦ items_then (item.LinkIs (min one two) (max one two) up ∷ [])
-      (link_changes setting before)
-      journal
+      (link_changes setting before) journal
 ]
 
 -- it is so already
@@ -173,8 +170,7 @@ same_items setting before journal one two up same =
 
 -- or it changes
 other_items : (setting : Setting) (before journal : List Item) (one two : ℕ) (up : Bool)
-    → beq (is_link_up before one two) up ≡ false
-    → link_items setting before one two up journal
+    → beq (is_link_up before one two) up ≡ false → link_items setting before one two up journal
     ≡ item.LinkIs (min one two) (max one two) up
     ∷ link_changes setting before (journal ++ item.LinkIs (min one two) (max one two) up ∷ [])
 unfolding link_items
@@ -183,9 +179,8 @@ other_items setting before journal one two up other =
 
 -- ---- the tie
 
-module _ (control : Control) (setting : Setting) (journal : List Item)
-    (switches : List SwitchValue) (before : Flights) (count row one two : ℕ) (up : Bool)
-    (refines : RefineJournal setting journal switches before count control)
+module _ {setting : Setting} {journal : List Item} {state : NetworkState}
+    (refines : RefineJournal setting journal state) (row one two : ℕ) (up : Bool)
     (may : IsStep setting.net (length setting.files) (link_step up one two)) where
   abbrev step : Step
   step = link_step up one two
@@ -195,7 +190,6 @@ module _ (control : Control) (setting : Setting) (journal : List Item)
 
   -- its ends are switches
   pub ends_below : (one < 64) × (two < 64)
-  unfolding RefineJournal
   ends_below =
       let back : HasLink setting.net two one =
       link_laws.both_ways setting.net.links two one ∙ linked in (
@@ -212,8 +206,7 @@ module _ (control : Control) (setting : Setting) (journal : List Item)
       )
 
   -- the mask of one end has the other one where the link is up
-  end_is : has (get_or control.links one 0) two ≡ is_link_up journal one two
-  unfolding RefineJournal
+  end_is : has (get_or state.links one 0) two ≡ is_link_up journal one two
   end_is =
       ap (λ mask. has mask two) (refines.up one ends_below.0)
       ∙ has_mask (are_linked (up_links setting journal) one) two ends_below.1
@@ -221,17 +214,17 @@ module _ (control : Control) (setting : Setting) (journal : List Item)
       ∙ ap (λ b. b && is_link_up journal one two) linked
 
   -- nothing happens where it is so already
-  pub same_refines : beq (has (get_or control.links one 0) two) up ≡ true
-      → WroteOne setting journal row step item.Nothing switches before count control
+  pub same_refines : beq (has (get_or state.links one 0) two) up ≡ true
+      → WroteOne setting journal row step item.Nothing state
   same_refines same =
-      nothing_happens control setting journal switches before count row step refines may
+      nothing_happens refines row step may
       (λ q. uncalled journal q row one two up) (link_piece setting journal row one two up
       ∙ ap (λ items. item.Row row step ∷ items)
       (same_items setting journal (journal ++ item.Row row step ∷ []) one two up
       (ap (λ b. beq b up) (sym end_is) ∙ same)))
 
-  module _ (links : List ℕ) (other : beq (has (get_or control.links one 0) two) up ≡ false)
-      (sets : SetsLink control.links one two up links)
+  module _ (links : List ℕ) (other : beq (has (get_or state.links one 0) two) up ≡ false)
+      (sets : SetsLink state.links one two up links)
       (fit : (s : ℕ) → get_or links s 0 < 2 ^ 64) where
     abbrev link : LinkRow
     link = record { one = one; two = two }
@@ -291,11 +284,9 @@ module _ (control : Control) (setting : Setting) (journal : List Item)
 
     up_now : (s k : ℕ) → s < 64 → k < 64
         → has (get_or links s 0) k ≡ are_linked (up_links setting now) s k
-    unfolding RefineJournal
     up_now s k small below =
         sets s k small below
-        ∙ ap (λ b. if joins s k link then up else b)
-        (ap (λ mask. has mask k) (refines.up s small)
+        ∙ ap (λ b. if joins s k link then up else b) (ap (λ mask. has mask k) (refines.up s small)
         ∙ has_mask (are_linked (up_links setting journal) s) k below
         ∙ up_linked setting journal s k)
         ∙ by_end (joins s k link) (are_linked setting.net.links s k) (is_link_up journal s k)
@@ -304,9 +295,7 @@ module _ (control : Control) (setting : Setting) (journal : List Item)
         (sym (up_behind journal row step one two s k up))
         ∙ sym (up_linked setting now s k)
 
-    changes : LinksChange setting journal row step told switches switches control links
-        control.posts
-    unfolding RefineJournal
+    changes : LinksChange setting journal row step told state state.switches links state.posts
     changes = record {
       may = may;
       piece_is = piece_so;
@@ -314,7 +303,7 @@ module _ (control : Control) (setting : Setting) (journal : List Item)
       none_come = refl;
       as_many = refl;
       number = refl;
-      bag = bag_on journal (item.Row row step ∷ told) control.posts (refl, (refl, tt)) refines.bag;
+      bag = bag_on journal (item.Row row step ∷ told) state.posts (refl, (refl, tt)) refines.bag;
       up = λ q below. mask_of_is (get_or links q 0) (are_linked (up_links setting now) q) (fit q)
           (λ k small. up_now q k below small);
       relinks = λ q d below. links_refine.relinked setting q journal row step told (leaves q)
@@ -325,29 +314,21 @@ module _ (control : Control) (setting : Setting) (journal : List Item)
     }
 
     abbrev messages : List Message
-    messages = all_adverts_sent control.near (near_all links switches) switches
+    messages = all_adverts_sent state.near (near_all links state.switches) state.switches
 
     pub set_piece : piece setting journal row step
-        ≡ item.Row row step ∷ first ∷ sent_from (length control.posts + 1) messages
-    set_piece = change_piece control setting journal switches switches before count row step told
-        links control.posts refines changes
+        ≡ item.Row row step ∷ first ∷ sent_from (length state.posts + 1) messages
+    set_piece = change_piece refines changes
 
-    pub set_may : length control.posts < 990_000
-        → MaySend control.posts messages
-    set_may = change_may control setting journal switches switches before count row step told
-        links control.posts refines changes
+    pub set_may : length state.posts < 990_000
+        → MaySend state.posts messages
+    set_may = change_may refines changes
 
     -- the parts behind the step, where these are the switches
     pub set_refines : (others : List SwitchValue)
-        → AreRelinked control.near (near_all links switches) switches others
+        → AreRelinked state.near (near_all links state.switches) state.switches others
         → RefineJournal setting (journal ++ item.Row row step ∷ first
-        ∷ sent_from (length control.posts + 1) messages) others before count (record control {
-          links = links;
-          near = near_all links switches;
-          posts = control.posts ++ map new_post messages;
-        })
-    set_refines others are = change_refines control setting journal switches switches before count
-        row
-        step told links control.posts refines changes others before are
-        (unmoved control setting journal switches switches before count row step told links
-        control.posts refines changes (λ i. (refl, (refl, tt))))
+        ∷ sent_from (length state.posts + 1) messages)
+        (relinked_state state state.switches links state.posts others state.travelling)
+    set_refines others are = change_refines refines changes others state.travelling are
+        (unmoved refines changes (λ i. (refl, (refl, tt))))

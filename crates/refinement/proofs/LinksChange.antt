@@ -46,79 +46,68 @@ use Rattle.update_machine.specs.Pieces.{piece}
 use Rattle.update_machine.specs.Setting.{Setting}
 use Rattle.update_machine.specs.SwitchNumbers.{switches_of}
 use Rattle.update_machine.proofs.CallerLemmas.{count_of_append}
-use Rattle.refinement.specs.Linking.{AreRelinked, all_adverts_sent, near_all}
+use Rattle.world_log.specs.Linking.{AreRelinked, all_adverts_sent, near_all}
 use Rattle.world_log.specs.Sending.{MaySend, act_items, act_posts}
 use Rattle.world_log.proofs.Sends.{posts_as_acts, sent_as_acts}
-use Rattle.refinement.specs.Refinement.{RefineJournal, AreUp, AreUsable, Control, up_links}
+use Rattle.refinement.specs.Refinement.{RefineJournal, AreUp, AreUsable, NetworkState, up_links}
 use Rattle.refinement.proofs.ActItems.{acts_bring_none, acts_posted, acts_send, acts_unnamed}
 use Rattle.refinement.proofs.Relinked.{CanRelink, near_now, switches_now, told_now, up_ends}
 use Rattle.refinement.proofs.Told.{acts_leave, links_left}
 use Rattle.refinement.proofs.Refining.{controller_stays, refines_taken}
 use Rattle.refinement.proofs.Sendable.{may_note, may_send}
 
--- so have those behind the row
-pub caused_first : (control : Control) (setting : Setting) (journal : List Item)
-    (switches : List SwitchValue) (before : Flights) (count row : ℕ) (step : Step)
-    (first rest : List Item) → RefineJournal setting journal switches before count control
-    → IsStep setting.net (length setting.files) step
-    → piece setting journal row step ≡ item.Row row step ∷ first ++ rest
-    → HaveCauses (HasItemCause setting) [] (journal ++ item.Row row step ∷ first)
-unfolding RefineJournal
-caused_first control setting journal switches before count row step first rest refines may is =
-    have_front (HasItemCause setting) [] (journal ++ item.Row row step ∷ first) rest
-    (subst (HaveCauses (HasItemCause setting) [])
-    (ap (λ items. journal ++ items) is
-    ∙ sym (append_assoc journal (item.Row row step ∷ first) rest))
-    (reached_known setting (journal ++ piece setting journal row step) refines.sound
-    (reached_more setting journal row step refines.reached may)).caused)
+module _ {setting : Setting} {journal : List Item} {state : NetworkState}
+    (refines : RefineJournal setting journal state) where
+  -- so have those behind the row
+  pub caused_first : (row : ℕ) (step : Step) (first rest : List Item)
+      → IsStep setting.net (length setting.files) step
+      → piece setting journal row step ≡ item.Row row step ∷ first ++ rest
+      → HaveCauses (HasItemCause setting) [] (journal ++ item.Row row step ∷ first)
+  caused_first row step first rest may is =
+      have_front (HasItemCause setting) [] (journal ++ item.Row row step ∷ first) rest
+      (subst (HaveCauses (HasItemCause setting) []) (ap (λ items. journal ++ items) is
+      ∙ sym (append_assoc journal (item.Row row step ∷ first) rest))
+      (reached_known setting (journal ++ piece setting journal row step) refines.sound
+      (reached_more setting journal row step refines.reached may)).caused)
 
--- each switch has a next number for its own advert
-pub next_left : (control : Control) (setting : Setting) (journal : List Item)
-    (switches : List SwitchValue) (before : Flights) (count : ℕ)
-    → RefineJournal setting journal switches before count control → length control.posts < 990_000
-    → (q : ℕ) → q < length switches → HasNextSeq (switch_of setting journal q)
-unfolding RefineJournal
-next_left control setting journal switches before count refines room q below =
-    let fit : NumbersFit setting journal = subst (NumbersFit setting) (sym refines.reached.written)
-    (fit_in_room setting refines.reached.steps refines.sound.net
-    (subst HasRoom refines.reached.written (omega (arith, refines.bag.many, room)))) in
-    requirements_hold.near_changed setting journal q fit (omega (arith, below, refines.many))
+  -- each switch has a next number for its own advert
+  pub next_left : length state.posts < 990_000
+      → (q : ℕ) → q < length state.switches → HasNextSeq (switch_of setting journal q)
+  next_left room q below =
+      let fit : NumbersFit setting journal = subst (NumbersFit setting)
+      (sym refines.reached.written) (fit_in_room setting refines.reached.steps refines.sound.net
+      (subst HasRoom refines.reached.written (omega (arith, refines.bag.many, room)))) in
+      requirements_hold.near_changed setting journal q fit (omega (arith, below, refines.many))
 
-pub numbers_left : (control : Control) (setting : Setting) (journal : List Item)
-    (switches : List SwitchValue) (before : Flights) (count : ℕ)
-    → RefineJournal setting journal switches before count control → length control.posts < 990_000
-    → All (λ (switch : SwitchValue). switch.seq < 2 ^ 32 - 1) switches
-unfolding RefineJournal
-numbers_left control setting journal switches before count refines room = λ q d below.
-    subst (λ (w : SwitchValue). w.seq < 2 ^ 32 - 1) (sym (refines.each q d below))
-    (next_left control setting journal switches before count refines room q below).now
+  pub numbers_left : length state.posts < 990_000
+      → All (λ (switch : SwitchValue). switch.seq < 2 ^ 32 - 1) state.switches
+  numbers_left room = λ q d below.
+      subst (λ (w : SwitchValue). w.seq < 2 ^ 32 - 1) (sym (refines.each q d below))
+      (next_left room q below).now
 
 -- ---- one switch is another one behind the first items, and the others hear nothing
 
-module _ (control : Control) (setting : Setting) (journal : List Item)
-    (switches : List SwitchValue) (before : Flights) (count row : ℕ) (step : Step)
-    (first : List Item) (s : ℕ) (changed : SwitchValue)
-    (refines : RefineJournal setting journal switches before count control)
-    (within : s < length switches)
+module _ {setting : Setting} {journal : List Item} {state : NetworkState}
+    (refines : RefineJournal setting journal state) (row : ℕ) (step : Step) (first : List Item)
+    (s : ℕ) (changed : SwitchValue) (within : s < length state.switches)
     (leaves : (q : ℕ) → (s == q) ≡ false → LeavesSwitch q journal row step first) where
   abbrev behind : List Item
   behind = journal ++ item.Row row step ∷ first
 
   abbrev with_one : List SwitchValue
-  with_one = set switches s changed
+  with_one = set state.switches s changed
 
   here : (d : SwitchValue) → get_or with_one s d ≡ changed
-  here d = get_or-set_same switches s changed d within
+  here d = get_or-set_same state.switches s changed d within
 
-  stays : (q : ℕ) (d : SwitchValue) → (s == q) ≡ false → q < length switches
+  stays : (q : ℕ) (d : SwitchValue) → (s == q) ≡ false → q < length state.switches
       → switch_of setting journal q ≡ get_or with_one q d
-  unfolding RefineJournal
   stays q d is below = sym (refines.each q d below)
-      ∙ sym (get_or-set_other switches s q changed d (λ e. let own : (s == q) ≡ true =
+      ∙ sym (get_or-set_other state.switches s q changed d (λ e. let own : (s == q) ≡ true =
       ap (λ k. s == k) e ∙ eq-eqb s s refl in absurd cc))
 
   pub one_relinks : switch_of setting behind s ≡ relinked_switch setting journal behind s changed
-      → (q : ℕ) (d : SwitchValue) → q < length switches
+      → (q : ℕ) (d : SwitchValue) → q < length state.switches
       → switch_of setting behind q ≡ relinked_switch setting journal behind q (get_or with_one q d)
   one_relinks own q d below = by_switch (s == q) refl
     where
@@ -135,7 +124,7 @@ module _ (control : Control) (setting : Setting) (journal : List Item)
 
   pub one_advert : (has_changed setting journal behind s ≡ true
       → own_advert setting behind s ≡ next_advert changed (near setting behind s))
-      → (q : ℕ) (d : SwitchValue) → q < length switches
+      → (q : ℕ) (d : SwitchValue) → q < length state.switches
       → has_changed setting journal behind q ≡ true
       → own_advert setting behind q ≡ next_advert (get_or with_one q d) (near setting behind q)
   one_advert own q d below = by_switch (s == q) refl
@@ -151,18 +140,18 @@ module _ (control : Control) (setting : Setting) (journal : List Item)
           links_refine.advert setting q journal row step first (leaves q is) changes
           ∙ ap (λ w. next_advert w (near setting behind q)) (stays q d is below)
 
-  pub one_next : length control.posts < 990_000
+  pub one_next : length state.posts < 990_000
       → (HasNextSeq (switch_of setting journal s) → changed.seq < 2 ^ 32 - 1)
       → All (λ (switch : SwitchValue). switch.seq < 2 ^ 32 - 1) with_one
   one_next room own = λ q d below.
-      let there : q < length switches =
-      omega (arith, below, length-set switches s changed) in
+      let there : q < length state.switches =
+      omega (arith, below, length-set state.switches s changed) in
       by_switch q d (s == q) refl there
     where
-      next : (q : ℕ) → q < length switches → HasNextSeq (switch_of setting journal q)
-      next = next_left control setting journal switches before count refines room
+      next : (q : ℕ) → q < length state.switches → HasNextSeq (switch_of setting journal q)
+      next = next_left refines room
 
-      by_switch : (q : ℕ) (d : SwitchValue) (b : Bool) → (s == q) ≡ b → q < length switches
+      by_switch : (q : ℕ) (d : SwitchValue) (b : Bool) → (s == q) ≡ b → q < length state.switches
           → (get_or with_one q d).seq < 2 ^ 32 - 1
       by_switch q d true is there =
           subst (λ k. (get_or with_one k d).seq < 2 ^ 32 - 1) (eqb-true s q is)
@@ -175,31 +164,40 @@ module _ (control : Control) (setting : Setting) (journal : List Item)
 -- the step writes these items first, and what is told as links change; behind the first ones these
 -- are the switches before their links change, the links that are up and the messages
 pub record LinksChange (setting : Setting) (journal : List Item) (row : ℕ) (step : Step)
-    (first : List Item) (switches others : List SwitchValue) (control : Control)
-    (links : List ℕ) (posts : List Post) : Type 0 where
+    (first : List Item) (state : NetworkState) (others : List SwitchValue) (links : List ℕ)
+    (posts : List Post) : Type 0 where
   pub may : IsStep setting.net (length setting.files) step
   pub piece_is : piece setting journal row step ≡ item.Row row step
       ∷ first ++ link_changes setting journal (journal ++ item.Row row step ∷ first)
   pub not_told : IsFalse (asks_controller journal step)
   pub none_come : count_of is_packet (item.Row row step ∷ first) ≡ 0
-  pub as_many : length others ≡ length switches
-  pub number : length posts ≡ length control.posts
+  pub as_many : length others ≡ length state.switches
+  pub number : length posts ≡ length state.posts
   pub bag : IsBagOf (journal ++ item.Row row step ∷ first) posts
   pub up : AreUp setting (journal ++ item.Row row step ∷ first) links
-  pub relinks : (q : ℕ) (d : SwitchValue) → q < length switches
+  pub relinks : (q : ℕ) (d : SwitchValue) → q < length state.switches
       → switch_of setting (journal ++ item.Row row step ∷ first) q
       ≡ relinked_switch setting journal (journal ++ item.Row row step ∷ first) q (get_or others q d)
-  pub own : (q : ℕ) (d : SwitchValue) → q < length switches
+  pub own : (q : ℕ) (d : SwitchValue) → q < length state.switches
       → has_changed setting journal (journal ++ item.Row row step ∷ first) q ≡ true
       → own_advert setting (journal ++ item.Row row step ∷ first) q
       ≡ next_advert (get_or others q d) (near setting (journal ++ item.Row row step ∷ first) q)
 
-module _ (control : Control) (setting : Setting) (journal : List Item)
-    (switches others : List SwitchValue) (before : Flights) (count row : ℕ) (step : Step)
-    (first : List Item) (links : List ℕ) (posts : List Post)
-    (refines : RefineJournal setting journal switches before count control)
-    (changes : LinksChange setting journal row step first switches others control links
-    posts) where
+-- the state behind it, where these are the switches then, and the packets on their way
+abbrev pub relinked_state : NetworkState → List SwitchValue → List ℕ → List Post
+    → List SwitchValue → Flights → NetworkState
+relinked_state state others links posts later after = record state {
+  switches = later;
+  travelling = after;
+  posts = posts ++ map new_post (all_adverts_sent state.near (near_all links others) others);
+  links = links;
+  near = near_all links others;
+}
+
+module _ {setting : Setting} {journal : List Item} {row : ℕ} {step : Step} {first : List Item}
+    {state : NetworkState} {others : List SwitchValue} {links : List ℕ} {posts : List Post}
+    (refines : RefineJournal setting journal state)
+    (changes : LinksChange setting journal row step first state others links posts) where
   abbrev now : List Item
   now = journal ++ item.Row row step ∷ first
 
@@ -207,19 +205,18 @@ module _ (control : Control) (setting : Setting) (journal : List Item)
   any = switch_of setting journal 0
 
   abbrev messages : List Message
-  messages = all_adverts_sent control.near (near_all links others) others
+  messages = all_adverts_sent state.near (near_all links others) others
 
   abbrev acts : List Act
   acts = map PostAct messages
 
   abbrev number : ℕ
-  number = length control.posts + 1
+  number = length state.posts + 1
 
-  can : CanRelink setting journal now links control.near others
-  unfolding RefineJournal
+  can : CanRelink setting journal now links state.near others
   can =
-      let caused = caused_first control setting journal switches before count row step first
-      (link_changes setting journal now) refines changes.may changes.piece_is in record {
+      let caused = caused_first refines row step first (link_changes setting journal now)
+      changes.may changes.piece_is in record {
         many = changes.as_many ∙ refines.many;
         few = refines.sound.net.few_switches;
         up = λ q k small below. ap (λ mask. has mask k) (changes.up q small)
@@ -238,12 +235,11 @@ module _ (control : Control) (setting : Setting) (journal : List Item)
       ap (λ k. sent_from k (flat_map (messages_of setting journal now)
       (filter (has_changed setting journal now) (switches_of setting))))
       (changes.bag.many ∙ ap (λ k. k + 1) changes.number)
-      ∙ ap (sent_from number)
-      (sym (told_now setting journal now links control.near others any can))
+      ∙ ap (sent_from number) (sym (told_now setting journal now links state.near others any can))
 
   pub change_piece : piece setting journal row step ≡ item.Row row step ∷ first
-      ++ sent_from (length control.posts + 1)
-      (all_adverts_sent control.near (near_all links others) others)
+      ++ sent_from (length state.posts + 1)
+      (all_adverts_sent state.near (near_all links others) others)
   change_piece = changes.piece_is ∙ ap (λ items. item.Row row step ∷ first ++ items) changes_are
 
   acts_piece : piece setting journal row step
@@ -251,10 +247,10 @@ module _ (control : Control) (setting : Setting) (journal : List Item)
   acts_piece = change_piece ∙ ap (λ items. item.Row row step ∷ first ++ items)
       (sym (sent_as_acts number messages))
 
-  pub change_may : length control.posts < 990_000
-      → MaySend posts (all_adverts_sent control.near (near_all links others) others)
-  change_may room = may_send posts messages (may_note control setting journal switches before count
-      row step first posts acts refines changes.may acts_piece changes.number room)
+  pub change_may : length state.posts < 990_000
+      → MaySend posts (all_adverts_sent state.near (near_all links others) others)
+  change_may room = may_send posts messages
+      (may_note refines row step first posts acts changes.may acts_piece changes.number room)
 
   -- ---- the parts behind it
 
@@ -269,10 +265,9 @@ module _ (control : Control) (setting : Setting) (journal : List Item)
 
   -- the packets on their way, where none is named
   pub unmoved : ((i : ℕ) → NoneName i (item.Row row step ∷ first)) → (i : ℕ)
-      → flight before i ≡ flight_in setting (journal ++ (item.Row row step ∷ first
-      ++ act_items (length control.posts + 1)
-      (map PostAct (all_adverts_sent control.near (near_all links others) others)))) i
-  unfolding RefineJournal
+      → flight state.travelling i ≡ flight_in setting (journal ++ (item.Row row step ∷ first
+      ++ act_items (length state.posts + 1)
+      (map PostAct (all_adverts_sent state.near (near_all links others) others)))) i
   unmoved none i = refines.packet i
       ∙ sym (flight_stays setting journal all i
       (reached_known setting journal refines.sound refines.reached)
@@ -280,45 +275,38 @@ module _ (control : Control) (setting : Setting) (journal : List Item)
       (acts_unnamed i number acts)))
 
   pub change_refines : (later : List SwitchValue) (after : Flights)
-      → AreRelinked control.near (near_all links others) others later
+      → AreRelinked state.near (near_all links others) others later
       → ((i : ℕ) → flight after i ≡ flight_in setting (journal ++ (item.Row row step ∷ first
-      ++ act_items (length control.posts + 1)
-      (map PostAct (all_adverts_sent control.near (near_all links others) others)))) i)
+      ++ act_items (length state.posts + 1)
+      (map PostAct (all_adverts_sent state.near (near_all links others) others)))) i)
       → RefineJournal setting (journal ++ (item.Row row step ∷ first
-      ++ sent_from (length control.posts + 1)
-      (all_adverts_sent control.near (near_all links others) others))) later after count
-      (record control {
-        links = links;
-        near = near_all links others;
-        posts = posts ++ map new_post (all_adverts_sent control.near (near_all links others)
-            others);
-      })
+      ++ sent_from (length state.posts + 1)
+      (all_adverts_sent state.near (near_all links others) others)))
+      (relinked_state state others links posts later after)
   change_refines later after are travels =
       let left = links_left setting now number acts links (near_all links others) changes.up
-      (near_now setting journal now links control.near others any can) in
-      let with : List Post → Control = λ bag. record control {
-        links = links;
-        near = near_all links others;
-        posts = bag;
-      } in
-      subst (λ rest. RefineJournal setting (journal ++ (item.Row row step ∷ first ++ rest)) later
-      after
-      count (with (posts ++ map new_post messages))) (sent_as_acts number messages)
-      (subst (λ more. RefineJournal setting (journal ++ all) later after count
-      (with (posts ++ more)))
-      (posts_as_acts messages)
-      (refines_taken control (with (posts ++ act_posts acts)) setting journal switches later before
-      after count count row step items refines (record {
+      (near_now setting journal now links state.near others any can) in
+      let with : List Post → NetworkState = λ more.
+      record (relinked_state state others links posts later after) { posts = posts ++ more } in
+      subst (λ rest. RefineJournal setting (journal ++ (item.Row row step ∷ first ++ rest))
+      (with (map new_post messages))) (sent_as_acts number messages)
+      (subst (λ more. RefineJournal setting (journal ++ all) (with more)) (posts_as_acts messages)
+      (refines_taken refines (with (act_posts acts)) row step items (record {
         may = changes.may;
         piece_is = acts_piece;
         as_many = are.as_many ∙ changes.as_many;
-        each = λ q d below. switches_now setting journal now links control.near others d can later
+        each = λ q d below. switches_now setting journal now links state.near others d can later
             are q (omega (arith, below, changes.as_many))
             ∙ sym (acts_leave setting now number acts q)
             ∙ ap (λ js. switch_of setting js q) split;
         travels = travels;
-        controller = controller_stays control setting journal switches before count row step items
-            refines acts_piece changes.not_told;
+        counted = omega (
+          arith,
+          count_of_append is_packet (item.Row row step ∷ first) (act_items number acts),
+          changes.none_come,
+          acts_bring_none number acts,
+        );
+        controller = controller_stays refines row step items acts_piece changes.not_told;
         bag = subst (λ js. IsBagOf js (posts ++ act_posts acts)) split
             (subst (λ more. IsBagOf (now ++ act_items number acts) (posts ++ more))
             (acts_posted number acts)
@@ -326,9 +314,4 @@ module _ (control : Control) (setting : Setting) (journal : List Item)
             (ap (λ k. k + 1) (sym changes.number) ∙ sym changes.bag.many) changes.bag));
         up = subst (λ js. AreUp setting js links) split left.0;
         usable = subst (λ js. AreUsable setting js (near_all links others)) split left.1;
-      }) (omega (
-        arith,
-        count_of_append is_packet (item.Row row step ∷ first) (act_items number acts),
-        changes.none_come,
-        acts_bring_none number acts,
-      ))))
+      })))

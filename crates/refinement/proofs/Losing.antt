@@ -6,14 +6,13 @@ use Rattle.journal.specs.declared.item.Item.{Item}
 use Rattle.journal.specs.declared.item.Item.TheVariants as item
 use Rattle.steps.specs.declared.step.Step.{Step}
 use Rattle.steps.specs.declared.step.Step.TheVariants.{Lose}
-use Rattle.switch_core.specs.State.{SwitchValue}
 use Rattle.update_machine.specs.Travels.{travels}
 use Rattle.update_machine.specs.Pieces.{lose_items, nothing, piece}
 use Rattle.steps.specs.Steps.{IsStep}
 use Rattle.update_machine.specs.Setting.{Setting}
 use Rattle.packet_laws.specs.Facts.{what_is_known}
 use Rattle.packet_laws.proofs.PacketFacts.{facts_grow}
-use Rattle.refinement.specs.Refinement.{RefineJournal, Control}
+use Rattle.refinement.specs.Refinement.{RefineJournal, NetworkState}
 use Rattle.refinement.specs.Flights.{flight_in}
 use Rattle.travelling.specs.Travelling.{Flights, WithOne, flight}
 use Rattle.refinement.proofs.Known.{Known, reached_known, flight_stays}
@@ -57,8 +56,7 @@ lose_piece setting journal row i =
 -- of the packets, it is gone
 gone : (setting : Setting) (journal : List Item) (row i : ℕ) (before : Flights) (q : ℕ)
     (b : Bool) → Known setting journal → (q == i) ≡ b
-    → flight before q ≡ flight_in setting journal q
-    → (if b then None else flight before q)
+    → flight before q ≡ flight_in setting journal q → (if b then None else flight before q)
     ≡ flight_in setting (journal ++ item.Row row (Lose i) ∷ item.Lost i ∷ []) q
 gone setting journal row i before q true knows is was =
     let same : (i == q) ≡ true = grind (arith, nat_tests) in
@@ -69,16 +67,14 @@ gone setting journal row i before q false knows is was =
     was ∙ sym (flight_stays setting journal (item.Row row (Lose i) ∷ item.Lost i ∷ []) q knows
     (refl, (other, tt)))
 
-module _ (control : Control) (setting : Setting) (journal : List Item)
-    (switches : List SwitchValue) (before : Flights) (count row i : ℕ)
-    (refines : RefineJournal setting journal switches before count control) where
+module _ {setting : Setting} {journal : List Item} {state : NetworkState}
+    (refines : RefineJournal setting journal state) (row i : ℕ) where
   -- it travels where the table has it
-  travels_there : travels journal i ≡ is_some (flight before i)
-  unfolding RefineJournal
+  travels_there : travels journal i ≡ is_some (flight state.travelling i)
   travels_there = sym (ap is_some (refines.packet i) ∙ travels_as setting journal i)
 
   -- so this is its piece
-  pub lost_piece : is_some (flight before i) ≡ true
+  pub lost_piece : is_some (flight state.travelling i) ≡ true
       → piece setting journal row (Lose i) ≡ item.Row row (Lose i) ∷ item.Lost i ∷ []
   lost_piece travelling =
       lose_piece setting journal row i
@@ -87,33 +83,29 @@ module _ (control : Control) (setting : Setting) (journal : List Item)
 
   -- without it the table is as the journal says then
   pub lost : (after : Flights) → IsStep setting.net (length setting.files) (Lose i)
-      → is_some (flight before i) ≡ true → WithOne before i None after
-      → RefineJournal setting (journal ++ item.Row row (Lose i) ∷ item.Lost i ∷ []) switches after
-      count control
-  unfolding RefineJournal
+      → is_some (flight state.travelling i) ≡ true → WithOne state.travelling i None after
+      → RefineJournal setting (journal ++ item.Row row (Lose i) ∷ item.Lost i ∷ [])
+      (record state { travelling = after })
   lost after may travelling without =
-      refines_silent control setting journal switches switches before after count count row (Lose i)
-      (item.Lost i ∷ []) refines (record {
+      refines_silent refines state.switches after state.packets row (Lose i) (item.Lost i ∷ [])
+      (record {
         may = may;
         piece_is = lost_piece travelling;
         not_told = refl;
         sends = tt;
         as_many = refl;
-        each = switches_stay control setting journal switches before count
-            (item.Row row (Lose i) ∷ item.Lost i ∷ []) refines (λ s. (refl, (refl, tt)))
-            (λ s. (refl, (refl, tt)));
+        each = switches_stay refines (item.Row row (Lose i) ∷ item.Lost i ∷ [])
+            (λ s. (refl, (refl, tt))) (λ s. (refl, (refl, tt)));
         travels = λ q. without q
-            ∙ gone setting journal row i before q (q == i)
-            (reached_known setting journal refines.sound refines.reached) refl
-            (refines.packet q);
+            ∙ gone setting journal row i state.travelling q (q == i)
+            (reached_known setting journal refines.sound refines.reached) refl (refines.packet q);
       }) (omega arith) refl
 
   -- and of a packet that doesn't travel nothing happens
   pub not_lost : IsStep setting.net (length setting.files) (Lose i)
-      → is_some (flight before i) ≡ false
-      → WroteOne setting journal row (Lose i) item.Nothing switches before count control
+      → is_some (flight state.travelling i) ≡ false
+      → WroteOne setting journal row (Lose i) item.Nothing state
   not_lost may resting =
-      nothing_happens control setting journal switches before count row (Lose i) refines may
-      (λ q. refl) (lose_piece setting journal row i
+      nothing_happens refines row (Lose i) may (λ q. refl) (lose_piece setting journal row i
       ∙ ap (λ b. item.Row row (Lose i) ∷ (if b then item.Lost i ∷ [] else nothing))
       (travels_there ∙ resting))

@@ -13,9 +13,8 @@ use Rattle.update_machine.specs.Packets.{is_packet}
 use Rattle.update_machine.specs.Pieces.{piece}
 use Rattle.steps.specs.Steps.{IsStep}
 use Rattle.update_machine.specs.Setting.{Setting}
-use Rattle.refinement.specs.Refinement.{RefineJournal, Control}
+use Rattle.refinement.specs.Refinement.{RefineJournal, NetworkState}
 use Rattle.refinement.specs.Bags.{IsBagOf}
-use Rattle.travelling.specs.Travelling.{Flights}
 use Rattle.refinement.proofs.Known.{reached_known, flight_stays}
 use Rattle.refinement.proofs.Others.{NoneName}
 use Rattle.refinement.proofs.Refining.{links_stay, refines_taken, up_stay}
@@ -25,11 +24,10 @@ abbrev pub grown : List Item → ℕ → Step → Item → List Item
 grown journal row step one = journal ++ item.Row row step ∷ one ∷ []
 
 -- the step wrote this one item, and behind it the parts refine the journal
-abbrev pub WroteOne : Setting → List Item → ℕ → Step → Item → List SwitchValue → Flights → ℕ
-    → Control → Type 0
-WroteOne setting journal row step one switches before count control =
+abbrev pub WroteOne : Setting → List Item → ℕ → Step → Item → NetworkState → Type 0
+WroteOne setting journal row step one state =
     (piece setting journal row step ≡ item.Row row step ∷ one ∷ [])
-    × RefineJournal setting (grown journal row step one) switches before count control
+    × RefineJournal setting (grown journal row step one) state
 
 -- what the step writes, and what the switches and the messages are behind it
 pub record WritesOne (setting : Setting) (journal : List Item) (row : ℕ) (step : Step) (one : Item)
@@ -47,28 +45,27 @@ pub record WritesOne (setting : Setting) (journal : List Item) (row : ℕ) (step
       → get_or others s d ≡ switch_of setting (grown journal row step one) s
   pub bag : IsBagOf (grown journal row step one) posts
 
-pub refines_one : (control : Control) (posts : List Post) (setting : Setting) (journal : List Item)
-    (switches others : List SwitchValue) (before : Flights) (count row : ℕ) (step : Step)
-    (one : Item) → RefineJournal setting journal switches before count control
-    → WritesOne setting journal row step one switches others posts
-    → RefineJournal setting (grown journal row step one) others before count
-    (record control { posts = posts })
-unfolding RefineJournal
-refines_one control posts setting journal switches others before count row step one refines writes =
-    let items : List Item = item.Row row step ∷ one ∷ [] in
-    refines_taken control (record control { posts = posts }) setting journal switches others before
-    before count count row step (one ∷ []) refines (record {
-      may = writes.may;
-      piece_is = writes.piece_is;
-      as_many = writes.as_many;
-      each = writes.each;
-      travels = λ i. refines.packet i ∙ sym (flight_stays setting journal items i
-          (reached_known setting journal refines.sound refines.reached) (writes.apart i));
-      controller = items_leave setting journal items control.controller
-          (reached_known setting journal refines.sound refines.reached).caused writes.not_told
-          refines.controller;
-      bag = writes.bag;
-      up = up_stay control setting journal switches before count items refines writes.no_links;
-      usable = links_stay control setting journal switches before count items refines
-          writes.no_links;
-    }) (omega (arith, writes.as_before))
+module _ {setting : Setting} {journal : List Item} {state : NetworkState}
+    (refines : RefineJournal setting journal state) where
+  pub refines_one : (posts : List Post) (others : List SwitchValue) (row : ℕ) (step : Step)
+      (one : Item) → WritesOne setting journal row step one state.switches others posts
+      → RefineJournal setting (grown journal row step one)
+      (record state { switches = others; posts = posts })
+  refines_one posts others row step one writes =
+      let items : List Item = item.Row row step ∷ one ∷ [] in
+      refines_taken refines (record state { switches = others; posts = posts }) row step
+      (one ∷ []) (record {
+        may = writes.may;
+        piece_is = writes.piece_is;
+        as_many = writes.as_many;
+        each = writes.each;
+        travels = λ i. refines.packet i ∙ sym (flight_stays setting journal items i
+            (reached_known setting journal refines.sound refines.reached) (writes.apart i));
+        counted = omega (arith, writes.as_before);
+        controller = items_leave setting journal items state.controller
+            (reached_known setting journal refines.sound refines.reached).caused writes.not_told
+            refines.controller;
+        bag = writes.bag;
+        up = up_stay refines items writes.no_links;
+        usable = links_stay refines items writes.no_links;
+      })

@@ -22,7 +22,7 @@ use Rattle.update_machine.specs.Pieces.{piece}
 use Rattle.steps.specs.Steps.{IsStep}
 use Rattle.update_machine.specs.Setting.{Setting}
 use Rattle.update_machine.proofs.CallerLemmas.{count_of_append, links_keep, near_stays}
-use Rattle.refinement.specs.Refinement.{RefineJournal, AreUp, AreUsable, Control, is_up_link}
+use Rattle.refinement.specs.Refinement.{RefineJournal, AreUp, AreUsable, NetworkState, is_up_link}
 use Rattle.refinement.specs.Bags.{IsBagOf}
 use Rattle.refinement.specs.Flights.{flight_in}
 use Rattle.travelling.specs.Travelling.{Flights, flight}
@@ -49,19 +49,18 @@ one_changes setting journal after switches s q changed d false is there own othe
 abbrev pub stepped : List Item → ℕ → Step → List Item → List Item
 stepped journal row step items = journal ++ item.Row row step ∷ items
 
--- the controller, where the step isn't for it
-pub controller_stays : (control : Control) (setting : Setting) (journal : List Item)
-    (switches : List SwitchValue) (before : Flights) (count row : ℕ) (step : Step)
-    (items : List Item) → RefineJournal setting journal switches before count control
-    → piece setting journal row step ≡ item.Row row step ∷ items
-    → IsFalse (asks_controller journal step)
-    → IsControllerOf setting (stepped journal row step items) control.controller
-unfolding RefineJournal
-controller_stays control setting journal switches before count row step items refines is not_told =
-    subst (λ more. IsControllerOf setting (journal ++ more) control.controller) is
-    (steps_leave setting journal row step control.controller
-    (reached_known setting journal refines.sound refines.reached).caused not_told
-    refines.controller)
+module _ {setting : Setting} {journal : List Item} {state : NetworkState}
+    (refines : RefineJournal setting journal state) where
+  -- the controller, where the step isn't for it
+  pub controller_stays : (row : ℕ) (step : Step) (items : List Item)
+      → piece setting journal row step ≡ item.Row row step ∷ items
+      → IsFalse (asks_controller journal step)
+      → IsControllerOf setting (stepped journal row step items) state.controller
+  controller_stays row step items is not_told =
+      subst (λ more. IsControllerOf setting (journal ++ more) state.controller) is
+      (steps_leave setting journal row step state.controller
+      (reached_known setting journal refines.sound refines.reached).caused not_told
+      refines.controller)
 
 -- links that are up as before are the same
 pub same_links : (now before : List Item) (links : List LinkRow)
@@ -82,40 +81,36 @@ up_stays setting journal items links none up = λ s below. up s below
     (λ link. (links_keep setting journal items none).up link.one link.two)))
 
 -- and the links and the switches, where it does nothing to them
-module _ (control : Control) (setting : Setting) (journal : List Item)
-    (switches : List SwitchValue) (before : Flights) (count : ℕ) (items : List Item)
-    (refines : RefineJournal setting journal switches before count control) where
+module _ {setting : Setting} {journal : List Item} {state : NetworkState}
+    (refines : RefineJournal setting journal state) (items : List Item) where
   pub links_stay : NoneConcern concerns_links journal items
-      → AreUsable setting (journal ++ items) control.near
-  unfolding RefineJournal
+      → AreUsable setting (journal ++ items) state.near
   links_stay none = λ s below. refines.usable s below
       ∙ sym (near_stays setting s journal items none)
 
   pub up_stay : NoneConcern concerns_links journal items
-      → AreUp setting (journal ++ items) control.links
-  unfolding RefineJournal
-  up_stay none = up_stays setting journal items control.links none refines.up
+      → AreUp setting (journal ++ items) state.links
+  up_stay none = up_stays setting journal items state.links none refines.up
 
   pub switches_stay : ((s : ℕ) → NoneConcern (concerns_known s) journal items)
       → ((s : ℕ) → NoneConcern (concerns_calls s) journal items)
-      → (s : ℕ) (d : SwitchValue) → s < length switches
-      → get_or switches s d ≡ switch_of setting (journal ++ items) s
-  unfolding RefineJournal
+      → (s : ℕ) (d : SwitchValue) → s < length state.switches
+      → get_or state.switches s d ≡ switch_of setting (journal ++ items) s
   switches_stay none calls s d there =
       refines.each s d there ∙ sym (kept_is setting s journal items (none s) (calls s))
 
 -- what a step writes, and what the switches, the packets on their way and the control plane are
 -- behind it
 pub record IsTaken (setting : Setting) (journal : List Item) (row : ℕ) (step : Step)
-    (items : List Item) (switches others : List SwitchValue) (after : Flights)
-    (later : Control) : Type 0 where
+    (items : List Item) (state later : NetworkState) : Type 0 where
   pub may : IsStep setting.net (length setting.files) step
   pub piece_is : piece setting journal row step ≡ item.Row row step ∷ items
-  pub as_many : length others ≡ length switches
-  pub each : (s : ℕ) (d : SwitchValue) → s < length switches
-      → get_or others s d ≡ switch_of setting (stepped journal row step items) s
-  pub travels : (i : ℕ) → flight after i
+  pub as_many : length later.switches ≡ length state.switches
+  pub each : (s : ℕ) (d : SwitchValue) → s < length state.switches
+      → get_or later.switches s d ≡ switch_of setting (stepped journal row step items) s
+  pub travels : (i : ℕ) → flight later.travelling i
       ≡ flight_in setting (stepped journal row step items) i
+  pub counted : later.packets ≡ state.packets + count_of is_packet (item.Row row step ∷ items)
   pub controller : IsControllerOf setting (stepped journal row step items) later.controller
   pub bag : IsBagOf (stepped journal row step items) later.posts
   pub up : AreUp setting (stepped journal row step items) later.links
@@ -144,107 +139,94 @@ reached_on setting journal row step items reached may is =
     subst P is (reached_more setting journal row step reached may)
 
 next_on : (journal items : List Item) (count next : ℕ) → next_packet journal ≡ count + 1
-    → next ≡ count + count_of is_packet items
-    → next_packet (journal ++ items) ≡ next + 1
+    → next ≡ count + count_of is_packet items → next_packet (journal ++ items) ≡ next + 1
 unfolding next_packet
 next_on journal items count next is more =
     rw (count_of_append is_packet journal items) (omega (arith, is, more))
 
-pub refines_taken : (control later : Control) (setting : Setting)
-    (journal : List Item) (switches others : List SwitchValue) (before after : Flights)
-    (count next row : ℕ) (step : Step) (items : List Item)
-    → RefineJournal setting journal switches before count control
-    → IsTaken setting journal row step items switches others after later
-    → next ≡ count + count_of is_packet (item.Row row step ∷ items)
-    → RefineJournal setting (journal ++ item.Row row step ∷ items) others after next later
-unfolding RefineJournal
-refines_taken control later setting journal switches others before after count next row step items
-    refines
-    taken counted =
-    record {
-      sound = refines.sound;
-      reached = reached_on setting journal row step items refines.reached taken.may taken.piece_is;
-      many = taken.as_many ∙ refines.many;
-      each = λ s d there. taken.each s d (omega (arith, there, taken.as_many));
-      packet = taken.travels;
-      counted = next_on journal (item.Row row step ∷ items) count next refines.counted counted;
-      controller = taken.controller;
-      bag = taken.bag;
-      up = taken.up;
-      usable = taken.usable;
-    }
+module _ {setting : Setting} {journal : List Item} {state : NetworkState}
+    (refines : RefineJournal setting journal state) where
+  pub refines_taken : (later : NetworkState) (row : ℕ) (step : Step) (items : List Item)
+      → IsTaken setting journal row step items state later
+      → RefineJournal setting (journal ++ item.Row row step ∷ items) later
+  refines_taken later row step items taken =
+      record {
+        sound = refines.sound;
+        reached = reached_on setting journal row step items refines.reached taken.may
+            taken.piece_is;
+        many = taken.as_many ∙ refines.many;
+        each = λ s d there. taken.each s d (omega (arith, there, taken.as_many));
+        packet = taken.travels;
+        counted = next_on journal (item.Row row step ∷ items) state.packets later.packets
+            refines.counted taken.counted;
+        controller = taken.controller;
+        bag = taken.bag;
+        up = taken.up;
+        usable = taken.usable;
+      }
 
 -- what the tie says of one packet, of one switch and of the next message's number
-module _ (control : Control) (setting : Setting) (journal : List Item)
-    (switches : List SwitchValue) (before : Flights) (count : ℕ)
-    (refines : RefineJournal setting journal switches before count control) where
-  pub packets_are : (i : ℕ) → flight before i ≡ flight_in setting journal i
-  unfolding RefineJournal
+module _ {setting : Setting} {journal : List Item} {state : NetworkState}
+    (refines : RefineJournal setting journal state) where
+  pub packets_are : (i : ℕ) → flight state.travelling i ≡ flight_in setting journal i
   packets_are = refines.packet
 
-  pub switches_are : (s : ℕ) (d : SwitchValue) → s < length switches
-      → get_or switches s d ≡ switch_of setting journal s
-  unfolding RefineJournal
+  pub switches_are : (s : ℕ) (d : SwitchValue) → s < length state.switches
+      → get_or state.switches s d ≡ switch_of setting journal s
   switches_are = refines.each
 
-  pub numbered : next_message journal ≡ length control.posts + 1
-  unfolding RefineJournal
+  pub numbered : next_message journal ≡ length state.posts + 1
   numbered = refines.bag.many
 
 -- ---- a step of packets
 
-pub refines_more : (control : Control) (setting : Setting)
-    (journal : List Item) (switches others : List SwitchValue) (before after : Flights)
-    (count next row : ℕ) (step : Step) (items : List Item)
-    → RefineJournal setting journal switches before count control
-    → Steps setting journal row step items switches others after
-    → next ≡ count + count_of is_packet (item.Row row step ∷ items)
-    → RefineJournal setting (journal ++ item.Row row step ∷ items) others after next
-    (record control { posts = control.posts ++ posts_in items })
-unfolding RefineJournal
-refines_more control setting journal switches others before after count next row step items refines
-    steps counted =
-    refines_taken control (record control { posts = control.posts ++ posts_in items }) setting
-    journal
-    switches others before after count next row step items refines
-    (record {
-      may = steps.may;
-      piece_is = steps.piece_is;
-      as_many = steps.as_many;
-      each = steps.each;
-      travels = steps.travels;
-      controller = controller_stays control setting journal switches before count row step items
-          refines steps.piece_is steps.not_told;
-      up = up_stay control setting journal switches before count
-          (item.Row row step ∷ items) refines (
-            refl,
-            (are_apart (next_message journal) (journal ++ item.Row row step ∷ []) items
-                steps.sends).links,
-          );
-      usable = links_stay control setting journal switches before count
-          (item.Row row step ∷ items) refines (
-            refl,
-            (are_apart (next_message journal) (journal ++ item.Row row step ∷ []) items
-                steps.sends).links,
-          );
-      bag = bag_sends (next_message journal) journal (item.Row row step ∷ items) control.posts
-          steps.sends
-          refl refines.bag;
-    }) counted
+module _ {setting : Setting} {journal : List Item} {state : NetworkState}
+    (refines : RefineJournal setting journal state) where
+  pub refines_more : (others : List SwitchValue) (after : Flights) (next row : ℕ) (step : Step)
+      (items : List Item) → Steps setting journal row step items state.switches others after
+      → next ≡ state.packets + count_of is_packet (item.Row row step ∷ items)
+      → RefineJournal setting (journal ++ item.Row row step ∷ items) (record state {
+        switches = others;
+        travelling = after;
+        packets = next;
+        posts = state.posts ++ posts_in items;
+      })
+  refines_more others after next row step items steps counted =
+      refines_taken refines (record state {
+        switches = others;
+        travelling = after;
+        packets = next;
+        posts = state.posts ++ posts_in items;
+      }) row step items (record {
+        may = steps.may;
+        piece_is = steps.piece_is;
+        as_many = steps.as_many;
+        each = steps.each;
+        travels = steps.travels;
+        counted = counted;
+        controller = controller_stays refines row step items steps.piece_is steps.not_told;
+        up = up_stay refines (item.Row row step ∷ items) (
+          refl,
+          (are_apart (next_message journal) (journal ++ item.Row row step ∷ []) items
+              steps.sends).links,
+        );
+        usable = links_stay refines (item.Row row step ∷ items) (
+          refl,
+          (are_apart (next_message journal) (journal ++ item.Row row step ∷ []) items
+              steps.sends).links,
+        );
+        bag = bag_sends (next_message journal) journal (item.Row row step ∷ items) state.posts
+            steps.sends refl refines.bag;
+      })
 
--- a step that sends nothing
-pub refines_silent : (control : Control) (setting : Setting)
-    (journal : List Item) (switches others : List SwitchValue) (before after : Flights)
-    (count next row : ℕ) (step : Step) (items : List Item)
-    → RefineJournal setting journal switches before count control
-    → Steps setting journal row step items switches others after
-    → next ≡ count + count_of is_packet (item.Row row step ∷ items) → posts_in items ≡ []
-    → RefineJournal setting (journal ++ item.Row row step ∷ items) others after next control
-refines_silent control setting journal switches others before after count next row step items
-    refines steps counted none =
-    subst (λ posts. RefineJournal setting (journal ++ item.Row row step ∷ items) others after next
-    (record control { posts = posts }))
-    (ap (λ more. control.posts ++ more) none ∙ append-nil control.posts)
-    (refines_more control setting journal switches others before after count next row step items
-    refines
-    steps counted)
+  -- a step that sends nothing
+  pub refines_silent : (others : List SwitchValue) (after : Flights) (next row : ℕ) (step : Step)
+      (items : List Item) → Steps setting journal row step items state.switches others after
+      → next ≡ state.packets + count_of is_packet (item.Row row step ∷ items) → posts_in items ≡ []
+      → RefineJournal setting (journal ++ item.Row row step ∷ items)
+      (record state { switches = others; travelling = after; packets = next })
+  refines_silent others after next row step items steps counted none =
+      subst (λ posts. RefineJournal setting (journal ++ item.Row row step ∷ items)
+      (record state { switches = others; travelling = after; packets = next; posts = posts }))
+      (ap (λ more. state.posts ++ more) none ∙ append-nil state.posts)
+      (refines_more others after next row step items steps counted)

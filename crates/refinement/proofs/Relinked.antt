@@ -30,8 +30,8 @@ use Rattle.update_machine.specs.Setting.{Setting}
 use Rattle.update_machine.specs.SwitchNumbers.{switches_of}
 use Rattle.update_machine.specs.LinkMasks.{near, usable_links}
 use Rattle.refinement.specs.Refinement.{is_up_link, up_links}
-use Rattle.refinement.specs.Linking.{AreRelinked, all_adverts_sent, links_change, near_all, near_by, serves_at, adverts_on_change, adverts_at, adverts_over}
-use Rattle.refinement.proofs.Relinking.{told_nothing}
+use Rattle.world_log.specs.Linking.{AreRelinked, all_adverts_sent, links_change, near_all, near_by, serves_at, adverts_on_change, adverts_at, adverts_over}
+use Rattle.world_log.proofs.Relinking.{told_nothing}
 use Rattle.std.proofs.lemmas.List.Elements.{recursion_from_All}
 use Rattle.control_laws.proofs.NetLinks.{any_filter}
 

@@ -18,8 +18,6 @@ use Rattle.refinement.specs.Spelled.{AreSpelled}
 use Rattle.refinement.proofs.Spelled.{reached_spelled}
 use Rattle.steps.specs.Steps.{IsStep}
 use Rattle.steps.specs.declared.step.Step.{Step}
-use Rattle.switch_core.specs.State.{SwitchValue}
-use Rattle.travelling.specs.Travelling.{Flights}
 use Rattle.update_machine.specs.Folds.{last_given}
 use Rattle.update_machine.specs.Links.{message_of, gives_message}
 use Rattle.update_machine.specs.Pieces.{piece}
@@ -28,7 +26,7 @@ use Rattle.update_machine.proofs.CallerLemmas.{last_given_append}
 use Rattle.world_log.specs.Sending.{IsSpelled, MayNote, MaySend, act_items}
 use Rattle.world_log.proofs.Sends.{messages_spelled, posts_as_acts}
 use Rattle.refinement.proofs.Known.{reached_known, reached_more}
-use Rattle.refinement.specs.Refinement.{RefineJournal, Control}
+use Rattle.refinement.specs.Refinement.{RefineJournal, NetworkState}
 use Rattle.refinement.proofs.HearReady.{sends_few}
 use Rattle.refinement.proofs.Told.{acts_fit}
 
@@ -61,12 +59,14 @@ acts_spelled before number [] all = tt
 acts_spelled before number (act.Current v ∷ acts) all = (
   tt,
   acts_spelled (before ++ item.Current v ∷ []) number acts
-      (subst AreSpelled (sym (append_assoc before (item.Current v ∷ []) (act_items number acts))) all),
+      (subst AreSpelled (sym (append_assoc before (item.Current v ∷ []) (act_items number acts)))
+      all),
 )
 acts_spelled before number (act.Retired v ∷ acts) all = (
   tt,
   acts_spelled (before ++ item.Retired v ∷ []) number acts
-      (subst AreSpelled (sym (append_assoc before (item.Retired v ∷ []) (act_items number acts))) all),
+      (subst AreSpelled (sym (append_assoc before (item.Retired v ∷ []) (act_items number acts)))
+      all),
 )
 acts_spelled before number (act.Post message ∷ acts) all = (
   all number message (sent_there before number message acts),
@@ -77,37 +77,33 @@ acts_spelled before number (act.Post message ∷ acts) all = (
 
 -- ---- what a step sends
 
--- the acts of a step, behind the first items, may be noted over posts as many as before
-pub may_note : (control : Control) (setting : Setting) (journal : List Item)
-    (switches : List SwitchValue) (before : Flights) (count row : ℕ) (step : Step)
-    (first : List Item) (posts : List Post) (acts : List Act)
-    → RefineJournal setting journal switches before count control
-    → IsStep setting.net (length setting.files) step
-    → piece setting journal row step
-    ≡ item.Row row step ∷ first ++ act_items (length control.posts + 1) acts
-    → length posts ≡ length control.posts → length control.posts < 990_000
-    → MayNote posts acts
-unfolding RefineJournal
-may_note control setting journal switches before count row step first posts acts refines may is
-    as_many room =
-    let number = length control.posts + 1 in
-    let begun : List Item = item.Row row step ∷ first in
-    let spelled : AreSpelled (journal ++ (begun ++ act_items number acts)) =
-    subst (λ items. AreSpelled (journal ++ items)) is
-    (reached_spelled setting (journal ++ piece setting journal row step) refines.sound
-    (reached_more setting journal row step refines.reached may)) in
-    record {
-      few = omega (
-        arith,
-        as_many,
-        room,
-        acts_fit setting journal row step first number acts
-            (sends_few setting journal (reached_known setting journal refines.sound
-            refines.reached)) is,
-      );
-      spelled = All-from_recursion IsSpelled acts (acts_spelled (journal ++ begun) number acts
-          (subst AreSpelled (sym (append_assoc journal begun (act_items number acts))) spelled));
-    }
+module _ {setting : Setting} {journal : List Item} {state : NetworkState}
+    (refines : RefineJournal setting journal state) where
+  -- the acts of a step, behind the first items, may be noted over posts as many as before
+  pub may_note : (row : ℕ) (step : Step) (first : List Item) (posts : List Post) (acts : List Act)
+      → IsStep setting.net (length setting.files) step → piece setting journal row step
+      ≡ item.Row row step ∷ first ++ act_items (length state.posts + 1) acts
+      → length posts ≡ length state.posts → length state.posts < 990_000 → MayNote posts acts
+  may_note row step first posts acts may is
+      as_many room =
+      let number = length state.posts + 1 in
+      let begun : List Item = item.Row row step ∷ first in
+      let spelled : AreSpelled (journal ++ (begun ++ act_items number acts)) =
+      subst (λ items. AreSpelled (journal ++ items)) is
+      (reached_spelled setting (journal ++ piece setting journal row step) refines.sound
+      (reached_more setting journal row step refines.reached may)) in
+      record {
+        few = omega (
+          arith,
+          as_many,
+          room,
+          acts_fit setting journal row step first number acts
+              (sends_few setting journal (reached_known setting journal refines.sound
+              refines.reached)) is,
+        );
+        spelled = All-from_recursion IsSpelled acts (acts_spelled (journal ++ begun) number acts
+            (subst AreSpelled (sym (append_assoc journal begun (act_items number acts))) spelled));
+      }
 
 -- messages that may be noted as acts may be sent
 pub may_send : (posts : List Post) (messages : List Message)
@@ -120,8 +116,7 @@ may_send posts messages may = record {
     length-map messages new_post,
   );
   spelled = messages_spelled messages []
-      (subst (λ acts. All IsSpelled acts) (sym (append-nil (map act.Post messages)))
-      may.spelled);
+      (subst (λ acts. All IsSpelled acts) (sym (append-nil (map act.Post messages))) may.spelled);
 }
 
 -- a hello of a switch below 64

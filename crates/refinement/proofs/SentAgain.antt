@@ -1,6 +1,6 @@
 -- What a switch and the controller send again: what is written then, and what the parts are behind
 -- it.
-use Rattle.std.proofs.Common.{ℕ, ◌≡◌, ◌≢◌, ◌+◌, ◌<◌, ◌==◌, Bool, true, false, List, [], ◌∷◌, ◌++◌, refl, ap, sym, subst, ◌∙◌, length, get_or, map, arith, eqb-true}
+use Rattle.std.proofs.Common.{ℕ, ◌≡◌, ◌≢◌, ◌+◌, ◌<◌, ◌==◌, Bool, true, false, List, [], ◌∷◌, ◌++◌, refl, ap, sym, ◌∙◌, length, get_or, map, arith, eqb-true}
 use Rattle.std.specs.Prelude.{if◌then◌else◌}
 use Rattle.std.specs.List.{flat_map}
 use Rattle.message_bag.specs.Posts.{Post as BagPost}
@@ -27,10 +27,10 @@ use Rattle.update_machine.specs.LinkMasks.{near}
 use Rattle.update_machine.specs.Pieces.{piece, resent_by_switch}
 use Rattle.update_machine.specs.Setting.{Setting}
 use Rattle.update_machine.proofs.CallerLemmas.{near_stays}
-use Rattle.refinement.specs.Linking.{adverts_again}
+use Rattle.world_log.specs.Linking.{adverts_again}
 use Rattle.steps.specs.Steps.{IsStep}
 use Rattle.world_log.specs.Sending.{MayNote, act_items, act_posts}
-use Rattle.refinement.specs.Refinement.{RefineJournal, Control}
+use Rattle.refinement.specs.Refinement.{RefineJournal, NetworkState}
 use Rattle.refinement.specs.Bags.{IsBagOf}
 use Rattle.travelling.specs.Travelling.{Flights}
 use Rattle.refinement.proofs.ActItems.{written_is}
@@ -46,8 +46,7 @@ use Rattle.refinement.proofs.Sendable.{may_note}
 -- nothing is there to send, or something
 none_there : (acts : List Act) → (length acts == 0) ≡ true → acts ≡ []
 none_there [] none = refl
-none_there (first ∷ acts) none =
-    absurd (omega (arith, eqb-true (length (first ∷ acts)) 0 none))
+none_there (first ∷ acts) none = absurd (omega (arith, eqb-true (length (first ∷ acts)) 0 none))
 
 some_there : (acts : List Act) → (length acts == 0) ≡ false → acts ≢ []
 some_there acts some e = let none : (length acts == 0) ≡ true = ap (λ xs. length xs == 0) e in cc
@@ -90,38 +89,32 @@ as_journal setting journal s neighbours adverts = by_test (is_up journal s)
     by_test true = refl
     by_test false = refl
 
--- the packets on their way stayed
-pub sent_refines : (setting : Setting) (journal : List Item) (switches : List SwitchValue)
-    (before after : Flights) (count : ℕ) (control : Control) (posts bag : List BagPost)
-    → bag ≡ posts → after ≡ before
-    → RefineJournal setting journal switches before count (record control { posts = posts })
-    → RefineJournal setting journal switches after count (record control { posts = bag })
-sent_refines setting journal switches before after count control posts bag same stayed refines =
-    subst (λ all. RefineJournal setting journal switches after count
-    (record control { posts = all }))
-    (sym same)
-    (subst (λ (moving : Flights). RefineJournal setting journal switches moving count
-    (record control { posts = posts })) (sym stayed) refines)
+module _ {setting : Setting} {journal : List Item} {state : NetworkState}
+    (refines : RefineJournal setting journal state) where
+  -- the packets on their way stayed
+  pub sent_refines : (after : Flights) (bag : List BagPost) → after ≡ state.travelling
+      → bag ≡ state.posts
+      → RefineJournal setting journal (record state { travelling = after; posts = bag })
+  sent_refines after bag stayed same = rw (stayed, same) refines
 
-module _ (control : Control) (setting : Setting) (journal : List Item)
-    (switches : List SwitchValue) (before : Flights) (count row s : ℕ) (own : SwitchValue)
-    (refines : RefineJournal setting journal switches before count control)
-    (may : IsStep setting.net (length setting.files) (Resend s)) (own_at : own ≡ get_or switches s own) where
+module _ {setting : Setting} {journal : List Item} {state : NetworkState}
+    (refines : RefineJournal setting journal state) (row s : ℕ) (own : SwitchValue)
+    (may : IsStep setting.net (length setting.files) (Resend s))
+    (own_at : own ≡ get_or state.switches s own) where
   abbrev rowed : List Item
   rowed = journal ++ item.Row row (Resend s) ∷ []
 
   abbrev messages : List Message
-  messages = adverts_again s (length switches) (get_or control.near s 0) own
+  messages = adverts_again s (length state.switches) (get_or state.near s 0) own
 
   abbrev acts : List Act
-  acts = map Post messages ++ resend_acts control.controller s
+  acts = map Post messages ++ resend_acts state.controller s
 
   own_is : own ≡ switch_of setting rowed s
-  own_is = switch_is control setting journal switches before count s own refines may own_at
+  own_is = switch_is refines s own may own_at
       ∙ sym (kept_is setting s journal (item.Row row (Resend s) ∷ []) (refl, tt) (refl, tt))
 
-  near_is : get_or control.near s 0 ≡ near setting rowed s
-  unfolding RefineJournal
+  near_is : get_or state.near s 0 ≡ near setting rowed s
   near_is = refines.usable s (omega (arith, may, refines.sound.net.few_switches))
       ∙ sym (near_stays setting s journal (item.Row row (Resend s) ∷ []) (refl, tt))
 
@@ -134,10 +127,9 @@ module _ (control : Control) (setting : Setting) (journal : List Item)
       ∙ as_journal setting rowed s (switches_in setting (near setting rowed s))
       (held_adverts setting rowed s)
 
-  acts_are : acts ≡ acts_of_resend setting rowed s control.controller
-  unfolding RefineJournal
-  acts_are = ap (λ told. map Post told ++ resend_acts control.controller s)
-      (ap (λ n. adverts_again s n (get_or control.near s 0) own) refines.many
+  acts_are : acts ≡ acts_of_resend setting rowed s state.controller
+  acts_are = ap (λ told. map Post told ++ resend_acts state.controller s)
+      (ap (λ n. adverts_again s n (get_or state.near s 0) own) refines.many
       ∙ ap (λ n. adverts_again s (length setting.net.switches) n own) near_is
       ∙ ap (adverts_again s (length setting.net.switches) (near setting rowed s)) own_is
       ∙ by_switch)
@@ -145,62 +137,51 @@ module _ (control : Control) (setting : Setting) (journal : List Item)
   -- ---- nothing is sent
 
   pub silent : (length acts == 0) ≡ true
-      → WroteOne setting journal row (Resend s) item.Nothing switches before count control
-  unfolding RefineJournal
+      → WroteOne setting journal row (Resend s) item.Nothing state
   silent none =
-      nothing_happens control setting journal switches before count row (Resend s) refines may
-      (λ q. refl) (resends_nothing setting journal row s control.controller
+      nothing_happens refines row (Resend s) may
+      (λ q. refl) (resends_nothing setting journal row s state.controller
       (reached_known setting journal refines.sound refines.reached).caused refines.controller
-      (switch_known control setting journal switches before count s refines may)
-      (sym acts_are ∙ none_there acts none)).same
+      (switch_known refines s may) (sym acts_are ∙ none_there acts none)).same
 
   -- ---- something is sent
 
   module _ (some : (length acts == 0) ≡ false) where
-    bag_behind : IsBagOf rowed control.posts
-    unfolding RefineJournal
-    bag_behind = bag_on journal (item.Row row (Resend s) ∷ []) control.posts (refl, tt) refines.bag
+    bag_behind : IsBagOf rowed state.posts
+    bag_behind = bag_on journal (item.Row row (Resend s) ∷ []) state.posts (refl, tt) refines.bag
 
     resent_so : AreWritten setting journal (item.Row row (Resend s) ∷ [])
-        (acts_of_resend setting rowed s control.controller) control.controller
+        (acts_of_resend setting rowed s state.controller) state.controller
         (piece setting journal row (Resend s))
-    unfolding RefineJournal
-    resent_so = resends_some setting journal row s control.controller
+    resent_so = resends_some setting journal row s state.controller
         (reached_known setting journal refines.sound refines.reached).caused refines.controller
-        (switch_known control setting journal switches before count s refines may)
-        (λ e. some_there acts some (acts_are ∙ e))
+        (switch_known refines s may) (λ e. some_there acts some (acts_are ∙ e))
 
     pub again_piece : piece setting journal row (Resend s)
-        ≡ item.Row row (Resend s) ∷ act_items (length control.posts + 1) acts
+        ≡ item.Row row (Resend s) ∷ act_items (length state.posts + 1) acts
     again_piece = resent_so.same
         ∙ ap (λ items. item.Row row (Resend s) ∷ items)
-        (written_is rowed (acts_of_resend setting rowed s control.controller)
-        ∙ ap (λ k. act_items k (acts_of_resend setting rowed s control.controller)) bag_behind.many
-        ∙ ap (act_items (length control.posts + 1)) (sym acts_are))
+        (written_is rowed (acts_of_resend setting rowed s state.controller)
+        ∙ ap (λ k. act_items k (acts_of_resend setting rowed s state.controller)) bag_behind.many
+        ∙ ap (act_items (length state.posts + 1)) (sym acts_are))
 
     pub again_refines : RefineJournal setting (journal ++ item.Row row (Resend s)
-        ∷ act_items (length control.posts + 1) acts) switches before count
-        (record control { posts = control.posts ++ act_posts acts })
-    unfolding RefineJournal
-    again_refines = refines_told control control setting journal switches switches before count row
-        (Resend s) [] acts refines (record {
-          may = may;
-          piece_is = again_piece;
-          packet = λ i. (refl, tt);
-          packets = (refl, tt);
-          as_many = refl;
-          each = λ q d below. refines.each q d below
-              ∙ sym (kept_is setting q journal (item.Row row (Resend s) ∷ []) (refl, tt)
-              (refl, tt));
-          bag = bag_behind;
-          number = refl;
-          controller = resent_so.after;
-          up = up_stay control setting journal switches before count
-              (item.Row row (Resend s) ∷ []) refines (refl, tt);
-          usable = links_stay control setting journal switches before count
-              (item.Row row (Resend s) ∷ []) refines (refl, tt);
-        })
+        ∷ act_items (length state.posts + 1) acts)
+        (record state { posts = state.posts ++ act_posts acts })
+    again_refines = refines_told refines state row (Resend s) [] acts (record {
+      may = may;
+      piece_is = again_piece;
+      packet = λ i. (refl, tt);
+      packets = (refl, tt);
+      as_many = refl;
+      each = λ q d below. refines.each q d below
+          ∙ sym (kept_is setting q journal (item.Row row (Resend s) ∷ []) (refl, tt) (refl, tt));
+      bag = bag_behind;
+      number = refl;
+      controller = resent_so.after;
+      up = up_stay refines (item.Row row (Resend s) ∷ []) (refl, tt);
+      usable = links_stay refines (item.Row row (Resend s) ∷ []) (refl, tt);
+    })
 
-    pub again_may : length control.posts < 990_000 → MayNote control.posts acts
-    again_may = may_note control setting journal switches before count row (Resend s) []
-        control.posts acts refines may again_piece refl
+    pub again_may : length state.posts < 990_000 → MayNote state.posts acts
+    again_may = may_note refines row (Resend s) [] state.posts acts may again_piece refl

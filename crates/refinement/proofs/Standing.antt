@@ -5,14 +5,13 @@ use Rattle.std.proofs.lemmas.Bool.{cases_lt, eqb-true}
 use Rattle.std.proofs.lemmas.List.Elements.{filter_agree}
 use Rattle.std.proofs.lemmas.Map.Views.{any-filter_same}
 use Rattle.journal.specs.declared.item.Item.{Item}
-use Rattle.switch_core.specs.State.{SwitchValue}
 use Rattle.update_machine.specs.Folds.{count_of}
 use Rattle.update_machine.specs.Packets.{is_packet, next_packet, standing}
 use Rattle.update_machine.specs.Setting.{Setting}
 use Rattle.update_machine.specs.Travels.{is_at, packets_at, travels, travels_at}
 use Rattle.packet_laws.specs.Facts.{what_is_known}
 use Rattle.packet_laws.proofs.Rests.{numbered, ways_of_all}
-use Rattle.refinement.specs.Refinement.{RefineJournal, Control}
+use Rattle.refinement.specs.Refinement.{RefineJournal, NetworkState}
 use Rattle.refinement.specs.Flights.{flight_in, flight_of}
 use Rattle.travelling.specs.Travelling.{Flight, Flights, numbers_at, stands_at, flight}
 use Rattle.travelling.proofs.Numbers.{beyond, none_between}
@@ -64,49 +63,48 @@ among_numbers before s i = by_test (test i) refl
       where
         within : (i < length before) ⊎ (length before ≤ i) → i < 0 + length before
         within (inl less) = omega (arith, less)
-        within (inr past) =
-            absurd (let clash : true ≡ false = sym e ∙ beyond before s i past in cc)
+        within (inr past) = absurd (let clash : true ≡ false = sym e ∙ beyond before s i past in cc)
 
-module _ (control : Control) (setting : Setting) (journal : List Item)
-    (switches : List SwitchValue) (before : Flights) (count s : ℕ)
-    (refines : RefineJournal setting journal switches before count control) where
+module _ {setting : Setting} {journal : List Item} {state : NetworkState}
+    (refines : RefineJournal setting journal state) (s : ℕ) where
   -- where a packet stands by its route, it stands by the journal
-  same_switch : (i : ℕ) → stands_at s (flight before i) ≡ travels_at journal s i
-  unfolding RefineJournal flight_in what_is_known
+  same_switch : (i : ℕ) → stands_at s (flight state.travelling i) ≡ travels_at journal s i
+  unfolding flight_in what_is_known
   same_switch i = by_travels (travels journal i) refl
     where
       by_travels : (b : Bool) → travels journal i ≡ b
-          → stands_at s (flight before i) ≡ travels_at journal s i
+          → stands_at s (flight state.travelling i) ≡ travels_at journal s i
       by_travels false off =
-          let none : flight before i ≡ None =
+          let none : flight state.travelling i ≡ None =
           refines.packet i ∙ ap (λ b. if b then Some (flight_of setting journal i) else None) off in
           rw (none, off) refl
       by_travels true on =
           let t : Flight = flight_of setting journal i in
-          let some : flight before i ≡ Some t =
+          let some : flight state.travelling i ≡ Some t =
           refines.packet i ∙ ap (λ b. if b then Some t else None) on in
           let is : IsStanding setting journal i t =
-          standing_of control setting journal switches before count i t refines some in
+          standing_of refines i t some in
           let here : get_or t.tunnel.route t.tunnel.place 0 ≡ is.switch =
           ap (λ (u : Flight). get_or u.tunnel.route u.tunnel.place 0) is.is
-          ∙ got (what_is_known journal i).route (what_is_known journal i).hops is.switch is.stands.here in
+          ∙ got (what_is_known journal i).route (what_is_known journal i).hops is.switch
+          is.stands.here in
           ap (stands_at s) some ∙ ap (λ k. k == s) here
           ∙ sym (ap (λ b. b && is_at s (standing journal i)) on
           ∙ ap (is_at s) is.stands.stands)
 
   -- so these are the packets that the journal says
-  pub numbers_are : numbers_at before s ≡ packets_at journal s
-  unfolding RefineJournal numbers_at next_packet
+  pub numbers_are : numbers_at state.travelling s ≡ packets_at journal s
+  unfolding numbers_at next_packet
   numbers_are =
       let knows : Known setting journal = reached_known setting journal refines.sound
       refines.reached in
       let own = numbered setting journal (ways_of_all setting [] journal knows.settled.causes) in
       let many : ℕ = count_of is_packet journal in
-      filter_agree (λ i. stands_at s (flight before i)) (travels_at journal s) same_switch
-      (range_with_len 0 (length before))
-      ∙ same_numbers (travels_at journal s) (length before) many
+      filter_agree (λ i. stands_at s (flight state.travelling i)) (travels_at journal s) same_switch
+      (range_with_len 0 (length state.travelling))
+      ∙ same_numbers (travels_at journal s) (length state.travelling) many
       (unnumbered 0 (travels journal 0) refl (λ on. absurd (omega (arith, (own 0 on).0))))
-      (λ i past. sym (same_switch i) ∙ beyond before s i past)
+      (λ i past. sym (same_switch i) ∙ beyond state.travelling s i past)
       (λ i past. unnumbered i (travels journal i) refl
       (λ on. absurd (omega (arith, (own i on).1, past))))
     where

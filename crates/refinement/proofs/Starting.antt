@@ -25,7 +25,7 @@ use Rattle.update_machine.specs.Setting.{Setting, setting_of, IsSetting, NamesOw
 use Rattle.update_machine.specs.Travels.{travels}
 use Rattle.update_machine.specs.Versions.{policy_at, plan_at}
 use Rattle.update_machine.proofs.CallerLemmas.{first_version_is, setting_begun, start_laws}
-use Rattle.refinement.specs.Linking.{AreNear}
+use Rattle.world_log.specs.Linking.{AreNear}
 use Rattle.refinement.specs.Begun.{switch_begun}
 use Rattle.refinement.specs.Refinement.{RefineJournal, is_up_link}
 use Rattle.refinement.specs.Flights.{flight_in}
@@ -77,9 +77,16 @@ pub begun_refines : (net : Net) (files : List PolicyFile) (plan : PlanValue)
     → plan_of plan.policy net ≡ Ok plan.hosted
     → switches ≡ map (switch_begun net plan.hosted) (range_with_len 0 (length net.switches))
     → controller ≡ first_controller (length net.switches) plan → AreNear net near
-    → RefineJournal (setting_of net files) [] switches [] 0
-    (record { controller = controller; posts = []; links = near; near = near })
-unfolding RefineJournal flight_in travels next_packet
+    → RefineJournal (setting_of net files) [] (record {
+      switches = switches;
+      travelling = [];
+      packets = 0;
+      controller = controller;
+      posts = [];
+      links = near;
+      near = near;
+    })
+unfolding flight_in travels next_packet
 begun_refines net files plan switches controller near sound whole given ports is made first_is
     masks =
     let setting : Setting = setting_of net files in
@@ -95,8 +102,7 @@ begun_refines net files plan switches controller near sound whole given ports is
       reached = record {
         steps = [];
         own = All-nil (λ next. IsStep setting.net (length setting.files) next.step);
-        written =
-            refl;
+        written = refl;
       };
       many = many;
       each = λ s d there.

@@ -21,7 +21,6 @@ use Rattle.policy_rules.specs.declared.policy.Row.{Row}
 use Rattle.policy_rules.specs.Hosted.{NoPlan}
 use Rattle.steps.specs.declared.step.Step.{Step}
 use Rattle.steps.specs.declared.step.Step.TheVariants.{Update}
-use Rattle.switch_core.specs.State.{SwitchValue}
 use Rattle.update_machine.specs.Laws.{PoliciesKeep}
 use Rattle.update_machine.specs.Moves.{items_then}
 use Rattle.update_machine.specs.Pieces.{apply_code, piece, plan_code, update_code, update_items}
@@ -32,9 +31,8 @@ use Rattle.update_machine.specs.Versions.{version_count}
 use Rattle.update_machine.proofs.CallerLemmas.{next_by, policies_keep, unapplied_code, unplanned_code}
 use Rattle.update_machine.specs.Touched.{touched_of}
 use Rattle.world_log.specs.Sending.{MayNote, act_items, act_posts}
-use Rattle.refinement.specs.Refinement.{RefineJournal, Control}
+use Rattle.refinement.specs.Refinement.{RefineJournal, NetworkState}
 use Rattle.refinement.specs.Bags.{IsBagOf}
-use Rattle.travelling.specs.Travelling.{Flights}
 use Rattle.refinement.proofs.ActItems.{written_is}
 use Rattle.refinement.proofs.Known.{reached_known}
 use Rattle.refinement.proofs.Newest.{newest_in}
@@ -47,25 +45,25 @@ use Rattle.ternary.specs.Word.{WordValue}
 
 -- ---- the file of an update
 
--- the policy of the newest version is the one that the controller keeps, and a row leaves it
-pub newest_refines : (control : Control) (setting : Setting) (journal : List Item)
-    (switches : List SwitchValue) (before : Flights) (count row : ℕ) (step : Step)
-    (newest : List Row) → RefineJournal setting journal switches before count control
-    → newest_policy control.controller ≡ Some newest
-    → (policy_in setting journal (version_count journal) ≡ Some newest)
-    × (policy_in setting (journal ++ item.Row row step ∷ [])
-    (version_count (journal ++ item.Row row step ∷ [])) ≡ Some newest)
-unfolding RefineJournal
-newest_refines control setting journal switches before count row step newest refines is =
-    let here : List Item = journal ++ item.Row row step ∷ [] in
-    let keep : PoliciesKeep journal here =
-    policies_keep journal (item.Row row step ∷ []) (refl, tt) in
-    let own : policy_in setting journal (version_count journal) ≡ Some newest =
-    sym (newest_in setting journal control.controller refines.sound
-    (reached_known setting journal refines.sound refines.reached).caused refines.controller) ∙ is in (
-      own,
-      ap (policy_in setting here) keep.count ∙ keep.rows setting (version_count journal) ∙ own,
-    )
+module _ {setting : Setting} {journal : List Item} {state : NetworkState}
+    (refines : RefineJournal setting journal state) where
+  -- the policy of the newest version is the one that the controller keeps, and a row leaves it
+  pub newest_refines : (row : ℕ) (step : Step) (newest : List Row)
+      → newest_policy state.controller ≡ Some newest
+      → (policy_in setting journal (version_count journal) ≡ Some newest)
+      × (policy_in setting (journal ++ item.Row row step ∷ [])
+      (version_count (journal ++ item.Row row step ∷ [])) ≡ Some newest)
+  newest_refines row step newest is =
+      let here : List Item = journal ++ item.Row row step ∷ [] in
+      let keep : PoliciesKeep journal here =
+      policies_keep journal (item.Row row step ∷ []) (refl, tt) in
+      let own : policy_in setting journal (version_count journal) ≡ Some newest =
+      sym (newest_in setting journal state.controller refines.sound
+      (reached_known setting journal refines.sound refines.reached).caused refines.controller)
+      ∙ is in (
+        own,
+        ap (policy_in setting here) keep.count ∙ keep.rows setting (version_count journal) ∙ own,
+      )
 
 -- a plan of what the file makes of it is that of the next version
 pub planned_next : (net : Net) (files : List PolicyFile) (journal : List Item) (file : ℕ)
@@ -114,15 +112,13 @@ refused_piece setting journal row file code is =
     ap (λ o. item.Row row (Update file) ∷ elim o [
       | Some k ↦ item.Refused file k ∷ []
       | None ↦ items_then (item.Submitted file (version_count rowed + 1) ∷ [])
-          (submitted_items setting)
-          rowed
+          (submitted_items setting) rowed
     ]) is
 
 -- ---- the tie
 
-module _ (control : Control) (setting : Setting) (journal : List Item)
-    (switches : List SwitchValue) (before : Flights) (count row file : ℕ)
-    (refines : RefineJournal setting journal switches before count control)
+module _ {setting : Setting} {journal : List Item} {state : NetworkState}
+    (refines : RefineJournal setting journal state) (row file : ℕ)
     (may : IsStep setting.net (length setting.files) (Update file)) where
   abbrev first : Item → List Item
   first one = item.Row row (Update file) ∷ one ∷ []
@@ -131,87 +127,77 @@ module _ (control : Control) (setting : Setting) (journal : List Item)
   pub refused_refines : (code : ℕ)
       → piece setting journal row (Update file)
       ≡ item.Row row (Update file) ∷ item.Refused file code ∷ []
-      → RefineJournal setting (grown journal row (Update file) (item.Refused file code)) switches
-      before
-      count control
-  unfolding RefineJournal act_items act_posts
+      → RefineJournal setting (grown journal row (Update file) (item.Refused file code)) state
+  unfolding act_items act_posts
   refused_refines code is =
       let one : Item = item.Refused file code in
-      let controller = subst (λ more. IsControllerOf setting (journal ++ more) control.controller)
-      (sym is) (items_leave setting journal (first one) control.controller
+      let controller = subst (λ more. IsControllerOf setting (journal ++ more) state.controller)
+      (sym is) (items_leave setting journal (first one) state.controller
       (reached_known setting journal refines.sound refines.reached).caused (refl, (refl, tt))
       refines.controller) in
-      subst (λ posts. RefineJournal setting (grown journal row (Update file) one) switches before
-      count
-      (record control { posts = posts })) (append-nil control.posts)
-      (refines_told control control setting journal switches switches before count row (Update file)
-      (one ∷ []) [] refines (search (rules, switches_stay, bag_on, links_stay, up_stay)))
+      subst (λ posts. RefineJournal setting (grown journal row (Update file) one)
+      (record state { posts = posts })) (append-nil state.posts)
+      (refines_told refines state row (Update file) (one ∷ []) []
+      (search (rules, switches_stay, bag_on, links_stay, up_stay)))
 
   module _ (plan : PlanValue) (touched : List WordValue) (new : ControllerValue)
       (of_next : IsPlanOfNext setting journal file plan touched)
-      (live : control.controller.marks.count - control.controller.marks.retired ≢ 8)
-      (versions : control.controller.marks.count ≢ 64)
-      (submitted : SubmitsPlan control.controller (next_kept control.controller plan touched) new)
+      (live : state.controller.marks.count - state.controller.marks.retired ≢ 8)
+      (versions : state.controller.marks.count ≢ 64)
+      (submitted : SubmitsPlan state.controller (next_kept state.controller plan touched) new)
     where
       abbrev version : ℕ
-      version = control.controller.marks.count + 1
+      version = state.controller.marks.count + 1
 
       abbrev one : Item
       one = item.Submitted file version
 
       abbrev acts : List Act
-      acts = submit_acts control.controller.marks (next_kept control.controller plan touched) new
+      acts = submit_acts state.controller.marks (next_kept state.controller plan touched) new
 
-      bag_behind : IsBagOf (grown journal row (Update file) one) control.posts
-      unfolding RefineJournal
-      bag_behind = bag_on journal (first one) control.posts (refl, (refl, tt)) refines.bag
+      bag_behind : IsBagOf (grown journal row (Update file) one) state.posts
+      bag_behind = bag_on journal (first one) state.posts (refl, (refl, tt)) refines.bag
 
       submits_so : AreWritten setting journal (first one) acts new
           (piece setting journal row (Update file))
-      unfolding RefineJournal
-      submits_so = submits setting journal row file control.controller new plan touched
+      submits_so = submits setting journal row file state.controller new plan touched
           (reached_known setting journal refines.sound refines.reached).caused refines.controller
           of_next live versions submitted
 
       pub submitted_piece : piece setting journal row (Update file)
-          ≡ item.Row row (Update file) ∷ one ∷ act_items (length control.posts + 1) acts
+          ≡ item.Row row (Update file) ∷ one ∷ act_items (length state.posts + 1) acts
       submitted_piece = submits_so.same
           ∙ ap (λ items. first one ++ items) (written_is (journal ++ first one) acts
           ∙ ap (λ k. act_items k acts) bag_behind.many)
 
       pub submitted_refines : RefineJournal setting (journal ++ item.Row row (Update file) ∷ one
-          ∷ act_items (length control.posts + 1) acts) switches before count
-          (record control { controller = new; posts = control.posts ++ act_posts acts })
-      unfolding RefineJournal
-      submitted_refines = refines_told control (record control { controller = new }) setting journal
-          switches switches before count row (Update file) (one ∷ []) acts refines
+          ∷ act_items (length state.posts + 1) acts)
+          (record state { controller = new; posts = state.posts ++ act_posts acts })
+      submitted_refines = refines_told refines (record state { controller = new }) row
+          (Update file) (one ∷ []) acts
           (search (rules, submitted_piece, bag_behind, submits_so, switches_stay, links_stay, up_stay))
 
       -- and it may be written
-      pub submitted_may : length control.posts < 990_000 → MayNote control.posts acts
-      submitted_may = may_note control setting journal switches before count row (Update file)
-          (one ∷ []) control.posts acts refines may submitted_piece refl
+      pub submitted_may : length state.posts < 990_000 → MayNote state.posts acts
+      submitted_may = may_note refines row (Update file) (one ∷ []) state.posts acts may
+          submitted_piece refl
 
 -- ---- what the marks refuse
 
-module _ (control : Control) (setting : Setting) (journal : List Item)
-    (switches : List SwitchValue) (before : Flights) (count row file : ℕ) (plan : PlanValue)
-    (touched : List WordValue) (refines : RefineJournal setting journal switches before count control)
-    (of_next : IsPlanOfNext setting journal file plan touched) where
-  pub live_piece : control.controller.marks.count - control.controller.marks.retired ≡ 8
+module _ {setting : Setting} {journal : List Item} {state : NetworkState}
+    (refines : RefineJournal setting journal state) (row file : ℕ) (plan : PlanValue)
+    (touched : List WordValue) (of_next : IsPlanOfNext setting journal file plan touched) where
+  pub live_piece : state.controller.marks.count - state.controller.marks.retired ≡ 8
       → piece setting journal row (Update file)
       ≡ item.Row row (Update file) ∷ item.Refused file 16 ∷ []
-  unfolding RefineJournal
-  live_piece live = (too_many_live setting journal row file control.controller plan touched
+  live_piece live = (too_many_live setting journal row file state.controller plan touched
       (reached_known setting journal refines.sound refines.reached).caused refines.controller
-      of_next
-      live).same
+      of_next live).same
 
-  pub versions_piece : control.controller.marks.count - control.controller.marks.retired ≢ 8
-      → control.controller.marks.count ≡ 64 → piece setting journal row (Update file)
+  pub versions_piece : state.controller.marks.count - state.controller.marks.retired ≢ 8
+      → state.controller.marks.count ≡ 64 → piece setting journal row (Update file)
       ≡ item.Row row (Update file) ∷ item.Refused file 17 ∷ []
-  unfolding RefineJournal
-  versions_piece live many = (too_many_versions setting journal row file control.controller plan touched
+  versions_piece live many =
+      (too_many_versions setting journal row file state.controller plan touched
       (reached_known setting journal refines.sound refines.reached).caused refines.controller
-      of_next live
-      many).same
+      of_next live many).same

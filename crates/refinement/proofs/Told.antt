@@ -20,9 +20,8 @@ use Rattle.steps.specs.Steps.{IsStep}
 use Rattle.update_machine.specs.Setting.{Setting}
 use Rattle.update_machine.proofs.CallerLemmas.{count_of_append, have_append, near_stays, packets_keep}
 use Rattle.world_log.specs.Sending.{act_items, act_posts}
-use Rattle.refinement.specs.Refinement.{RefineJournal, AreUp, AreUsable, Control}
+use Rattle.refinement.specs.Refinement.{RefineJournal, AreUp, AreUsable, NetworkState}
 use Rattle.refinement.specs.Bags.{IsBagOf}
-use Rattle.travelling.specs.Travelling.{Flights}
 use Rattle.refinement.proofs.ActItems.{SparesActs, acts_apart, acts_counted, acts_posted, acts_send, acts_unnamed}
 use Rattle.refinement.proofs.Known.{reached_known, reached_more, flight_stays}
 use Rattle.refinement.proofs.Others.{NoneName, none_more}
@@ -30,20 +29,19 @@ use Rattle.refinement.proofs.Posting.{bag_sends}
 use Rattle.refinement.proofs.Refining.{up_stays}
 
 -- the step of the row writes these items; they name no packet, and what is done leaves the
--- switches, which are these behind the first items
+-- switches; behind the first items the rest is as in the later state
 pub record IsTold (setting : Setting) (journal : List Item) (row : ℕ) (step : Step)
-    (first : List Item) (acts : List Act) (switches others : List SwitchValue)
-    (control later : Control) : Type 0 where
+    (first : List Item) (acts : List Act) (state later : NetworkState) : Type 0 where
   pub may : IsStep setting.net (length setting.files) step
   pub piece_is : piece setting journal row step
-      ≡ item.Row row step ∷ first ++ act_items (length control.posts + 1) acts
+      ≡ item.Row row step ∷ first ++ act_items (length state.posts + 1) acts
   pub packet : (i : ℕ) → NoneName i (item.Row row step ∷ first)
   pub packets : NoneConcern concerns_packets journal (item.Row row step ∷ first)
-  pub as_many : length others ≡ length switches
-  pub each : (s : ℕ) (d : SwitchValue) → s < length switches
-      → get_or others s d ≡ switch_of setting (journal ++ item.Row row step ∷ first) s
+  pub as_many : length later.switches ≡ length state.switches
+  pub each : (s : ℕ) (d : SwitchValue) → s < length state.switches
+      → get_or later.switches s d ≡ switch_of setting (journal ++ item.Row row step ∷ first) s
   pub bag : IsBagOf (journal ++ item.Row row step ∷ first) later.posts
-  pub number : length later.posts ≡ length control.posts
+  pub number : length later.posts ≡ length state.posts
   pub controller : IsControllerOf setting (journal ++ piece setting journal row step)
       later.controller
   pub up : AreUp setting (journal ++ item.Row row step ∷ first) later.links
@@ -105,13 +103,12 @@ links_left setting journal number acts links near up usable =
       λ s below. usable s below ∙ sym (near_stays setting s journal (act_items number acts) none),
     )
 
-module _ (control later : Control) (setting : Setting) (journal : List Item)
-    (switches others : List SwitchValue) (travelling : Flights) (count row : ℕ) (step : Step)
-    (first : List Item) (acts : List Act)
-    (refines : RefineJournal setting journal switches travelling count control)
-    (told : IsTold setting journal row step first acts switches others control later) where
+module _ {setting : Setting} {journal : List Item} {state : NetworkState}
+    (refines : RefineJournal setting journal state) (later : NetworkState) (row : ℕ)
+    (step : Step) (first : List Item) (acts : List Act)
+    (told : IsTold setting journal row step first acts state later) where
   abbrev number : ℕ
-  number = length control.posts + 1
+  number = length state.posts + 1
 
   abbrev begun : List Item
   begun = item.Row row step ∷ first
@@ -127,9 +124,11 @@ module _ (control later : Control) (setting : Setting) (journal : List Item)
 
   -- what is told and done is tied to the longer journal
   pub refines_told : RefineJournal setting (journal
-      ++ (item.Row row step ∷ first ++ act_items number acts))
-      others travelling count (record later { posts = later.posts ++ act_posts acts })
-  unfolding RefineJournal
+      ++ (item.Row row step ∷ first ++ act_items number acts)) (record later {
+        travelling = state.travelling;
+        packets = state.packets;
+        posts = later.posts ++ act_posts acts;
+      })
   refines_told =
       let linked = links_left setting (journal ++ begun) number acts later.links later.near told.up
       told.usable in record {

@@ -6,7 +6,6 @@ pub mod Hearing
 pub mod Knowing
 pub mod Asked
 pub mod Exports
-pub mod Linking
 pub mod Spelled
 pub mod Marks
 pub mod Controller

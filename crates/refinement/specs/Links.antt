@@ -1,14 +1,14 @@
 -- What a change of its links makes of a switch: its next advert, which it holds and tells, as a
 -- router in OSPF makes a new advert of its own where its links changed (RFC 2328, section 12.4).
-use Rattle.std.specs.Prelude.{ℕ, ◌≡◌, true, false, if◌then◌else◌, List, [], ◌∷◌, ◌++◌, filter_map, map, IsTrue}
+use Rattle.std.specs.Prelude.{ℕ, ◌≡◌, Bool, true, false, if◌then◌else◌, List, [], ◌∷◌, ◌++◌, map, IsTrue}
 use Rattle.std.specs.List.{flat_map}
-use Rattle.failover.specs.Adverts.{held_advert}
 use Rattle.ctrl_msg.specs.declared.message.Message.{Message}
-use Rattle.base.specs.Masks.{has, switches}
+use Rattle.base.specs.Masks.{has}
 use Rattle.failover.specs.declared.advert.Advert.{Advert}
 use Rattle.journal.specs.declared.item.Item.{Item}
 use Rattle.journal.specs.declared.item.Item.TheVariants as item
 use Rattle.steps.specs.declared.step.Step.{Step}
+use Rattle.steps.specs.declared.step.Step.TheVariants.{LinkDown, LinkUp}
 use Rattle.switch_core.specs.Life.{near_changed, next_advert}
 use Rattle.switch_core.specs.State.{SwitchValue}
 use Rattle.update_machine.specs.Adverts.{held_adverts, own_advert}
@@ -19,6 +19,12 @@ use Rattle.update_machine.specs.Messages.{send_items}
 use Rattle.update_machine.specs.Setting.{Setting}
 use Rattle.refinement.specs.Calls.{NoRows}
 use Rattle.refinement.specs.SwitchOf.{switch_of}
+use Rattle.world_log.specs.Linking.{all_held}
+
+-- the step by which the link of two switches comes back, or fails
+abbrev pub link_step : Bool → ℕ → ℕ → Step
+link_step true one two = LinkUp one two
+link_step false one two = LinkDown one two
 
 -- the step is over, or goes on, and no item of it is the switch's own, nor a call of it
 pub record LeavesSwitch (s : ℕ) (before : List Item) (row : ℕ) (step : Step) (items : List Item)
@@ -31,10 +37,6 @@ pub record LeavesSwitch (s : ℕ) (before : List Item) (row : ℕ) (step : Step)
 abbrev pub relinked_switch : Setting → List Item → List Item → ℕ → SwitchValue → SwitchValue
 relinked_switch setting before now s switch =
     if has_changed setting before now s then near_changed switch (near setting now s) else switch
-
--- the adverts that it holds, by ascending origin
-abbrev pub all_held : SwitchValue → List Advert
-all_held switch = filter_map (held_advert switch.database) switches
 
 -- what it tells of these links, once it had those: its own advert, and over a link that became
 -- usable all that it holds

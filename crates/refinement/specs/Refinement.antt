@@ -17,9 +17,13 @@ use Rattle.update_machine.specs.Setting.{Setting, IsSetting}
 use Rattle.update_machine.specs.LinkMasks.{near as near_of}
 use Rattle.travelling.specs.Travelling.{Flights, flight}
 
--- what is known in the control plane: the controller, the messages that were sent, and the
--- switches to which each switch has a link that is up, and to which it has a usable one, as masks
-pub record Control : Type 0 where
+-- all that a world holds: the switches, the packets on their way, how many came in or were
+-- refused, the controller, the messages that were sent, and the switches to which each switch has a
+-- link that is up, and to which it has a usable one, as masks
+pub record NetworkState : Type 0 where
+  pub switches : List SwitchValue
+  pub travelling : Flights
+  pub packets : ℕ
   pub controller : ControllerValue
   pub posts : List Post
   pub links : List ℕ
@@ -43,21 +47,16 @@ AreUsable setting journal near = (s : ℕ) → s < 64 → slice_index near s ≡
 
 -- the journal is of steps of the network, and the switches, the packets on their way, the
 -- controller, the messages and the links are as it says
-pub record Refinement (setting : Setting) (journal : List Item) (switches : List SwitchValue)
-    (travelling : Flights) (count : ℕ) (control : Control) : Type 0 where
+pub record RefineJournal (setting : Setting) (journal : List Item) (state : NetworkState)
+    : Type 0 where
   pub sound : IsSetting setting
   pub reached : IsReached setting journal
-  pub many : length switches ≡ length setting.net.switches
-  pub each : (s : ℕ) (d : SwitchValue) → s < length switches →
-      slice_index_or switches s d ≡ switch_of setting journal s
-  pub packet : (i : ℕ) → flight travelling i ≡ flight_in setting journal i
-  pub counted : next_packet journal ≡ count + 1
-  pub controller : IsControllerOf setting journal control.controller
-  pub bag : IsBagOf journal control.posts
-  pub up : AreUp setting journal control.links
-  pub usable : AreUsable setting journal control.near
-
-unfoldable pub RefineJournal : Setting → List Item → List SwitchValue → Flights → ℕ → Control
-    → Type 0
-RefineJournal setting journal switches travelling count control =
-    Refinement setting journal switches travelling count control
+  pub many : length state.switches ≡ length setting.net.switches
+  pub each : (s : ℕ) (d : SwitchValue) → s < length state.switches →
+      slice_index_or state.switches s d ≡ switch_of setting journal s
+  pub packet : (i : ℕ) → flight state.travelling i ≡ flight_in setting journal i
+  pub counted : next_packet journal ≡ state.packets + 1
+  pub controller : IsControllerOf setting journal state.controller
+  pub bag : IsBagOf journal state.posts
+  pub up : AreUp setting journal state.links
+  pub usable : AreUsable setting journal state.near

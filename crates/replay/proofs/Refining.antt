@@ -3,18 +3,11 @@ use Rattle.std.proofs.Common.{ℕ, ◌≤◌, arith}
 use Rattle.steps.specs.Limits.{max_events}
 use Rattle.update_machine.specs.Answers.{IsReached}
 use Rattle.update_machine.specs.Packets.{next_packet}
-use Rattle.world.specs.State.{RefinesJournal, WorldValue, setting_at}
-use Rattle.refinement.specs.Refinement.{RefineJournal, Refinement}
+use Rattle.world.specs.State.{RefinesJournal, WorldValue, setting_at, state_at}
+use Rattle.refinement.specs.Refinement.{RefineJournal}
 
 pub tie_of : (world : WorldValue) → RefinesJournal world
-    → Refinement (setting_at world) world.journal world.switches world.travelling world.packets
-    (record {
-      controller = world.controller;
-      posts = world.bag;
-      links = world.links;
-      near = world.near;
-    })
-unfolding RefineJournal
+    → RefineJournal (setting_at world) world.journal (state_at world)
 tie_of world refines = refines
 
 -- its journal is of steps of the network

@@ -27,12 +27,18 @@ pub as_begun : (net : Net) (given : List PolicyFile) (files : FilesValue)
     (journal : List Item) (travelling : Flights) (bag : List Post)
     (switches : List SwitchValue) (controller : ControllerValue) (near : List ℕ)
     → files.net ≡ net → files.files ≡ given → journal ≡ [] → travelling ≡ [] → bag ≡ []
-    → RefineJournal (setting_of net given) [] switches [] 0 (record {
+    → RefineJournal (setting_of net given) [] (record {
+      switches = switches;
+      travelling = [];
+      packets = 0;
       controller = controller;
       posts = [];
       links = near;
       near = near;
-    }) → RefineJournal (setting_of files.net files.files) journal switches travelling 0 (record {
+    }) → RefineJournal (setting_of files.net files.files) journal (record {
+      switches = switches;
+      travelling = travelling;
+      packets = 0;
       controller = controller;
       posts = bag;
       links = near;
@@ -50,7 +56,8 @@ first_plans net (Change edits ∷ files) is whole = absurd cc
 
 -- a copy of a plan on a copy of the network is one
 pub plan_copied : (net own : Net) (plan copy : PlanValue) → own ≡ net → copy ≡ plan
-    → plan_of plan.policy net ≡ Ok plan.hosted → IsMade own (Ok copy.policy, all_touched) (Planned copy all_touched)
+    → plan_of plan.policy net ≡ Ok plan.hosted
+    → IsMade own (Ok copy.policy, all_touched) (Planned copy all_touched)
 plan_copied net own plan copy same as_it is =
     record { policy = refl; planned = rw (same, as_it) is; told_is = refl }
 

@@ -1,8 +1,7 @@
 -- Whether a step may begin behind the journal, by the count of the messages that were sent.
-use Rattle.std.proofs.Common.{ℕ, ◌≡◌, ◌<◌, ◌≤◌, List, length, arith}
+use Rattle.std.proofs.Common.{◌≡◌, ◌<◌, ◌≤◌, List, length, arith}
 use Rattle.std.specs.Prelude.{Err, IsErrAnd, IsErrOf, Ok, Result}
 use Rattle.journal.specs.declared.item.Item.{Item}
-use Rattle.switch_core.specs.State.{SwitchValue}
 use Rattle.update_machine.specs.Full.{HasRoom, IsFull}
 use Rattle.update_machine.specs.Setting.{Setting}
 use Rattle.update_machine.specs.declared.full.TheConstants.{FULL_AT}
@@ -10,24 +9,15 @@ use Rattle.base.specs.declared.error.Failure.{Failure}
 use Rattle.base.specs.declared.error.Failure.TheVariants.{NoMemory}
 use Rattle.world.specs.NoStep.{no_step}
 use Rattle.world.specs.declared.error.Full.{Full}
-use Rattle.refinement.specs.Refinement.{RefineJournal, Control}
-use Rattle.travelling.specs.Travelling.{Flights}
+use Rattle.refinement.specs.Refinement.{RefineJournal, NetworkState}
 
-pub is_full : (control : Control) (setting : Setting) (journal : List Item)
-    (switches : List SwitchValue) (before : Flights) (count : ℕ)
-    → RefineJournal setting journal switches before count control → FULL_AT ≤ length control.posts
-    → IsFull journal
-unfolding RefineJournal
-is_full control setting journal switches before count refines many =
-    omega (arith, refines.bag.many, many)
+module _ {setting : Setting} {journal : List Item} {state : NetworkState}
+    (refines : RefineJournal setting journal state) where
+  pub is_full : FULL_AT ≤ length state.posts → IsFull journal
+  is_full many = omega (arith, refines.bag.many, many)
 
-pub has_room : (control : Control) (setting : Setting) (journal : List Item)
-    (switches : List SwitchValue) (before : Flights) (count : ℕ)
-    → RefineJournal setting journal switches before count control → length control.posts < FULL_AT
-    → HasRoom journal
-unfolding RefineJournal
-has_room control setting journal switches before count refines few =
-    omega (arith, refines.bag.many, few)
+  pub has_room : length state.posts < FULL_AT → HasRoom journal
+  has_room few = omega (arith, refines.bag.many, few)
 
 -- want of memory is another error
 pub not_full : {T : Type 0} (r : Result T (Failure Full)) → IsErrAnd r (λ e. e ≡ NoMemory)

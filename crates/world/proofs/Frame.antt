@@ -4,18 +4,16 @@ use Rattle.std.proofs.Common.{ℕ, ◌≡◌, ◌+◌, List, [], ◌∷◌, ◌+
 use Rattle.std.specs.Prelude.{Err, IsErr, Ok, OnErr, OnOk, Result, Some}
 use Rattle.std.proofs.lemmas.Result.{on_err_weaker, on_ok_weaker}
 use Rattle.message_bag.specs.Posts.{Post}
-use Rattle.controller.specs.Controller.{ControllerValue, newest_policy}
+use Rattle.controller.specs.Controller.{newest_policy}
 use Rattle.journal.specs.declared.item.Item.{Item}
 use Rattle.journal.specs.declared.item.Item.TheVariants as item
-use Rattle.net_file.specs.declared.net.Net.{Net}
-use Rattle.policy_rules.specs.declared.file.PolicyFile.{PolicyFile}
 use Rattle.steps.specs.declared.step.Step.{Step}
 use Rattle.update_machine.specs.Pieces.{piece, step_items}
-use Rattle.update_machine.specs.Setting.{Setting, setting_of}
+use Rattle.update_machine.specs.Setting.{Setting}
 use Rattle.world.specs.Files.{FilesValue}
-use Rattle.world.specs.Parts.{PartsRefineJournal, BeginsStep, Goes, HasBegun, HoldNewest, IsReadyForStep, KeepNet, Plays, control_in, setting_in}
+use Rattle.world.specs.Parts.{PartsRefineJournal, BeginsStep, Goes, HasBegun, HoldNewest, IsReadyForStep, KeepNet, Plays, setting_in, state_in}
 use Rattle.world.specs.State.{comes_in}
-use Rattle.refinement.specs.Refinement.{RefineJournal, Control}
+use Rattle.refinement.specs.Refinement.{RefineJournal, NetworkState}
 use Rattle.world_log.specs.Writing.{IsPart}
 use Rattle.world.specs.declared.parts.Parts.{Parts}
 use Rattle.refinement.proofs.OneItem.{grown}
@@ -53,20 +51,10 @@ follows begins files ports newest = record {
   newest = newest ∙ begins.ready.newest ∙ ap (λ (f : FilesValue). Some f.newest) (sym files);
 }
 
--- these parts are as this journal says, by the setting from before the step
-abbrev pub PartsRefineJournalAs : Parts → List Item → Parts → Control → Type 0
-PartsRefineJournalAs old journal new control =
-    RefineJournal (setting_in old) journal new.switches.items new.log.travelling new.packets control
-
 -- the network and the files stayed
 as_kept : (old new : Parts) → KeepNet old new
-    → PartsRefineJournalAs old new.log.journal new (control_in new) → PartsRefineJournal new
-as_kept old new keeps refines =
-    subst (λ (net : Net). RefineJournal (setting_of net new.files.files) new.log.journal
-    new.switches.items new.log.travelling new.packets (control_in new)) (sym keeps.same_net)
-    (subst (λ (files : List PolicyFile). RefineJournal (setting_of old.files.net files)
-    new.log.journal new.switches.items new.log.travelling new.packets (control_in new))
-    (sym keeps.same_files) refines)
+    → RefineJournal (setting_in old) new.log.journal (state_in new) → PartsRefineJournal new
+as_kept old new keeps refines = rw (keeps.same_net, keeps.same_files) refines
 
 -- the controller stayed, and which links are up and can be used
 pub record KeepControl (old new : Parts) : Type 0 where
@@ -82,32 +70,20 @@ plane_stays controller links near = record {
   same_near = near;
 }
 
--- so of the control plane only messages changed
-abbrev pub with_posts : Parts → List Post → Control
-with_posts old posts = record (control_in old) { posts = posts }
+-- so only switches, packets on their way and messages changed
+abbrev pub with_posts : Parts → Parts → List Post → NetworkState
+with_posts old new posts = record (state_in old) {
+  switches = new.switches.items;
+  travelling = new.log.travelling;
+  packets = new.packets;
+  posts = posts;
+}
 
 pub by_posts : (old new : Parts) (journal : List Item) → KeepControl old new
-    → PartsRefineJournalAs old journal new (with_posts old new.log.bag)
-    → PartsRefineJournalAs old journal new (control_in new)
+    → RefineJournal (setting_in old) journal (with_posts old new new.log.bag)
+    → RefineJournal (setting_in old) journal (state_in new)
 by_posts old new journal keeps refines =
-    subst (λ (controller : ControllerValue). PartsRefineJournalAs old journal new (record {
-      controller = controller;
-      posts = new.log.bag;
-      links = new.links;
-      near = new.near;
-    })) (sym keeps.same_controller)
-    (subst (λ links. PartsRefineJournalAs old journal new (record {
-      controller = old.controller;
-      posts = new.log.bag;
-      links = links;
-      near = new.near;
-    })) (sym keeps.same_links)
-    (subst (λ near. PartsRefineJournalAs old journal new (record {
-      controller = old.controller;
-      posts = new.log.bag;
-      links = old.links;
-      near = near;
-    })) (sym keeps.same_near) refines))
+    rw (keeps.same_controller, keeps.same_links, keeps.same_near) refines
 
 -- no packet comes in
 pub none_in : (n : ℕ) → n ≡ n + 0
@@ -131,7 +107,7 @@ module _ {T E : Type 0} {r : Result T E} {before : List Item} {row : ℕ} {step 
       → OnOk r (new.packets ≡ old.packets + comes_in step)
       → OnOk r (new.log.journal ≡ old.log.journal ++ items)
       → OnErr r (IsPart old.log.journal items new.log.journal)
-      → OnOk r (PartsRefineJournalAs old (before ++ item.Row row step ∷ items) new (control_in new))
+      → OnOk r (RefineJournal (setting_in old) (before ++ item.Row row step ∷ items) (state_in new))
       → Goes r before row step old new
   goes items is counted written part refines = record {
     net = keeps.net;
@@ -140,7 +116,7 @@ module _ {T E : Type 0} {r : Result T E} {before : List Item} {row : ℕ} {step 
     written = step_written r before old.log.journal new.log.journal items
         (piece (setting_in old) before row step) (item.Row row step) is begins.rowed written;
     refines = both_ok r (λ grown kept. as_kept old new keeps.net
-        (subst (λ js. PartsRefineJournalAs old js new (control_in new))
+        (subst (λ js. RefineJournal (setting_in old) js (state_in new))
         (sym (grown_more before old.log.journal new.log.journal items (item.Row row step)
         begins.rowed grown)) kept)) written refines;
     part = step_part r before old.log.journal new.log.journal items
@@ -155,9 +131,8 @@ module _ {T E : Type 0} {r : Result T E} {before : List Item} {row : ℕ} {step 
       → OnOk r (new.packets ≡ old.packets + comes_in step)
       → OnOk r (new.log.journal ≡ old.log.journal ++ items)
       → OnErr r (IsPart old.log.journal items new.log.journal)
-      → OnOk r (PartsRefineJournalAs old (before ++ item.Row row step ∷ items) new
-      (with_posts old new.log.bag))
-      → Goes r before row step old new
+      → OnOk r (RefineJournal (setting_in old) (before ++ item.Row row step ∷ items)
+      (with_posts old new new.log.bag)) → Goes r before row step old new
   goes_quiet items control is counted written part refines =
       goes begins (follows begins keeps.files keeps.ports
       (ap newest_policy control.same_controller)) items is counted written part
@@ -167,15 +142,14 @@ module _ {T E : Type 0} {r : Result T E} {before : List Item} {row : ℕ} {step 
   pub goes_one : (one : Item) (posts : List Post) → KeepControl old new → new.log.bag ≡ posts
       → new.packets ≡ old.packets + comes_in step
       → (piece (setting_in old) before row step ≡ item.Row row step ∷ one ∷ [])
-      × PartsRefineJournalAs old (grown before row step one) new (with_posts old posts)
+      × RefineJournal (setting_in old) (grown before row step one) (with_posts old new posts)
       → OnOk r (new.log.journal ≡ old.log.journal ++ one ∷ [])
-      → OnErr r (new.log.journal ≡ old.log.journal)
-      → Goes r before row step old new
+      → OnErr r (new.log.journal ≡ old.log.journal) → Goes r before row step old new
   goes_one one posts control same counted is pushed unchanged =
       goes_quiet (one ∷ []) control is.0 (on_ok_weaker r (λ grown. counted) pushed) pushed
-      (on_err_weaker r (λ same. part_none old.log.journal (one ∷ []) new.log.journal same) unchanged)
-      (on_ok_weaker r (λ grown. subst (λ bag. PartsRefineJournalAs old
-      (before ++ item.Row row step ∷ one ∷ []) new (with_posts old bag)) (sym same) is.1) pushed)
+      (on_err_weaker r (λ same. part_none old.log.journal (one ∷ []) new.log.journal same)
+      unchanged) (on_ok_weaker r (λ grown. subst (λ bag. RefineJournal (setting_in old)
+      (before ++ item.Row row step ∷ one ∷ []) (with_posts old new bag)) (sym same) is.1) pushed)
 
 module _ {T E : Type 0} {r : Result T E} {before : List Item} {row : ℕ} {step : Step}
     {old new : Parts} (keeps : KeepNet old new) where
@@ -210,13 +184,12 @@ with_journal parts journal = record parts { log = record parts.log { journal = j
 pub goes_nothing : {T E : Type 0} {r : Result T E} {before : List Item} {row : ℕ} {step : Step}
     {old : Parts} {journal : List Item} → BeginsStep before row step old → comes_in step ≡ 0
     → (piece (setting_in old) before row step ≡ item.Row row step ∷ item.Nothing ∷ [])
-    × PartsRefineJournalAs old (grown before row step item.Nothing) old (control_in old)
-    → OnOk r (journal ≡ old.log.journal ++ item.Nothing ∷ [])
-    → OnErr r (journal ≡ old.log.journal)
+    × RefineJournal (setting_in old) (grown before row step item.Nothing) (state_in old)
+    → OnOk r (journal ≡ old.log.journal ++ item.Nothing ∷ []) → OnErr r (journal ≡ old.log.journal)
     → Goes r before row step old (with_journal old journal)
 goes_nothing {old} begins none is pushed unchanged =
-    goes_one begins (files_stay refl refl) item.Nothing old.log.bag (plane_stays refl refl refl) refl
-    (omega (arith, none)) is pushed unchanged
+    goes_one begins (files_stay refl refl) item.Nothing old.log.bag (plane_stays refl refl refl)
+    refl (omega (arith, none)) is pushed unchanged
 
 -- ---- the row is written, and then the rest
 
@@ -228,8 +201,8 @@ module _ (row : ℕ) (step kind : Step) (old : Parts) (rowed : List Item)
     (ready : IsReadyForStep old.log.journal step old)
     (is : rowed ≡ old.log.journal ++ item.Row row step ∷ []) (kind_is : step ≡ kind) where
   begins_kind : BeginsStep old.log.journal row kind (with_journal old rowed)
-  begins_kind = subst (λ (k : Step). BeginsStep old.log.journal row k (with_journal old rowed)) kind_is
-      (record {
+  begins_kind = subst (λ (k : Step). BeginsStep old.log.journal row k (with_journal old rowed))
+      kind_is (record {
         ready = ready_behind old.log.journal step old rowed ready;
         rowed = is;
       })

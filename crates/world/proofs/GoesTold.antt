@@ -9,7 +9,7 @@ use Rattle.journal.specs.declared.item.Item.TheVariants as item
 use Rattle.steps.specs.declared.step.Step.{Step}
 use Rattle.update_machine.specs.Pieces.{piece}
 use Rattle.update_machine.specs.Setting.{Setting}
-use Rattle.world.specs.Parts.{BeginsStep, Goes, KeepNet, KeepRest, control_in, setting_in}
+use Rattle.world.specs.Parts.{BeginsStep, Goes, KeepNet, KeepRest, setting_in, state_in}
 use Rattle.world.specs.State.{comes_in}
 use Rattle.refinement.specs.Refinement.{RefineJournal}
 use Rattle.travelling.specs.Travelling.{Flights}
@@ -35,9 +35,8 @@ pub record Tells {T E : Type 0} (r : Result T E) (before : List Item) (row : ℕ
   pub part : OnErr r (IsPart begun (tail (number + 1)) new.log.journal)
   pub posted : OnOk r (new.log.bag ≡ posts ++ more)
   pub refines : OnOk r (RefineJournal (setting_in old)
-      (before ++ item.Row row step ∷ first ∷ tail (length old.log.bag + 1)) new.switches.items
-      old.log.travelling new.packets
-      (record (control_in new) { posts = posts ++ more }))
+      (before ++ item.Row row step ∷ first ∷ tail (length old.log.bag + 1))
+      (record (state_in new) { travelling = old.log.travelling; posts = posts ++ more }))
 
 -- acts that were noted behind this journal and these posts, under the numbers behind this one
 pub record AreNoted {T E : Type 0} (r : Result T E) (begun : List Item) (number : ℕ)
@@ -70,35 +69,31 @@ goes_told {r} {before} {row} {step} {old} {new} first tail begun number posts mo
     (step_written r old.log.journal begun new.log.journal items (first ∷ items) first refl
     tells.pushed
     (subst (λ k. OnOk r (new.log.journal ≡ begun ++ tail (k + 1))) tells.number_is tells.written))
-    (step_part r old.log.journal begun new.log.journal items (first ∷ items) first refl
-    tells.pushed
-    (subst (λ k. OnErr r (IsPart begun (tail (k + 1)) new.log.journal)) tells.number_is
-    tells.part))
+    (step_part r old.log.journal begun new.log.journal items (first ∷ items) first refl tells.pushed
+    (subst (λ k. OnErr r (IsPart begun (tail (k + 1)) new.log.journal)) tells.number_is tells.part))
     (both_ok r (λ all refines. subst (λ bag. RefineJournal (setting_in old)
-    (before ++ item.Row row step ∷ first ∷ items) new.switches.items new.log.travelling
-    new.packets (record (control_in new) { posts = bag })) (sym all)
+    (before ++ item.Row row step ∷ first ∷ items) (record (state_in new) { posts = bag })) (sym all)
     (subst (λ (travelling : Flights). RefineJournal (setting_in old)
-    (before ++ item.Row row step ∷ first ∷ items) new.switches.items travelling
-    new.packets (record (control_in new) { posts = posts ++ more }))
+    (before ++ item.Row row step ∷ first ∷ items)
+    (record (state_in new) { travelling = travelling; posts = posts ++ more }))
     (sym tells.travelling) refines)) tells.posted tells.refines)
 
 -- where the controller's acts are what it writes then
 pub goes_acting : {T E : Type 0} {r : Result T E} {before : List Item} {row : ℕ} {step : Step}
     {old new : Parts} (first : Item) (acts given : List Act) (begun : List Item)
-    → BeginsStep before row step old → Follows old new
-    → new.packets ≡ old.packets + comes_in step
+    → BeginsStep before row step old → Follows old new → new.packets ≡ old.packets + comes_in step
     → piece (setting_in old) before row step
     ≡ item.Row row step ∷ first ∷ act_items (length old.log.bag + 1) acts
-    → begun ≡ old.log.journal ++ first ∷ [] → given ≡ acts
-    → new.log.travelling ≡ old.log.travelling
+    → begun ≡ old.log.journal ++ first ∷ [] → given ≡ acts → new.log.travelling ≡ old.log.travelling
     → OnOk r (new.log.journal ≡ begun ++ act_items (length old.log.bag + 1) given)
     → OnOk r (new.log.bag ≡ old.log.bag ++ act_posts given)
     → OnErr r (IsPart begun (act_items (length old.log.bag + 1) given) new.log.journal)
     → RefineJournal (setting_in old)
     (before ++ item.Row row step ∷ first ∷ act_items (length old.log.bag + 1) acts)
-    new.switches.items old.log.travelling new.packets
-    (record (control_in new) { posts = old.log.bag ++ act_posts acts })
-    → Goes r before row step old new
+    (record (state_in new) {
+      travelling = old.log.travelling;
+      posts = old.log.bag ++ act_posts acts;
+    }) → Goes r before row step old new
 goes_acting {r} {old} {new} first acts given begun begins keeps counted is pushed same travelling
     written posted part refines =
     let noted = as_noted r begun (length old.log.bag) old.log.bag new.log given acts same written
@@ -110,8 +105,7 @@ goes_acting {r} {old} {new} first acts given begun begins keeps counted is pushe
 -- memory runs out behind the first item
 pub first_goes : {T E : Type 0} {r : Result T E} {before : List Item} {row : ℕ} {step : Step}
     {old new : Parts} (first : Item) (rest : List Item) → BeginsStep before row step old
-    → KeepNet old new
-    → piece (setting_in old) before row step ≡ item.Row row step ∷ first ∷ rest
+    → KeepNet old new → piece (setting_in old) before row step ≡ item.Row row step ∷ first ∷ rest
     → IsErr r → new.log.journal ≡ old.log.journal ++ first ∷ [] → Goes r before row step old new
 first_goes {before} {row} {step} first rest begins keeps is failed pushed =
     part_goes keeps failed (record {
@@ -123,12 +117,13 @@ first_goes {before} {row} {step} first rest begins keeps is failed pushed =
     })
 
 -- the parts refine the journal where only switches, messages and usable links changed
-pub relinked_refines : {old new : Parts} (setting : Setting) (journal : List Item)
-    (travelling : Flights) (posts : List Post) (near : List ℕ) → KeepRest old new
-    → new.near ≡ near
-    → RefineJournal setting journal new.switches.items travelling old.packets
-    (record (control_in old) { posts = posts; near = near })
-    → RefineJournal setting journal new.switches.items travelling new.packets
-    (record (control_in new) { posts = posts })
-relinked_refines setting journal travelling posts near keeps is refines =
-    rw (keeps.packets, keeps.controller, keeps.links, is) refines
+pub relinked_refines : {old new : Parts} {setting : Setting} {journal : List Item}
+    {travelling : Flights} {posts : List Post} {near : List ℕ} → KeepRest old new → new.near ≡ near
+    → RefineJournal setting journal (record (state_in old) {
+      switches = new.switches.items;
+      travelling = travelling;
+      posts = posts;
+      near = near;
+    }) → RefineJournal setting journal
+    (record (state_in new) { travelling = travelling; posts = posts })
+relinked_refines keeps is refines = rw (keeps.packets, keeps.controller, keeps.links, is) refines

@@ -11,7 +11,6 @@ use Rattle.update_machine.specs.Travels.{next_travelling, travels}
 use Rattle.packet_laws.specs.Facts.{what_is_known}
 use Rattle.world.specs.Least.{IsLeastFrom}
 use Rattle.world.specs.State.{RefinesJournal, WorldValue, setting_at}
-use Rattle.refinement.specs.Refinement.{RefineJournal}
 use Rattle.refinement.specs.Flights.{flight_in, flight_of}
 use Rattle.travelling.specs.Travelling.{IsNextFrom, Flights, flight}
 use Rattle.refinement.proofs.Known.{reached_known}
@@ -98,13 +97,12 @@ least_travels journal next over least =
 
 pub least_from_in : (world : WorldValue) (from : ℕ) (next : Option ℕ) → RefinesJournal world
     → IsNextFrom world.travelling from next → IsLeastFrom (travels world.journal) from next
-unfolding RefineJournal
 least_from_in world from next refines least =
     least_from (setting_at world) world.journal world.travelling refines.packet from next least
 
 pub least_travels_in : (world : WorldValue) (next : Option ℕ) → RefinesJournal world
     → IsNextFrom world.travelling 1 next → next ≡ next_travelling world.journal
-unfolding RefineJournal what_is_known
+unfolding what_is_known
 least_travels_in world next refines least =
     least_travels world.journal next
     (λ i new. ((reached_known (setting_at world) world.journal refines.sound

@@ -18,7 +18,6 @@ use Rattle.update_machine.specs.Messages.{is_deliverable, is_forgotten, is_sendi
 use Rattle.update_machine.specs.Links.{message_of}
 use Rattle.world.specs.Least.{IsLeastFrom}
 use Rattle.world.specs.State.{RefinesJournal, WorldValue}
-use Rattle.refinement.specs.Refinement.{RefineJournal}
 use Rattle.refinement.specs.Bags.{IsBagOf, post_in}
 
 -- a post waits as the journal says of its message
@@ -111,10 +110,8 @@ least_from journal posts of from =
 
 pub least_from_in : (world : WorldValue) → RefinesJournal world → (from : ℕ)
     → IsLeastFrom (is_waiting world.journal) from (bag.next_waiting_post world.bag from)
-unfolding RefineJournal
 least_from_in world refines from = least_from world.journal world.bag refines.bag from
 
 pub least_waits_in : (world : WorldValue) → RefinesJournal world
     → bag.next_waiting_post world.bag 1 ≡ next_waiting world.journal
-unfolding RefineJournal
 least_waits_in world refines = least_waits world.journal world.bag refines.bag

@@ -10,7 +10,7 @@ use Rattle.switch_core.specs.State.{SwitchValue, call_counted}
 use Rattle.tunnel.specs.Moves.{here}
 use Rattle.update_machine.specs.Pieces.{piece}
 use Rattle.world_log.specs.Packets.{coming_in, entry, hop_written, hop_posts, hop_flight, hopped_switch}
-use Rattle.world.specs.Parts.{IsReadyForStep, control_in, setting_in}
+use Rattle.world.specs.Parts.{IsReadyForStep, setting_in, state_in}
 use Rattle.refinement.specs.Refinement.{RefineJournal}
 use Rattle.travelling.specs.Travelling.{Flight, Flights, WithOne, flight}
 use Rattle.world_log.specs.Writing.{entered_items, entered_posts, entered_flight}
@@ -31,10 +31,7 @@ module _ (parts : Parts) (before : List Item) (row s : ℕ) (header : Header) (o
       ≡ item.Row row (PacketStep s header) ∷ entered_items (length parts.log.bag + 1)
       (coming_in (parts.packets + 1) header own.number)
       (entry own (slice_index parts.near s) parts.ports (parts.packets + 1) header)
-  come_is =
-      come_piece (control_in parts) (setting_in parts) before parts.switches.items
-      parts.log.travelling parts.packets row s header parts.ports own ready.refines ready.may
-      ready.sound.owners its
+  come_is = come_piece ready.refines row s header parts.ports own ready.may ready.sound.owners its
 
   pub entries_refine : {T E : Type 0} (r : Result T E) (changed : SwitchValue) (after : Flights)
       (bag : List Post) → changed ≡ call_counted own
@@ -46,23 +43,25 @@ module _ (parts : Parts) (before : List Item) (row s : ℕ) (header : Header) (o
       → OnOk r (RefineJournal (setting_in parts) (before ++ item.Row row (PacketStep s header)
       ∷ entered_items (length parts.log.bag + 1) (coming_in (parts.packets + 1) header own.number)
       (entry own (slice_index parts.near s) parts.ports (parts.packets + 1) header))
-      (set parts.switches.items s changed) after (parts.packets + 1)
-      (record (control_in parts) { posts = bag }))
+      (record (state_in parts) {
+        switches = set parts.switches.items s changed;
+        travelling = after;
+        packets = parts.packets + 1;
+        posts = bag;
+      }))
   entries_refine r changed after bag changed_is travels posted =
-      both_ok r (λ same with.
-      subst (λ posts. RefineJournal (setting_in parts) (before ++ item.Row row (PacketStep s header)
-      ∷ entered_items (length parts.log.bag + 1) (coming_in (parts.packets + 1) header own.number)
+      both_ok r (λ same entered. subst (λ posts. RefineJournal (setting_in parts)
+      (before ++ item.Row row (PacketStep s header) ∷ entered_items (length parts.log.bag + 1)
+      (coming_in (parts.packets + 1) header own.number)
       (entry own (slice_index parts.near s) parts.ports (parts.packets + 1) header))
-      (set parts.switches.items s changed) after (parts.packets + 1)
-      (record (control_in parts) { posts = posts })) (sym same)
-      (come_refines (control_in parts) (setting_in parts) before parts.switches.items
-      parts.log.travelling parts.packets row s header parts.ports own ready.refines ready.may
-      ready.sound.owners its after changed
-      (switch_there (control_in parts) (setting_in parts) before parts.switches.items
-      parts.log.travelling parts.packets s ready.refines ready.may.0)
-      (switch_is (control_in parts) (setting_in parts) before parts.switches.items
-      parts.log.travelling parts.packets s own ready.refines ready.may.0 its)
-      changed_is with)) posted travels
+      (record (state_in parts) {
+        switches = set parts.switches.items s changed;
+        travelling = after;
+        packets = parts.packets + 1;
+        posts = posts;
+      })) (sym same) (come_refines ready.refines row s header parts.ports own
+      ready.may ready.sound.owners its after changed (switch_there ready.refines s ready.may.0)
+      (switch_is ready.refines s own ready.may.0 its) changed_is entered)) posted travels
 
 -- ---- a packet that moves on
 
@@ -71,42 +70,35 @@ module _ (parts : Parts) (before : List Item) (row i : ℕ) (t : Flight) (s : �
     (its : flight parts.log.travelling i ≡ Some t) (at : s ≡ here t.tunnel)
     (own : switch ≡ get_or parts.switches.items s switch) where
   can : CanAsk (setting_in parts) before i t s (slice_index parts.near s) switch parts.ports
-  can = can_ask (control_in parts) (setting_in parts) before parts.switches.items
-      parts.log.travelling parts.packets i t s switch parts.ports ready.refines ready.sound.owners
-      its at own
+  can = can_ask ready.refines i t s switch parts.ports ready.sound.owners its at own
 
   pub hop_is : piece (setting_in parts) before row (Hop i) ≡ item.Row row (Hop i)
       ∷ hop_written (length parts.log.bag + 1) switch (slice_index parts.near s) parts.ports t
-  hop_is =
-      hop_piece_of (control_in parts) (setting_in parts) before parts.switches.items
-      parts.log.travelling parts.packets row i t s (slice_index parts.near s) switch parts.ports
-      ready.refines ready.may can
+  hop_is = hop_piece_of ready.refines row i t s (slice_index parts.near s) switch parts.ports
+      ready.may can
 
   pub hops_refine : {T E : Type 0} (r : Result T E) (changed : SwitchValue) (after : Flights)
-      (bag : List Post)
-      → OnOk r (changed ≡ hopped_switch switch (slice_index parts.near s) t)
+      (bag : List Post) → OnOk r (changed ≡ hopped_switch switch (slice_index parts.near s) t)
       → OnOk r (WithOne parts.log.travelling i
       (hop_flight switch (slice_index parts.near s) parts.ports t) after)
       → OnOk r (bag ≡ parts.log.bag ++ hop_posts switch (slice_index parts.near s) parts.ports t)
       → OnOk r (RefineJournal (setting_in parts) (before ++ item.Row row (Hop i)
       ∷ hop_written (length parts.log.bag + 1) switch (slice_index parts.near s) parts.ports t)
-      (set parts.switches.items s changed) after parts.packets
-      (record (control_in parts) { posts = bag }))
+      (record (state_in parts) {
+        switches = set parts.switches.items s changed;
+        travelling = after;
+        posts = bag;
+      }))
   hops_refine r changed after bag changed_is travels posted =
-      let near : ℕ = slice_index parts.near s in
-      let new : List Item = before ++ item.Row row (Hop i)
-      ∷ hop_written (length parts.log.bag + 1) switch near parts.ports t in
       let there : s < length (setting_in parts).net.switches =
       omega (arith, can.at, can.standing.stands.there) in
-      three_ok r (λ answered same with.
-      subst (λ posts. RefineJournal (setting_in parts) new (set parts.switches.items s changed)
-      after
-      parts.packets (record (control_in parts) { posts = posts })) (sym same)
-      (hop_refines (control_in parts) (setting_in parts) before parts.switches.items
-      parts.log.travelling parts.packets row i t s near switch parts.ports ready.refines
-      ready.may can after changed
-      (within_here (control_in parts) (setting_in parts) before parts.switches.items
-      parts.log.travelling parts.packets i t s ready.refines its at)
-      (switch_is (control_in parts) (setting_in parts) before parts.switches.items
-      parts.log.travelling parts.packets s switch ready.refines there own) answered
-      with)) changed_is posted travels
+      three_ok r (λ answered same left. subst (λ posts. RefineJournal (setting_in parts)
+      (before ++ item.Row row (Hop i) ∷ hop_written (length parts.log.bag + 1) switch
+      (slice_index parts.near s) parts.ports t) (record (state_in parts) {
+        switches = set parts.switches.items s changed;
+        travelling = after;
+        posts = posts;
+      })) (sym same) (hop_refines ready.refines row i t s
+      (slice_index parts.near s) switch parts.ports ready.may can after changed
+      (within_here ready.refines i t s its at) (switch_is ready.refines s switch there own) answered
+      left)) changed_is posted travels

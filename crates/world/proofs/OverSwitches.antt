@@ -2,15 +2,14 @@
 use Rattle.std.proofs.Common.{ℕ, ◌<◌, ◌≤◌, length, vec_len, arith}
 use Rattle.steps.specs.Steps.{HasSwitch}
 use Rattle.steps.specs.declared.step.Step.{Step}
-use Rattle.world.specs.Parts.{HasBegun, control_in, setting_in}
+use Rattle.world.specs.Parts.{HasBegun}
 use Rattle.world.specs.declared.parts.Parts.{Parts}
 use Rattle.refinement.proofs.Switches.{few_switches, switch_known, switch_there}
 
 -- a switch that the step names is there
 pub switch_in : {step : Step} {self : Parts} (s : ℕ) → HasBegun step self
     → HasSwitch self.files.net s → s < length self.switches.items
-switch_in {self} s begun own = switch_there (control_in self) (setting_in self) begun.before
-    self.switches.items self.log.travelling self.packets s begun.begins.ready.refines own
+switch_in {self} s begun own = switch_there begun.begins.ready.refines s own
 
 pub place_in : {step : Step} {self : Parts} (s : ℕ) → HasBegun step self
     → HasSwitch self.files.net s → s < vec_len self.switches
@@ -21,11 +20,9 @@ place_in {self} s begun own =
 -- and the controller knows it
 pub known_in : {step : Step} {self : Parts} (s : ℕ) → HasBegun step self
     → HasSwitch self.files.net s → s < length self.controller.marks.switches
-known_in {self} s begun own = switch_known (control_in self) (setting_in self) begun.before
-    self.switches.items self.log.travelling self.packets s begun.begins.ready.refines own
+known_in {self} s begun own = switch_known begun.begins.ready.refines s own
 
 -- each has a place in a mask
 pub few_in : {step : Step} {self : Parts} → HasBegun step self
     → length self.switches.items ≤ 64
-few_in {self} begun = few_switches (control_in self) (setting_in self) begun.before
-    self.switches.items self.log.travelling self.packets begun.begins.ready.refines
+few_in {self} begun = few_switches begun.begins.ready.refines

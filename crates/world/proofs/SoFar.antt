@@ -4,7 +4,6 @@ use Rattle.journal.specs.declared.item.Item.{Item}
 use Rattle.packet_laws.specs.OnTheWay.{HoldsSoFar, IsKeptBehind}
 use Rattle.packet_laws.specs.Between.{HoldsBetween}
 use Rattle.control_laws.specs.Always.{HoldsReached}
-use Rattle.refinement.specs.Refinement.{RefineJournal}
 use Rattle.refinement.proofs.Known.{reached_more}
 use Rattle.steps.specs.Steps.{IsStep}
 use Rattle.steps.specs.declared.step.Step.{Step}
@@ -22,13 +21,11 @@ BehindLaw = HoldsBetween (λ setting journal. IsSetting setting → IsKeptBehind
 
 pub so_far_in : SoFarLaw → (world : WorldValue) → RefinesJournal world
     → HoldsSoFar (setting_at world) world.journal
-unfolding RefineJournal
 so_far_in law world refines =
     law.reached (setting_at world) world.journal refines.reached refines.sound
 
 pub kept_in : BehindLaw → (world : WorldValue) → RefinesJournal world
     → IsKeptBehind (setting_at world) world.journal
-unfolding RefineJournal
 kept_in law world refines =
     law.reached (setting_at world) world.journal refines.reached refines.sound
 
@@ -37,7 +34,6 @@ pub part_so_far : SoFarLaw → (world : WorldValue) (row : ℕ) (step : Step) (a
     → RefinesJournal world → IsStep world.net (length world.files) step
     → IsPart world.journal (piece (setting_at world) world.journal row step) after
     → HoldsSoFar (setting_at world) after
-unfolding RefineJournal
 part_so_far law world row step after refines own part =
     let setting : Setting = setting_at world in
     let journal = world.journal in
@@ -51,7 +47,6 @@ pub step_so_far : SoFarLaw → (world : WorldValue) (row : ℕ) (step : Step) (a
     → RefinesJournal world → IsStep world.net (length world.files) step
     → after ≡ world.journal ++ piece (setting_at world) world.journal row step
     → HoldsSoFar (setting_at world) after
-unfolding RefineJournal
 step_so_far law world row step after refines own written =
     let setting : Setting = setting_at world in
     law.reached setting after

@@ -11,7 +11,7 @@ use Rattle.update_machine.specs.Pieces.{piece}
 use Rattle.steps.specs.Steps.{IsStep}
 use Rattle.update_machine.specs.Setting.{Setting, setting_of}
 use Rattle.world.specs.State.{WorldValue, comes_in}
-use Rattle.refinement.specs.Refinement.{RefineJournal, Control}
+use Rattle.refinement.specs.Refinement.{NetworkState, RefineJournal}
 use Rattle.world_log.specs.Writing.{IsPart}
 use Rattle.world.specs.declared.parts.Parts.{Parts}
 
@@ -27,8 +27,12 @@ pub record AreSoundParts (parts : Parts) : Type 0 where
 abbrev pub HoldNewest : Parts → Type 0
 HoldNewest parts = newest_policy parts.controller ≡ Some parts.files.newest
 
-abbrev pub control_in : Parts → Control
-control_in parts = record {
+-- what they hold
+abbrev pub state_in : Parts → NetworkState
+state_in parts = record {
+  switches = parts.switches.items;
+  travelling = parts.log.travelling;
+  packets = parts.packets;
   controller = parts.controller;
   posts = parts.log.bag;
   links = parts.links;
@@ -38,8 +42,7 @@ control_in parts = record {
 -- the parts are as their journal says
 abbrev pub PartsRefineJournal : Parts → Type 0
 PartsRefineJournal parts =
-    RefineJournal (setting_in parts) parts.log.journal parts.switches.items parts.log.travelling
-    parts.packets (control_in parts)
+    RefineJournal (setting_in parts) parts.log.journal (state_in parts)
 
 -- ---- one step
 
@@ -61,8 +64,7 @@ pub record KeepRest (before after : Parts) : Type 0 where
 -- a step may be played on the parts, which are as this journal says
 pub record IsReadyForStep (before : List Item) (step : Step) (parts : Parts) : Type 0 where
   pub sound : AreSoundParts parts
-  pub refines : RefineJournal (setting_in parts) before parts.switches.items parts.log.travelling
-      parts.packets (control_in parts)
+  pub refines : RefineJournal (setting_in parts) before (state_in parts)
   pub newest : HoldNewest parts
   pub may : IsStep parts.files.net (length parts.files.files) step
   pub few : next_packet before ≤ 4_000_000_000

@@ -10,7 +10,7 @@ use Rattle.steps.specs.declared.step.Step.TheVariants.{Packet}
 use Rattle.switch_core.specs.State.{SwitchValue}
 use Rattle.update_machine.specs.Setting.{Setting, setting_of}
 use Rattle.travelling.specs.Travelling.{Flights}
-use Rattle.refinement.specs.Refinement.{RefineJournal}
+use Rattle.refinement.specs.Refinement.{NetworkState, RefineJournal}
 
 pub record WorldValue : Type 0 where
   pub net : Net
@@ -35,16 +35,22 @@ setting_at world = setting_of world.net world.files
 
 -- ---- a world
 
--- a world is as its journal says
+-- all that it holds
+abbrev pub state_at : WorldValue → NetworkState
+state_at world = record {
+  switches = world.switches;
+  travelling = world.travelling;
+  packets = world.packets;
+  controller = world.controller;
+  posts = world.bag;
+  links = world.links;
+  near = world.near;
+}
+
+-- it is as its journal says
 abbrev pub RefinesJournal : WorldValue → Type 0
 RefinesJournal world =
-    RefineJournal (setting_at world) world.journal world.switches world.travelling world.packets
-    (record {
-      controller = world.controller;
-      posts = world.bag;
-      links = world.links;
-      near = world.near;
-    })
+    RefineJournal (setting_at world) world.journal (state_at world)
 
 -- nothing happened yet
 pub record IsBegun (setting : Setting) (world : WorldValue) : Type 0 where

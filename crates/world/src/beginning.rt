@@ -2,7 +2,7 @@ ghost use Rattle.std.specs.Prelude.{◌≡◌, [], length, map, IfOk};
 ghost use Rattle.std.specs.List.{range_with_len};
 ghost use Rattle.controller.specs.Exports.{PlanValue, first_controller};
 ghost use Rattle.net_file.specs.Net.{IsNet};
-ghost use Rattle.refinement.specs.Linking.{AreNear};
+ghost use Rattle.world_log.specs.Linking.{AreNear};
 ghost use Rattle.refinement.specs.Begun.{IsFirstController, switch_begun};
 
 use controller::Controller;

@@ -12,8 +12,8 @@ use crate::parts::Parts;
 use base::Failure;
 use controller::{Act, SubmitError};
 use journal::{Item, Message};
-use refinement::adverts_again;
 use std::alloc::{AllocError, Global};
+use world_log::adverts_again;
 
 impl Parts {
     /// The policy of the file, or the one that it makes of the newest version's, becomes the newest

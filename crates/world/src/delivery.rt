@@ -4,7 +4,7 @@ ghost use Rattle.message_bag.specs.Posts.{new_post};
 ghost use Rattle.controller.specs.Exports.{ControllerValue, NamesThere, SettlesWith, hear_acts, marks_after, newest_policy};
 ghost use Rattle.steps.specs.declared.step.Step.TheVariants.{Deliver as DeliverStep};
 ghost use Rattle.update_machine.specs.Messages.{sent_from};
-ghost use Rattle.refinement.specs.Linking.{AreRelinked, all_adverts_sent, near_all};
+ghost use Rattle.world_log.specs.Linking.{AreRelinked, all_adverts_sent, near_all};
 ghost use Rattle.world.specs.Parts.{HasBegun, KeepRest, Plays};
 ghost use Rattle.world_log.specs.Sending.{MayNote, MaySend, act_items, act_posts};
 ghost use Rattle.world_log.specs.Writing.{IsPart};
@@ -12,9 +12,8 @@ ghost use Rattle.world_log.specs.Writing.{IsPart};
 use crate::parts::Parts;
 use controller::Controller;
 use journal::{Body, Item, Place};
-use refinement::{relink, usable};
 use std::alloc::{AllocError, Global};
-use world_log::Log;
+use world_log::{Log, relink, usable};
 
 impl Parts {
     /// A message is delivered: its switch or the controller hears it, and sends what it has to say

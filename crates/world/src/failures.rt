@@ -1,13 +1,13 @@
 //! Switches and links that fail and come back.
 ghost use Rattle.steps.specs.declared.step.Step.TheVariants.{Crash as CrashStep, Restart as RestartStep};
-ghost use Rattle.refinement.specs.Linking.{link_step};
+ghost use Rattle.refinement.specs.Links.{link_step};
 ghost use Rattle.world.specs.Parts.{HasBegun, Plays};
 
 use crate::parts::Parts;
 use base::has;
 use journal::Item;
-use refinement::{hello, set_ends};
 use std::alloc::{AllocError, Global};
+use world_log::{hello, set_ends};
 
 impl Parts {
     /// The switch goes down, unless it is down already: it loses what it learnt, and the packets

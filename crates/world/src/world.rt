@@ -26,14 +26,13 @@ use message_bag::PostBag;
 use net_file::Net;
 use packet_laws::{journals_hold_so_far, steps_are_kept};
 use policy_rules::PolicyFile;
-use refinement::near_masks;
 use std::alloc::Global;
 use std::marker::Model;
 use steps::Step;
 use switch_core::Switch;
 use travelling::Travelling;
 use update_machine::FULL_AT;
-use world_log::Log;
+use world_log::{Log, near_masks};
 
 /// A network of switches with its controller, the packets on their way in it, and the journal of
 /// what happened.

@@ -5,3 +5,4 @@ pub mod Sends
 pub mod Hopping
 pub mod LosingAt
 pub mod Passing
+pub mod Relinking

@@ -2,3 +2,4 @@ pub mod Writing
 pub mod Packets
 pub mod Sending
 pub mod Losing
+pub mod Linking

@@ -1,11 +1,17 @@
 //! What happened in a network so far, with the packets that are on their way and the messages that
-//! were sent, and what each answer of a switch to a packet makes of them.
+//! were sent, what each answer of a switch to a packet makes of them, and which links can be used.
 //!
 //! A `Log` promises that each call writes exactly the items that the definitions state of the
 //! answer, posts the messages that it sends under the next numbers, and changes of the packets on
 //! their way the one that it names alone, or at a crash those that stand there. Where memory runs
 //! out, the journal has a part of the items. What the items have to do with earlier ones is for the
 //! crates above to say.
+//!
+//! A link can be used where it is up and both of its ends serve. `usable` promises these links as
+//! masks, and `relink` that each switch that is up and whose usable links changed makes its next
+//! advert, and tells it over each link that it had, and all that it knows over each new one.
+//! `near_masks` and `set_ends` keep which links are up, and `adverts_again` is what a switch sends
+//! once more.
 //!
 //! ```text
 //! let site = Site { near, ports: &ports };
@@ -14,13 +20,21 @@
 //!     log.hop(alloc, 1, &mut switch, site)?;
 //! }
 //! log.send(alloc, message)?;
+//! let now = usable(&links, &switches);
+//! for message in relink(alloc, &mut switches, &near, &now)? { .. }
 //! ```
 #![tactic(auto)]
 
+mod again;
 mod log;
 mod losing;
 mod packets;
 mod sending;
+mod up_links;
+mod usable_links;
 
+pub use again::{adverts_again, hello};
 pub use log::Log;
 pub use switch_core::Site;
+pub use up_links::{near_masks, set_ends};
+pub use usable_links::{relink, usable};

@@ -19,9 +19,9 @@ index-requires c = place_in c.args.switch c.requires c.requires.begins.ready.may
 
 pub returns-then-is_up : goal.returns-then-is_up
 returns-then-is_up c = λ before row begins.
-    goes_nothing begins refl (still_up _ _ _ _ _ _ row c.args.switch _ begins.ready.refines
-    begins.ready.may c.index.ensures (sym c.is_up.ensures ∙ c.if-is_up.true)) c.push.ensures.pushed
-    c.push.ensures.unchanged
+    goes_nothing begins refl
+    (still_up begins.ready.refines row c.args.switch _ begins.ready.may c.index.ensures
+    (sym c.is_up.ensures ∙ c.if-is_up.true)) c.push.ensures.pushed c.push.ensures.unchanged
 
 -- ---- it is down
 
@@ -44,9 +44,9 @@ note_acts-requires c =
     let self = c.args.self.now in
     let ready = c.requires.begins.ready in
     subst (MayNote self.log.bag) (sym (c.into_items.ensures ∙ c.in_ok-sends.ensures.sends))
-    (gone_may _ _ _ _ _ _ c.requires.row c.args.switch c.index.result.now
-    ready.refines ready.may c.index.ensures c.over.new.self
-    (sym c.is_up.ensures ∙ c.if-is_up.false) c.over.ensures.after ready.room)
+    (gone_may ready.refines c.requires.row c.args.switch c.index.result.now ready.may
+    c.index.ensures c.over.new.self (sym c.is_up.ensures ∙ c.if-is_up.false) c.over.ensures.after
+    ready.room)
 
 pub returns : goal.returns
 returns c = λ before row begins.
@@ -60,11 +60,9 @@ returns c = λ before row begins.
     let its = c.note_acts.ensures in
     goes_acting (item.OverNow s) acts c.into_items.result.items c.push-2.new.self begins
     (follows begins refl refl c.over.ensures.newest) (none_in _)
-    (gone_piece _ _ _ _ _ _ row s c.index.result.now ready.refines ready.may c.index.ensures new
-    down
+    (gone_piece ready.refines row s c.index.result.now ready.may c.index.ensures new down
     c.over.ensures.after)
     c.in_ok-push.ensures.pushed (c.into_items.ensures ∙ c.in_ok-sends.ensures.sends) its.travelling
     its.written its.posted its.part
-    (gone_refines _ _ _ _ _ _ row s c.index.result.now ready.refines ready.may c.index.ensures new
-    down
+    (gone_refines ready.refines row s c.index.result.now ready.may c.index.ensures new down
     c.over.ensures.after)

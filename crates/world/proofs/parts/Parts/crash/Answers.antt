@@ -4,13 +4,12 @@ use Rattle.std.proofs.lemmas.Result.{on_err_weaker, on_ok_weaker}
 use Rattle.message_bag.specs.Posts.{new_post}
 use Rattle.ctrl_msg.specs.declared.message.Message.{Message}
 use Rattle.controller.specs.Controller.{newest_policy}
-use Rattle.journal.specs.declared.item.Item.{Item}
 use Rattle.journal.specs.declared.item.Item.TheVariants as item
 use Rattle.steps.specs.declared.step.Step.TheVariants.{Crash}
 use Rattle.switch_core.specs.State.{SwitchValue}
 use Rattle.update_machine.specs.Messages.{sent_from}
-use Rattle.refinement.specs.Linking.{all_adverts_sent, near_all}
-use Rattle.world.specs.Parts.{control_in, setting_in}
+use Rattle.world_log.specs.Linking.{all_adverts_sent, near_all}
+use Rattle.world.specs.Parts.{setting_in, state_in}
 use Rattle.refinement.specs.Refinement.{RefineJournal}
 use Rattle.travelling.specs.Travelling.{WithoutAt, numbers_at}
 use Rattle.world_log.specs.Writing.{IsPart}
@@ -33,8 +32,7 @@ index_mut-requires c = place_in c.args.switch c.requires c.requires.begins.ready
 pub returns-then-not-is_up : goal.returns-then-not-is_up
 returns-then-not-is_up c = λ before row begins.
     let self = c.args.self.now in
-    goes_nothing begins refl
-    (stays_down _ _ _ _ _ _ row c.args.switch c.index.result.now begins.ready.refines
+    goes_nothing begins refl (stays_down begins.ready.refines row c.args.switch c.index.result.now
     begins.ready.may c.index.ensures (sym c.is_up.ensures ∙ c.if-not-is_up.true))
     c.push.ensures.pushed c.push.ensures.unchanged
 
@@ -68,15 +66,14 @@ returns-in_err-lose_at c = λ before row begins.
     let r = c.from_residual-in_err-lose_at.result in
     let failed = c.from_residual-in_err-lose_at.ensures.0 in
     goes begins (follows begins refl refl refl) (item.Down s ∷ losses ++ sends)
-    (crash_piece _ _ _ _ _ _ row s own changed begins.ready.refines begins.ready.may within
+    (crash_piece begins.ready.refines row s own changed begins.ready.may within
     c.index_mut.ensures.value c.crash.ensures
     (was_up (goal.at.returns-in_err-lose_at c).After-index_mut))
     (none_ok _ r failed) (none_ok _ r failed)
     (step_part r self.log.journal c.push-2.new.self c.lose_at.new.self.journal (losses ++ sends)
     (item.Down s ∷ losses ++ sends) (item.Down s) refl c.in_ok-push.ensures.pushed
     (on_err r (part_of_first c.push-2.new.self losses sends c.lose_at.new.self.journal
-    c.in_err-lose_at.ensures.part)))
-    (none_ok _ r failed)
+    c.in_err-lose_at.ensures.part))) (none_ok _ r failed)
 
 -- ---- links change
 
@@ -92,17 +89,19 @@ change_links-requires-clause-many c =
 pub change_links-requires-clause-next : goal.change_links-requires-clause-next
 change_links-requires-clause-next c =
     let ready = c.requires.begins.ready in
-    crash_next _ _ _ _ _ _ c.requires.row c.args.switch c.index_mut.result.now c.crash.new.self
-    ready.refines ready.may (switch_in c.args.switch c.requires ready.may) c.index_mut.ensures.value
-    c.crash.ensures (was_up (goal.at.change_links-requires-clause-next c).After-index_mut) ready.room
+    crash_next ready.refines c.requires.row c.args.switch c.index_mut.result.now c.crash.new.self
+    ready.may (switch_in c.args.switch c.requires ready.may) c.index_mut.ensures.value
+    c.crash.ensures (was_up (goal.at.change_links-requires-clause-next c).After-index_mut)
+    ready.room
 
 pub change_links-requires-clause-may : goal.change_links-requires-clause-may
 change_links-requires-clause-may c =
     let ready = c.requires.begins.ready in
-    rw c.lose_at.ensures.unsent (crash_may _ _ _ _ _ _ c.requires.row c.args.switch
-    c.index_mut.result.now c.crash.new.self ready.refines ready.may
-    (switch_in c.args.switch c.requires ready.may) c.index_mut.ensures.value c.crash.ensures
-    (was_up (goal.at.change_links-requires-clause-may c).After-index_mut) ready.room)
+    rw c.lose_at.ensures.unsent
+    (crash_may ready.refines c.requires.row c.args.switch c.index_mut.result.now c.crash.new.self
+    ready.may (switch_in c.args.switch c.requires ready.may) c.index_mut.ensures.value
+    c.crash.ensures (was_up (goal.at.change_links-requires-clause-may c).After-index_mut)
+    ready.room)
 
 pub returns : goal.returns
 returns c = λ before row begins.
@@ -122,11 +121,10 @@ returns c = λ before row begins.
     let rest = c.change_links.ensures.rest in
     let down = c.push-2.new.self in
     let behind = c.lose_at.new.self in
-    goes begins
-    (follows begins rest.files rest.ports (ap newest_policy rest.controller))
+    goes begins (follows begins rest.files rest.ports (ap newest_policy rest.controller))
     (item.Down s ∷ losses ++ sends)
-    (crash_piece _ _ _ _ _ _ row s own changed ready.refines ready.may within
-    c.index_mut.ensures.value c.crash.ensures is_up)
+    (crash_piece ready.refines row s own changed ready.may within c.index_mut.ensures.value
+    c.crash.ensures is_up)
     (on_ok_weaker r (λ done. omega (arith, rest.packets)) c.change_links.ensures.written)
     (step_written r self.log.journal down new.log.journal (losses ++ sends)
     (item.Down s ∷ losses ++ sends) (item.Down s) refl c.in_ok-push.ensures.pushed
@@ -141,17 +139,13 @@ returns c = λ before row begins.
     (subst (λ bag. IsPart behind.journal (sent_from (length bag + 1) messages) new.log.journal)
     c.lose_at.ensures.unsent part)) c.change_links.ensures.part))
     (three_ok r (λ near_is are posts_are.
-    let all : List Item = before ++ (item.Row row (Crash s) ∷ item.Down s ∷ losses ++ sends) in
     let posts = self.log.bag ++ map new_post messages in
     let bag_is : new.log.bag ≡ posts =
     posts_are ∙ ap (λ bag. bag ++ map new_post messages) c.lose_at.ensures.unsent in
-    subst (λ bag. RefineJournal (setting_in self) all new.switches.items new.log.travelling
-    new.packets
-    (record (control_in new) { posts = bag })) (sym bag_is)
-    (relinked_refines (setting_in self) all new.log.travelling posts (near_all self.links others)
-    rest near_is
-    (crash_refines _ _ _ _ _ _ row s own changed ready.refines ready.may within
+    subst (λ bag. RefineJournal (setting_in self)
+    (before ++ (item.Row row (Crash s) ∷ item.Down s ∷ losses ++ sends))
+    (record (state_in new) { posts = bag })) (sym bag_is)
+    (relinked_refines rest near_is (crash_refines ready.refines row s own changed ready.may within
     c.index_mut.ensures.value c.crash.ensures is_up new.switches.items new.log.travelling are
-    (subst (WithoutAt self.log.travelling s) (sym rest.travelling)
-    c.in_ok-lose_at.ensures.lost))))
+    (subst (WithoutAt self.log.travelling s) (sym rest.travelling) c.in_ok-lose_at.ensures.lost))))
     c.change_links.ensures.near c.change_links.ensures.switches c.change_links.ensures.posted)

@@ -9,11 +9,9 @@ use Rattle.controller.specs.Controller.{ControllerValue, newest_policy}
 use Rattle.controller.specs.Sends.{hear_acts}
 use Rattle.ctrl_msg.specs.declared.message.Message.{Message}
 use Rattle.journal.specs.declared.item.Item.TheVariants as item
-use Rattle.steps.specs.declared.step.Step.TheVariants.{Deliver}
 use Rattle.switch_core.specs.Hearing.{IsSoundBody, replies}
 use Rattle.update_machine.specs.Messages.{sent_from}
-use Rattle.world.specs.Parts.{setting_in}
-use Rattle.refinement.specs.Linking.{all_adverts_sent, near_all}
+use Rattle.world_log.specs.Linking.{all_adverts_sent, near_all}
 use Rattle.world_log.specs.Sending.{MayNote, MaySend, act_items, act_posts}
 use Rattle.refinement.proofs.Delivering.{found_there}
 use Rattle.world_log.specs.Writing.{IsPart}
@@ -31,14 +29,12 @@ use Rattle.world.proofs.parts.Parts.deliver.Goals.{In-Switch}
 
 pub returns-in_err-get : goal.returns-in_err-get
 returns-in_err-get c = λ before row begins.
-    nothing_goes begins
-    (net_stays refl refl) c.from_residual.ensures.0 refl
+    nothing_goes begins (net_stays refl refl) c.from_residual.ensures.0 refl
 
 pub returns-in-None : goal.returns-in-None
 returns-in-None c = λ before row begins.
     let self = c.args.self.now in
-    goes_nothing begins refl
-    (undelivered _ _ _ _ _ _ row c.args.number begins.ready.refines begins.ready.may
+    goes_nothing begins refl (undelivered begins.ready.refines row c.args.number begins.ready.may
     (sym c.in_ok-get.ensures.found ∙ ap is_some c.in-None.is))
     c.push.ensures.pushed c.push.ensures.unchanged
 
@@ -52,7 +48,7 @@ returns-in_err-push c = λ before row begins.
 pub deliver_to_controller-requires-clause-there : goal.deliver_to_controller-requires-clause-there
 deliver_to_controller-requires-clause-there c =
     let self = c.args.self.now in
-    names_known _ _ _ _ _ _ c.args.number c.in-Some.message c.requires.begins.ready.refines
+    names_known c.requires.begins.ready.refines c.args.number c.in-Some.message
     (found_there _ _ _ _ c.in-Some.is c.in_ok-get.ensures.message) c.in-Controller.is
 
 pub deliver_to_controller-requires-clause-may : goal.deliver_to_controller-requires-clause-may
@@ -61,8 +57,9 @@ deliver_to_controller-requires-clause-may c = λ new settles.
     let ready = c.requires.begins.ready in
     subst (λ bag. MayNote bag (hear_acts c.in-Some.message.body self.controller.marks new))
     (sym c.deliver.ensures)
-    (control_may _ _ _ _ _ _ c.requires.row c.args.number c.in-Some.message new ready.refines
-    ready.may (found_there _ _ _ _ c.in-Some.is c.in_ok-get.ensures.message) c.in-Controller.is settles ready.room)
+    (control_may ready.refines c.requires.row c.args.number c.in-Some.message new ready.may
+    (found_there _ _ _ _ c.in-Some.is c.in_ok-get.ensures.message) c.in-Controller.is settles
+    ready.room)
 
 pub returns-in-Controller : goal.returns-in-Controller
 returns-in-Controller c = λ before row begins.
@@ -77,8 +74,8 @@ returns-in-Controller c = λ before row begins.
     (λ k. act_items k acts) c.push-2.new.self (length c.deliver.new.self)
     (with_delivered self.log.bag n) (act_posts acts) begins
     (follows begins refl refl c.deliver_to_controller.ensures.newest) (record {
-      piece_is = control_piece _ _ _ _ _ _ row n message new ready.refines ready.may there
-          c.in-Controller.is c.deliver_to_controller.ensures.after;
+      piece_is = control_piece ready.refines row n message new ready.may there c.in-Controller.is
+          c.deliver_to_controller.ensures.after;
       counted = none_in _;
       pushed = c.in_ok-push.ensures.pushed;
       number_is = ap length c.deliver.ensures
@@ -90,9 +87,9 @@ returns-in-Controller c = λ before row begins.
           (c.deliver_to_controller.new.log.bag ≡ bag ++ act_posts acts)) c.deliver.ensures
           c.deliver_to_controller.ensures.posted;
       refines = on_ok_weaker c.deliver_to_controller.result
-          (λ done. control_refines _ _ _ _ _ _ row n
-          message new ready.refines ready.may there c.in-Controller.is
-          c.deliver_to_controller.ensures.after) c.deliver_to_controller.ensures.written;
+          (λ done. control_refines ready.refines row n message new ready.may there
+          c.in-Controller.is c.deliver_to_controller.ensures.after)
+          c.deliver_to_controller.ensures.written;
     })
 
 -- ---- what its switch needs
@@ -101,13 +98,11 @@ hears : (c : In-Switch) → (c.in-Switch.switch < length c.args.self.now.switche
     × (c.in-Switch.switch < 64) × IsSoundBody c.in-Some.message.body
 hears c =
     let self = c.args.self.now in
-    hear_ready _ _ _ _ _ _ c.args.number c.in-Switch.switch c.in-Some.message
-    c.requires.begins.ready.refines
+    hear_ready c.requires.begins.ready.refines c.args.number c.in-Switch.switch c.in-Some.message
     (found_there _ _ _ _ c.in-Some.is c.in_ok-get.ensures.message) c.in-Switch.is
 
 pub bounds-self-switch : goal.bounds-self-switch
-bounds-self-switch c =
-    (hears (goal.at.bounds-self-switch c).In-Switch).1
+bounds-self-switch c = (hears (goal.at.bounds-self-switch c).In-Switch).1
 
 pub index_mut-requires : goal.index_mut-requires
 index_mut-requires c =
@@ -116,17 +111,15 @@ index_mut-requires c =
     omega (arith, ready.0, self.switches.ok.0)
 
 pub hear-requires : goal.hear-requires
-hear-requires c =
-    (hears (goal.at.hear-requires c).In-Switch).2
+hear-requires c = (hears (goal.at.hear-requires c).In-Switch).2
 
 pub returns-in_err-heard : goal.returns-in_err-heard
 returns-in_err-heard c = λ before row begins.
     let self = c.args.self.now in
-    first_goes
-    (item.Delivered c.args.number) _ begins (net_stays refl refl)
-    (first_piece _ _ _ _ _ _ row c.args.number c.in-Some.message begins.ready.refines
-    (found_there _ _ _ _ c.in-Some.is c.in_ok-get.ensures.message)) c.from_residual-in_err-heard.ensures.0
-    c.in_ok-push.ensures.pushed
+    first_goes (item.Delivered c.args.number) _ begins (net_stays refl refl)
+    (first_piece begins.ready.refines row c.args.number c.in-Some.message
+    (found_there _ _ _ _ c.in-Some.is c.in_ok-get.ensures.message))
+    c.from_residual-in_err-heard.ensures.0 c.in_ok-push.ensures.pushed
 
 -- ---- it stays as it was
 
@@ -139,13 +132,11 @@ send_all-requires c =
     subst (MaySend c.deliver.new.self) (sym (c.into_items.ensures ∙ c.in_ok-heard.ensures.replies))
     (subst (λ bag. MaySend bag (replies c.index_mut.result.now
     (get_or self.near c.in-Switch.switch 0) c.in-Some.message.body)) (sym c.deliver.ensures)
-    (shut_may _ _ _ _ _ _ c.requires.row c.args.number c.in-Switch.switch
-    c.in-Some.message c.index_mut.result.now c.hear.new.self
-    (get_or self.near c.in-Switch.switch 0) ready.refines ready.may there c.in-Switch.is within.0
-    c.index_mut.ensures.value
-    (usable_here _ _ _ _ _ _ c.in-Switch.switch ready.refines within.1)
-    c.in_ok-heard.ensures.after (sym c.in_ok-heard.ensures.opened ∙ c.in-None-opened.is)
-    ready.room))
+    (shut_may ready.refines c.requires.row c.args.number c.in-Switch.switch c.in-Some.message
+    c.index_mut.result.now c.hear.new.self (get_or self.near c.in-Switch.switch 0) ready.may there
+    c.in-Switch.is within.0 c.index_mut.ensures.value
+    (usable_here ready.refines c.in-Switch.switch within.1) c.in_ok-heard.ensures.after
+    (sym c.in_ok-heard.ensures.opened ∙ c.in-None-opened.is) ready.room))
 
 pub returns-in-None-opened : goal.returns-in-None-opened
 returns-in-None-opened c = λ before row begins.
@@ -158,7 +149,7 @@ returns-in-None-opened c = λ before row begins.
     let own = c.index_mut.result.now in
     let near = get_or self.near s 0 in
     let within = hears (goal.at.returns-in-None-opened c).In-Switch in
-    let usable = usable_here _ _ _ _ _ _ s ready.refines within.1 in
+    let usable = usable_here ready.refines s within.1 in
     let shut = sym c.in_ok-heard.ensures.opened ∙ c.in-None-opened.is in
     let messages : List Message = replies own near message.body in
     let are : c.into_items.result.items ≡ messages =
@@ -167,9 +158,8 @@ returns-in-None-opened c = λ before row begins.
     (λ k. sent_from k messages) c.push-2.new.self (length c.deliver.new.self)
     (with_delivered self.log.bag n) (map new_post messages) begins
     (follows begins refl refl refl) (record {
-      piece_is = shut_piece _ _ _ _ _ _ row n s message own c.hear.new.self near ready.refines
-          ready.may there c.in-Switch.is within.0 c.index_mut.ensures.value usable
-          c.in_ok-heard.ensures.after shut;
+      piece_is = shut_piece ready.refines row n s message own c.hear.new.self near ready.may there
+          c.in-Switch.is within.0 c.index_mut.ensures.value usable c.in_ok-heard.ensures.after shut;
       counted = none_in _;
       pushed = c.in_ok-push.ensures.pushed;
       number_is = ap length c.deliver.ensures
@@ -184,12 +174,12 @@ returns-in-None-opened c = λ before row begins.
       posted = subst (λ all. OnOk c.send_all.result
           (c.send_all.new.self.bag ≡ with_delivered self.log.bag n ++ map new_post all)) are
           (subst (λ bag. OnOk c.send_all.result
-          (c.send_all.new.self.bag ≡ bag ++ map new_post c.into_items.result.items)) c.deliver.ensures
-          c.send_all.ensures.posted);
-      refines = on_ok_weaker c.send_all.result (λ done. shut_refines _ _ _ _ _ _ row n s
-          message own c.hear.new.self near ready.refines ready.may there c.in-Switch.is within.0
-          c.index_mut.ensures.value usable c.in_ok-heard.ensures.after shut)
-          c.send_all.ensures.written;
+          (c.send_all.new.self.bag ≡ bag ++ map new_post c.into_items.result.items))
+          c.deliver.ensures c.send_all.ensures.posted);
+      refines = on_ok_weaker c.send_all.result
+          (λ done. shut_refines ready.refines row n s message own c.hear.new.self near ready.may
+          there c.in-Switch.is within.0 c.index_mut.ensures.value usable c.in_ok-heard.ensures.after
+          shut) c.send_all.ensures.written;
     })
 
 -- ---- it opens
@@ -198,7 +188,7 @@ pub returns-in_err-push-in-Some-opened : goal.returns-in_err-push-in-Some-opened
 returns-in_err-push-in-Some-opened c = λ before row begins.
     let self = c.args.self.now in
     first_goes (item.Delivered c.args.number) _ begins (net_stays refl refl)
-    (first_piece _ _ _ _ _ _ row c.args.number c.in-Some.message begins.ready.refines
+    (first_piece begins.ready.refines row c.args.number c.in-Some.message
     (found_there _ _ _ _ c.in-Some.is c.in_ok-get.ensures.message))
     c.from_residual-in_err-push-in-Some-opened.ensures.0
     (c.in_err-push-in-Some-opened.ensures.unchanged ∙ c.in_ok-push.ensures.pushed)
@@ -216,9 +206,9 @@ pub change_links-requires-clause-next : goal.change_links-requires-clause-next
 change_links-requires-clause-next c =
     let ready = c.requires.begins.ready in
     let within = hears (goal.at.change_links-requires-clause-next c).In-Switch in
-    opening_next _ _ _ _ _ _ c.requires.row c.args.number c.in-Switch.switch
-    c.in-Some-opened.version c.in-Some.message c.index_mut.result.now c.hear.new.self ready.refines
-    ready.may (found_there _ _ _ _ c.in-Some.is c.in_ok-get.ensures.message) c.in-Switch.is within.0
+    opening_next ready.refines c.requires.row c.args.number c.in-Switch.switch
+    c.in-Some-opened.version c.in-Some.message c.index_mut.result.now c.hear.new.self ready.may
+    (found_there _ _ _ _ c.in-Some.is c.in_ok-get.ensures.message) c.in-Switch.is within.0
     c.index_mut.ensures.value c.in_ok-heard.ensures.after
     (sym c.in_ok-heard.ensures.opened ∙ c.in-Some-opened.is) ready.room
 
@@ -226,9 +216,9 @@ pub change_links-requires-clause-may : goal.change_links-requires-clause-may
 change_links-requires-clause-may c =
     let ready = c.requires.begins.ready in
     let within = hears (goal.at.change_links-requires-clause-may c).In-Switch in
-    rw c.deliver.ensures (opening_may _ _ _ _ _ _ c.requires.row c.args.number c.in-Switch.switch
-    c.in-Some-opened.version c.in-Some.message c.index_mut.result.now c.hear.new.self ready.refines
-    ready.may (found_there _ _ _ _ c.in-Some.is c.in_ok-get.ensures.message) c.in-Switch.is within.0
+    rw c.deliver.ensures (opening_may ready.refines c.requires.row c.args.number c.in-Switch.switch
+    c.in-Some-opened.version c.in-Some.message c.index_mut.result.now c.hear.new.self ready.may
+    (found_there _ _ _ _ c.in-Some.is c.in_ok-get.ensures.message) c.in-Switch.is within.0
     c.index_mut.ensures.value c.in_ok-heard.ensures.after
     (sym c.in_ok-heard.ensures.opened ∙ c.in-Some-opened.is) ready.room)
 
@@ -250,13 +240,11 @@ returns c = λ before row begins.
     let rest = c.change_links.ensures.rest in
     let behind = c.push-in-Some-opened.new.self in
     let sends = sent_from (length c.deliver.new.self + 1) messages in
-    goes_told (item.Delivered n)
-    (λ k. item.Opened s stamp ∷ sent_from k messages) c.push-2.new.self
+    goes_told (item.Delivered n) (λ k. item.Opened s stamp ∷ sent_from k messages) c.push-2.new.self
     (length c.deliver.new.self) (with_delivered self.log.bag n) (map new_post messages) begins
     (follows begins rest.files rest.ports (ap newest_policy rest.controller)) (record {
-      piece_is = opening_piece _ _ _ _ _ _ row n s stamp message own c.hear.new.self ready.refines
-          ready.may there c.in-Switch.is within.0 c.index_mut.ensures.value
-          c.in_ok-heard.ensures.after opens;
+      piece_is = opening_piece ready.refines row n s stamp message own c.hear.new.self ready.may
+          there c.in-Switch.is within.0 c.index_mut.ensures.value c.in_ok-heard.ensures.after opens;
       counted = omega (arith, rest.packets);
       pushed = c.in_ok-push.ensures.pushed;
       number_is = ap length c.deliver.ensures
@@ -272,12 +260,8 @@ returns c = λ before row begins.
           (new.log.bag ≡ bag ++ map new_post messages)) c.deliver.ensures
           c.change_links.ensures.posted;
       refines = both_ok c.change_links.result (λ near_is are.
-          relinked_refines (setting_in self) (before ++ item.Row row (Deliver n)
-          ∷ item.Delivered n ∷ item.Opened s stamp ∷ sent_from (length self.log.bag + 1) messages)
-          self.log.travelling (with_delivered self.log.bag n ++ map new_post messages)
-          (near_all self.links others) rest near_is
-          (opening_refines _ _ _ _ _ _ row n s stamp message own c.hear.new.self ready.refines
-          ready.may there c.in-Switch.is within.0 c.index_mut.ensures.value
-          c.in_ok-heard.ensures.after opens new.switches.items are))
-          c.change_links.ensures.near c.change_links.ensures.switches;
+          relinked_refines rest near_is
+          (opening_refines ready.refines row n s stamp message own c.hear.new.self ready.may there
+          c.in-Switch.is within.0 c.index_mut.ensures.value c.in_ok-heard.ensures.after opens
+          new.switches.items are)) c.change_links.ensures.near c.change_links.ensures.switches;
     })

@@ -13,8 +13,8 @@ returns-in-None c = λ before row begins.
     let self = c.args.self.now in
     goes_one begins
     (files_stay refl refl) item.Nothing self.log.bag (plane_stays refl refl refl) refl (none_in _)
-    (expired_refines _ _ _ _ _ _ row c.args.switch c.args.place c.index_mut.result.now
-    c.expire.new.self None begins.ready.refines begins.ready.may c.index_mut.ensures.value
+    (expired_refines begins.ready.refines row c.args.switch c.args.place c.index_mut.result.now
+    c.expire.new.self None begins.ready.may c.index_mut.ensures.value
     c.expire.ensures.after (sym c.in-None.is ∙ c.expire.ensures.message))
     c.push.ensures.pushed c.push.ensures.unchanged
 
@@ -22,9 +22,9 @@ pub returns-in-Some : goal.returns-in-Some
 returns-in-Some c = λ before row begins.
     let self = c.args.self.now in
     goes_one begins
-    (files_stay refl refl) (item.Expired c.args.switch c.args.place c.in-Some.message) self.log.bag (plane_stays refl refl refl) refl
-    (none_in _)
-    (expired_refines _ _ _ _ _ _ row c.args.switch c.args.place c.index_mut.result.now
-    c.expire.new.self (Some c.in-Some.message) begins.ready.refines begins.ready.may
+    (files_stay refl refl) (item.Expired c.args.switch c.args.place c.in-Some.message) self.log.bag
+    (plane_stays refl refl refl) refl (none_in _)
+    (expired_refines begins.ready.refines row c.args.switch c.args.place c.index_mut.result.now
+    c.expire.new.self (Some c.in-Some.message) begins.ready.may
     c.index_mut.ensures.value c.expire.ensures.after (sym c.in-Some.is ∙ c.expire.ensures.message))
     c.push-in-Some.ensures.pushed c.push-in-Some.ensures.unchanged

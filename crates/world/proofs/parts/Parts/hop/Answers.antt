@@ -18,8 +18,7 @@ use Rattle.world.proofs.parts.Parts.hop.Goals as goal
 pub returns-in-None : goal.returns-in-None
 returns-in-None c = λ before row begins.
     let self = c.args.self.now in
-    goes_nothing begins refl
-    (hop_left _ _ _ _ _ _ row c.args.packet begins.ready.refines begins.ready.may
+    goes_nothing begins refl (hop_left begins.ready.refines row c.args.packet begins.ready.may
     (ap is_some (sym c.look.ensures ∙ ap option_copied c.in-None.is)))
     c.push.ensures.pushed c.push.ensures.unchanged
 
@@ -29,9 +28,8 @@ pub index_mut-requires : goal.index_mut-requires
 index_mut-requires c =
     let self = c.args.self.now in
     let there : c.here.result < length self.switches.items =
-    within_here _ _ _ _ _ _ c.args.packet c.in-Some.kept.now c.here.result
-    c.requires.begins.ready.refines (sym c.look.ensures ∙ ap option_copied c.in-Some.is)
-    c.here.ensures.here in
+    within_here c.requires.begins.ready.refines c.args.packet c.in-Some.kept.now c.here.result
+    (sym c.look.ensures ∙ ap option_copied c.in-Some.is) c.here.ensures.here in
     omega (arith, there)
 
 pub hop-requires : goal.hop-requires
@@ -39,13 +37,12 @@ hop-requires c =
     let self = c.args.self.now in
     let its = sym c.look.ensures ∙ ap option_copied c.in-Some.is in
     let ready = c.requires.begins.ready in
-    let can = can_ask _ _ _ _ _ _ c.args.packet c.in-Some.kept.now c.here.result
-    c.index_mut.result.now self.ports ready.refines ready.sound.owners its c.here.ensures.here
+    let can = can_ask ready.refines c.args.packet c.in-Some.kept.now c.here.result
+    c.index_mut.result.now self.ports ready.sound.owners its c.here.ensures.here
     c.index_mut.ensures.value in
     record {
       known = subst (λ o. IsSomeAnd o (λ t. t.tunnel.packet ≡ c.args.packet)) (sym its)
-          (number_of_packet _ _ _ _ _ _ c.args.packet c.in-Some.kept.now
-          c.requires.begins.ready.refines its);
+          (number_of_packet c.requires.begins.ready.refines c.args.packet c.in-Some.kept.now its);
       here = of_kept (λ t. StandsAt c.index_mut.result.now t.tunnel.route t.tunnel.place) _
           c.in-Some.kept.now (sym its) can.stands;
       serving = can.serving;
@@ -55,8 +52,7 @@ hop-requires c =
           → IsAtAuthority c.index_mut.result.now t.tunnel.header t.tunnel.leg) _ c.in-Some.kept.now
           (sym its) can.authority;
       ingress = of_kept (λ t. t.tunnel.ingress < 64) _ c.in-Some.kept.now (sym its)
-          (ingress_below _ _ _ _ _ _ c.args.packet c.in-Some.kept.now
-          ready.refines its);
+          (ingress_below ready.refines c.args.packet c.in-Some.kept.now its);
       few = omega (arith, c.requires.begins.ready.room);
     }
 
@@ -68,12 +64,10 @@ returns c = λ before row begins.
     let its = sym c.look.ensures ∙ ap option_copied c.in-Some.is in
     let hopped = c.hop.ensures c.in-Some.kept.now its in
     let log = hopped.log in
-    goes_quiet begins
-    (files_stay refl refl) _ (plane_stays refl refl refl)
+    goes_quiet begins (files_stay refl refl) _ (plane_stays refl refl refl)
     (hop_is self before row c.args.packet c.in-Some.kept.now c.here.result
     c.index_mut.result.now begins.ready its c.here.ensures.here c.index_mut.ensures.value)
-    (on_ok_weaker c.hop.result (λ done. none_in _) log.written)
-    log.written log.part
+    (on_ok_weaker c.hop.result (λ done. none_in _) log.written) log.written log.part
     (hops_refine self before row c.args.packet c.in-Some.kept.now c.here.result
     c.index_mut.result.now begins.ready its c.here.ensures.here c.index_mut.ensures.value
     c.hop.result c.hop.new.switch c.hop.new.self.travelling c.hop.new.self.bag

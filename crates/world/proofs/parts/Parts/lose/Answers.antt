@@ -2,21 +2,19 @@ use Rattle.std.proofs.Common.{◌∷◌, ◌++◌, [], ap, refl, subst, sym, ◌
 use Rattle.std.proofs.lemmas.Result.{on_err_weaker, on_ok_weaker}
 use Rattle.journal.specs.declared.item.Item.TheVariants as item
 use Rattle.steps.specs.declared.step.Step.TheVariants.{Lose}
-use Rattle.world.specs.Parts.{control_in, setting_in}
-use Rattle.world.proofs.Frame.{PartsRefineJournalAs, goes_nothing, goes_quiet, files_stay, none_in, plane_stays, with_posts}
+use Rattle.world.specs.Parts.{setting_in}
+use Rattle.world.proofs.Frame.{goes_nothing, goes_quiet, files_stay, none_in, plane_stays, with_posts}
 use Rattle.world_log.proofs.Writing.{part_none}
 use Rattle.world_log.specs.declared.log.Log.{Log}
 use Rattle.refinement.proofs.Losing.{lost, lost_piece, not_lost}
+use Rattle.refinement.specs.Refinement.{RefineJournal}
 use Rattle.world.proofs.parts.Parts.lose.Goals as goal
 
 pub returns-then-not-has : goal.returns-then-not-has
 returns-then-not-has c = λ before row begins.
     let self = c.args.self.now in
-    goes_nothing begins refl
-    (not_lost (control_in self) (setting_in self) before self.switches.items self.log.travelling
-    self.packets row c.args.packet begins.ready.refines begins.ready.may
-    (sym c.has.ensures ∙ c.if-not-has.true))
-    c.push.ensures.pushed c.push.ensures.unchanged
+    goes_nothing begins refl (not_lost begins.ready.refines row c.args.packet begins.ready.may
+    (sym c.has.ensures ∙ c.if-not-has.true)) c.push.ensures.pushed c.push.ensures.unchanged
 
 pub returns : goal.returns
 returns c = λ before row begins.
@@ -25,18 +23,14 @@ returns c = λ before row begins.
     let all = record self { log = new } in
     let travelling = sym c.has.ensures ∙ c.if-not-has.false in
     goes_quiet begins (files_stay refl refl) (item.Lost c.args.packet ∷ [])
-    (plane_stays refl refl refl)
-    (lost_piece (control_in self) (setting_in self) before self.switches.items self.log.travelling
-    self.packets row c.args.packet begins.ready.refines travelling)
+    (plane_stays refl refl refl) (lost_piece begins.ready.refines row c.args.packet travelling)
     (on_ok_weaker c.lose.result (λ grown. none_in self.packets) c.lose.ensures.written)
-    c.lose.ensures.written
-    (on_err_weaker c.lose.result
+    c.lose.ensures.written (on_err_weaker c.lose.result
     (λ same. part_none self.log.journal (item.Lost c.args.packet ∷ []) new.journal
     (ap (λ (log : Log). log.journal) same)) c.lose.ensures.unchanged)
     (on_ok_weaker c.lose.result (λ without.
-    subst (λ bag. PartsRefineJournalAs self
-    (before ++ item.Row row (Lose c.args.packet) ∷ item.Lost c.args.packet ∷ []) all
-    (with_posts self bag)) (sym c.lose.ensures.unsent)
-    (lost (control_in self) (setting_in self) before self.switches.items self.log.travelling
-    self.packets row c.args.packet begins.ready.refines new.travelling begins.ready.may travelling
+    subst (λ bag. RefineJournal (setting_in self)
+    (before ++ item.Row row (Lose c.args.packet) ∷ item.Lost c.args.packet ∷ [])
+    (with_posts self all bag)) (sym c.lose.ensures.unsent)
+    (lost begins.ready.refines row c.args.packet new.travelling begins.ready.may travelling
     without)) c.lose.ensures.lost)

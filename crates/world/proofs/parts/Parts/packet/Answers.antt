@@ -10,28 +10,25 @@ use Rattle.world.proofs.parts.Parts.packet.Goals as goal
 pub overflow_add-self : goal.overflow_add-self
 overflow_add-self c =
     let self = c.args.self.now in
-    let fits = come_fits _ _ _ _ _ _ c.requires.begins.ready.refines c.requires.begins.ready.few in
+    let fits = come_fits c.requires.begins.ready.refines c.requires.begins.ready.few in
     omega (arith, fits)
 
 pub index_mut-requires : goal.index_mut-requires
-index_mut-requires c =
-    place_in c.args.switch c.requires c.requires.begins.ready.may.0
+index_mut-requires c = place_in c.args.switch c.requires c.requires.begins.ready.may.0
 
 pub enter-requires : goal.enter-requires
 enter-requires c =
     let self = c.args.self.now in
     record {
-      stamped = can_look_up _ _ _ _ _ _ c.args.switch
-          c.index_mut.result.now c.requires.begins.ready.refines c.requires.begins.ready.may.0
-          c.index_mut.ensures.value;
+      stamped = can_look_up c.requires.begins.ready.refines c.args.switch c.index_mut.result.now
+          c.requires.begins.ready.may.0 c.index_mut.ensures.value;
       few = omega (arith, c.requires.begins.ready.room);
     }
 
 pub returns : goal.returns
 returns c = λ before row begins.
     let self = c.args.self.now in
-    goes_quiet begins
-    (files_stay refl refl) _ (plane_stays refl refl refl)
+    goes_quiet begins (files_stay refl refl) _ (plane_stays refl refl refl)
     (come_is self before row c.args.switch c.args.header.now c.index_mut.result.now begins.ready
     c.index_mut.ensures.value)
     (on_ok_weaker c.enter.result (λ done. refl) c.enter.ensures.log.written)

@@ -4,10 +4,8 @@ use Rattle.controller.specs.Sends.{resend_acts}
 use Rattle.controller.specs.declared.sends.Act.{Act}
 use Rattle.controller.specs.declared.sends.Act.TheVariants.{Post}
 use Rattle.journal.specs.declared.item.Item.TheVariants as item
-use Rattle.steps.specs.declared.step.Step.TheVariants.{Resend}
-use Rattle.refinement.specs.Linking.{adverts_again}
-use Rattle.world.specs.Parts.{control_in, setting_in}
-use Rattle.world_log.specs.Sending.{MayNote, act_items, act_posts}
+use Rattle.world_log.specs.Linking.{adverts_again}
+use Rattle.world_log.specs.Sending.{MayNote, act_items}
 use Rattle.world.proofs.Frame.{files_stay, goes_nothing, goes_quiet, net_stays, none_in, nothing_goes, plane_stays}
 use Rattle.world.proofs.GoesTold.{as_noted}
 use Rattle.world.proofs.OverSwitches.{few_in, known_in, place_in, switch_in}
@@ -24,16 +22,13 @@ bounds-self-here c =
     omega (arith, there, few_in c.requires)
 
 pub index-requires : goal.index-requires
-index-requires c =
-    place_in c.args.switch c.requires c.requires.begins.ready.may
+index-requires c = place_in c.args.switch c.requires c.requires.begins.ready.may
 
 pub adverts_again-requires : goal.adverts_again-requires
-adverts_again-requires c =
-    omega (arith, few_in c.requires, c.args.self.now.switches.ok.0)
+adverts_again-requires c = omega (arith, few_in c.requires, c.args.self.now.switches.ok.0)
 
 pub resend-requires : goal.resend-requires
-resend-requires c =
-    known_in c.args.switch c.requires c.requires.begins.ready.may
+resend-requires c = known_in c.args.switch c.requires c.requires.begins.ready.may
 
 pub returns-in_err-messages : goal.returns-in_err-messages
 returns-in_err-messages c = λ before row begins.
@@ -76,15 +71,13 @@ returns-then-are_none c = λ before row begins.
     let s = c.args.switch in
     let none = none_said (goal.at.returns-then-are_none c).After-are_none in
     goes_nothing begins refl
-    (silent _ _ _ _ _ _ row s c.index.result.now begins.ready.refines begins.ready.may
-    c.index.ensures (none true c.if-are_none.true))
-    c.push.ensures.pushed c.push.ensures.unchanged
+    (silent begins.ready.refines row s c.index.result.now begins.ready.may c.index.ensures
+    (none true c.if-are_none.true)) c.push.ensures.pushed c.push.ensures.unchanged
 
 -- ---- what the switch and the controller have to say is sent
 
 pub overflow_cast-count : goal.overflow_cast-count
-overflow_cast-count c =
-    omega (arith, few_in c.requires, c.args.self.now.switches.ok.0)
+overflow_cast-count c = omega (arith, few_in c.requires, c.args.self.now.switches.ok.0)
 
 pub send_and_note-requires : goal.send_and_note-requires
 send_and_note-requires c =
@@ -93,8 +86,8 @@ send_and_note-requires c =
     let own = c.index.result.now in
     let before = (goal.at.send_and_note-requires c).After-are_none in
     subst (MayNote self.log.bag) (sym (said before))
-    (again_may _ _ _ _ _ _ c.requires.row c.args.switch own ready.refines ready.may
-    c.index.ensures (none_said before false c.if-are_none.false) ready.room)
+    (again_may ready.refines c.requires.row c.args.switch own ready.may c.index.ensures
+    (none_said before false c.if-are_none.false) ready.room)
 
 pub returns : goal.returns
 returns c = λ before row begins.
@@ -111,11 +104,8 @@ returns c = λ before row begins.
     c.send_and_note.ensures.posted c.send_and_note.ensures.part in
     goes_quiet begins (files_stay refl refl)
     (act_items (length self.log.bag + 1) acts) (plane_stays refl refl refl)
-    (again_piece _ _ _ _ _ _ row s _ ready.refines ready.may c.index.ensures some)
-    (on_ok_weaker r (λ done. none_in _) noted.written) noted.written noted.part
-    (on_ok_weaker r (λ post. sent_refines (setting_in self) (before ++ item.Row row (Resend s)
-    ∷ act_items (length self.log.bag + 1) acts) self.switches.items self.log.travelling
-    c.send_and_note.new.self.travelling self.packets (control_in self)
-    (self.log.bag ++ act_posts acts) c.send_and_note.new.self.bag post
-    c.send_and_note.ensures.travelling (again_refines _ _ _ _ _ _ row s _ ready.refines ready.may
-    c.index.ensures some)) noted.posted)
+    (again_piece ready.refines row s _ ready.may c.index.ensures some)
+    (on_ok_weaker r (λ done. none_in _) noted.written) noted.written noted.part (on_ok_weaker r
+    (λ post. sent_refines (again_refines ready.refines row s _ ready.may c.index.ensures some)
+    c.send_and_note.new.self.travelling c.send_and_note.new.self.bag
+    c.send_and_note.ensures.travelling post) noted.posted)

@@ -26,9 +26,9 @@ index_mut-requires c = place_in c.args.switch c.requires c.requires.begins.ready
 
 pub returns-then-is_up : goal.returns-then-is_up
 returns-then-is_up c = λ before row begins.
-    goes_nothing begins refl (up_already _ _ _ _ _ _ row c.args.switch _ begins.ready.refines
-    begins.ready.may c.index.ensures (sym c.is_up.ensures ∙ c.if-is_up.true)) c.push.ensures.pushed
-    c.push.ensures.unchanged
+    goes_nothing begins refl
+    (up_already begins.ready.refines row c.args.switch _ begins.ready.may c.index.ensures
+    (sym c.is_up.ensures ∙ c.if-is_up.true)) c.push.ensures.pushed c.push.ensures.unchanged
 
 -- ---- it is down
 
@@ -49,13 +49,14 @@ restart-boot-requires c =
     let ready = c.requires.begins.ready in
     let own = c.index_mut.result.now in
     let down = is_down (goal.at.restart-boot-requires c).After-index_mut in
-    let can = boot_next _ _ _ _ _ _ c.requires.row s own ready.refines ready.may
-    c.index_mut.ensures.value down ready.room in
+    let can = boot_next ready.refines c.requires.row s own ready.may c.index_mut.ensures.value down
+    ready.room in
     record { down = can.down; boot = can.boot }
 
 pub returns-in_err-push : goal.returns-in_err-push
 returns-in_err-push c = λ before row begins.
-    nothing_goes begins (net_stays refl refl) c.from_residual.ensures.0 c.in_err-push.ensures.unchanged
+    nothing_goes begins (net_stays refl refl) c.from_residual.ensures.0
+    c.in_err-push.ensures.unchanged
 
 pub send-requires : goal.send-requires
 send-requires c =
@@ -89,8 +90,7 @@ returns c = λ before row begins.
     goes_told (item.Booted s boot)
     (λ k. item.Sent k hello ∷ []) begun (length self.log.bag) self.log.bag (new_post hello ∷ [])
     begins (follows begins refl refl refl) (record {
-      piece_is = boot_piece _ _ _ _ _ _ row s own ready.refines ready.may
-          c.index_mut.ensures.value down;
+      piece_is = boot_piece ready.refines row s own ready.may c.index_mut.ensures.value down;
       counted = none_in _;
       pushed = subst (λ b. begun ≡ self.log.journal ++ item.Booted s b ∷ []) told
           c.in_ok-push.ensures.pushed;
@@ -102,7 +102,7 @@ returns c = λ before row begins.
           c.send.ensures.unwritten;
       posted = subst (λ message. OnOk c.send.result (c.send.new.self.bag
           ≡ self.log.bag ++ new_post message ∷ [])) said c.send.ensures.posted;
-      refines = on_ok_weaker c.send.result (λ done. boot_refines _ _ _ _ _ _ row s own ready.refines
-          ready.may c.index_mut.ensures.value c.restart-boot.new.self down
-          c.restart-boot.ensures.after) written;
+      refines = on_ok_weaker c.send.result
+          (λ done. boot_refines ready.refines row s own ready.may c.index_mut.ensures.value
+          c.restart-boot.new.self down c.restart-boot.ensures.after) written;
     })

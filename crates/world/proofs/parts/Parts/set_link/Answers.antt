@@ -6,8 +6,9 @@ use Rattle.controller.specs.Controller.{newest_policy}
 use Rattle.journal.specs.declared.item.Item.{Item}
 use Rattle.journal.specs.declared.item.Item.TheVariants as item
 use Rattle.update_machine.specs.Messages.{sent_from}
-use Rattle.refinement.specs.Linking.{all_adverts_sent, link_step, near_all}
-use Rattle.world.specs.Parts.{HasBegun, setting_in}
+use Rattle.refinement.specs.Links.{link_step}
+use Rattle.world_log.specs.Linking.{all_adverts_sent, near_all}
+use Rattle.world.specs.Parts.{HasBegun}
 use Rattle.world.specs.declared.parts.Parts.{Parts}
 use Rattle.world.specs.State.{comes_in}
 use Rattle.world.proofs.Frame.{follows, goes_nothing, net_stays, nothing_goes}
@@ -26,24 +27,20 @@ none_come one two false = refl
 -- both ends are switches
 ends : (self : Parts) (one two : ℕ) (up : Bool) (begun : HasBegun (link_step up one two) self)
     → (one < 64) × (two < 64)
-ends self one two up begun = ends_below _ _ _ _ _ _ begun.row one two up
-    begun.begins.ready.refines begun.begins.ready.may
+ends self one two up begun = ends_below begun.begins.ready.refines begun.row one two up
+    begun.begins.ready.may
 
 pub bounds-self-one : goal.bounds-self-one
-bounds-self-one c =
-    (ends c.args.self.now c.args.one c.args.two c.args.up c.requires).0
+bounds-self-one c = (ends c.args.self.now c.args.one c.args.two c.args.up c.requires).0
 
 pub has-requires : goal.has-requires
-has-requires c =
-    (ends c.args.self.now c.args.one c.args.two c.args.up c.requires).1
+has-requires c = (ends c.args.self.now c.args.one c.args.two c.args.up c.requires).1
 
 pub set_ends-requires-clause-one : goal.set_ends-requires-clause-one
-set_ends-requires-clause-one c =
-    (ends c.args.self.now c.args.one c.args.two c.args.up c.requires).0
+set_ends-requires-clause-one c = (ends c.args.self.now c.args.one c.args.two c.args.up c.requires).0
 
 pub set_ends-requires-clause-two : goal.set_ends-requires-clause-two
-set_ends-requires-clause-two c =
-    (ends c.args.self.now c.args.one c.args.two c.args.up c.requires).1
+set_ends-requires-clause-two c = (ends c.args.self.now c.args.one c.args.two c.args.up c.requires).1
 
 -- ---- it is so already
 
@@ -53,9 +50,8 @@ returns-then-has-up c = λ before row begins.
     let one = c.args.one in
     let two = c.args.two in
     let up = c.args.up in
-    goes_nothing begins
-    (none_come one two up)
-    (same_refines _ _ _ _ _ _ row one two up begins.ready.refines begins.ready.may
+    goes_nothing begins (none_come one two up)
+    (same_refines begins.ready.refines row one two up begins.ready.may
     (ap (λ b. beq b up) (sym c.has.ensures.has) ∙ c.if-has-up.true))
     c.push.ensures.pushed c.push.ensures.unchanged
 
@@ -73,16 +69,15 @@ pub change_links-requires-clause-next : goal.change_links-requires-clause-next
 change_links-requires-clause-next c =
     let self = c.args.self.now in
     let ready = c.requires.begins.ready in
-    numbers_left _ _ _ _ _ _ ready.refines ready.room
+    numbers_left ready.refines ready.room
 
 pub change_links-requires-clause-may : goal.change_links-requires-clause-may
 change_links-requires-clause-may c =
     let self = c.args.self.now in
     let ready = c.requires.begins.ready in
-    set_may _ _ _ _ _ _ c.requires.row c.args.one c.args.two c.args.up ready.refines
-    ready.may c.set_ends.new.links
-    (ap (λ b. beq b c.args.up) (sym c.has.ensures.has) ∙ c.if-has-up.false) c.set_ends.ensures.set
-    c.set_ends.ensures.fits ready.room
+    set_may ready.refines c.requires.row c.args.one c.args.two c.args.up ready.may
+    c.set_ends.new.links (ap (λ b. beq b c.args.up) (sym c.has.ensures.has) ∙ c.if-has-up.false)
+    c.set_ends.ensures.set c.set_ends.ensures.fits ready.room
 
 pub returns : goal.returns
 returns c = λ before row begins.
@@ -97,12 +92,11 @@ returns c = λ before row begins.
     let messages : List Message = all_adverts_sent self.near near self.switches.items in
     let told : Item = item.LinkIs (min one two) (max one two) up in
     let rest = c.change_links.ensures.rest in
-    goes_told told
-    (λ k. sent_from k messages) c.push-2.new.self (length self.log.bag) self.log.bag
+    goes_told told (λ k. sent_from k messages) c.push-2.new.self (length self.log.bag) self.log.bag
     (map new_post messages) begins
     (follows begins rest.files rest.ports (ap newest_policy rest.controller)) (record {
-      piece_is = set_piece _ _ _ _ _ _ row one two up ready.refines ready.may links other
-          c.set_ends.ensures.set c.set_ends.ensures.fits;
+      piece_is = set_piece ready.refines row one two up ready.may links other c.set_ends.ensures.set
+          c.set_ends.ensures.fits;
       counted = omega (arith, rest.packets, none_come one two up);
       pushed = c.in_ok-push.ensures.pushed
           ∙ ap (λ low. self.log.journal ++ item.LinkIs low c.max.result up ∷ []) c.min.ensures
@@ -113,10 +107,8 @@ returns c = λ before row begins.
       part = c.change_links.ensures.part;
       posted = c.change_links.ensures.posted;
       refines = both_ok c.change_links.result (λ near_is are.
-          relinked_refines (setting_in self) (before ++ item.Row row (link_step up one two) ∷ told
-          ∷ sent_from (length self.log.bag + 1) messages) self.log.travelling
-          (self.log.bag ++ map new_post messages) near rest near_is
-          (set_refines _ _ _ _ _ _ row one two up ready.refines ready.may links other
-          c.set_ends.ensures.set c.set_ends.ensures.fits c.change_links.new.self.switches.items are))
+          relinked_refines rest near_is
+          (set_refines ready.refines row one two up ready.may links other c.set_ends.ensures.set
+          c.set_ends.ensures.fits c.change_links.new.self.switches.items are))
           c.change_links.ensures.near c.change_links.ensures.switches;
     })

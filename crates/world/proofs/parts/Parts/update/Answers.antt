@@ -48,8 +48,7 @@ refused : {T E : Type 0} {r : Result T E} {before : List Item} {row file : ℕ} 
     → piece (setting_in self) before row (Update file)
     ≡ item.Row row (Update file) ∷ item.Refused file code ∷ []
     → OnOk r (journal ≡ self.log.journal ++ item.Refused file code ∷ [])
-    → OnErr r (journal ≡ self.log.journal)
-    → Goes r before row (Update file) self (record self {
+    → OnErr r (journal ≡ self.log.journal) → Goes r before row (Update file) self (record self {
       files = files;
       log = record self.log { journal = journal };
       controller = controller;
@@ -58,16 +57,14 @@ refused {row} {file} code {self} begins same stays is pushed unchanged =
     goes_one begins (files_stay same refl)
     (item.Refused file code) self.log.bag (plane_stays stays refl refl) refl (none_in _) (
       is,
-      refused_refines _ _ _ _ _ _ row file begins.ready.refines begins.ready.may code is,
+      refused_refines begins.ready.refines row file begins.ready.may code is,
     ) pushed unchanged
 
 -- ---- the policy has no plan
 
 pub returns-in_err-code : goal.returns-in_err-code
 returns-in_err-code c = λ before row begins.
-    nothing_goes begins
-    (net_stays c.in_err-code.ensures.same refl)
-    c.from_residual.ensures.0 refl
+    nothing_goes begins (net_stays c.in_err-code.ensures.same refl) c.from_residual.ensures.0 refl
 
 pub returns-in-Refused : goal.returns-in-Refused
 returns-in-Refused c = λ before row begins.
@@ -77,7 +74,7 @@ returns-in-Refused c = λ before row begins.
     let ready = begins.ready in
     let cause = subst (IsMade self.files.net (making_of self file)) c.in-Refused.is
     c.in_ok-code.ensures.compiled in
-    let own = newest_refines _ _ _ _ _ _ row (Update file) self.files.newest ready.refines
+    let own = newest_refines ready.refines row (Update file) self.files.newest
     ready.newest in
     let there = made_there self file ready.may.0 ready.may.1 in
     let coded : update_code (setting_in self) (before ++ item.Row row (Update file) ∷ []) file
@@ -114,7 +111,7 @@ planned c before row begins =
     let ready = begins.ready in
     let made = subst (IsMade self.files.net (making_of self file)) c.in-Planned.is
     c.in_ok-code.ensures.compiled in
-    let own = newest_refines _ _ _ _ _ _ row (Update file) self.files.newest ready.refines
+    let own = newest_refines ready.refines row (Update file) self.files.newest
     ready.newest in
     planned_next self.files.net self.files.files before file self.files.newest c.in-Planned.plan
     c.in-Planned.touched ready.may.0 own.0
@@ -129,8 +126,7 @@ returns-in_err-newest c = λ before row begins.
 
 pub returns-in_err-push-in-Ok : goal.returns-in_err-push-in-Ok
 returns-in_err-push-in-Ok c = λ before row begins.
-    nothing_goes begins
-    (changed_net _ _ _ _ c.set_newest.ensures c.in_ok-code.ensures.same refl)
+    nothing_goes begins (changed_net _ _ _ _ c.set_newest.ensures c.in_ok-code.ensures.same refl)
     c.from_residual-in_err-push-in-Ok.ensures.0 c.in_err-push-in-Ok.ensures.unchanged
 
 pub note_acts-requires : goal.note_acts-requires
@@ -141,14 +137,12 @@ note_acts-requires c =
     let of_next = planned (goal.at.note_acts-requires c).In-Planned c.requires.before c.requires.row
     c.requires.begins in
     subst (MayNote self.log.bag) (sym (c.into_items.ensures ∙ c.in-Ok.ensures.sends))
-    (submitted_may _ _ _ _ _ _ c.requires.row file ready.refines
-    ready.may c.in-Planned.plan c.in-Planned.touched c.submit.new.self of_next
-    (λ e. not_err _ _ (c.in-Ok.ensures.live.1 e))
+    (submitted_may ready.refines c.requires.row file ready.may c.in-Planned.plan
+    c.in-Planned.touched c.submit.new.self of_next (λ e. not_err _ _ (c.in-Ok.ensures.live.1 e))
     (λ e. not_err _ _ (c.in-Ok.ensures.versions.1 (
       λ f. not_err _ _ (c.in-Ok.ensures.live.1 f),
       e,
-    )))
-    c.in-Ok.ensures.after ready.room)
+    ))) c.in-Ok.ensures.after ready.room)
 
 pub returns-in-Ok : goal.returns-in-Ok
 returns-in-Ok c = λ before row begins.
@@ -165,22 +159,20 @@ returns-in-Ok c = λ before row begins.
     (next_kept self.controller c.in-Planned.plan c.in-Planned.touched) new in
     let one = item.Submitted file (self.controller.marks.count + 1) in
     let its = c.note_acts.ensures in
-    goes_acting one acts c.into_items.result.items c.push-in-Ok.new.self begins
-    (record {
+    goes_acting one acts c.into_items.result.items c.push-in-Ok.new.self begins (record {
       net = changed_net _ _ _ _ c.set_newest.ensures c.in_ok-code.ensures.same refl;
       newest = c.in-Ok.ensures.newest
           ∙ ap Some (sym (ap (λ (f : FilesValue). f.newest) c.set_newest.ensures
           ∙ ap (λ (plan : PlanValue). plan.policy) c.in_ok-newest.ensures.cases));
     }) (none_in _)
-    (submitted_piece _ _ _ _ _ _ row file ready.refines ready.may c.in-Planned.plan c.in-Planned.touched new of_next live
-    versions c.in-Ok.ensures.after)
+    (submitted_piece ready.refines row file ready.may c.in-Planned.plan c.in-Planned.touched new
+    of_next live versions c.in-Ok.ensures.after)
     (subst (λ v. c.push-in-Ok.new.self ≡ self.log.journal ++ item.Submitted file (v + 1) ∷ [])
     (c.count-version.ensures.count ∙ ap (λ marks. marks.count) c.marks.ensures)
     c.in_ok-push-in-Ok.ensures.pushed)
     (c.into_items.ensures ∙ c.in-Ok.ensures.sends) its.travelling its.written its.posted its.part
-    (submitted_refines _ _ _ _ _ _ row file ready.refines ready.may c.in-Planned.plan c.in-Planned.touched new of_next
-    live
-    versions c.in-Ok.ensures.after)
+    (submitted_refines ready.refines row file ready.may c.in-Planned.plan c.in-Planned.touched new
+    of_next live versions c.in-Ok.ensures.after)
 
 -- ---- the marks refuse it
 
@@ -191,20 +183,23 @@ returns c = λ before row begins.
     let code = c.match-this-2.code in
     let submitted = c.submit.ensures in
     let of_next = planned (goal.at.returns c).In-Planned before row begins in
-    let is : (c.submit.new.self ≡ self.controller) × (piece (setting_in self) before row (Update file)
+    let is : (c.submit.new.self ≡ self.controller)
+    × (piece (setting_in self) before row (Update file)
     ≡ item.Row row (Update file) ∷ item.Refused file code ∷ []) =
     elim c.match-this-2.branch [
       | in-Err-Refused-TooManyLive w ↦
           let live : c.submit.result ≡ Err (Refused TooManyLive) = search rules in (
             rw live at submitted.refused,
-            rw w.code-is (live_piece _ _ _ _ _ _ row file c.in-Planned.plan c.in-Planned.touched begins.ready.refines of_next
+            rw w.code-is
+                (live_piece begins.ready.refines row file c.in-Planned.plan c.in-Planned.touched of_next
                 (submitted.live.0 live)),
           )
       | in-Err-Refused-TooManyVersions w ↦
           let versions : c.submit.result ≡ Err (Refused TooManyVersions) = search rules in
           let many = submitted.versions.0 versions in (
             rw versions at submitted.refused,
-            rw w.code-is (versions_piece _ _ _ _ _ _ row file c.in-Planned.plan c.in-Planned.touched begins.ready.refines
+            rw w.code-is
+                (versions_piece begins.ready.refines row file c.in-Planned.plan c.in-Planned.touched
                 of_next many.0 many.1),
           )
     ] in
@@ -213,5 +208,4 @@ returns c = λ before row begins.
 
 pub returns-in-Err-NoMemory : goal.returns-in-Err-NoMemory
 returns-in-Err-NoMemory c = λ before row begins.
-    nothing_goes begins
-    (net_stays c.in_ok-code.ensures.same refl) (search rules) refl
+    nothing_goes begins (net_stays c.in_ok-code.ensures.same refl) (search rules) refl

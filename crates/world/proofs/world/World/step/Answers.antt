@@ -34,14 +34,14 @@ returns-clause-setting c =
 pub play-requires : goal.play-requires
 play-requires c =
     let room = subst (λ (w : WorldValue). HasRoom w.journal) c.self.view_is
-    (has_room _ _ _ _ _ _ (c.self.invariant.refines c.if-self.false)
+    (has_room (c.self.invariant.refines c.if-self.false)
     (omega (arith, c.sent.ensures, c.if-sent-ge-FULL_AT.false))) in
     record {
       sound = c.self.invariant.sound;
       refines = c.self.invariant.refines c.if-self.false;
       newest = c.self.invariant.newest c.if-self.false;
-      may = subst (λ (w : WorldValue). IsStep w.net (length w.files) c.args.step.now) (sym c.self.view_is)
-          (c.requires.may room);
+      may = subst (λ (w : WorldValue). IsStep w.net (length w.files) c.args.step.now)
+          (sym c.self.view_is) (c.requires.may room);
       few = subst (λ (w : WorldValue). next_packet w.journal ≤ 4_000_000_000) (sym c.self.view_is)
           c.requires.few;
       room = omega (arith, c.sent.ensures, c.if-sent-ge-FULL_AT.false);
@@ -50,7 +50,7 @@ play-requires c =
 pub returns-then-sent-ge-FULL_AT-clause-full : goal.returns-then-sent-ge-FULL_AT-clause-full
 returns-then-sent-ge-FULL_AT-clause-full c = λ is.
     subst (λ (w : WorldValue). IsFull w.journal) c.self.view_is
-    (is_full _ _ _ _ _ _ (c.self.invariant.refines c.if-self.false)
+    (is_full (c.self.invariant.refines c.if-self.false)
     (omega (arith, c.sent.ensures, c.if-sent-ge-FULL_AT.true)))
 
 pub returns-in_err-play-clause-full : goal.returns-in_err-play-clause-full
@@ -60,7 +60,7 @@ returns-in_err-play-clause-full c = λ is.
 -- there is room for the step, so it may be played
 room : (c : After-play) → HasRoom c.args.self.now.journal
 room c = subst (λ (w : WorldValue). HasRoom w.journal) c.self.view_is
-    (has_room _ _ _ _ _ _ (c.self.invariant.refines c.if-self.false)
+    (has_room (c.self.invariant.refines c.if-self.false)
     (omega (arith, c.sent.ensures, c.if-sent-ge-FULL_AT.false)))
 
 may : (c : After-play)
@@ -91,7 +91,8 @@ pub returns-in_err-play-clause-so_far : goal.returns-in_err-play-clause-so_far
 returns-in_err-play-clause-so_far c = λ able.
     let after : List Item = c.play.new.self.log.journal in
     subst (λ (w : WorldValue). HoldsSoFar (setting_at w) after) c.self.view_is
-    (part_so_far c.journals_hold_so_far.ensures (world_value c.self.inside.parts c.self.inside.is_spent)
+    (part_so_far c.journals_hold_so_far.ensures
+    (world_value c.self.inside.parts c.self.inside.is_spent)
     c.args.row c.args.step.now after (c.self.invariant.refines c.if-self.false)
     (may (goal.at.returns-in_err-play-clause-so_far c).After-play) c.in_err-play.ensures.part)
 
@@ -99,6 +100,7 @@ pub returns-clause-so_far : goal.returns-clause-so_far
 returns-clause-so_far c = λ able.
     let after : List Item = c.play.new.self.log.journal in
     subst (λ (w : WorldValue). HoldsSoFar (setting_at w) after) c.self.view_is
-    (step_so_far c.journals_hold_so_far.ensures (world_value c.self.inside.parts c.self.inside.is_spent)
+    (step_so_far c.journals_hold_so_far.ensures
+    (world_value c.self.inside.parts c.self.inside.is_spent)
     c.args.row c.args.step.now after (c.self.invariant.refines c.if-self.false)
     (may (goal.at.returns-clause-so_far c).After-play) c.in_ok-play.ensures.written)

@@ -1,7 +1,0 @@
-use Rattle.std.proofs.Common.{◌≡◌, ◌<◌, ℕ, length, get_or}
-use Rattle.net_file.specs.Owners.{links_of}
-use Rattle.refinement.proofs.up_links.near_masks.Given as goal
-
-abbrev pub invariant-loop-switch : goal.invariant-loop-switch
-invariant-loop-switch l = (length l.near ≡ 64)
-    × ((s : ℕ) → s < l.switch → get_or l.near s 0 ≡ links_of l.net.links s)

@@ -1,8 +1,0 @@
-use Rattle.std.proofs.Common.{ℕ, ◌≡◌, arith}
-use Rattle.refinement.proofs.Relinking.{held_all}
-use Rattle.refinement.proofs.usable_links.send_all_held.Goals as goal
-
-pub returns : goal.returns
-returns c =
-    let all : ◌≡◌ {A = ℕ} c.loop-origin.origin 64 = omega arith in
-    cc (held_all c.args.switch.now c.args.other)

@@ -1,6 +1,0 @@
-use Rattle.refinement.proofs.Relinking.{ServeBelow}
-use Rattle.refinement.proofs.usable_links.serving.Given as goal
-
--- those of the switches so far
-abbrev pub invariant-loop-s : goal.invariant-loop-s
-invariant-loop-s l = ServeBelow l.mask l.s l.switches

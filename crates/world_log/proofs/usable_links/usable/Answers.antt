@@ -1,0 +1,29 @@
+use Rattle.std.proofs.Common.{ℕ, ◌≡◌, arith, ◌∙◌}
+use Rattle.std.proofs.lemmas.List.{length-set}
+use Rattle.std.proofs.lemmas.List.Edits.{fill_by_more}
+use Rattle.std.proofs.lemmas.List.FromFn.{fill_by_all}
+use Rattle.world_log.specs.Linking.{near_all, near_by}
+use Rattle.world_log.proofs.Relinking.{same_near}
+use Rattle.world_log.proofs.usable_links.usable.Goals as goal
+
+pub loop-s-preserved : goal.loop-s-preserved
+unfolding near_by
+loop-s-preserved c =
+    let near = near_by c.args.links.now c.args.switches.now in
+    let is : c.usable_from.result ≡ near c.loop-s.s = c.usable_from.ensures
+    ∙ same_near _ _ _ _ _ (c.serving-serving.ensures c.loop-s.s (omega (
+      arith,
+      c.loop-s-test.true,
+    ))) c.serving-serving.ensures in
+    rw is (
+      length-set c.loop-s.near c.loop-s.s (near c.loop-s.s) ∙ c.loop-s.invariant.0,
+      fill_by_more near c.loop-s.near c.loop-s.s 0
+          (omega (arith, c.loop-s-test.true, c.loop-s.invariant.0)) c.loop-s.invariant.1,
+    )
+
+pub returns : goal.returns
+unfolding near_all
+returns c =
+    let all : ◌≡◌ {A = ℕ} c.loop-s.s 64 = omega arith in
+    fill_by_all (near_by c.args.links.now c.args.switches.now) c.loop-s.near 64 0
+    c.loop-s.invariant.0 (λ k below. c.loop-s.invariant.1 k (omega (arith, below, all)))

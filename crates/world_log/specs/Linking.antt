@@ -1,0 +1,122 @@
+-- Which links can be used, and what switches tell when that changes.
+use Rattle.std.specs.Prelude.{ℕ, ◌≡◌, ◌<◌, ◌==◌, not, ◌&&◌, Bool, true, false, if◌then◌else◌, Option, Some, None, List, [], ◌∷◌, filter, filter_map, length, map, slice_get, slice_index, slice_index_or}
+use Rattle.std.specs.List.{flat_map, range_with_len}
+use Rattle.std.specs.Option.{option_map_or}
+use Rattle.ctrl_msg.specs.declared.message.Body.TheVariants.{Hello}
+use Rattle.ctrl_msg.specs.declared.message.Message.{Message}
+use Rattle.ctrl_msg.specs.Kinds.{to_controller}
+use Rattle.failover.specs.Adverts.{held_advert}
+use Rattle.failover.specs.declared.advert.Advert.{Advert}
+use Rattle.base.specs.Masks.{has, switches}
+use Rattle.base.specs.ComputedMasks.{mask_of}
+use Rattle.net_file.specs.Joins.{joins}
+use Rattle.net_file.specs.declared.net.Net.{Net}
+use Rattle.net_file.specs.Owners.{links_of}
+use Rattle.switch_core.specs.Life.{near_changed, next_advert}
+use Rattle.switch_core.specs.State.{SwitchValue, serves}
+use Rattle.update_machine.specs.Deliveries.{advert_to}
+
+-- ---- links that are up
+
+-- the neighbours of each switch as masks, by its number
+abbrev pub AreNear : Net → List ℕ → Type 0
+AreNear net near = (s : ℕ) → s < 64 → slice_index near s ≡ links_of net.links s
+
+-- ---- a link that fails or comes back
+
+-- both ends of the link of these two switches are up, or down; all other links are as before
+abbrev pub SetsLink : List ℕ → ℕ → ℕ → Bool → List ℕ → Type 0
+SetsLink before one two up after = (s k : ℕ) → s < 64 → k < 64
+    → has (slice_index after s) k ≡ (if joins s k (record { one = one; two = two }) then up
+    else has (slice_index before s) k)
+
+-- ---- usable links
+
+-- the switch of this number is there, and serves
+abbrev pub serves_at : List SwitchValue → ℕ → Bool
+serves_at switches s = option_map_or serves (slice_get switches s) false
+
+-- those of these links that can be used, where a switch itself serves, and these others
+abbrev pub near_where : ℕ → Bool → (ℕ → Bool) → ℕ
+near_where links own others = mask_of (λ k. has links k && own && others k)
+
+-- the switches to which a switch has a usable link, where it has links that are up to these: both
+-- ends serve
+unfoldable pub near_by : List ℕ → List SwitchValue → ℕ → ℕ
+near_by links switches s =
+    near_where (slice_index links s) (serves_at switches s) (serves_at switches)
+
+-- of all 64 numbers
+unfoldable pub near_all : List ℕ → List SwitchValue → List ℕ
+near_all links switches = map (near_by links switches) (range_with_len 0 64)
+
+-- ---- what switches tell
+
+-- the adverts that a switch holds, by ascending origin
+abbrev pub all_held : SwitchValue → List Advert
+all_held switch = filter_map (held_advert switch.database) switches
+
+-- what the switch tells a neighbour, where it had a usable link to it before, or hadn't
+abbrev pub adverts_over : SwitchValue → Advert → Bool → ℕ → List Message
+adverts_over switch own had neighbour = elim had [
+  | true ↦ advert_to neighbour own ∷ []
+  | false ↦ map (advert_to neighbour) (all_held switch)
+]
+
+-- if it has a usable link to that
+abbrev pub adverts_near : SwitchValue → Advert → ℕ → ℕ → ℕ → List Message
+adverts_near switch own had near other =
+    if has near other then adverts_over switch own (has had other) other else []
+
+-- one advert, if there is one
+abbrev pub advert_if_held : ℕ → Option Advert → List Message
+advert_if_held other None = []
+advert_if_held other (Some advert) = advert_to other advert ∷ []
+
+-- all that it holds, if it has a usable link to that
+abbrev pub adverts_all_near : SwitchValue → ℕ → ℕ → List Message
+adverts_all_near switch near other =
+    if has near other then map (advert_to other) (all_held switch) else []
+
+-- what a switch that is up tells again: the controller its boot, and its neighbours among so many
+-- switches all that it holds
+abbrev pub adverts_again : ℕ → ℕ → ℕ → SwitchValue → List Message
+adverts_again s count near switch = if switch.is_up
+    then to_controller (Hello s switch.boot)
+    ∷ flat_map (λ other. map (advert_to other) (all_held switch))
+    (filter (has near) (range_with_len 0 count))
+    else []
+
+-- it is up, and its usable links changed
+abbrev pub links_change : ℕ → ℕ → SwitchValue → Bool
+links_change had near switch = switch.is_up && not (had == near)
+
+-- it makes its next advert then
+abbrev pub relinked_as : ℕ → ℕ → SwitchValue → SwitchValue
+relinked_as had near switch = if links_change had near switch then near_changed switch near
+    else switch
+
+-- and tells its neighbours among so many switches
+abbrev pub adverts_on_change : ℕ → ℕ → ℕ → SwitchValue → List Message
+adverts_on_change count had near switch = if links_change had near switch
+    then flat_map (λ other. adverts_over (near_changed switch near) (next_advert switch near)
+    (has had other) other) (filter (has near) (range_with_len 0 count))
+    else []
+
+abbrev pub adverts_at : ℕ → List ℕ → List ℕ → List SwitchValue → ℕ → List Message
+adverts_at count had near switches s = elim (slice_get switches s) [
+  | None ↦ []
+  | Some switch ↦ adverts_on_change count (slice_index had s) (slice_index near s) switch
+]
+
+-- all that is told, by ascending number of the switch that tells it
+unfoldable pub all_adverts_sent : List ℕ → List ℕ → List SwitchValue → List Message
+all_adverts_sent had near switches =
+    flat_map (adverts_at (length switches) had near switches)
+    (range_with_len 0 (length switches))
+
+-- each of these switches made its next advert if its links changed
+pub record AreRelinked (had near : List ℕ) (old new : List SwitchValue) : Type 0 where
+  pub as_many : length new ≡ length old
+  pub each : (s : ℕ) (d : SwitchValue) → s < length old → slice_index_or new s d
+      ≡ relinked_as (slice_index had s) (slice_index near s) (slice_index_or old s d)

@@ -1,0 +1,65 @@
+//! What a switch tells again, for it may have been lost.
+ghost use Rattle.std.specs.Prelude.{◌≡◌, ◌<◌, ◌≤◌, ◌++◌, IfOk, OnOk};
+ghost use Rattle.ctrl_msg.specs.declared.message.Body.TheVariants.{Hello};
+ghost use Rattle.ctrl_msg.specs.Kinds.{to_controller};
+ghost use Rattle.world_log.specs.Linking.{adverts_again, adverts_all_near};
+
+use crate::usable_links::send_all_held;
+use base::has;
+use ctrl_msg::{Body, Message, Place};
+use std::alloc::{AllocError, Global};
+use switch_core::Switch;
+
+/// What switch s tells again, where it is up: the controller its boot, and each neighbour among so
+/// many switches all adverts that it holds.
+///
+/// # Errors
+/// Want of memory alone.
+#[tactic(auto, using(crate::proofs::Relinking::near_steps))]
+pub fn adverts_again(
+    alloc: Global,
+    switch: &Switch,
+    s: u32,
+    count: u32,
+    near: u64,
+) -> Result<Vec<Message>, AllocError>
+    requires { count ≤ 64 }
+    ensures { IfOk result (λ messages. messages.items ≡ adverts_again s count near switch.now) }
+{
+    let mut messages = Vec::new(alloc);
+    if !switch.is_up() {
+        return Ok(messages);
+    }
+    messages.push(hello(s, switch.boot()))?;
+    for other in 0..count {
+        send_neighbour(&mut messages, switch, near, other)?;
+    }
+    Ok(messages)
+}
+
+// What the switch tells the other one again, if it has a usable link to that.
+fn send_neighbour(
+    messages: &mut Vec<Message>,
+    switch: &Switch,
+    near: u64,
+    other: u32,
+) -> Result<(), AllocError>
+    requires { other < 64 }
+    ensures { OnOk result (messages.new.items
+        ≡ messages.old.items ++ adverts_all_near switch.now near other) }
+{
+    if has(near, other) {
+        send_all_held(messages, switch, other)?;
+    }
+    Ok(())
+}
+
+/// By this a switch tells the controller that it is up, in this boot.
+pub fn hello(switch: u32, boot: u32) -> Message
+    ensures { result ≡ to_controller (Hello switch boot) }
+{
+    Message {
+        to: Place::Controller,
+        body: Body::Hello { switch, boot },
+    }
+}

@@ -1,0 +1,43 @@
+//! Which links are up: all of the network as it begins, and then those that didn't fail.
+ghost use Rattle.std.specs.Prelude.{ℕ, ◌≡◌, ◌^◌, ◌<◌, if◌then◌else◌, ◌==◌, slice_index};
+ghost use Rattle.base.specs.Masks.{has};
+ghost use Rattle.net_file.specs.Net.{IsNet};
+ghost use Rattle.world_log.specs.Linking.{AreNear, SetsLink};
+
+use base::with;
+use net_file::Net;
+
+/// The neighbours of each switch, as masks.
+pub fn near_masks(net: &Net) -> [u64; 64]
+    requires { IsNet net.now }
+    ensures { AreNear net.now result }
+{
+    let mut near = [0; 64];
+    for switch in 0..64 {
+        near[switch] = net.links_of(switch as u32);
+    }
+    near
+}
+
+/// Each of the two switches has a link to the other one that is up, or has none.
+pub fn set_ends(links: &mut [u64; 64], one: u32, two: u32, up: bool)
+    requires one { one < 64 }
+    requires two { two < 64 }
+    ensures set { SetsLink links.old one two up links.new }
+    ensures fits { (s : ℕ) → slice_index links.new s < 2 ^ 64 }
+{
+    links[one as usize] = set_end(links[one as usize], two, up);
+    links[two as usize] = set_end(links[two as usize], one, up);
+}
+
+// These switches with this one, or without it.
+fn set_end(mask: u64, other: u32, up: bool) -> u64
+    requires { other < 64 }
+    ensures { (k : ℕ) → k < 64 → has result k ≡ (if other == k then up else has mask k) }
+{
+    if up {
+        with(mask, other)
+    } else {
+        mask & !(1 << other)
+    }
+}

@@ -1,0 +1,177 @@
+//! Which links switches can use, and what they tell each other when that changes, as routers in
+//! OSPF tell what they learn of their links (RFC 2328, sections 12.4 and 13).
+ghost use Rattle.std.specs.Prelude.{ℕ, ◌≡◌, ◌-◌, ◌^◌, ◌<◌, ◌≤◌, ◌++◌, All, IfOk, OnOk, length, map};
+ghost use Rattle.base.specs.Masks.{has};
+ghost use Rattle.update_machine.specs.Deliveries.{advert_to};
+ghost use Rattle.world_log.specs.Linking.{AreRelinked, all_adverts_sent, all_held, near_all, near_where, relinked_as, serves_at, adverts_on_change, advert_if_held, adverts_near, adverts_over};
+
+use base::{has, only_if};
+use ctrl_msg::{Body, Message, Place};
+use failover::Advert;
+use std::alloc::{AllocError, Global};
+use switch_core::Switch;
+
+/// The switches to which each switch has a usable link, where these links are up.
+pub fn usable(links: &[u64; 64], switches: &[Switch]) -> [u64; 64]
+    requires { length switches.now ≤ 64 }
+    ensures { result ≡ near_all links.now switches.now }
+{
+    let serving = serving(switches);
+    let mut near = [0; 64];
+    for s in 0..64 {
+        near[s] = usable_from(links[s], serving, s as u32);
+    }
+    near
+}
+
+// The switches that serve.
+fn serving(switches: &[Switch]) -> u64
+    requires { length switches.now ≤ 64 }
+    ensures { (k : ℕ) → k < 64 → has result k ≡ serves_at switches.now k }
+{
+    let mut mask = 0;
+    for (s, switch) in switches.iter().enumerate() {
+        mask |= only_if(switch.serves(), s as u32);
+    }
+    mask
+}
+
+// Those of the links of switch s that can be used, where these switches serve.
+fn usable_from(links: u64, serving: u64, s: u32) -> u64
+    requires { s < 64 }
+    ensures { result ≡ near_where links (has serving s) (has serving) }
+{
+    if has(serving, s) { links & serving } else { 0 }
+}
+
+/// Each switch that is up, and whose usable links changed, makes its advert of them. Answers what
+/// they tell their neighbours, by ascending number.
+///
+/// # Errors
+/// Want of memory alone.
+pub fn relink(
+    alloc: Global,
+    switches: &mut Vec<Switch>,
+    had: &[u64; 64],
+    now: &[u64; 64],
+) -> Result<Vec<Message>, AllocError>
+    requires few { length switches.old.items ≤ 64 }
+    requires next { All (λ switch. switch.seq < 2 ^ 32 - 1) switches.old.items }
+    ensures switches { OnOk result
+        (AreRelinked had.now now.now switches.old.items switches.new.items) }
+    ensures told { IfOk result (λ messages. messages.items
+        ≡ all_adverts_sent had.now now.now switches.old.items) }
+{
+    let mut messages = Vec::new(alloc);
+    let count = switches.len() as u32;
+    for s in 0..switches.len() {
+        relink_one(&mut messages, &mut switches[s], count, had[s], now[s])?;
+    }
+    Ok(messages)
+}
+
+// The switch had these usable links, and has these now.
+#[tactic(auto, using(crate::proofs::Relinking::near_steps))]
+fn relink_one(
+    messages: &mut Vec<Message>,
+    switch: &mut Switch,
+    count: u32,
+    had: u64,
+    near: u64,
+) -> Result<(), AllocError>
+    requires few { count ≤ 64 }
+    requires next { switch.old.seq < 2 ^ 32 - 1 }
+    ensures switch { switch.new ≡ relinked_as had near switch.old }
+    ensures told { OnOk result (messages.new.items
+        ≡ messages.old.items ++ adverts_on_change count had near switch.old) }
+{
+    if !switch.is_up() || had == near {
+        return Ok(());
+    }
+    let own = switch.near_changed(near);
+    for other in 0..count {
+        send_near(messages, switch, &own, had, near, other)?;
+    }
+    Ok(())
+}
+
+// What the switch tells the other one, if it has a usable link to that.
+fn send_near(
+    messages: &mut Vec<Message>,
+    switch: &Switch,
+    own: &Advert,
+    had: u64,
+    near: u64,
+    other: u32,
+) -> Result<(), AllocError>
+    requires { other < 64 }
+    ensures { OnOk result (messages.new.items
+        ≡ messages.old.items ++ adverts_near switch.now own.now had near other) }
+{
+    if has(near, other) {
+        send_adverts(messages, switch, own, has(had, other), other)?;
+    }
+    Ok(())
+}
+
+// Over a link that it had the switch tells its own advert, and over a new one all that it holds.
+fn send_adverts(
+    messages: &mut Vec<Message>,
+    switch: &Switch,
+    own: &Advert,
+    had: bool,
+    other: u32,
+) -> Result<(), AllocError>
+    ensures { OnOk result (messages.new.items
+        ≡ messages.old.items ++ adverts_over switch.now own.now had other) }
+{
+    if had {
+        messages.push(advert_to(other, own))?;
+        return Ok(());
+    }
+    send_all_held(messages, switch, other)
+}
+
+/// The switch tells all adverts that it holds.
+///
+/// # Errors
+/// Want of memory alone.
+#[tactic(auto, using(crate::proofs::Relinking::held_steps))]
+pub fn send_all_held(
+    messages: &mut Vec<Message>,
+    switch: &Switch,
+    other: u32,
+) -> Result<(), AllocError>
+    ensures { OnOk result (messages.new.items
+        ≡ messages.old.items ++ map (advert_to other) (all_held switch.now)) }
+{
+    for origin in 0..64 {
+        send_one(messages, other, switch.known(origin))?;
+    }
+    Ok(())
+}
+
+// The advert, if there is one, to this switch.
+fn send_one(
+    messages: &mut Vec<Message>,
+    other: u32,
+    advert: Option<Advert>,
+) -> Result<(), AllocError>
+    ensures { OnOk result (messages.new.items
+        ≡ messages.old.items ++ advert_if_held other advert) }
+{
+    if let Some(advert) = advert {
+        messages.push(advert_to(other, &advert))?;
+    }
+    Ok(())
+}
+
+// The advert for this switch.
+fn advert_to(switch: u32, advert: &Advert) -> Message
+    ensures { result ≡ advert_to switch advert.now }
+{
+    Message {
+        to: Place::Switch(switch),
+        body: Body::Advertise { advert: *advert },
+    }
+}
