@@ -1,5 +1,5 @@
 -- The entries of a cache are of the stamp of its switch, or of later versions.
-use Rattle.std.proofs.Common.{ℕ, zero, suc, ◌≡◌, ◌+◌, ◌≤◌, ◌||◌, Bool, true, false, if◌then◌else◌, Option, Some, None, List, [], ◌∷◌, ◌++◌, length, max, take, drop, refl, ap, subst, ◌∙◌, arith, inl, inr}
+use Rattle.std.proofs.Common.{ℕ, zero, suc, ◌≡◌, ◌≤◌, ◌||◌, Bool, true, false, if◌then◌else◌, Option, Some, None, List, [], ◌∷◌, ◌++◌, length, max, take, drop, refl, ap, subst, ◌∙◌, arith, inl, inr}
 use Rattle.std.specs.Prelude.{filter, nat_le, nat_lt, option_and_then}
 use Rattle.std.specs.List.{list_any}
 use Rattle.std.proofs.lemmas.Bool.Decides.{nat_tests}
@@ -153,13 +153,15 @@ said_from touched_of stamp number cache body from = from
 
 -- ---- items
 
-cache_more : (setting : Setting) (before : List Item) (next : Item) (s : ℕ)
-    → cache_of setting (before ++ next ∷ []) s
-    ≡ changes_cache setting s before (cache_of setting before s) next
+-- an entry is of what the item makes of the cache before it
+entry_back : (setting : Setting) (before : List Item) (next : Item) (s : ℕ) (entry : CacheEntry)
+    → IsIn entry (cache_of setting (before ++ next ∷ []) s).entries
+    → IsIn entry (changes_cache setting s before (cache_of setting before s) next).entries
 unfolding cache_of
-cache_more setting before next s =
-    folded_append (changes_cache setting s)
-    (record { entries = []; capacity = setting.net.cache }) before (next ∷ [])
+entry_back setting before next s entry =
+    subst (λ (cache : CacheValue). IsIn entry cache.entries)
+    (folded_append (changes_cache setting s)
+    (record { entries = []; capacity = setting.net.cache }) before (next ∷ []))
 
 -- an item that ends no boot, begins none and delivers nothing leaves the stamp
 stamp_same : (before : List Item) (next : Item) (s : ℕ)
@@ -176,13 +178,13 @@ concerned_above : (setting : Setting) (before : List Item) (next : Item) (s : �
     → AreFrom (stamp_of before s) (cache_of setting before s).entries
     → AreFrom (stamp_of (before ++ next ∷ []) s) (cache_of setting (before ++ next ∷ []) s).entries
 concerned_above setting before (item.Down t) s is from = λ entry has.
-    let none : IsIn entry [] = rw (cache_more setting before (item.Down t) s, is) at has in absurd none
+    let none : IsIn entry [] = rw is at (entry_back setting before (item.Down t) s entry has) in absurd none
 concerned_above setting before (item.Booted t boot) s is from = λ entry has.
-    let none : IsIn entry [] = rw (cache_more setting before (item.Booted t boot) s, is) at has in
+    let none : IsIn entry [] = rw is at (entry_back setting before (item.Booted t boot) s entry has) in
     absurd none
 concerned_above setting before (item.Opened t version) s is from = λ entry has.
     let next : Item = item.Opened t version in
-    let old = from entry (rw (cache_more setting before next s) at has) in
+    let old = from entry (entry_back setting before next s entry has) in
     let same = stamp_same before next s (heard_more before next s) (up_more before next s)
     (boot_more before next s) in
     omega (arith, old, same)
@@ -190,7 +192,7 @@ concerned_above setting before (item.Expired t place message) s is from = λ ent
     let next : Item = item.Expired t place message in
     let entries : List CacheEntry = (cache_of setting before s).entries in
     let parts : IsIn entry (take place entries ++ drop (suc place) entries) =
-    rw (cache_more setting before next s, is) at has in
+    rw is at (entry_back setting before next s entry has) in
     let old = from entry (elim (in_either entry (take place entries) (drop (suc place) entries) parts) [
       | inl front ↦ of_take entry place entries front
       | inr rest ↦ of_drop entry (suc place) entries rest
@@ -210,7 +212,7 @@ concerned_above setting before (item.Delivered number) s is from =
     by_said : (o : Option Body) → body_to_switch before s number ≡ o
         → AreFrom now (cache_of setting (before ++ next ∷ []) s).entries
     by_said None e entry has =
-        let old = from entry (rw (cache_more setting before next s, e) at has) in
+        let old = from entry (rw e at (entry_back setting before next s entry has)) in
         let same : now ≡ stamp_of before s =
         stamp_told before number s
         ∙ ap (λ o. raised (stamp_of before s) (option_and_then stamp_in o)) e in
@@ -221,7 +223,7 @@ concerned_above setting before (item.Delivered number) s is from =
         ∙ ap (λ o. raised (stamp_of before s) (option_and_then stamp_in o)) e in
         let there : IsIn entry (cache_after (touched_by setting before) (stamp_of before s) now number
         (cache_of setting before s) body).entries =
-        rw (cache_more setting before next s, e) at has in
+        rw e at (entry_back setting before next s entry has) in
         let above = said_from (touched_by setting before) (stamp_of before s) number
         (cache_of setting before s) body from entry
         (subst (λ n. IsIn entry (cache_after (touched_by setting before) (stamp_of before s) n number
