@@ -16,7 +16,7 @@ use Rattle.update_machine.specs.Boots.{boot_of, is_up}
 use Rattle.update_machine.specs.Causes.{HaveCauses}
 use Rattle.update_machine.specs.Deliveries.{link_changes, switch_items}
 use Rattle.update_machine.specs.Links.{message_of, serves}
-use Rattle.update_machine.specs.Marks.{acked_stamp, current_mark, first_number, has_acked, known_boot, open_sent, opened_at}
+use Rattle.update_machine.specs.Marks.{acked_stamp, current_mark, first_number, has_acked, known_boot, open_sent, opened_at, retired_mark}
 use Rattle.update_machine.specs.Messages.{is_forgotten, next_message, send_items}
 use Rattle.update_machine.specs.Numbers.{TakesNext}
 use Rattle.update_machine.specs.Pieces.{piece, step_items}
@@ -33,6 +33,7 @@ use Rattle.control_laws.proofs.Facts.{AreKept, Both, fact_on, have_both, have_we
 use Rattle.control_laws.proofs.Grown.{boot_more, count_more, last_more, message_more, opened_at_more, opened_in, serving_more, up_more}
 use Rattle.control_laws.proofs.Greatest.{acked_stamp_rises}
 use Rattle.control_laws.proofs.Openings.{opened_on}
+use Rattle.control_laws.proofs.Retired.{retired_rises}
 use Rattle.control_laws.proofs.Sent.{resends_any, sends_any}
 use Rattle.control_laws.proofs.SwitchCases.{switch_cases}
 use Rattle.convergence_laws.proofs.Sendings.{IsInOrder, forgotten_more, pieces_in_order}
@@ -170,6 +171,7 @@ pub record Stays (before after : List Item) : Type 0 where
   pub confirmed : (s : ℕ) → IsFalse (is_waited_for before s) → IsFalse (is_waited_for after s)
   pub serving : (s : ℕ) → IsTrue (serves before s) → IsTrue (serves after s)
   pub current : current_mark before ≤ current_mark after
+  pub retired : retired_mark before ≤ retired_mark after
   pub known : (s : ℕ) → known_boot before s ≤ known_boot after s
   pub numbers : next_message before ≤ next_message after
   pub opened : (s boot version : ℕ) → opened_in before s boot ≡ Some version
@@ -240,6 +242,7 @@ next_stays setting before next both = record {
   confirmed = λ s none. next_confirmed before next s both.first none;
   serving = λ s serving. next_serving before next s both.first serving;
   current = current_rises setting before next both.second.first;
+  retired = retired_rises setting before next both.second.first;
   known = λ s. known_rises before next s;
   numbers = next_rises before next;
   opened = λ s boot version opened. opened_on before next s boot version opened;
@@ -255,6 +258,7 @@ stays_itself journal = record {
   confirmed = λ s none. none;
   serving = λ s serving. serving;
   current = omega arith;
+  retired = omega arith;
   known = λ s. omega arith;
   numbers = omega arith;
   opened = λ s boot version opened. opened;
@@ -270,6 +274,7 @@ stays_through one two three first later = record {
   confirmed = λ s none. later.confirmed s (first.confirmed s none);
   serving = λ s serving. later.serving s (first.serving s serving);
   current = omega (arith, first.current, later.current);
+  retired = omega (arith, first.retired, later.retired);
   known = λ s. omega (arith, first.known s, later.known s);
   numbers = omega (arith, first.numbers, later.numbers);
   opened = λ s boot version opened. later.opened s boot version

@@ -6,3 +6,6 @@ pub mod Resends
 pub mod Control
 pub mod Adverts
 pub mod Recovers
+pub mod Caches
+pub mod Rounds
+pub mod TwoRounds

@@ -40,7 +40,7 @@ use Rattle.recovery_laws.specs.Recovered.{AllDelivered, HasRecovered}
 use Rattle.recovery_laws.specs.Recovery.{EndsInRecovery}
 use Rattle.recovery_laws.proofs.Adverts.{recovered_agree, resends_spread}
 use Rattle.recovery_laws.proofs.Calm.{Calmly, IsCalmStep, calm_rest, calm_row, calm_steps, calm_through, stays}
-use Rattle.recovery_laws.proofs.Control.{IsAsked, recovered_caught}
+use Rattle.recovery_laws.proofs.Control.{IsAsked, IsRecovered, recovered_caught}
 use Rattle.recovery_laws.proofs.Deliveries.{IsDeliveredIn, find_delivery}
 use Rattle.recovery_laws.proofs.Resends.{piece_resends}
 use Rattle.recovery_laws.proofs.Rows.{EndsCalmly, IsTakenIn, among_taken, each_calm, ends_calmly}
@@ -94,8 +94,8 @@ module _ (setting : Setting) (journal : List Item) (ends : EndsCalmly setting jo
   by_all : journal ≡ after_steps setting [] (ends.first ++ last)
   by_all = by_last ∙ sym (after_append setting [] ends.first last)
 
-  calm : Calmly setting confirmed journal
-  calm = subst (Calmly setting confirmed) (sym by_last)
+  pub ends_calm : Calmly setting confirmed journal
+  ends_calm = subst (Calmly setting confirmed) (sym by_last)
       (calm_steps setting confirmed last last_calm)
 
   first_causes : HaveCauses (IsInOrder setting) [] confirmed
@@ -117,7 +117,7 @@ module _ (setting : Setting) (journal : List Item) (ends : EndsCalmly setting jo
 
   flushed : IsFlushed setting confirmed journal
   flushed = record {
-    calm = calm;
+    calm = ends_calm;
     first = caused_traced setting confirmed first_causes;
     traced = caused_traced setting journal causes;
     waiting = waiting;
@@ -187,19 +187,19 @@ module _ (setting : Setting) (journal : List Item) (ends : EndsCalmly setting jo
       by_first true e =
           absurd (omega (arith, (caused_traced setting confirmed first_causes).delivered n e, late))
 
+  pub ends_recovered : IsRecovered setting confirmed journal
+  ends_recovered = record {
+    flushed = flushed;
+    causes = first_causes;
+    ready = subst (AreReady setting) (sym by_all) (steps_ready setting (ends.first ++ last));
+    asked = asked;
+    delivers = delivers;
+  }
+
   pub ends_updated : IsUpdated setting journal
   ends_updated =
-      caught_updated setting journal ready
-      (recovered_caught setting confirmed journal (record {
-        flushed = flushed;
-        causes = first_causes;
-        ready = ready;
-        asked = asked;
-        delivers = delivers;
-      }) ends.switches)
-    where
-      ready : AreReady setting journal
-      ready = subst (AreReady setting) (sym by_all) (steps_ready setting (ends.first ++ last))
+      caught_updated setting journal ends_recovered.ready
+      (recovered_caught setting confirmed journal ends_recovered ends.switches)
 
 -- ---- answers
 
@@ -236,26 +236,32 @@ recovered_converged converge agree setting events journal net ends answers =
     converge.answered setting events journal answers net
     (agree setting events journal net ends answers)
 
+pub calm_recovers : HoldsAtEnds (Agrees HasConverged) → HoldsAtEnds (Agrees GetStuckApart)
+    → HoldsBetween ForwardsBy → (setting : Setting) (events : List Event) (journal : List Item)
+    → IsSetting setting → AreEvents setting events → Answers setting events journal
+    → EndsCalmly setting journal → HasRecovered setting journal
+calm_recovers converge part forward setting events journal is own answers ends =
+    record {
+      converged = converged;
+      apart = part.answered setting events journal answers is.net agree;
+      updated = ends_updated setting journal ends;
+      forwards = forward.answered setting events journal own answers is converged
+          (ends_updated setting journal ends);
+    }
+  where
+    agree : NeighboursAgree setting journal
+    agree = ends_agree setting journal ends is.net
+
+    converged : HasConverged setting journal
+    converged = converge.answered setting events journal answers is.net agree
+
 pub recovers : HoldsAtEnds (Agrees HasConverged) → HoldsAtEnds (Agrees GetStuckApart)
     → HoldsBetween ForwardsBy → (setting : Setting) (events : List Event) (journal : List Item)
     → IsSetting setting → AreEvents setting events → EndsInRecovery setting.net events
     → Answers setting events journal → HasRecovered setting journal
 recovers converge part forward setting events journal is own ends answers =
-    record {
-      converged = converged;
-      apart = part.answered setting events journal answers is.net agree;
-      updated = updated;
-      forwards = forward.answered setting events journal own answers is converged updated;
-    }
-  where
-    agree : NeighboursAgree setting journal
-    agree = recovered_neighbours setting events journal is.net ends answers
-
-    converged : HasConverged setting journal
-    converged = converge.answered setting events journal answers is.net agree
-
-    updated : IsUpdated setting journal
-    updated = recovered_updated setting events journal ends answers
+    calm_recovers converge part forward setting events journal is own answers
+    (ends_calmly setting events journal ends answers)
 
 -- ---- a flush delivers all
 

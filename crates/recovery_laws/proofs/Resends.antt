@@ -1,5 +1,5 @@
 -- What each switch sends again, and what is sent to it again.
-use Rattle.std.proofs.Common.{ℕ, ◌≡◌, ◌+◌, ◌-◌, ◌≤◌, ◌<◌, Bool, true, false, not, if◌then◌else◌, List, [], ◌∷◌, ◌++◌, map, refl, ap, sym, subst, arith, inl, inr}
+use Rattle.std.proofs.Common.{ℕ, ◌≡◌, ◌+◌, ◌-◌, ◌≤◌, ◌<◌, ◌==◌, Bool, true, false, not, if◌then◌else◌, List, [], ◌∷◌, ◌++◌, map, refl, ap, sym, subst, arith, inl, inr}
 use Rattle.std.specs.Prelude.{IsTrue, IsFalse, filter, nat_lt}
 use Rattle.std.specs.List.{flat_map}
 use Rattle.std.proofs.lemmas.Bool.Decides.{nat_tests}
@@ -12,11 +12,11 @@ use Rattle.update_machine.specs.Adverts.{held_adverts}
 use Rattle.update_machine.specs.Boots.{is_up}
 use Rattle.update_machine.specs.Deliveries.{advert_to, switches_in}
 use Rattle.update_machine.specs.LinkMasks.{near}
-use Rattle.update_machine.specs.Marks.{acked_stamp, current_mark, has_acked, is_member, is_over, open_version}
+use Rattle.update_machine.specs.Marks.{acked_stamp, current_mark, has_acked, is_member, is_over, open_version, retired_mark}
 use Rattle.update_machine.specs.Messages.{next_message}
 use Rattle.update_machine.specs.Pieces.{hello_of, piece, resend_items, resent_by_switch, sends_or_nothing}
 use Rattle.update_machine.specs.Setting.{Setting}
-use Rattle.update_machine.specs.Settling.{install_for, open_for, resent_by_controller, resent_to_member, stamp_for, unacked_installs, versions_from_current}
+use Rattle.update_machine.specs.Settling.{collect_for, install_for, open_for, resent_by_controller, resent_to_member, stamp_for, unacked_installs, versions_from_current}
 use Rattle.update_machine.specs.Versions.{version_count}
 use Rattle.control_laws.proofs.Reached.{behind_piece}
 use Rattle.control_laws.proofs.Resent.{later_versions}
@@ -142,6 +142,24 @@ stamp_resent setting here s over member behind =
     stamps : List Message
     stamps = if nat_lt (acked_stamp here s) (current_mark here)
         then stamp_for setting here (current_mark here) s ∷ [] else []
+
+-- and what is retired, if anything is
+pub collect_resent : (setting : Setting) (here : List Item) (s : ℕ) → IsFalse (is_over here s)
+    → IsTrue (is_member here s) → (retired_mark here == 0) ≡ false
+    → IsIn (collect_for here (retired_mark here) s) (resent_by_controller setting here s)
+collect_resent setting here s over member some =
+    to_member setting here s _ over member
+    (inr (in_right _ (unacked_installs setting here s (later_versions here) ++ stamps) collects
+    (subst (λ b. IsIn (collect_for here (retired_mark here) s)
+    (if b then [] else collect_for here (retired_mark here) s ∷ [])) (sym some) (inl refl))))
+  where
+    stamps : List Message
+    stamps = if nat_lt (acked_stamp here s) (current_mark here)
+        then stamp_for setting here (current_mark here) s ∷ [] else []
+
+    collects : List Message
+    collects = if retired_mark here == 0
+        then [] else collect_for here (retired_mark here) s ∷ []
 
 -- ---- all of it is sent
 

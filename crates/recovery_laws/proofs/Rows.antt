@@ -29,7 +29,7 @@ use Rattle.control_laws.proofs.Reached.{behind_piece}
 use Rattle.control_laws.proofs.Sends.{each_range}
 use Rattle.control_laws.proofs.Told.{each_weaker}
 use Rattle.convergence_laws.proofs.Lists.{IsIn, in_at}
-use Rattle.recovery_laws.specs.Recovery.{EndsInRecovery}
+use Rattle.recovery_laws.specs.Recovery.{AskEach, EndsInRecovery}
 use Rattle.recovery_laws.proofs.Calm.{Calmly, IsCalm, IsCalmStep, Stays, calm_piece, calm_steps, calm_through, control_is_calm, next_confirmed, stays}
 
 -- ---- the steps of rows, and of those behind them
@@ -276,50 +276,67 @@ flush_alone setting row before steps are =
     subst (AreAll setting next_delivery row before)
     (sym (are.2.split ∙ ap (λ rest. are.0 ++ rest) are.4 ∙ append-nil are.0)) are.3
 
-pub ends_calmly : (setting : Setting) (events : List Event) (journal : List Item)
-    → EndsInRecovery setting.net events → Answers setting events journal
-    → EndsCalmly setting journal
-ends_calmly setting events journal ends answers = record {
-  first = resending.mine;
-  resends = resending.rest;
-  flush = flushing.rest;
-  row = flushing.later;
-  written = answers.written
-      ∙ ap (after_steps setting []) flushing.is
-      ∙ after_append setting [] flushing.mine flushing.rest
-      ∙ ap (λ j. after_steps setting j flushing.rest) asked;
-  switches = subst (λ j. All (IsConfirmed j) (switches_of setting))
-      (sym (ap (after_steps setting []) confirming.is
-      ∙ after_append setting [] confirming.mine confirming.rest))
-      (all_confirmed setting (after_steps setting [] confirming.mine) confirming.rest
-      (singles_each setting Confirm confirming.later ends.confirms _ confirming.rest
-      (recursion_from_All _ ends.confirms ends.confirmed.only) confirming.second)
-      (λ s there. singles_among setting (Confirm s) confirming.later ends.confirms _ confirming.rest
-      (in_contained (One (Confirm s)) ends.confirms (ends.confirmed.each s there))
-      confirming.second));
-  asked = singles_each setting Resend resending.later ends.resends _ resending.rest
-      (recursion_from_All _ ends.resends ends.resent.only) resending.second;
-  each = λ s there. singles_among setting (Resend s) resending.later ends.resends _ resending.rest
-      (in_contained (One (Resend s)) ends.resends (ends.resent.each s there)) resending.second;
-  all = subst (λ j. AreAll setting next_delivery flushing.later j flushing.rest) asked
-      (flush_alone setting flushing.later (after_steps setting [] flushing.mine) flushing.rest
-      flushing.second);
-}
+-- the journal of rows that leave each switch up, or not waited for, then resends of each, then a
+-- flush
+pub ends_by : (setting : Setting) (rows resends : List Event) (journal : List Item)
+    → AskEach setting.net Resend resends
+    → Answers setting (rows ++ resends ++ Flush ∷ []) journal
+    → ((steps : List StepOfRow) → AreSteps setting 1 rows [] steps
+    → All (IsConfirmed (after_steps setting [] steps)) (switches_of setting))
+    → (ends : EndsCalmly setting journal) × AreSteps setting 1 rows [] ends.first
+ends_by setting rows resends journal asks answers confirms = (
+  record {
+    first = resending.mine;
+    resends = resending.rest;
+    flush = flushing.rest;
+    row = flushing.later;
+    written = answers.written
+        ∙ ap (after_steps setting []) flushing.is
+        ∙ after_append setting [] flushing.mine flushing.rest
+        ∙ ap (λ j. after_steps setting j flushing.rest) asked;
+    switches = confirms resending.mine resending.first;
+    asked = singles_each setting Resend resending.later resends _ resending.rest
+        (recursion_from_All _ resends asks.only) resending.second;
+    each = λ s there. singles_among setting (Resend s) resending.later resends _ resending.rest
+        (in_contained (One (Resend s)) resends (asks.each s there)) resending.second;
+    all = subst (λ j. AreAll setting next_delivery flushing.later j flushing.rest) asked
+        (flush_alone setting flushing.later (after_steps setting [] flushing.mine) flushing.rest
+        flushing.second);
+  },
+  resending.first,
+)
   where
-    flushing : AreParted setting 1 (ends.front ++ ends.confirms ++ ends.resends) (Flush ∷ []) []
-        answers.steps
-    flushing = steps_part setting 1 (ends.front ++ ends.confirms ++ ends.resends) (Flush ∷ []) []
-        answers.steps
-        (subst (λ of. AreSteps setting 1 of [] answers.steps) ends.ends answers.allowed)
+    flushing : AreParted setting 1 (rows ++ resends) (Flush ∷ []) [] answers.steps
+    flushing = steps_part setting 1 (rows ++ resends) (Flush ∷ []) [] answers.steps answers.allowed
 
-    resending : AreParted setting 1 (ends.front ++ ends.confirms) ends.resends [] flushing.mine
-    resending = steps_part setting 1 (ends.front ++ ends.confirms) ends.resends [] flushing.mine
-        flushing.first
-
-    confirming : AreParted setting 1 ends.front ends.confirms [] resending.mine
-    confirming = steps_part setting 1 ends.front ends.confirms [] resending.mine resending.first
+    resending : AreParted setting 1 rows resends [] flushing.mine
+    resending = steps_part setting 1 rows resends [] flushing.mine flushing.first
 
     asked : after_steps setting [] flushing.mine
         ≡ after_steps setting (after_steps setting [] resending.mine) resending.rest
     asked = ap (after_steps setting []) resending.is
         ∙ after_append setting [] resending.mine resending.rest
+
+-- rows that confirm each switch leave it so
+confirms_leave : (setting : Setting) (front confirms : List Event) (steps : List StepOfRow)
+    → AskEach setting.net Confirm confirms → AreSteps setting 1 (front ++ confirms) [] steps
+    → All (IsConfirmed (after_steps setting [] steps)) (switches_of setting)
+confirms_leave setting front confirms steps asks are =
+    subst (λ j. All (IsConfirmed j) (switches_of setting))
+    (sym (ap (after_steps setting []) parts.is ∙ after_append setting [] parts.mine parts.rest))
+    (all_confirmed setting (after_steps setting [] parts.mine) parts.rest
+    (singles_each setting Confirm parts.later confirms _ parts.rest
+    (recursion_from_All _ confirms asks.only) parts.second)
+    (λ s there. singles_among setting (Confirm s) parts.later confirms _ parts.rest
+    (in_contained (One (Confirm s)) confirms (asks.each s there)) parts.second))
+  where
+    parts : AreParted setting 1 front confirms [] steps
+    parts = steps_part setting 1 front confirms [] steps are
+
+pub ends_calmly : (setting : Setting) (events : List Event) (journal : List Item)
+    → EndsInRecovery setting.net events → Answers setting events journal
+    → EndsCalmly setting journal
+ends_calmly setting events journal ends answers =
+    (ends_by setting (ends.front ++ ends.confirms) ends.resends journal ends.resent
+    (subst (λ of. Answers setting of journal) ends.ends answers)
+    (λ steps are. confirms_leave setting ends.front ends.confirms steps ends.confirmed are)).0

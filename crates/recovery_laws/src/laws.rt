@@ -5,11 +5,13 @@ ghost use Rattle.update_machine.specs.Exports.{Answers, Event, IsSetting, Item, 
 ghost use Rattle.steps.specs.declared.step.Event.TheVariants.{Flush};
 ghost use Rattle.control_laws.specs.Always.{AreEvents};
 ghost use Rattle.convergence_laws.specs.Exports.{HasConverged, IsUpdated, NeighboursAgree};
+ghost use Rattle.recovery_laws.specs.NothingOld.{CacheNewestAlone, EndsInTwoRounds, LeavesNothingOld};
 ghost use Rattle.recovery_laws.specs.Recovered.{AllDelivered, HasRecovered};
 ghost use Rattle.recovery_laws.specs.Recovery.{EndsInRecovery};
 
 use convergence_laws::{agreeing_networks_have_converged, packets_get_stuck_apart};
 use forwarding_laws::converged_networks_forward;
+use packet_laws::cache_rules_are_right;
 
 /// Behind a flush each message that was sent was delivered, or was forgotten.
 pub fn flushes_deliver_all()
@@ -54,4 +56,27 @@ pub fn networks_recover()
     agreeing_networks_have_converged();
     packets_get_stuck_apart();
     converged_networks_forward();
+}
+
+/// Behind recovery the switches that are up cache rules of the newest version alone.
+pub fn recovered_caches_are_new()
+    ensures { (setting : Setting) (events : List Event) (journal : List Item)
+        → IsSetting setting → AreEvents setting events → EndsInRecovery setting.net events
+        → Answers setting events journal → CacheNewestAlone setting journal }
+{
+    cache_rules_are_right();
+}
+
+/// Behind recovery, and then one more resend of each switch and a flush, nothing old is left: the
+/// switches that are up hold the tables of the newest version and of no other, and cache rules of
+/// it alone.
+pub fn nothing_old_is_left()
+    ensures { (setting : Setting) (events : List Event) (journal : List Item)
+        → IsSetting setting → AreEvents setting events → EndsInTwoRounds setting.net events
+        → Answers setting events journal → LeavesNothingOld setting journal }
+{
+    agreeing_networks_have_converged();
+    packets_get_stuck_apart();
+    converged_networks_forward();
+    cache_rules_are_right();
 }

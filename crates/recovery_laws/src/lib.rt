@@ -7,6 +7,6 @@
 mod laws;
 
 pub use laws::{
-    flushes_deliver_all, networks_recover, recovered_neighbours_agree,
-    recovered_networks_are_updated, recovered_networks_have_converged,
+    flushes_deliver_all, networks_recover, nothing_old_is_left, recovered_caches_are_new,
+    recovered_neighbours_agree, recovered_networks_are_updated, recovered_networks_have_converged,
 };
