@@ -10,11 +10,11 @@ use Rattle.clap.specs.declared.parser.matches.ArgMatches.{ArgMatches}
 use Rattle.clap.proofs.WalkLemmas.{both}
 use Rattle.command_line.specs.Line.{line_app, net_and, none, options_of}
 use Rattle.command_line.specs.Named.{command_in, kind_name}
-use Rattle.command_line.specs.Grammar.{Line, audit_from, audit_of, command_by, line_of, load_from, load_number, load_of, play_from, print_of}
+use Rattle.command_line.specs.Grammar.{StatedLine, audit_from, audit_of, command_by, line_of, load_from, load_number, load_of, play_from, print_of}
 use Rattle.command_line.proofs.Parses.{Found, IsWithin, WalksTo, matches_found, reads, taken}
-use Rattle.command_line.specs.declared.grammar.Kind.{Kind}
+use Rattle.command_line.specs.declared.grammar.CommandKind.{CommandKind}
 use Rattle.command_line.specs.Commands.{Command}
-use Rattle.command_line.specs.declared.grammar.Kind.TheVariants as kind
+use Rattle.command_line.specs.declared.grammar.CommandKind.TheVariants as kind
 use Rattle.command_line.specs.declared.report.Report.{Report}
 use Rattle.command_line.specs.declared.report.Report.TheVariants as report
 
@@ -26,7 +26,7 @@ passes : {X : Type 0} (b : Bool) (o : Option X) → is_some (cond b o None) ≡ 
 passes true o e = refl
 passes false o e = absurd (true≢false (sym e))
 
-play_names : (told : Report) (line : Line) (names : List (List ℕ))
+play_names : (told : Report) (line : StatedLine) (names : List (List ℕ))
     → is_some (play_from told line names) ≡ true → HaveNames names
 play_names told line [] e = absurd (true≢false (sym e))
 play_names told line (s ∷ ps) e =
@@ -40,14 +40,14 @@ unflagged : (quiet : Bool) (o : Option Command) → is_some (cond quiet None o) 
 unflagged true o e = absurd (true≢false (sym e))
 unflagged false o e = (refl, e)
 
-print_names : (count : ℕ) (line : Line) → 0 < count → count < 3
+print_names : (count : ℕ) (line : StatedLine) → 0 < count → count < 3
     → is_some (print_of count line) ≡ true → HaveNames line.names
 print_names count line some few e =
     let is : length line.names ≡ count =
     eqb-true _ _ (both (length line.names == count) _ (passes _ _ e)).0 in
     (omega (arith, is, some), omega (arith, is, few))
 
-load_names : (line : Line) → is_some (load_of line) ≡ true → HaveNames line.names
+load_names : (line : StatedLine) → is_some (load_of line) ≡ true → HaveNames line.names
 load_names line e = go (is_some line.net || line.quiet) line.names e
   where
     go : (b : Bool) (names : List (List ℕ))
@@ -57,7 +57,7 @@ load_names line e = go (is_some line.net || line.quiet) line.names e
     go false (n ∷ []) e = (omega arith, omega arith)
     go false (n ∷ m ∷ ns) e = absurd (true≢false (sym e))
 
-audit_names : (line : Line) → is_some (audit_of line) ≡ true → HaveNames line.names
+audit_names : (line : StatedLine) → is_some (audit_of line) ≡ true → HaveNames line.names
 audit_names line e = go (is_some line.net || line.quiet) line.names e
   where
     go : (b : Bool) (names : List (List ℕ)) → is_some (cond b None (audit_from names)) ≡ true
@@ -70,7 +70,7 @@ audit_names line e = go (is_some line.net || line.quiet) line.names e
         (omega arith, omega (arith, most))
 
 -- each line of a command has names
-line_names : (k : Kind) (line : Line) → is_some (command_by (kind_name k) line) ≡ true
+line_names : (k : CommandKind) (line : StatedLine) → is_some (command_by (kind_name k) line) ≡ true
     → HaveNames line.names
 line_names kind.Replay line e = play_names (report.Lines line.quiet) line line.names e
 line_names kind.Flows line e =
@@ -90,14 +90,14 @@ neither true quiet o e = absurd (true≢false (sym e))
 neither false true o e = absurd (true≢false (sym e))
 neither false false o e = (refl, refl)
 
-print_within : (count : ℕ) (line : Line) → is_some (print_of count line) ≡ true
+print_within : (count : ℕ) (line : StatedLine) → is_some (print_of count line) ≡ true
     → IsWithin (net_and false) line.net line.quiet
 print_within count line e =
     let none : line.quiet ≡ false =
     not-true line.quiet (both (length line.names == count) _ (passes _ _ e)).1 in
     record { has_net = λ some. refl; has_flag = λ some. sym none ∙ some }
 
-bare_within : (line : Line) (o : Option Command)
+bare_within : (line : StatedLine) (o : Option Command)
     → is_some (cond (is_some line.net || line.quiet) None o) ≡ true
     → IsWithin none line.net line.quiet
 bare_within line o e =
@@ -105,7 +105,7 @@ bare_within line o e =
     record { has_net = λ some. sym bare.0 ∙ some; has_flag = λ some. sym bare.1 ∙ some }
 
 -- each line of a command has options of its own alone
-line_within : (k : Kind) (line : Line) → is_some (command_by (kind_name k) line) ≡ true
+line_within : (k : CommandKind) (line : StatedLine) → is_some (command_by (kind_name k) line) ≡ true
     → IsWithin (options_of k) line.net line.quiet
 line_within kind.Replay line e = record { has_net = λ some. refl; has_flag = λ some. refl }
 line_within kind.Flows line e =
@@ -120,16 +120,16 @@ line_within kind.Load line e = bare_within line (load_from (load_number line.nam
 line_within kind.Audit line e = bare_within line (audit_from line.names) e
 
 -- the line of arguments that are a command of this kind, and the walk of that command over them
-pub record Walked (k : Kind) (args : List (List ℕ)) : Type 0 where
-  pub line : Line
+pub record Walked (k : CommandKind) (args : List (List ℕ)) : Type 0 where
+  pub line : StatedLine
   pub is : line_of args ≡ Some line
   pub walks : WalksTo (kind_name k) (options_of k) args line
 
-pub line_walked : (k : Kind) (args : List (List ℕ)) → is_some (command_in k args) ≡ true
+pub line_walked : (k : CommandKind) (args : List (List ℕ)) → is_some (command_in k args) ≡ true
     → Walked k args
 line_walked k args e = go (line_of args) refl e
   where
-    go : (o : Option Line) → line_of args ≡ o
+    go : (o : Option StatedLine) → line_of args ≡ o
         → is_some (option_and_then (command_by (kind_name k)) o) ≡ true → Walked k args
     go None is e = absurd (true≢false (sym e))
     go (Some line) is e =
@@ -142,7 +142,7 @@ line_walked k args e = go (line_of args) refl e
         }
 
 -- that command takes the arguments, and what it matches is the line
-module _ (k : Kind) (app : App) (all : List (List ℕ)) (is : app ≡ line_app k)
+module _ (k : CommandKind) (app : App) (all : List (List ℕ)) (is : app ≡ line_app k)
     (w : Walked k (drop 1 all)) where
   pub takes_line : takes app all ≡ true
   takes_line = ap (λ a. takes a all) is ∙ taken (kind_name k) (options_of k) all w.line w.walks

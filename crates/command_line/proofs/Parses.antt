@@ -17,12 +17,12 @@ use Rattle.clap.proofs.OnLiterals.{clap_on_literals}
 use Rattle.clap.proofs.TakesLemmas.{leaf_takes}
 use Rattle.clap.proofs.WalkLemmas.{both, first_value-rows, one_text-rows, raw_values-rows}
 use Rattle.command_line.specs.Line.{IsFlagRead, IsNetRead, Options, app_with, net_and, none}
-use Rattle.command_line.specs.Grammar.{Cut, Line, cut_options, end_together, is_file_name, line_of}
+use Rattle.command_line.specs.Grammar.{Cut, StatedLine, cut_options, end_together, is_file_name, line_of}
 use Rattle.command_line.proofs.Shapes.{IsCut, cut_is, given_in, names_good, spelled}
 use Rattle.command_line.proofs.Walks.{At, Goes, IsFew, MayStand, apart, goes_far, may_give, name_first, named, names_rule, names_walk, net_rule, options_walk, quiet_rule, rows_at, rules, settles, shape, shape_is, takes_flag, takes_net, use_all, valued, walk_at}
 
 -- what is found in the matches
-pub record Found (o : Options) (rows : List Row) (line : Line) : Type 0 where
+pub record Found (o : Options) (rows : List Row) (line : StatedLine) : Type 0 where
   pub names : all_of (codes "names") rows ≡ Some line.names
   pub net : IsNetRead o (first_of (codes "net") rows) line.net
   pub quiet : IsFlagRead o (one_of (codes "quiet") rows) line.quiet
@@ -180,7 +180,7 @@ no_args [] e = refl
 no_args (x ∷ xs) e = absurd (omega (arith, eqb-true _ _ e))
 
 -- options, names and options, none of them twice
-pub record HasParts (args : List (List ℕ)) (line : Line) : Type 0 where
+pub record HasParts (args : List (List ℕ)) (line : StatedLine) : Type 0 where
   pub front : Cut
   pub back : Cut
   pub front_cut : IsCut args front
@@ -193,7 +193,7 @@ pub record HasParts (args : List (List ℕ)) (line : Line) : Type 0 where
   pub one_net : (is_some front.net && is_some back.net) ≡ false
   pub one_flag : (front.quiet && back.quiet) ≡ false
 
-parts_of : (args : List (List ℕ)) (line : Line) → line_of args ≡ Some line
+parts_of : (args : List (List ℕ)) (line : StatedLine) → line_of args ≡ Some line
     → HasParts args line
 parts_of args line e = go (end_together front back) refl e
   where
@@ -244,7 +244,7 @@ parts_of args line e = go (end_together front back) refl e
 
 -- the walk over them, to its end
 pub record WalksTo (name : List ℕ) (o : Options) (args : List (List ℕ))
-    (line : Line) : Type 0 where
+    (line : StatedLine) : Type 0 where
   pub at : At
   pub left : List Row
   pub goes : Goes name o (walk_at apart []) args (walk_at at left)
@@ -315,7 +315,7 @@ module _ (name : List ℕ) where
   simple (net_and true) = refl
   simple (net_and false) = refl
 
-  passes : (o : Options) (args : List (List ℕ)) (line : Line) → WalksTo name o args line
+  passes : (o : Options) (args : List (List ℕ)) (line : StatedLine) → WalksTo name o args line
       → level_passes (shape name o) [] nothing_held args false ≡ true
   passes none args line w = rw (w.goes.passes, w.goes.walk, settles none w.at w.left w.stands) refl
   passes (net_and true) args line w =
@@ -323,7 +323,7 @@ module _ (name : List ℕ) where
   passes (net_and false) args line w =
       rw (w.goes.passes, w.goes.walk, settles (net_and false) w.at w.left w.stands) refl
 
-  pub taken : (o : Options) (all : List (List ℕ)) (line : Line) → WalksTo name o (drop 1 all) line
+  pub taken : (o : Options) (all : List (List ℕ)) (line : StatedLine) → WalksTo name o (drop 1 all) line
       → takes (app_with name o) all ≡ true
   taken none all line w = rw (simple none) (leaf_takes (built (app_with name none)) nothing_held
       (drop 1 all) refl (passes none (drop 1 all) line w))
@@ -355,7 +355,7 @@ module _ (name : List ℕ) where
   no_program (net_and true) all = refl
   no_program (net_and false) all = refl
 
-  pub matched : (o : Options) (all : List (List ℕ)) (line : Line)
+  pub matched : (o : Options) (all : List (List ℕ)) (line : StatedLine)
       → WalksTo name o (drop 1 all) line → Found o (matches_of (app_with name o) all) line
   matched o all line w = subst (λ rows. Found o rows line) (sym rows_are) w.found
     where
@@ -370,7 +370,7 @@ module _ (name : List ℕ) where
           ∙ settled_at o w.at w.left w.stands
 
   -- each line with names is read
-  pub reads : (o : Options) (args : List (List ℕ)) (line : Line) → line_of args ≡ Some line
+  pub reads : (o : Options) (args : List (List ℕ)) (line : StatedLine) → line_of args ≡ Some line
       → 0 < length line.names → IsFew line.names → IsWithin o line.net line.quiet
       → WalksTo name o args line
   reads o args line e some few allowed =
@@ -387,7 +387,7 @@ module _ (name : List ℕ) where
 -- ---- what was matched
 
 pub matches_found : (name : List ℕ) (o : Options) (app : App) (all : List (List ℕ)) (m : ArgMatches)
-    (line : Line) → app ≡ app_with name o → HasMatchesOf app all m
+    (line : StatedLine) → app ≡ app_with name o → HasMatchesOf app all m
     → WalksTo name o (drop 1 all) line
     → Found o (rows_of (found_of m)) line
 matches_found name o app all m line is has w =
@@ -416,7 +416,7 @@ one_flag (net_and false) there quiet again a b = a ∙ sym b
 one_flag (net_and true) there quiet again a b =
     by_text quiet again (ap (λ o. unwrap_or o []) (sym a ∙ b))
 
-module _ (o : Options) (f : matches.Found) (line : Line) (found : Found o (rows_of f) line) where
+module _ (o : Options) (f : matches.Found) (line : StatedLine) (found : Found o (rows_of f) line) where
   pub names_there : is_some (matched_of f (codes "names")) ≡ true
   names_there =
       go (matched_of f (codes "names")) (raw_values-rows f (codes "names") ∙ found.names)

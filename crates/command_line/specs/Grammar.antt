@@ -69,7 +69,7 @@ cut_options args = elim (cut_quiet args) [
 -- ---- the arguments behind a command
 
 -- names, and options in front of them or behind them
-pub record Line : Type 0 where
+pub record StatedLine : Type 0 where
   pub names : List (List ℕ)
   pub net : Option (List ℕ)
   pub quiet : Bool
@@ -80,7 +80,7 @@ end_together front back =
     not (is_some front.net && is_some back.net) && not (front.quiet && back.quiet)
     && length back.args == 0
 
-abbrev pub line_from : Cut → List (List ℕ) → Cut → Option Line
+abbrev pub line_from : Cut → List (List ℕ) → Cut → Option StatedLine
 line_from front names back =
     if end_together front back
     then Some (record {
@@ -91,7 +91,7 @@ line_from front names back =
     else None
 
 -- options, then names up to the next option or the end, then options
-abbrev pub line_of : List (List ℕ) → Option Line
+abbrev pub line_of : List (List ℕ) → Option StatedLine
 line_of args =
     let front = cut_options args in
     let count = prefix_len is_file_name front.args in
@@ -107,7 +107,7 @@ abbrev pub may_be_policies : ℕ → Bool
 may_be_policies count = nat_le 1 count && nat_le count most_policies
 
 -- a play that is to tell this, of these names
-abbrev pub play_from : Report → Line → List (List ℕ) → Option Command
+abbrev pub play_from : Report → StatedLine → List (List ℕ) → Option Command
 play_from told line [] = None
 play_from told line (schedule ∷ policies) =
     if may_be_policies (length policies)
@@ -119,18 +119,18 @@ play_from told line (schedule ∷ policies) =
     }))
     else None
 
-abbrev pub replay_of : Line → Option Command
+abbrev pub replay_of : StatedLine → Option Command
 replay_of line = play_from (report.Lines line.quiet) line line.names
 
 -- `flows` has no flag
-abbrev pub flows_of : Line → Option Command
+abbrev pub flows_of : StatedLine → Option Command
 flows_of line = if line.quiet then None else play_from report.Flows line line.names
 
 -- nor has `rebalance`
-abbrev pub rebalance_of : Line → Option Command
+abbrev pub rebalance_of : StatedLine → Option Command
 rebalance_of line = if line.quiet then None else play_from report.Placement line line.names
 
-abbrev pub print_from : Line → List (List ℕ) → Option Command
+abbrev pub print_from : StatedLine → List (List ℕ) → Option Command
 print_from line (policy ∷ []) =
     Some (Print (record { policy = policy; switch = None; net = line.net }))
 print_from line (policy ∷ switch ∷ []) =
@@ -138,7 +138,7 @@ print_from line (policy ∷ switch ∷ []) =
 print_from line _ = None
 
 -- a command of so many names, that has no flag
-abbrev pub print_of : ℕ → Line → Option Command
+abbrev pub print_of : ℕ → StatedLine → Option Command
 print_of count line =
     if length line.names == count && not line.quiet then print_from line line.names else None
 
@@ -155,7 +155,7 @@ load_from None = None
 load_from (Some n) = if nat_le 1 n then Some (Load n) else None
 
 -- `load` has no option
-abbrev pub load_of : Line → Option Command
+abbrev pub load_of : StatedLine → Option Command
 load_of line =
     if is_some line.net || line.quiet then None else load_from (load_number line.names)
 
@@ -168,11 +168,11 @@ audit_from (trace ∷ policies) =
     else None
 
 -- `audit` has no option
-abbrev pub audit_of : Line → Option Command
+abbrev pub audit_of : StatedLine → Option Command
 audit_of line = if is_some line.net || line.quiet then None else audit_from line.names
 
 -- the command of this name, with these arguments behind it
-abbrev pub command_by : List ℕ → Line → Option Command
+abbrev pub command_by : List ℕ → StatedLine → Option Command
 command_by name line =
     if bytes_eq name (codes "replay") then replay_of line
     else if bytes_eq name (codes "flows") then flows_of line

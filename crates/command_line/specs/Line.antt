@@ -6,8 +6,8 @@ use Rattle.clap.specs.Lexer.{usize_max}
 use Rattle.clap.specs.Values.{bool_text}
 use Rattle.clap.specs.declared.builder.action.ArgAction.TheVariants.{Append, Set, SetTrue}
 use Rattle.command_line.specs.Named.{kind_name}
-use Rattle.command_line.specs.declared.grammar.Kind.{Kind}
-use Rattle.command_line.specs.declared.grammar.Kind.TheVariants as kind
+use Rattle.command_line.specs.declared.grammar.CommandKind.{CommandKind}
+use Rattle.command_line.specs.declared.grammar.CommandKind.TheVariants as kind
 
 -- names, at least one
 abbrev pub names_arg : Rule
@@ -27,7 +27,7 @@ pub data Options : Type 0 where
   none : Options
   net_and : Bool → Options
 
-abbrev pub options_of : Kind → Options
+abbrev pub options_of : CommandKind → Options
 options_of kind.Replay = net_and true
 options_of kind.Flows = net_and false
 options_of kind.Rebalance = net_and false
@@ -50,7 +50,7 @@ app_with name options = on_top (λ s. record s { args_override_self = true })
     (fold with_rule (new_app name) (names_arg ∷ option_args options))
 
 -- a command has an app of its own
-abbrev pub line_app : Kind → App
+abbrev pub line_app : CommandKind → App
 line_app k = app_with (kind_name k) (options_of k)
 
 -- ---- what is read of the matches

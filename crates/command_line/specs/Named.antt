@@ -12,10 +12,10 @@ use Rattle.command_line.specs.declared.command.Command.TheVariants as given
 use Rattle.command_line.specs.declared.command.PrintArgs.{PrintArgs}
 use Rattle.command_line.specs.declared.command.ReplayArgs.{ReplayArgs}
 use Rattle.command_line.specs.declared.grammar.Cut.{Cut}
-use Rattle.command_line.specs.declared.grammar.Kind.{Kind}
-use Rattle.command_line.specs.declared.grammar.Kind.TheVariants as kind
-use Rattle.command_line.specs.declared.grammar.Parts.{Parts}
-use Rattle.command_line.specs.declared.read.Line.{Line}
+use Rattle.command_line.specs.declared.grammar.CommandKind.{CommandKind}
+use Rattle.command_line.specs.declared.grammar.CommandKind.TheVariants as kind
+use Rattle.command_line.specs.declared.grammar.ArgumentParts.{ArgumentParts}
+use Rattle.command_line.specs.declared.read.ArgumentLine.{ArgumentLine}
 
 -- a name that an argument may have given, and names
 abbrev pub net_named : Option (Bor (List ℕ)) → Option (List ℕ)
@@ -61,7 +61,7 @@ NamesPolicies (given.Load n) = (1 ≤ n) × (n ≤ most_load)
 NamesPolicies (given.Audit args) = MayBePolicies (length args.policies.items)
 
 -- the line that was read
-abbrev pub line_seen : Line → grammar.Line
+abbrev pub line_seen : ArgumentLine → grammar.StatedLine
 line_seen line = record {
   names = names_seen line.names.items;
   net = net_named line.net;
@@ -78,7 +78,7 @@ cut_seen cut = record {
   args = map string_bytes cut.args.now;
 }
 
-abbrev pub parts_seen : Parts → grammar.Line
+abbrev pub parts_seen : ArgumentParts → grammar.StatedLine
 parts_seen parts = record {
   names = map string_bytes parts.names.now;
   net = net_named parts.net;
@@ -86,7 +86,7 @@ parts_seen parts = record {
 }
 
 -- the argument that is this command
-abbrev pub kind_name : Kind → List ℕ
+abbrev pub kind_name : CommandKind → List ℕ
 kind_name kind.Replay = codes "replay"
 kind_name kind.Flows = codes "flows"
 kind_name kind.Rebalance = codes "rebalance"
@@ -96,7 +96,7 @@ kind_name kind.Load = codes "load"
 kind_name kind.Audit = codes "audit"
 
 -- the command of this kind that the arguments behind its name are
-abbrev pub command_in : Kind → List (List ℕ) → Option grammar_commands.Command
+abbrev pub command_in : CommandKind → List (List ℕ) → Option grammar_commands.Command
 command_in kind args = option_and_then (command_by (kind_name kind)) (line_of args)
 
 -- the network of an option, and the arguments behind it

@@ -4,8 +4,8 @@ ghost use Rattle.command_line.specs.Commands as grammar;
 ghost use Rattle.command_line.specs.Grammar.{audit_from, command_by, command_of, load_from, play_from};
 ghost use Rattle.five_tuple.specs.Texts.{number_up_to};
 
-use crate::grammar::{Kind, kind_of};
-use crate::read::{Line, read_line};
+use crate::grammar::{CommandKind, kind_of};
+use crate::read::{ArgumentLine, read_line};
 use crate::report::Report;
 use five_tuple::read_number;
 use std::alloc::{AllocError, Global};
@@ -78,31 +78,31 @@ pub fn read_command(alloc: Global, args: &[String]) -> Result<Option<Command<'_>
 }
 
 // The command of a line that is one of this kind.
-fn command_from<'a>(kind: Kind, line: Line<'a>) -> Command<'a>
+fn command_from<'a>(kind: CommandKind, line: ArgumentLine<'a>) -> Command<'a>
     requires { is_some (command_by (kind_name kind) (line_seen line)) ≡ true }
     ensures command { Some (command_named result)
         ≡ command_by (kind_name kind) (line_seen line.entry) }
     ensures named { NamesPolicies result }
 {
     match kind {
-        Kind::Replay => {
+        CommandKind::Replay => {
             let quiet = line.quiet;
             Command::Replay(replay_from(Report::Lines { quiet }, line))
         }
-        Kind::Flows => Command::Replay(replay_from(Report::Flows, line)),
-        Kind::Rebalance => Command::Replay(replay_from(Report::Placement, line)),
-        Kind::Compile | Kind::Show => Command::Print(PrintArgs {
+        CommandKind::Flows => Command::Replay(replay_from(Report::Flows, line)),
+        CommandKind::Rebalance => Command::Replay(replay_from(Report::Placement, line)),
+        CommandKind::Compile | CommandKind::Show => Command::Print(PrintArgs {
             policy: line.names[0],
             switch: line.names.get(1).copied(),
             net: line.net,
         }),
-        Kind::Load => Command::Load(load_from(line.names[0])),
-        Kind::Audit => Command::Audit(audit_from(line.names)),
+        CommandKind::Load => Command::Load(load_from(line.names[0])),
+        CommandKind::Audit => Command::Audit(audit_from(line.names)),
     }
 }
 
 // The files of a line, of which a play is to tell this.
-fn replay_from<'a>(report: Report, line: Line<'a>) -> ReplayArgs<'a>
+fn replay_from<'a>(report: Report, line: ArgumentLine<'a>) -> ReplayArgs<'a>
     requires { is_some (play_from report (line_seen line) (names_seen line.names.items)) ≡ true }
     ensures args { Some (grammar.Replay (replay_named result))
         ≡ play_from report (line_seen line.entry) (names_seen line.entry.names.items) }

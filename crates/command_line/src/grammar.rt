@@ -2,7 +2,7 @@
 ghost use Rattle.std.specs.Prelude.{◌≡◌, ◌≤◌, ◌⊎◌, true, IfSome, IfNone, None, drop, is_some, length, map, option_map, string_bytes};
 ghost use Rattle.std.specs.List.{prefix_len};
 ghost use Rattle.command_line.specs.Named.{command_in, cut_seen, kind_name, net_named, pair_seen, parts_seen};
-ghost use Rattle.command_line.specs.Grammar.{Line as Stated, audit_of, command_by, command_of, cut_net, cut_options, cut_pair, cut_quiet, end_together, is_file_name, joined_net, line_from, line_of, load_of, net_and_quiet, print_of, play_from, quiet_and_net};
+ghost use Rattle.command_line.specs.Grammar.{StatedLine as Stated, audit_of, command_by, command_of, cut_net, cut_options, cut_pair, cut_quiet, end_together, is_file_name, joined_net, line_from, line_of, load_of, net_and_quiet, print_of, play_from, quiet_and_net};
 ghost use Rattle.command_line.specs.declared.report.Report.{Report};
 
 use crate::command::{MAX_LOAD, MAX_POLICIES};
@@ -10,7 +10,7 @@ use five_tuple::read_number;
 
 /// Which command the arguments are.
 #[derive(Clone, Copy)]
-pub(crate) enum Kind {
+pub(crate) enum CommandKind {
     Replay,
     Flows,
     Rebalance,
@@ -30,14 +30,14 @@ struct Cut<'a> {
 
 // The arguments behind a command: names, and options in front of them or behind them.
 #[derive(Clone, Copy)]
-struct Parts<'a> {
+struct ArgumentParts<'a> {
     names: &'a [String],
     net: Option<&'a str>,
     quiet: bool,
 }
 
 /// The kind of the command that the arguments are, or `None` where they are off the grammar.
-pub(crate) fn kind_of(args: &[String]) -> Option<Kind>
+pub(crate) fn kind_of(args: &[String]) -> Option<CommandKind>
     ensures some { IfSome result (λ kind.
         (command_in kind (drop 1 (map string_bytes args.now))
         ≡ command_of (map string_bytes args.now))
@@ -48,45 +48,45 @@ pub(crate) fn kind_of(args: &[String]) -> Option<Kind>
         return None;
     };
     let parts = parts_of(rest)?;
-    let kind = Kind::named(name.as_str())?;
+    let kind = CommandKind::named(name.as_str())?;
     if kind.takes(&parts) { Some(kind) } else { None }
 }
 
-impl Kind {
+impl CommandKind {
     // The command that the argument names.
-    fn named(arg: &str) -> Option<Kind>
+    fn named(arg: &str) -> Option<CommandKind>
         ensures some { IfSome result (λ kind. arg.now ≡ kind_name kind) }
         ensures none { IfNone result ((line : Stated) → command_by arg.now line ≡ None) }
     {
         match arg {
-            "replay" => Some(Kind::Replay),
-            "flows" => Some(Kind::Flows),
-            "rebalance" => Some(Kind::Rebalance),
-            "compile" => Some(Kind::Compile),
-            "show" => Some(Kind::Show),
-            "load" => Some(Kind::Load),
-            "audit" => Some(Kind::Audit),
+            "replay" => Some(CommandKind::Replay),
+            "flows" => Some(CommandKind::Flows),
+            "rebalance" => Some(CommandKind::Rebalance),
+            "compile" => Some(CommandKind::Compile),
+            "show" => Some(CommandKind::Show),
+            "load" => Some(CommandKind::Load),
+            "audit" => Some(CommandKind::Audit),
             _ => None,
         }
     }
 
     // Whether a line of the arguments is one of this command.
-    fn takes(self, parts: &Parts<'_>) -> bool
+    fn takes(self, parts: &ArgumentParts<'_>) -> bool
         ensures { result ≡ is_some (command_by (kind_name self) (parts_seen parts.now)) }
     {
         match self {
-            Kind::Replay => takes_replay(parts),
-            Kind::Flows | Kind::Rebalance => !parts.quiet && takes_replay(parts),
-            Kind::Compile => takes_print(1, parts),
-            Kind::Show => takes_print(2, parts),
-            Kind::Load => takes_load(parts),
-            Kind::Audit => takes_audit(parts),
+            CommandKind::Replay => takes_replay(parts),
+            CommandKind::Flows | CommandKind::Rebalance => !parts.quiet && takes_replay(parts),
+            CommandKind::Compile => takes_print(1, parts),
+            CommandKind::Show => takes_print(2, parts),
+            CommandKind::Load => takes_load(parts),
+            CommandKind::Audit => takes_audit(parts),
         }
     }
 }
 
 // Whether the names are those of a play, whatever it is to tell.
-fn takes_replay(parts: &Parts<'_>) -> bool
+fn takes_replay(parts: &ArgumentParts<'_>) -> bool
     ensures { (report : Report) → result ≡
         is_some (play_from report (parts_seen parts.now) (map string_bytes parts.now.names.now)) }
 {
@@ -96,7 +96,7 @@ fn takes_replay(parts: &Parts<'_>) -> bool
     !policies.is_empty() && policies.len() <= MAX_POLICIES
 }
 
-fn takes_audit(parts: &Parts<'_>) -> bool
+fn takes_audit(parts: &ArgumentParts<'_>) -> bool
     ensures { result ≡ is_some (audit_of (parts_seen parts.now)) }
 {
     if parts.net.is_some() || parts.quiet {
@@ -108,14 +108,14 @@ fn takes_audit(parts: &Parts<'_>) -> bool
     !policies.is_empty() && policies.len() <= MAX_POLICIES
 }
 
-fn takes_print(count: usize, parts: &Parts<'_>) -> bool
+fn takes_print(count: usize, parts: &ArgumentParts<'_>) -> bool
     requires { (count ≡ 1) ⊎ (count ≡ 2) }
     ensures { result ≡ is_some (print_of count (parts_seen parts.now)) }
 {
     parts.names.len() == count && !parts.quiet
 }
 
-fn takes_load(parts: &Parts<'_>) -> bool
+fn takes_load(parts: &ArgumentParts<'_>) -> bool
     ensures { result ≡ is_some (load_of (parts_seen parts.now)) }
 {
     if parts.net.is_some() || parts.quiet {
@@ -131,7 +131,7 @@ fn takes_load(parts: &Parts<'_>) -> bool
 }
 
 // The names and the options of the arguments behind a command.
-fn parts_of(args: &[String]) -> Option<Parts<'_>>
+fn parts_of(args: &[String]) -> Option<ArgumentParts<'_>>
     ensures { option_map parts_seen result ≡ line_of (map string_bytes args.now) }
 {
     let front = cut_options(args);
@@ -140,14 +140,14 @@ fn parts_of(args: &[String]) -> Option<Parts<'_>>
 }
 
 // The names with the options on both sides.
-fn joined_parts<'a>(front: Cut<'a>, names: &'a [String], back: Cut<'a>) -> Option<Parts<'a>>
+fn joined_parts<'a>(front: Cut<'a>, names: &'a [String], back: Cut<'a>) -> Option<ArgumentParts<'a>>
     ensures { option_map parts_seen result ≡ line_from
         (cut_seen front.entry) (map string_bytes names.entry.now) (cut_seen back.entry) }
 {
     if !end_together(&front, &back) {
         return None;
     }
-    Some(Parts {
+    Some(ArgumentParts {
         names,
         net: front.net.or(back.net),
         quiet: front.quiet || back.quiet,

@@ -5,14 +5,14 @@ ghost use Rattle.command_line.specs.Line.{IsFlagRead, IsNetRead, app_with, line_
 ghost use Rattle.command_line.specs.Named.{command_in, line_seen, names_seen, net_named};
 ghost use Rattle.command_line.specs.Grammar.{line_of};
 
-use crate::grammar::Kind;
+use crate::grammar::CommandKind;
 use clap::error::ErrorKind;
 use clap::{Arg, ArgAction, ArgMatches, Command};
 use std::alloc::{AllocError, Global};
 
 /// What the arguments behind a command say: names, and options.
 #[derive(Drop)]
-pub(crate) struct Line<'a> {
+pub(crate) struct ArgumentLine<'a> {
     pub(crate) names: Vec<&'a str>,
     pub(crate) net: Option<&'a str>,
     pub(crate) quiet: bool,
@@ -24,9 +24,9 @@ pub(crate) struct Line<'a> {
 /// Want of memory alone.
 pub(crate) fn read_line<'a>(
     alloc: Global,
-    kind: Kind,
+    kind: CommandKind,
     args: &'a [String],
-) -> Result<Line<'a>, AllocError>
+) -> Result<ArgumentLine<'a>, AllocError>
     requires { is_some (command_in kind (drop 1 (map string_bytes args.now))) ≡ true }
     ensures { IfOk result (λ line.
         line_of (drop 1 (map string_bytes args.now)) ≡ Some (line_seen line)) }
@@ -45,17 +45,17 @@ pub(crate) fn read_line<'a>(
 }
 
 // The command of this kind, as `clap` is told of it: what it takes, and nothing else.
-fn line_command<'a>(alloc: Global, kind: Kind) -> Result<Command<'a>, AllocError>
+fn line_command<'a>(alloc: Global, kind: CommandKind) -> Result<Command<'a>, AllocError>
     ensures { IfOk result (λ command. app_of command ≡ line_app kind) }
 {
     match kind {
-        Kind::Replay => replay_command(alloc),
-        Kind::Flows => unflagged_command(alloc, "flows"),
-        Kind::Rebalance => unflagged_command(alloc, "rebalance"),
-        Kind::Compile => unflagged_command(alloc, "compile"),
-        Kind::Show => unflagged_command(alloc, "show"),
-        Kind::Load => bare_command(alloc, "load"),
-        Kind::Audit => bare_command(alloc, "audit"),
+        CommandKind::Replay => replay_command(alloc),
+        CommandKind::Flows => unflagged_command(alloc, "flows"),
+        CommandKind::Rebalance => unflagged_command(alloc, "rebalance"),
+        CommandKind::Compile => unflagged_command(alloc, "compile"),
+        CommandKind::Show => unflagged_command(alloc, "show"),
+        CommandKind::Load => bare_command(alloc, "load"),
+        CommandKind::Audit => bare_command(alloc, "audit"),
     }
 }
 
@@ -112,7 +112,11 @@ fn quiet_arg<'a>(alloc: Global) -> Arg<'a>
 }
 
 // What was matched.
-fn line_in<'a>(alloc: Global, kind: Kind, matches: &ArgMatches<'a>) -> Result<Line<'a>, AllocError>
+fn line_in<'a>(
+    alloc: Global,
+    kind: CommandKind,
+    matches: &ArgMatches<'a>,
+) -> Result<ArgumentLine<'a>, AllocError>
     requires names { is_some (matched_of (found_of matches.now) (codes "names")) ≡ true }
     requires quiet { (quiet : Bool) ×
         IsFlagRead (options_of kind) (one_text (found_of matches.now) (codes "quiet")) quiet }
@@ -128,7 +132,7 @@ fn line_in<'a>(alloc: Global, kind: Kind, matches: &ArgMatches<'a>) -> Result<Li
         None => unreachable!(),
         Some(names) => Vec::from_slice(alloc, names)?,
     };
-    Ok(Line {
+    Ok(ArgumentLine {
         names,
         net: net_in(kind, matches),
         quiet: flag_in(kind, matches),
@@ -136,27 +140,30 @@ fn line_in<'a>(alloc: Global, kind: Kind, matches: &ArgMatches<'a>) -> Result<Li
 }
 
 // The network, where the command takes one.
-fn net_in<'a>(kind: Kind, matches: &ArgMatches<'a>) -> Option<&'a str>
+fn net_in<'a>(kind: CommandKind, matches: &ArgMatches<'a>) -> Option<&'a str>
     ensures { IsNetRead (options_of kind)
         (first_value (found_of matches.now) (codes "net")) (net_named result) }
 {
     match kind {
-        Kind::Replay | Kind::Flows | Kind::Rebalance | Kind::Compile | Kind::Show => {
-            matches.get_str("net")
-        }
-        Kind::Load | Kind::Audit => None,
+        CommandKind::Replay
+        | CommandKind::Flows
+        | CommandKind::Rebalance
+        | CommandKind::Compile
+        | CommandKind::Show => { matches.get_str("net") }
+        CommandKind::Load | CommandKind::Audit => None,
     }
 }
 
 // Whether the flag stands there, where the command takes it.
-fn flag_in(kind: Kind, matches: &ArgMatches<'_>) -> bool
+fn flag_in(kind: CommandKind, matches: &ArgMatches<'_>) -> bool
     requires { (quiet : Bool) ×
         IsFlagRead (options_of kind) (one_text (found_of matches.now) (codes "quiet")) quiet }
     ensures { IsFlagRead (options_of kind) (one_text (found_of matches.now) (codes "quiet")) result }
 {
     match kind {
-        Kind::Replay => matches.get_flag("quiet"),
-        Kind::Flows | Kind::Rebalance | Kind::Compile | Kind::Show => false,
-        Kind::Load | Kind::Audit => false,
+        CommandKind::Replay => matches.get_flag("quiet"),
+        CommandKind::Flows | CommandKind::Rebalance | CommandKind::Compile | CommandKind::Show =>
+            false,
+        CommandKind::Load | CommandKind::Audit => false,
     }
 }

@@ -33,7 +33,7 @@ use Rattle.update_machine.specs.Travels.{leg_of, ingress_of, is_at}
 use Rattle.update_machine.specs.Pieces.{expire_items, forget_items, hop_items, link_items, lose_items, nothing, packet_items, step_items}
 use Rattle.update_machine.specs.Setting.{Setting}
 use Rattle.update_machine.specs.SwitchNumbers.{switches_of}
-use Rattle.update_machine.specs.Ways.{found_down, targets_of}
+use Rattle.update_machine.specs.PacketRoutes.{found_down, targets_of}
 use Rattle.update_machine.proofs.CallerLemmas.{have_first, have_in_turn, have_put, part_there, version_kept}
 use Rattle.partition.specs.Plan.{Hosted}
 use Rattle.policy_rules.specs.declared.packet.Leg.TheVariants.{Seek, Exit}

@@ -13,7 +13,7 @@ use switch_table::Touched;
 use ternary::Word;
 
 /// The most words that switches are told.
-const MOST: usize = 16;
+const MAX_TOLD: usize = 16;
 
 /// What a change touches of the policy to which it is applied: the words of the rows that it
 /// removes, in the order of the removals, and then those of the rows that it adds; everything,
@@ -27,11 +27,11 @@ pub fn touched(alloc: Global, policy: &Policy, change: &Amendment) -> Result<Tou
     let mut words = Vec::new(alloc);
     list_removed(&mut words, policy.rows(), change.removed())?;
     list_added(&mut words, change.added())?;
-    Ok(told(words))
+    Ok(touched_by_words(words))
 }
 
 // These words, or everything, where they are too many to be told.
-fn told(words: Vec<Word>) -> Touched
+fn touched_by_words(words: Vec<Word>) -> Touched
     ensures { result ≡ few_touched words.items }
 {
     match Touched::new(words) {
@@ -71,7 +71,7 @@ fn list_row_of(words: &mut Vec<Word>, rows: &[Row], priority: u32) -> Result<(),
     ensures { OnOk result (ListsMore words.old.items words.new.items
         (option_map_or words_of_row (find (λ row. row.priority == priority) rows.now) [])) }
 {
-    if words.len() > MOST {
+    if words.len() > MAX_TOLD {
         return Ok(());
     }
     match find_row(rows, priority) {
@@ -91,7 +91,7 @@ fn list_row(words: &mut Vec<Word>, row: &Row) -> Result<(), AllocError>
     requires { IsSoundRow row.now }
     ensures { OnOk result (ListsMore words.old.items words.new.items (words_of_row row.now)) }
 {
-    if words.len() > MOST {
+    if words.len() > MAX_TOLD {
         return Ok(());
     }
     push_row_words(words, row)

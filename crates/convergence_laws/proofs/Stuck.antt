@@ -27,7 +27,7 @@ use Rattle.update_machine.specs.Packets.{next_packet}
 use Rattle.update_machine.specs.Pieces.{piece, step_items}
 use Rattle.update_machine.specs.Setting.{Setting}
 use Rattle.update_machine.specs.Versions.{plan_at}
-use Rattle.update_machine.specs.Ways.{changes_found, found_down, targets_in, targets_of}
+use Rattle.update_machine.specs.PacketRoutes.{changes_found, found_down, targets_in, targets_of}
 use Rattle.update_machine.proofs.CallerLemmas.{folded_append, have_first, links_keep, policies_keep}
 use Rattle.control_laws.proofs.Facts.{AreKept, fact_on, have_front, have_rest}
 use Rattle.control_laws.proofs.Grown.{boot_more, heard_more, up_more}

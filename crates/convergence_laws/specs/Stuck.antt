@@ -7,7 +7,7 @@ use Rattle.journal.specs.declared.item.Item.{Item}
 use Rattle.journal.specs.declared.item.Item.TheVariants as item
 use Rattle.steps.specs.Steps.{HasSwitch}
 use Rattle.steps.specs.declared.step.Step.{Step}
-use Rattle.update_machine.specs.Ways.{found_down, targets_of}
+use Rattle.update_machine.specs.PacketRoutes.{found_down, targets_of}
 use Rattle.update_machine.specs.Pieces.{piece}
 use Rattle.update_machine.specs.Setting.{Setting}
 use Rattle.convergence_laws.specs.Converged.{Reaches}

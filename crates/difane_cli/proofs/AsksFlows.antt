@@ -3,7 +3,7 @@ use Rattle.std.specs.Prelude.{⊤, codes, option_and_then}
 use Rattle.std.proofs.Common.{ℕ, ◌≡◌, Bool, true, false, cond, Option, Some, None, List, [], ◌∷◌, length, refl, subst, sym}
 use Rattle.std.proofs.lemmas.Slice.Eq.{bytes_eq-Decides}
 use Rattle.command_line.specs.Commands.{Command, Replay}
-use Rattle.command_line.specs.Grammar.{Line, command_by, command_of, line_of, may_be_policies, play_from}
+use Rattle.command_line.specs.Grammar.{StatedLine, command_by, command_of, line_of, may_be_policies, play_from}
 use Rattle.command_line.specs.declared.report.Report.TheVariants as report
 use Rattle.difane_cli.specs.NewMeters.{asks_flows}
 
@@ -13,7 +13,7 @@ TellsIfAny None = ⊤
 TellsIfAny (Some (Replay args)) = args.report ≡ report.Flows
 TellsIfAny (Some _) = ⊥
 
-play_tells : (line : Line) (names : List (List ℕ))
+play_tells : (line : StatedLine) (names : List (List ℕ))
     → TellsIfAny (play_from report.Flows line names)
 play_tells line [] = tt
 play_tells line (schedule ∷ policies) = go (may_be_policies (length policies))
@@ -27,7 +27,7 @@ play_tells line (schedule ∷ policies) = go (may_be_policies (length policies))
     go true = refl
     go false = tt
 
-line_tells : (found : Option Line)
+line_tells : (found : Option StatedLine)
     → TellsIfAny (option_and_then (command_by (codes "flows")) found)
 line_tells None = tt
 line_tells (Some line) = go line.quiet

@@ -3,13 +3,13 @@ use Rattle.std.proofs.Common.{◌≡◌, ◌∙◌, List, [], ◌∷◌, ◌++�
 use Rattle.std.specs.List.{flat_map}
 use Rattle.std.proofs.lemmas.Grind.{flat_map-append}
 use Rattle.flow_export.specs.Lines.{flow_line, flow_lines}
-use Rattle.meters.specs.Meters.{records_of}
+use Rattle.meters.specs.Meters.{flow_records_of}
 use Rattle.meters.specs.Seen.{Seen}
 
 pub lines_of_all : {X : Type 0} (seen : X → Seen) (xs : List X)
-    → flat_map (λ x. flow_lines (records_of (seen x))) xs
-    ≡ flow_lines (flat_map records_of (map seen xs))
+    → flat_map (λ x. flow_lines (flow_records_of (seen x))) xs
+    ≡ flow_lines (flat_map flow_records_of (map seen xs))
 lines_of_all seen [] = refl
 lines_of_all seen (x ∷ xs) =
-    ap (λ more. flow_lines (records_of (seen x)) ++ more) (lines_of_all seen xs)
-    ∙ sym (flat_map-append flow_line (records_of (seen x)) (flat_map records_of (map seen xs)))
+    ap (λ more. flow_lines (flow_records_of (seen x)) ++ more) (lines_of_all seen xs)
+    ∙ sym (flat_map-append flow_line (flow_records_of (seen x)) (flat_map flow_records_of (map seen xs)))

@@ -6,7 +6,7 @@ use Rattle.std.proofs.lemmas.List.{take_all}
 use Rattle.std.specs.Option.{ForSome}
 use Rattle.journal.specs.declared.item.Item.{Item}
 use Rattle.flow_export.specs.Counted.{FlowLaws, IsCounted}
-use Rattle.meters.specs.Meters.{records_of}
+use Rattle.meters.specs.Meters.{flow_records_of}
 use Rattle.meters.specs.Seen.{Seen}
 use Rattle.net_file.specs.Owners.{port_mask}
 use Rattle.net_file.specs.declared.net.Net.{Net}
@@ -91,11 +91,11 @@ counted_so laws net journal taken given kept = λ most new.
     let ports = port_mask net.switches in
     let left = left_in journal in
     record {
-      stayed = subst (λ (meters : List Seen). All (IsCounted left) (flat_map records_of meters))
+      stayed = subst (λ (meters : List Seen). All (IsCounted left) (flat_map flow_records_of meters))
           (sym kept) (laws.stayed most ports left taken new);
       all = λ none.
           subst (λ (meters : List Seen).
-          All (IsCounted left) (gone_by net journal taken ++ flat_map records_of meters))
+          All (IsCounted left) (gone_by net journal taken ++ flat_map flow_records_of meters))
           (sym kept) (laws.counted most ports left taken new none);
     }
 

@@ -36,7 +36,7 @@ use Rattle.difane_cli.specs.Tasks.{Inputs}
 use Rattle.difane_cli.specs.Writes.{Wrote}
 use Rattle.difane_cli.specs.declared.proposing.Proposal.{Proposal}
 use Rattle.difane_cli.specs.declared.status.Status.TheVariants as status
-use Rattle.difane_cli.specs.Proposals.{IsAfterProposal, IsFoundFor, IsProposedFor, Proposes, ProposesFor, sizes_in, targets_of, weights_in, with_targets}
+use Rattle.difane_cli.specs.Proposals.{IsAfterProposal, IsFoundFor, IsProposedFor, Proposes, ProposesFor, sizes_in, targets_by_partition, weights_in, with_targets}
 
 -- ---- the plan
 
@@ -61,7 +61,7 @@ sized journal plan =
     )
 
 pub targeted : (journal : List Item) (plan : List Hosted)
-    → length (targets_of plan) ≡ length (weights_in journal plan)
+    → length (targets_by_partition plan) ≡ length (weights_in journal plan)
 targeted journal plan =
     omega (
       arith,
@@ -120,7 +120,7 @@ pub proposed_for : (rows : List Row) (plan : List Hosted) (net : Net) (journal :
     → AreWeighed sizes weights rooms → SpreadLaws sizes weights rooms backups) → IsNet net
     → IsPlan rows net plan
     → IsProposal (sizes_in plan) (weights_in journal plan) (rooms_of net) net.backups
-    (targets_of plan) placement
+    (targets_by_partition plan) placement
     → (All (λ switches. 0 < length switches) placement
     → LeadEveryHeader rows (with_targets plan placement))
     → IsProposedFor rows plan net journal placement
@@ -129,14 +129,14 @@ proposed_for rows plan net journal placement laws sound is proposal leads =
     let weights = weights_in journal plan in
     let rooms = rooms_of net in
     let all = laws sizes weights rooms net.backups (weighed rows plan net journal sound is) in
-    let old : Fits sizes rooms net.backups (targets_of plan) = all.placed (targets_of plan)
-    (subst (λ s. IsPlacement s rooms net.backups (targets_of plan)) (sizes_are plan) is.placement)
+    let old : Fits sizes rooms net.backups (targets_by_partition plan) = all.placed (targets_by_partition plan)
+    (subst (λ s. IsPlacement s rooms net.backups (targets_by_partition plan)) (sizes_are plan) is.placement)
     in
-    let fits = all.proposed (targets_of plan) placement old proposal in
+    let fits = all.proposed (targets_by_partition plan) placement old proposal in
     record {
       proposal = proposal;
       fits = fits;
-      lower = all.never_higher (targets_of plan) placement proposal;
+      lower = all.never_higher (targets_by_partition plan) placement proposal;
       bounded = all.bounded placement fits;
       leads = leads (some_targets sizes rooms net.backups placement fits);
     }
@@ -151,7 +151,7 @@ pub record AreMeasured (plan : List Hosted) (net : Net) (journal : List Item)
   pub sizes_are : sizes ≡ sizes_in plan
   pub weights_are : weights ≡ weights_in journal plan
   pub rooms_are : rooms ≡ rooms_of net
-  pub old_is : old ≡ targets_of plan
+  pub old_is : old ≡ targets_by_partition plan
 
 module _ (plan : List Hosted) (net : Net) (journal : List Item) (sizes weights rooms : List ℕ)
     (old : List (List ℕ)) (are : AreMeasured plan net journal sizes weights rooms old) where

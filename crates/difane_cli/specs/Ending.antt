@@ -129,9 +129,9 @@ NamesOneOf names (status.Input file code row) = IsOneOf names file
 NamesOneOf names _ = ⊤
 
 -- the same of a reading that stops
-abbrev pub StopsAt : {V : Type 0} → List (List ℕ) → Result V Stop → Type 0
-StopsAt names (Ok value) = ⊤
-StopsAt names (Err stop) = NamesOneOf names (status_of stop)
+abbrev pub StopNamesOneOf : {V : Type 0} → List (List ℕ) → Result V Stop → Type 0
+StopNamesOneOf names (Ok value) = ⊤
+StopNamesOneOf names (Err stop) = NamesOneOf names (status_of stop)
 
 -- a reading of the files of these names, by at most so many reads of the shelf: it counts no fault,
 -- unless it stops as one that met a fault may, and what it refuses is one of them
@@ -139,7 +139,7 @@ pub record ReadsFiles {V : Type 0} (names : List (List ℕ)) (most : ℕ) (old n
     (result : Result V Stop) : Type 0 where
   pub after : IsAfterReads most old new
   pub calm : IsCalmRead old new result
-  pub stops : StopsAt names result
+  pub stops : StopNamesOneOf names result
 
 -- the same of what a command names
 abbrev pub ReadsFor : {V : Type 0} → Command → (old new : ShelfState) → Result V Stop → Type 0

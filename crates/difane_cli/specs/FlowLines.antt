@@ -6,7 +6,7 @@ use Rattle.flow_export.specs.Counted.{IsCounted, IsNewMeter, NoneLeaves}
 use Rattle.flow_export.specs.Lines.{flow_lines}
 use Rattle.journal.specs.declared.item.Item.{Item}
 use Rattle.meters.specs.Gone.{gone_records}
-use Rattle.meters.specs.Meters.{records_of}
+use Rattle.meters.specs.Meters.{flow_records_of}
 use Rattle.meters.specs.Seen.{Seen}
 use Rattle.meters.specs.declared.flows.FlowRecord.{FlowRecord}
 use Rattle.net_file.specs.Owners.{port_mask}
@@ -19,7 +19,7 @@ gone_by net journal meters = gone_records (port_mask net.switches) (left_in jour
 
 -- the lines of those, and of the records of the meters that stayed
 abbrev pub flow_text : List FlowRecord → List Seen → List ℕ
-flow_text gone meters = flow_lines gone ++ flow_lines (flat_map records_of meters)
+flow_text gone meters = flow_lines gone ++ flow_lines (flat_map flow_records_of meters)
 
 -- a play that stopped full has none
 abbrev pub flows_text : Option ℕ → List FlowRecord → List Seen → List ℕ
@@ -31,9 +31,9 @@ flows_text (Some row) gone meters = []
 -- each record of a meter that stayed counts all packets that left by its port with its header; and
 -- where none of the meters at ports of the network left, each record that there is does
 pub record AreCounted (net : Net) (journal : List Item) (taken given : List Seen) : Type 0 where
-  pub stayed : All (IsCounted (left_in journal)) (flat_map records_of given)
+  pub stayed : All (IsCounted (left_in journal)) (flat_map flow_records_of given)
   pub all : NoneLeaves (port_mask net.switches) (left_in journal) taken
-      → All (IsCounted (left_in journal)) (gone_by net journal taken ++ flat_map records_of given)
+      → All (IsCounted (left_in journal)) (gone_by net journal taken ++ flat_map flow_records_of given)
 
 -- so it is where the meters that were taken are flow meters that held nothing
 abbrev pub CountFlows : Net → List Item → (taken given : List Seen) → Type 0

@@ -22,8 +22,8 @@ use Rattle.difane_cli.specs.declared.proposing.Proposal.{Proposal}
 -- ---- a plan by how much its partitions were asked
 
 -- the targets of each partition
-abbrev pub targets_of : List Hosted → List (List ℕ)
-targets_of plan = map (λ (hosted : Hosted). hosted.1) plan
+abbrev pub targets_by_partition : List Hosted → List (List ℕ)
+targets_by_partition plan = map (λ (hosted : Hosted). hosted.1) plan
 
 -- how many rules each has
 abbrev pub sizes_in : List Hosted → List ℕ
@@ -45,10 +45,10 @@ with_targets plan placement = zip (map part_of plan) placement
 pub record IsProposedFor (rows : List Row) (plan : List Hosted) (net : Net) (journal : List Item)
     (placement : List (List ℕ)) : Type 0 where
   pub proposal : IsProposal (sizes_in plan) (weights_in journal plan) (rooms_of net) net.backups
-      (targets_of plan) placement
+      (targets_by_partition plan) placement
   pub fits : Fits (sizes_in plan) (rooms_of net) net.backups placement
   pub lower : peak (weights_in journal plan) placement
-      ≤ peak (weights_in journal plan) (targets_of plan)
+      ≤ peak (weights_in journal plan) (targets_by_partition plan)
   pub bounded : bound (weights_in journal plan) (rooms_of net)
       ≤ peak (weights_in journal plan) placement
   pub leads : LeadEveryHeader rows (with_targets plan placement)
@@ -57,7 +57,7 @@ pub record IsProposedFor (rows : List Row) (plan : List Hosted) (net : Net) (jou
 abbrev pub placement_text : List Row → List Hosted → Net → List Item → List (List ℕ) → List ℕ
 placement_text rows plan net journal placement =
     let weights = weights_in journal plan in
-    concat (codes "peak " ∷ decimal (peak weights (targets_of plan)) ∷ codes " "
+    concat (codes "peak " ∷ decimal (peak weights (targets_by_partition plan)) ∷ codes " "
     ∷ decimal (peak weights placement) ∷ codes "\nbound " ∷ decimal (bound weights (rooms_of net))
     ∷ codes "\n" ∷ compile_text rows (with_targets plan placement) net ∷ [])
 
@@ -69,7 +69,7 @@ pub record IsFoundFor (rows : List Row) (plan : List Hosted) (net : Net) (journa
   pub proposed : IsProposedFor rows plan net journal placement
   pub policy : found.plan.policy ≡ rows
   pub hosted : found.plan.hosted ≡ with_targets plan placement
-  pub old_peak : found.old_peak ≡ peak (weights_in journal plan) (targets_of plan)
+  pub old_peak : found.old_peak ≡ peak (weights_in journal plan) (targets_by_partition plan)
   pub new_peak : found.new_peak ≡ peak (weights_in journal plan) placement
   pub least : found.bound ≡ bound (weights_in journal plan) (rooms_of net)
 

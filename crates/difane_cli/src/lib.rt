@@ -38,7 +38,7 @@ mod verdict;
 
 pub use flow_export::FlowMeter;
 pub use laws::one_switch_laws;
-pub use metered::{Ending, run_metered};
+pub use metered::{CommandEnd, run_metered};
 pub use meters::{Meter, Recorder};
 pub use status::{Ended, FileName, Finished, Refusal, Status, Stop, write_status};
 pub use top_call::run;

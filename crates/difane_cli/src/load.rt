@@ -1,6 +1,6 @@
 //! Load cases as a command takes them.
 ghost use Rattle.std.specs.Prelude.{◌≡◌, ◌≤◌, IfOk, IfErr, Ok, [], ◌∷◌};
-ghost use Rattle.difane_cli.specs.Exports.{AreReadyToPlay, StopsAt, StopsCheck, case_inputs, inputs_stated, load_inputs, load_name};
+ghost use Rattle.difane_cli.specs.Exports.{AreReadyToPlay, StopNamesOneOf, StopsCheck, case_inputs, inputs_stated, load_inputs, load_name};
 ghost use Rattle.schedule.specs.Case.{load_case};
 
 use crate::inputs::PlayInputs;
@@ -19,7 +19,7 @@ pub fn draw_inputs(alloc: Global, n: u32) -> Result<PlayInputs, Stop>
     requires { (1 ≤ n) × (n ≤ 1000) }
     ensures value { IfOk result (λ inputs. load_inputs n ≡ Ok (inputs_stated inputs)) }
     ensures stopped { IfErr result (StopsCheck (load_inputs n)) }
-    ensures stops { StopsAt (load_name ∷ []) result }
+    ensures stops { StopNamesOneOf (load_name ∷ []) result }
     ensures ready { IfOk result AreReadyToPlay }
     ensures drawn { IfOk result (λ inputs. inputs_stated inputs ≡ case_inputs (load_case n)) }
 {

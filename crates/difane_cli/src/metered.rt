@@ -21,13 +21,13 @@ use std::alloc::{AllocError, Global};
 
 /// How a call ended, and the journal of its play.
 #[derive(Drop)]
-pub struct Ending {
+pub struct CommandEnd {
     pub status: Status,
     pub journal: Journal,
 }
 
 /// With so many different headers a meter of `flows` leaves.
-const MOST_HEADERS: u32 = 4096;
+const MAX_HEADERS: u32 = 4096;
 
 /// Whether the first argument asks for records of flows.
 fn asks_flows(words: &Vec<String>) -> bool
@@ -66,7 +66,7 @@ pub fn run_metered<F: Shelf, K: Sink, E: Sink>(
     shelf: &mut F,
     out: &mut K,
     errs: &mut E,
-) -> Result<Ending, AllocError>
+) -> Result<CommandEnd, AllocError>
     // Where `flows` ends well, it wrote the records of the packets that left in the journal, and
     // their counts are right: of each meter that stayed, and where none left, all of them.
     ensures flows { IfOk result (λ ending. IsTrue (asks_flows (argument_texts words.now))
@@ -121,14 +121,14 @@ pub fn run_metered<F: Shelf, K: Sink, E: Sink>(
             ensures { IfOk result (λ one. seen one ≡ new_meter counts_flows port) }
         {
             if counts_flows {
-                Ok(Box::new(alloc, FlowMeter::new(alloc, port, MOST_HEADERS))?)
+                Ok(Box::new(alloc, FlowMeter::new(alloc, port, MAX_HEADERS))?)
             } else {
                 Ok(Box::new(alloc, Recorder::new(alloc, port))?)
             }
         },
     )?;
     let finished = run(alloc, words, shelf, out, errs, meters);
-    Ok(Ending {
+    Ok(CommandEnd {
         status: finished.status,
         journal: finished.journal,
     })

@@ -2,7 +2,7 @@
 ghost use Rattle.std.specs.Prelude.{◌≡◌, IfOk, IfErr, Ok, option_to_list};
 ghost use Rattle.net_file.specs.Net.{IsNet};
 ghost use Rattle.command_line.specs.Named.{net_named};
-ghost use Rattle.difane_cli.specs.Exports.{EndsRead, IsNetOf, IsSwitchOf, ReadsFiles, StopsAt, StopsCheck, net_reads, net_stated, read_net, switch_on};
+ghost use Rattle.difane_cli.specs.Exports.{EndsRead, IsNetOf, IsSwitchOf, ReadsFiles, StopNamesOneOf, StopsCheck, net_reads, net_stated, read_net, switch_on};
 
 use crate::inputs::{read_bytes, refused};
 use crate::policies::NO_SWITCH;
@@ -59,7 +59,7 @@ pub fn find_switch(alloc: Global, net: &Net, name: Option<&str>) -> Result<Optio
     requires { IsNet net.now }
     ensures value { IfOk result (λ switch. switch_on net.now (net_named name.entry) ≡ Ok switch) }
     ensures stopped { IfErr result (StopsCheck (switch_on net.now (net_named name.entry))) }
-    ensures stops { StopsAt (option_to_list (net_named name.entry)) result }
+    ensures stops { StopNamesOneOf (option_to_list (net_named name.entry)) result }
     ensures named { IfOk result (IsSwitchOf (net_named name.entry) net.now) }
 {
     let Some(name) = name else {

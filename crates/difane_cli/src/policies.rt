@@ -8,7 +8,7 @@ ghost use Rattle.policy_rules.specs.declared.file.PolicyFile.TheVariants.{Whole}
 ghost use Rattle.policy_rules.specs.declared.policy.Row.{Row};
 ghost use Rattle.controller.specs.Leads.{LeadEveryHeader};
 ghost use Rattle.controller.specs.Plan.{RefusesPlan};
-ghost use Rattle.difane_cli.specs.Ending.{NeedsReadFault, StopsAt, StopsCheck, StopsText, status_of};
+ghost use Rattle.difane_cli.specs.Ending.{NeedsReadFault, StopNamesOneOf, StopsCheck, StopsText, status_of};
 ghost use Rattle.difane_cli.specs.Inputs.{first_plan, plan_on, policy_stated, stated_as};
 ghost use Rattle.net_file.specs.Exports.{IsNet, port_mask};
 ghost use Rattle.net_file.specs.declared.net.Net.{Net};
@@ -146,7 +146,7 @@ pub fn plan_policy(alloc: Global, name: &str, policy: &Policy, net: &Net) -> Res
     ensures leads { IfOk result (λ plan. LeadEveryHeader policy.now plan.hosted) }
     ensures policy { IfOk result (λ plan. plan.policy ≡ policy.now) }
     ensures stopped { IfErr result (StopsCheck (plan_on name.now net.now policy.now)) }
-    ensures stops { StopsAt (name.now ∷ []) result }
+    ensures stops { StopNamesOneOf (name.now ∷ []) result }
 {
     match compile(alloc, policy, net) {
         Ok(plan) => Ok(plan),

@@ -7,7 +7,7 @@ ghost use Rattle.rebalance.specs.Spread.{IsProposal};
 ghost use Rattle.shelf.specs.Shelf.{Files};
 ghost use Rattle.command_line.specs.Commands as grammar;
 ghost use Rattle.command_line.specs.Commands.{ReplayCommand};
-ghost use Rattle.difane_cli.specs.Exports.{AreReadyToPlay, EndsWork, IsAfterProposal, IsAnswer, IsFoundFor, IsPlayOf, Play, ProposalOutcome, inputs_stated, known_task, sizes_in, targets_of};
+ghost use Rattle.difane_cli.specs.Exports.{AreReadyToPlay, EndsWork, IsAfterProposal, IsAnswer, IsFoundFor, IsPlayOf, Play, ProposalOutcome, inputs_stated, known_task, sizes_in, targets_by_partition};
 ghost use Rattle.difane_cli.specs.declared.status.Status.TheVariants as status;
 
 use crate::inputs::PlayInputs;
@@ -200,7 +200,7 @@ fn sizes_of(alloc: Global, hosted: &[(Partition, Targets)]) -> Result<Vec<u32>, 
 
 // The targets of each partition.
 fn targets_of(alloc: Global, hosted: &[(Partition, Targets)]) -> Result<Vec<Targets>, AllocError>
-    ensures { IfOk result (λ targets. targets.items ≡ targets_of hosted.now) }
+    ensures { IfOk result (λ targets. targets.items ≡ targets_by_partition hosted.now) }
 {
     let mut all = Vec::with_capacity(alloc, hosted.len())?;
     for (_, targets) in hosted {

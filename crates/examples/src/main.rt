@@ -50,7 +50,7 @@ fn args_of(alloc: Global, line: &str) -> Result<Vec<String>, AllocError> {
 }
 
 /// What is to be told of a line of the index.
-fn told<F: Shelf>(alloc: Global, shelf: &mut F, line: &str) -> anyhow::Result<String> {
+fn answer_to<F: Shelf>(alloc: Global, shelf: &mut F, line: &str) -> anyhow::Result<String> {
     let Some((name, args)) = line.split_once(' ') else {
         return Ok(String::from_str(alloc, "no command\n")?);
     };
@@ -71,7 +71,7 @@ fn main(rt: HostRuntime) -> anyhow::Result<()> {
     let mut shelf = DiskShelf::new(rt);
     let index = shelf.read("index.txt", LIMIT)?;
     for line in String::from_utf8_lossy(alloc, &index)?.lines() {
-        write_whole(&mut out, told(alloc, &mut shelf, line)?.as_bytes())?;
+        write_whole(&mut out, answer_to(alloc, &mut shelf, line)?.as_bytes())?;
     }
     Ok(())
 }

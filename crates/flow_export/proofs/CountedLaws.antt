@@ -9,8 +9,8 @@ use Rattle.std.proofs.lemmas.List.Sums.{count_by-le-length, length-filter, sum_b
 use Rattle.five_tuple.specs.HeaderNumbers.{header_eq}
 use Rattle.five_tuple.specs.declared.header.Header.{Header}
 use Rattle.base.specs.Masks.{has}
-use Rattle.meters.specs.Gone.{gone_after, gone_records, leaves_with, told_by}
-use Rattle.meters.specs.Meters.{PortLeavings, has_ended, is_over_within, kept_meters, leavings_of, meter_with, meters_after, records_of}
+use Rattle.meters.specs.Gone.{gone_after, gone_records, leaves_with, leaving_records}
+use Rattle.meters.specs.Meters.{PortLeavings, has_ended, is_ended_within, kept_meters, leavings_of, meter_with, meters_after, flow_records_of}
 use Rattle.meters.specs.Seen.{Seen}
 use Rattle.meters.specs.declared.flows.FlowRecord.{FlowRecord}
 use Rattle.meters.proofs.Keeping.{kept-append, kept-nothing, kept-one, kept_on}
@@ -47,36 +47,36 @@ all_counted port left (h ∷ headers) =
     All-cons (IsCounted left) _ _ (packets_are port h left) (all_counted port left headers)
 
 told_counted : (most : ℕ) (left : PortLeavings) (meter : Seen) → IsNewMeter most meter
-    → All (IsCounted left) (records_of (meter_with (leavings_of meter.port left) meter))
+    → All (IsCounted left) (flow_records_of (meter_with (leavings_of meter.port left) meter))
 told_counted most left meter new =
     let more = leavings_of meter.port left in
-    let is : records_of (meter_with more meter) ≡ flows meter.port more =
+    let is : flow_records_of (meter_with more meter) ≡ flows meter.port more =
     ap (λ held. meter.recorded (held ++ more)) new.empty ∙ new.kind.recorded more in
     subst (All (IsCounted left)) (sym is)
     (all_counted meter.port left (headers_of more))
 
 one_counted : (most : ℕ) (left : PortLeavings) (meter : Seen) (over : Bool) → IsNewMeter most meter
     → All (IsCounted left)
-    (flat_map records_of (cond over [] (meter_with (leavings_of meter.port left) meter ∷ [])))
+    (flat_map flow_records_of (cond over [] (meter_with (leavings_of meter.port left) meter ∷ [])))
 one_counted most left meter true new = All-nil (IsCounted left)
 one_counted most left meter false new =
     subst (All (IsCounted left))
-    (sym (append-nil (records_of (meter_with (leavings_of meter.port left) meter))))
+    (sym (append-nil (flow_records_of (meter_with (leavings_of meter.port left) meter))))
     (told_counted most left meter new)
 
 kept_counted : (most : ℕ) (left : PortLeavings) (meters : List Seen) → All (IsNewMeter most) meters
-    → All (IsCounted left) (flat_map records_of (meters_after left meters))
+    → All (IsCounted left) (flat_map flow_records_of (meters_after left meters))
 unfolding meters_after
 kept_counted most left [] new = All-nil (IsCounted left)
 kept_counted most left (meter ∷ meters) new =
     let first = kept-one left meter in
-    let over = is_over_within (leavings_of meter.port left) meter in
-    subst (λ (all : List Seen). All (IsCounted left) (flat_map records_of all))
+    let over = is_ended_within (leavings_of meter.port left) meter in
+    subst (λ (all : List Seen). All (IsCounted left) (flat_map flow_records_of all))
     (sym (kept-append left (meter ∷ []) meters))
     (subst (All (IsCounted left))
-    (sym (flat_map-append records_of (meters_after left (meter ∷ [])) (meters_after left meters)))
+    (sym (flat_map-append flow_records_of (meters_after left (meter ∷ [])) (meters_after left meters)))
     (All-append (IsCounted left) _ _
-    (subst (λ (all : List Seen). All (IsCounted left) (flat_map records_of all)) (sym first)
+    (subst (λ (all : List Seen). All (IsCounted left) (flat_map flow_records_of all)) (sym first)
     (one_counted most left meter over (All-head (IsNewMeter most) meter meters new)))
     (kept_counted most left meters (All-tail (IsNewMeter most) meter meters new))))
 
@@ -86,7 +86,7 @@ few_after : (left : PortLeavings) (meters : List Seen)
     → length (meters_after left meters) ≤ length meters
 unfolding meters_after
 few_after left meters =
-    let test = λ (meter : Seen). not (is_over_within (leavings_of meter.port left) meter) in
+    let test = λ (meter : Seen). not (is_ended_within (leavings_of meter.port left) meter) in
     omega (
       arith,
       length-map (filter test meters) (λ (m : Seen). meter_with (leavings_of m.port left) m),
@@ -96,7 +96,7 @@ few_after left meters =
 
 over_is : (one : ℕ × Leaving) (meter : Seen) (here : Bool)
     → (here && has_ended (meter_with (one.1 ∷ []) meter))
-    ≡ is_over_within (map (λ (o : ℕ × Leaving). o.1) (cond here (one ∷ []) [])) meter
+    ≡ is_ended_within (map (λ (o : ℕ × Leaving). o.1) (cond here (one ∷ []) [])) meter
 over_is one meter false = refl
 over_is one meter true = sym (or_false (has_ended (meter_with (one.1 ∷ []) meter)))
   where
@@ -108,16 +108,16 @@ module _ (one : ℕ × Leaving) where
   silent : (meter : Seen) (meters : List Seen) (leaves : Bool) → leaves_with one meter ≡ leaves
       → length (cond leaves [] (meter_with (leavings_of meter.port (one ∷ [])) meter ∷ [])
       ++ meters_after (one ∷ []) meters) ≡ suc (length meters)
-      → (told_by one meter ≡ []) × (length (meters_after (one ∷ []) meters) ≡ length meters)
+      → (leaving_records one meter ≡ []) × (length (meters_after (one ∷ []) meters) ≡ length meters)
   silent meter meters true is long =
       absurd (omega (arith, long, few_after (one ∷ []) meters))
   silent meter meters false is long = (
-    ap (λ leaves. cond leaves (records_of (meter_with (one.1 ∷ []) meter)) []) is,
+    ap (λ leaves. cond leaves (flow_records_of (meter_with (one.1 ∷ []) meter)) []) is,
     omega (arith, long),
   )
 
   none_told : (meters : List Seen) → length (meters_after (one ∷ []) meters) ≡ length meters
-      → flat_map (told_by one) meters ≡ []
+      → flat_map (leaving_records one) meters ≡ []
   none_told [] long = refl
   none_told (meter ∷ meters) long =
       let first = ap (λ over. cond over []
@@ -127,7 +127,7 @@ module _ (one : ℕ × Leaving) where
       (ap length (sym (kept-append (one ∷ []) (meter ∷ []) meters
       ∙ ap (λ some. some ++ meters_after (one ∷ []) meters)
       (kept-one (one ∷ []) meter ∙ first))) ∙ long) in
-      ap (λ told. told ++ flat_map (told_by one) meters) now.0 ∙ none_told meters now.1
+      ap (λ told. told ++ flat_map (leaving_records one) meters) now.0 ∙ none_told meters now.1
 
 none_gone : (left : PortLeavings) (meters : List Seen)
     → length (meters_after left meters) ≡ length meters → gone_after left meters ≡ []
@@ -148,17 +148,17 @@ module _ (most ports : ℕ) (left : PortLeavings) (meters : List Seen) where
   own = filter (λ meter. has ports meter.port) meters
 
   stayed : All (IsNewMeter most) meters
-      → All (IsCounted left) (flat_map records_of (kept_meters ports left meters))
+      → All (IsCounted left) (flat_map flow_records_of (kept_meters ports left meters))
   stayed new =
       kept_counted most left own
       (All-filter (λ meter. has ports meter.port) (IsNewMeter most) meters new)
 
   counted : All (IsNewMeter most) meters → NoneLeaves ports left meters
       → All (IsCounted left) (gone_records ports left meters
-      ++ flat_map records_of (kept_meters ports left meters))
+      ++ flat_map flow_records_of (kept_meters ports left meters))
   counted new none =
       subst (λ (gone : List FlowRecord). All (IsCounted left) (gone
-      ++ flat_map records_of (kept_meters ports left meters)))
+      ++ flat_map flow_records_of (kept_meters ports left meters)))
       (sym (none_gone left own (none ∙ ap length (kept-nothing own)))) (stayed new)
 
 pub laws_hold : FlowLaws

@@ -13,7 +13,7 @@ use Rattle.five_tuple.specs.declared.header.Header.{Header}
 use Rattle.indexmap.specs.IndexMap.{insert_entry}
 use Rattle.meters.specs.declared.flows.FlowRecord.{FlowRecord}
 use Rattle.policy_rules.specs.declared.packet.Leaving.{Leaving}
-use Rattle.flow_export.specs.Counts.{count_at, counts_of}
+use Rattle.flow_export.specs.Counts.{count_of_header, packet_counts}
 use Rattle.flow_export.specs.Flows.{flows, headers_of, packets_of}
 
 -- ---- equal headers
@@ -245,7 +245,7 @@ no_packets (one ∷ held) h none =
     sum_by-cons (λ (two : Leaving). cond (header_eq two.header h) 1 0) one held
     ∙ ap (λ b. cond b 1 0 + packets_of held h) (apart h one.header parts.0) ∙ omega (arith, rest)
 
-pub count_is : (h : Header) (held : List Leaving) → count_at h (counts_of held) ≡ packets_of held h
+pub count_is : (h : Header) (held : List Leaving) → count_of_header h (packet_counts held) ≡ packets_of held h
 count_is h held =
     looked_up h (packets_of held) (headers_of held) ∙ found (is_among h (headers_of held)) refl
   where
@@ -254,12 +254,12 @@ count_is h held =
     found false none = sym (no_packets held h none)
 
 -- no header has more packets than there are leavings
-pub count_few : (h : Header) (held : List Leaving) → count_at h (counts_of held) ≤ length held
+pub count_few : (h : Header) (held : List Leaving) → count_of_header h (packet_counts held) ≤ length held
 count_few h held = rw count_is (count_by-le-length (λ (one : Leaving). header_eq one.header h) held)
 
 pub counts_on : (held : List Leaving) (one : Leaving)
-    → insert_entry header_eq (counts_of held) one.header (count_at one.header (counts_of held) + 1)
-    ≡ counts_of (held ++ one ∷ [])
+    → insert_entry header_eq (packet_counts held) one.header (count_of_header one.header (packet_counts held) + 1)
+    ≡ packet_counts (held ++ one ∷ [])
 counts_on held one =
     let h = one.header in
     let more : packets_of (held ++ one ∷ []) h ≡ packets_of held h + 1 =
@@ -273,7 +273,7 @@ counts_on held one =
     (headers_differ held)
     ∙ ap (counted (packets_of (held ++ one ∷ []))) (sym (headers_on held one))
 
-pub counts_long : (held : List Leaving) → length (counts_of held) ≡ length (headers_of held)
+pub counts_long : (held : List Leaving) → length (packet_counts held) ≡ length (headers_of held)
 counts_long held = length-map (headers_of held) (λ h. (h, packets_of held h))
 
 -- the records that the counts are
@@ -289,15 +289,15 @@ recorded port count (h ∷ rest) =
     (recorded port count rest)
 
 pub records_are : (port : ℕ) (held : List Leaving)
-    → map (record_at port) (counts_of held) ≡ flows port held
+    → map (record_at port) (packet_counts held) ≡ flows port held
 records_are port held = recorded port (packets_of held) (headers_of held)
 
 pub counts_after : (old new : List (Header × ℕ)) (held more : List Leaving) (one : Leaving)
-    → old ≡ counts_of held
-    → new ≡ insert_entry header_eq old one.header (count_at one.header old + 1)
-    → more ≡ held ++ one ∷ [] → new ≡ counts_of more
+    → old ≡ packet_counts held
+    → new ≡ insert_entry header_eq old one.header (count_of_header one.header old + 1)
+    → more ≡ held ++ one ∷ [] → new ≡ packet_counts more
 counts_after old new held more one old_is new_is more_is =
     new_is
     ∙ ap (λ (counts : List (Header × ℕ)).
-    insert_entry header_eq counts one.header (count_at one.header counts + 1)) old_is
-    ∙ counts_on held one ∙ ap counts_of (sym more_is)
+    insert_entry header_eq counts one.header (count_of_header one.header counts + 1)) old_is
+    ∙ counts_on held one ∙ ap packet_counts (sym more_is)

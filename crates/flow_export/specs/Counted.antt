@@ -4,7 +4,7 @@ use Rattle.std.specs.List.{flat_map}
 use Rattle.five_tuple.specs.HeaderNumbers.{header_eq}
 use Rattle.five_tuple.specs.declared.header.Header.{Header}
 use Rattle.meters.specs.Gone.{gone_records}
-use Rattle.meters.specs.Meters.{PortLeavings, kept_meters, records_of}
+use Rattle.meters.specs.Meters.{PortLeavings, kept_meters, flow_records_of}
 use Rattle.meters.specs.Seen.{Seen}
 use Rattle.meters.specs.declared.flows.FlowRecord.{FlowRecord}
 use Rattle.flow_export.specs.Flows.{IsFlowMeter}
@@ -33,8 +33,8 @@ NoneLeaves ports left meters =
 pub record FlowLaws : Type 0 where
   pub stayed : (most ports : ℕ) (left : PortLeavings) (meters : List Seen)
       → All (IsNewMeter most) meters
-      → All (IsCounted left) (flat_map records_of (kept_meters ports left meters))
+      → All (IsCounted left) (flat_map flow_records_of (kept_meters ports left meters))
   pub counted : (most ports : ℕ) (left : PortLeavings) (meters : List Seen)
       → All (IsNewMeter most) meters → NoneLeaves ports left meters
       → All (IsCounted left) (gone_records ports left meters
-      ++ flat_map records_of (kept_meters ports left meters))
+      ++ flat_map flow_records_of (kept_meters ports left meters))

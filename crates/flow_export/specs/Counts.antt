@@ -8,9 +8,9 @@ use Rattle.policy_rules.specs.declared.packet.Leaving.{Leaving}
 use Rattle.flow_export.specs.Flows.{headers_of, packets_of}
 
 -- each header with how many packets had it, in the order in which they first left
-abbrev pub counts_of : List Leaving → List (Header × ℕ)
-counts_of held = map (λ header. (header, packets_of held header)) (headers_of held)
+abbrev pub packet_counts : List Leaving → List (Header × ℕ)
+packet_counts held = map (λ header. (header, packets_of held header)) (headers_of held)
 
 -- the count of a header, and 0 where it has none
-abbrev pub count_at : Header → List (Header × ℕ) → ℕ
-count_at header counts = unwrap_or (lookup (header_eq header) counts) 0
+abbrev pub count_of_header : Header → List (Header × ℕ) → ℕ
+count_of_header header counts = unwrap_or (lookup (header_eq header) counts) 0

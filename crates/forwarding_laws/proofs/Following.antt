@@ -26,7 +26,7 @@ use Rattle.update_machine.specs.Packets.{Decision, decision_of, gives_decision, 
 use Rattle.update_machine.specs.Setting.{IsSetting, Setting}
 use Rattle.update_machine.specs.Travels.{gives_travelling, travels}
 use Rattle.update_machine.specs.Versions.{plan_at, version_count}
-use Rattle.update_machine.specs.Ways.{targets_of}
+use Rattle.update_machine.specs.PacketRoutes.{targets_of}
 use Rattle.update_machine.specs.Folds.{last_given}
 use Rattle.update_machine.proofs.CallerLemmas.{folded_append, last_given_append}
 use Rattle.convergence_laws.proofs.CallerLemmas.{AreKept, Behind, Both, StaysSo, moves, reach_more, stays_on}
@@ -35,7 +35,7 @@ use Rattle.convergence_laws.specs.Updated.{IsUpdated}
 use Rattle.packet_laws.specs.Facts.{changes_mark, entry_mark}
 use Rattle.packet_laws.specs.KeptFacts.{AllKept}
 use Rattle.packet_laws.specs.StrongCauses.{FurtherCause, SeeksRightly, StrongCause}
-use Rattle.packet_laws.specs.WayCauses.{WayCause}
+use Rattle.packet_laws.specs.PacketCauses.{PacketCause}
 use Rattle.packet_laws.proofs.AllKept.{Before, known_before, knows}
 use Rattle.packet_laws.proofs.Ends.{stands_known}
 use Rattle.packet_laws.proofs.Here.{IsHere, some_same}
@@ -110,12 +110,12 @@ comes_other packet i next number below = ne_eqb packet i (λ same. omega (arith,
 
 module _ (setting : Setting) (journal : List Item) (s i : ℕ) (header : Header)
     (before : List Item) (follows : Follows setting journal s i header before) where
-  header_on : (next : Item) → WayCause setting before next
+  header_on : (next : Item) → PacketCause setting before next
       → header_in (before ++ next ∷ []) i ≡ Some header
   unfolding header_in
   header_on next way = last_given_append (gives_header i) before (next ∷ []) ∙ by next way
     where
-      by : (next : Item) → WayCause setting before next
+      by : (next : Item) → PacketCause setting before next
           → option_or (gives_header i next) (header_in before i) ≡ Some header
       by (item.Entered packet t other) way =
           ap (λ b. option_or (if b then Some other else None) (header_in before i))
@@ -123,11 +123,11 @@ module _ (setting : Setting) (journal : List Item) (s i : ℕ) (header : Header)
           ∙ follows.entered
       by next way = follows.entered
 
-  mark_on : (next : Item) → WayCause setting before next
+  mark_on : (next : Item) → PacketCause setting before next
       → entry_mark (before ++ next ∷ []) i ≡ retired_mark journal
   mark_on next way = mark_more before next i ∙ by next way
     where
-      by : (next : Item) → WayCause setting before next
+      by : (next : Item) → PacketCause setting before next
           → changes_mark i before (entry_mark before i) next ≡ retired_mark journal
       by (item.Entered packet t other) way =
           ap (λ b. if b then retired_mark before else entry_mark before i)
@@ -146,11 +146,11 @@ module _ (setting : Setting) (journal : List Item) (s i : ℕ) (header : Header)
 
   -- ---- where it stands
 
-  at_on : Before setting before → (next : Item) → WayCause setting before next → (t : ℕ)
+  at_on : Before setting before → (next : Item) → PacketCause setting before next → (t : ℕ)
       → standing (before ++ next ∷ []) i ≡ Some t → Reaches setting journal s t
   at_on known next way t stands = by next way (sym (standing_more before next i) ∙ stands)
     where
-      by : (next : Item) → WayCause setting before next
+      by : (next : Item) → PacketCause setting before next
           → option_or (gives_standing i next) (standing before i) ≡ Some t
           → Reaches setting journal s t
       by (item.Entered packet u other) way is =
@@ -291,7 +291,7 @@ module _ (setting : Setting) (journal : List Item) (s i : ℕ) (header : Header)
   own : (i == i) ≡ true
   own = eq-eqb i i refl
 
-  dropped : WayCause setting before (item.Dropped i)
+  dropped : PacketCause setting before (item.Dropped i)
       → Fate setting journal s i header (before ++ item.Dropped i ∷ [])
   dropped way =
       let now = ended_by (item.Dropped i) (rw own refl) refl in
@@ -329,7 +329,7 @@ module _ (setting : Setting) (journal : List Item) (s i : ℕ) (header : Header)
       })
 
   -- a packet is lost only by rows of its own or of a crash
-  not_lost : WayCause setting before (item.Lost i) → ⊥
+  not_lost : PacketCause setting before (item.Lost i) → ⊥
   not_lost way = elim way.how [
     | inl row ↦ let moved : moves (Lose i) ≡ true = follows.step (Lose i) row in cc
     | inr crash ↦
@@ -437,7 +437,7 @@ module _ (setting : Setting) (journal : List Item) (s i : ℕ) (header : Header)
       pass_on (item.Entered packet t other) (rw apart refl) refl
   fate_next net converged updated known (item.Dropped packet) strong =
       of_packet item.Dropped packet (λ apart. pass_on (item.Dropped packet) (rw apart refl) refl)
-      (λ is. dropped (subst (λ k. WayCause setting before (item.Dropped k)) is strong.0))
+      (λ is. dropped (subst (λ k. PacketCause setting before (item.Dropped k)) is strong.0))
   fate_next net converged updated known (item.Left packet port leaving) strong =
       of_packet (λ k. item.Left k port leaving) packet
       (λ apart. pass_on (item.Left packet port leaving) (rw apart refl) refl)
@@ -445,7 +445,7 @@ module _ (setting : Setting) (journal : List Item) (s i : ℕ) (header : Header)
       (subst (λ k. FurtherCause setting before (item.Left k port leaving)) is strong.1))
   fate_next net converged updated known (item.Lost packet) strong =
       of_packet item.Lost packet (λ apart. pass_on (item.Lost packet) (rw apart refl) refl)
-      (λ is. absurd (not_lost (subst (λ k. WayCause setting before (item.Lost k)) is strong.0)))
+      (λ is. absurd (not_lost (subst (λ k. PacketCause setting before (item.Lost k)) is strong.0)))
   fate_next net converged updated known (item.Stuck packet t cause leg down) strong =
       of_packet (λ k. item.Stuck k t cause leg down) packet
       (λ apart. pass_on (item.Stuck packet t cause leg down) (rw apart refl) refl)

@@ -24,7 +24,7 @@ use Rattle.update_machine.specs.Packets.{decision_of, next_packet}
 use Rattle.update_machine.specs.Pieces.{piece}
 use Rattle.update_machine.specs.Setting.{Setting}
 use Rattle.update_machine.specs.Versions.{plan_at, policy_at, version_count}
-use Rattle.update_machine.specs.Ways.{targets_of}
+use Rattle.update_machine.specs.PacketRoutes.{targets_of}
 use Rattle.convergence_laws.specs.Converged.{Reaches}
 
 -- the packet got, by the newest version of `before`, the first match of this header, with this

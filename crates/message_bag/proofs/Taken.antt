@@ -7,11 +7,11 @@ use Rattle.message_bag.specs.KeptFrames.{IsPosted}
 use Rattle.wire.specs.Frames.{frames}
 use Rattle.message_bag.specs.Deliveries as statuses
 use Rattle.message_bag.specs.Posts.{IsMessageOf, is_post_deliverable}
-use Rattle.message_bag.specs.declared.deliveries.Status.{Status}
+use Rattle.message_bag.specs.declared.deliveries.MessageState.{MessageState}
 use Rattle.message_bag.proofs.Framed.{framed_is}
 use Rattle.message_bag.proofs.Zipped.{deliverable_same, deliverable_within, the_frames}
 
-module _ {E : Type 0} (all : List (List (List ℕ))) (states : List Status) (number : ℕ)
+module _ {E : Type 0} (all : List (List (List ℕ))) (states : List MessageState) (number : ℕ)
     (same : length all ≡ length states)
     (is : statuses.is_deliverable states number ≡ true) where
   -- a message that isn't forgotten is there

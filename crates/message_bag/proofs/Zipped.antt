@@ -7,7 +7,7 @@ use Rattle.std.proofs.lemmas.Slice.Zip.{length-zip, seconds-zip}
 use Rattle.message_bag.specs.Deliveries.{is_deliverable, may_be_delivered}
 use Rattle.message_bag.specs.Numbered.{with_changed}
 use Rattle.message_bag.specs.Posts.{Post, frames_posted, remembered_frames, statuses_of, with_status}
-use Rattle.message_bag.specs.declared.deliveries.Status.{Status}
+use Rattle.message_bag.specs.declared.deliveries.MessageState.{MessageState}
 
 pub zip_pushed : {A B : Type 0} (xs : List A) (ys : List B) (x : A) (y : B) → length xs ≡ length ys
     → zip (xs ++ x ∷ []) (ys ++ y ∷ []) ≡ zip xs ys ++ (x, y) ∷ []
@@ -18,7 +18,7 @@ zip_pushed (a ∷ xs) (b ∷ ys) x y same =
     ap (λ more. (a, b) ∷ more) (zip_pushed xs ys x y (omega (arith, same)))
 
 -- what became of one changes
-zip_set : (change : Status → Status) (all : List (List (List ℕ))) (statuses : List Status) (i : ℕ)
+zip_set : (change : MessageState → MessageState) (all : List (List (List ℕ))) (statuses : List MessageState) (i : ℕ)
     → length all ≡ length statuses
     → zip all
     (option_map_or (λ status. set statuses i (change status)) (slice_get statuses i) statuses)
@@ -32,7 +32,7 @@ zip_set change (m ∷ all) (s ∷ statuses) (suc i) same =
     let rest = zip_set change all statuses i (omega (arith, same)) in
     by_one (slice_get statuses i) (slice_get (zip all statuses) i) rest
   where
-    by_one : (o : Option Status) (p : Option Post)
+    by_one : (o : Option MessageState) (p : Option Post)
         → zip all (option_map_or (λ status. set statuses i (change status)) o statuses)
         ≡ option_map_or (λ post. set (zip all statuses) i (with_status change post)) p
         (zip all statuses)
@@ -45,7 +45,7 @@ zip_set change (m ∷ all) (s ∷ statuses) (suc i) same =
     by_one (Some o) None is = ap (λ more. (m, s) ∷ more) is
     by_one (Some o) (Some p) is = ap (λ more. (m, s) ∷ more) is
 
-zip_changed : (change : Status → Status) (all : List (List (List ℕ))) (statuses : List Status)
+zip_changed : (change : MessageState → MessageState) (all : List (List (List ℕ))) (statuses : List MessageState)
     (number : ℕ) → length all ≡ length statuses
     → zip all (with_changed change statuses number)
     ≡ with_changed (with_status change) (zip all statuses) number
@@ -54,19 +54,19 @@ zip_changed change all statuses (suc place) same =
     zip_set change all statuses place same
 
 -- so the posts change, by whatever name they go
-pub posts_changed : (change : Status → Status) (all : List (List (List ℕ)))
-    (statuses after : List Status) (posts : List Post) (number : ℕ) → length all ≡ length statuses
+pub posts_changed : (change : MessageState → MessageState) (all : List (List (List ℕ)))
+    (statuses after : List MessageState) (posts : List Post) (number : ℕ) → length all ≡ length statuses
     → zip all statuses ≡ posts → after ≡ with_changed change statuses number
     → zip all after ≡ with_changed (with_status change) posts number
 posts_changed change all statuses after posts number same are made =
     ap (zip all) made ∙ zip_changed change all statuses number same
     ∙ ap (λ posts. with_changed (with_status change) posts number) are
 
-pub statuses_of_zip : (all : List (List (List ℕ))) (statuses : List Status)
+pub statuses_of_zip : (all : List (List (List ℕ))) (statuses : List MessageState)
     → length all ≡ length statuses → statuses_of (zip all statuses) ≡ statuses
 statuses_of_zip all statuses same = seconds-zip all statuses (sym same)
 
-pub length_of_zip : (all : List (List (List ℕ))) (statuses : List Status)
+pub length_of_zip : (all : List (List (List ℕ))) (statuses : List MessageState)
     → length all ≡ length statuses → length (zip all statuses) ≡ length statuses
 length_of_zip all statuses same = length-zip all statuses
     ∙ ap (λ n. min n (length statuses)) same ∙ itself (length statuses)
@@ -77,7 +77,7 @@ length_of_zip all statuses same = length-zip all statuses
 -- ---- the frames of a number
 
 -- what the bag says of a number its deliveries say
-pub deliverable_same : (all : List (List (List ℕ))) (statuses : List Status) (number : ℕ)
+pub deliverable_same : (all : List (List (List ℕ))) (statuses : List MessageState) (number : ℕ)
     → length all ≡ length statuses
     → is_deliverable statuses number ≡ is_some (frames_posted (zip all statuses) number)
 deliverable_same all statuses zero same = refl
@@ -87,7 +87,7 @@ deliverable_same all statuses (suc place) same = at_place all statuses place sam
     by_flag true m = refl
     by_flag false m = refl
 
-    at_place : (all : List (List (List ℕ))) (statuses : List Status) (i : ℕ)
+    at_place : (all : List (List (List ℕ))) (statuses : List MessageState) (i : ℕ)
         → length all ≡ length statuses → option_map_or may_be_delivered (slice_get statuses i) false
         ≡ is_some (option_and_then remembered_frames (slice_get (zip all statuses) i))
     at_place [] [] i same = refl
@@ -97,14 +97,14 @@ deliverable_same all statuses (suc place) same = at_place all statuses place sam
     at_place (m ∷ all) (s ∷ statuses) (suc i) same = at_place all statuses i (omega (arith, same))
 
 -- by whatever name the posts go
-pub deliverable_as : (all : List (List (List ℕ))) (statuses : List Status) (posts : List Post)
+pub deliverable_as : (all : List (List (List ℕ))) (statuses : List MessageState) (posts : List Post)
     (number : ℕ) → length all ≡ length statuses → zip all statuses ≡ posts
     → is_deliverable statuses number ≡ is_some (frames_posted posts number)
 deliverable_as all statuses posts number same are = deliverable_same all statuses number same
     ∙ ap (λ posts. is_some (frames_posted posts number)) are
 
 -- those of a message that isn't forgotten are the frames that are kept under its number
-pub the_frames : (all : List (List (List ℕ))) (statuses : List Status) (number : ℕ)
+pub the_frames : (all : List (List (List ℕ))) (statuses : List MessageState) (number : ℕ)
     (fs : List (List ℕ)) → is_deliverable statuses number ≡ true
     → slice_get all (number - 1) ≡ Some fs → frames_posted (zip all statuses) number ≡ Some fs
 the_frames all statuses zero fs is kept = absurd cc
@@ -112,7 +112,7 @@ the_frames all statuses (suc place) fs is kept =
     let at : suc place - 1 ≡ place = omega arith in
     at_place all statuses place is (ap (slice_get all) (sym at) ∙ kept)
   where
-    at_place : (all : List (List (List ℕ))) (statuses : List Status) (i : ℕ)
+    at_place : (all : List (List (List ℕ))) (statuses : List MessageState) (i : ℕ)
         → option_map_or may_be_delivered (slice_get statuses i) false ≡ true
         → slice_get all i ≡ Some fs
         → option_and_then remembered_frames (slice_get (zip all statuses) i) ≡ Some fs
@@ -126,14 +126,14 @@ the_frames all statuses (suc place) fs is kept =
     at_place (m ∷ all) (s ∷ statuses) (suc i) is kept = at_place all statuses i is kept
 
 -- such a number is one of a message
-pub deliverable_within : (statuses : List Status) (number : ℕ)
+pub deliverable_within : (statuses : List MessageState) (number : ℕ)
     → is_deliverable statuses number ≡ true
     → (1 ≤ number) × (number ≤ length statuses)
 deliverable_within statuses zero is = absurd cc
 deliverable_within statuses (suc place) is =
     let there = within statuses place is in (omega arith, omega (arith, there))
   where
-    within : (statuses : List Status) (i : ℕ)
+    within : (statuses : List MessageState) (i : ℕ)
         → option_map_or may_be_delivered (slice_get statuses i) false ≡ true → i < length statuses
     within [] i is = absurd cc
     within (s ∷ statuses) zero is = omega arith

@@ -4,48 +4,48 @@ use Rattle.std.specs.Prelude.{ℕ, ◌≡◌, ◌+◌, ◌-◌, ◌^◌, ◌<◌
 use Rattle.std.specs.List.{range_with_len}
 use Rattle.std.specs.Option.{option_map_or}
 use Rattle.message_bag.specs.Numbered.{item_numbered}
-use Rattle.message_bag.specs.declared.deliveries.Status.{Status}
+use Rattle.message_bag.specs.declared.deliveries.MessageState.{MessageState}
 
 -- of a message that is posted now
-abbrev pub waiting_status : Status
+abbrev pub waiting_status : MessageState
 waiting_status = record { delivered = false; forgotten = false }
 
-abbrev pub delivered_status : Status → Status
+abbrev pub delivered_status : MessageState → MessageState
 delivered_status status = record status { delivered = true }
 
-abbrev pub forgotten_status : Status → Status
+abbrev pub forgotten_status : MessageState → MessageState
 forgotten_status status = record status { forgotten = true }
 
-abbrev pub may_be_delivered : Status → Bool
+abbrev pub may_be_delivered : MessageState → Bool
 may_be_delivered status = not status.forgotten
 
-abbrev pub waits : Status → Bool
+abbrev pub waits : MessageState → Bool
 waits status = not status.delivered && not status.forgotten
 
 -- the number was posted, and isn't forgotten
-abbrev pub is_deliverable : List Status → ℕ → Bool
+abbrev pub is_deliverable : List MessageState → ℕ → Bool
 is_deliverable statuses number = option_map_or may_be_delivered (item_numbered statuses number)
     false
 
 -- the number was posted, was never delivered, and isn't forgotten
-abbrev pub is_waiting : List Status → ℕ → Bool
+abbrev pub is_waiting : List MessageState → ℕ → Bool
 is_waiting statuses number = option_map_or waits (item_numbered statuses number) false
 
 -- the least number at or above `from` of a message that waits
-abbrev pub next_waiting : List Status → ℕ → Option ℕ
+abbrev pub next_waiting : List MessageState → ℕ → Option ℕ
 next_waiting statuses from =
     find (is_waiting statuses) (range_with_len from (length statuses + 1 - from))
 
 -- the numbers fit 32 bits, and those up to a number were passed, which is to say that none of them
 -- waits and the next one does, where there is one
-pub record ArePassed (passed : ℕ) (statuses : List Status) : Type 0 where
+pub record ArePassed (passed : ℕ) (statuses : List MessageState) : Type 0 where
   pub few : length statuses < 2 ^ 32
   pub within : passed ≤ length statuses
   pub here : passed < length statuses → is_waiting statuses (passed + 1) ≡ true
   pub none : (number : ℕ) → number ≤ passed → is_waiting statuses number ≡ false
 
 -- the least place at or above one whose message waits; none does up to the place, if it is the end
-pub record IsFirstWaiting (statuses : List Status) (from : ℕ) (place : ℕ) : Type 0 where
+pub record IsFirstWaiting (statuses : List MessageState) (from : ℕ) (place : ℕ) : Type 0 where
   pub above : from ≤ place
   pub within : from ≤ length statuses → place ≤ length statuses
   pub here : place < length statuses → is_waiting statuses (place + 1) ≡ true

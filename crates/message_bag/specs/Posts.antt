@@ -7,21 +7,21 @@ use Rattle.wire.specs.Frames.{frames}
 use Rattle.wire.specs.Messages.{message as form}
 use Rattle.message_bag.specs.Deliveries as statuses
 use Rattle.message_bag.specs.Numbered.{item_numbered, with_changed}
-use Rattle.message_bag.specs.declared.deliveries.Status.{Status}
+use Rattle.message_bag.specs.declared.deliveries.MessageState.{MessageState}
 
 -- the frames of a message; one that has no spelling has none
 unfoldable pub posted_frames : Message → List (List ℕ)
 posted_frames message = if form.fits message then frames message else []
 
 abbrev pub Post : Type 0
-Post = List (List ℕ) × Status
+Post = List (List ℕ) × MessageState
 
 -- a message that is posted now
 abbrev pub new_post : Message → Post
 new_post message = (posted_frames message, statuses.waiting_status)
 
 -- what became of each
-abbrev pub statuses_of : List Post → List Status
+abbrev pub statuses_of : List Post → List MessageState
 statuses_of posts = map (λ (post : Post). post.1) posts
 
 -- the frames of a post that isn't forgotten
@@ -46,7 +46,7 @@ abbrev pub next_waiting_post : List Post → ℕ → Option ℕ
 next_waiting_post posts from = statuses.next_waiting (statuses_of posts) from
 
 -- another thing became of a message
-abbrev pub with_status : (Status → Status) → Post → Post
+abbrev pub with_status : (MessageState → MessageState) → Post → Post
 with_status change post = (post.0, change post.1)
 
 -- the message of the number was delivered, perhaps once more

@@ -3,26 +3,26 @@
 ghost use Rattle.std.specs.Prelude.{◌≡◌, ◌<◌, ◌+◌, ◌-◌, ◌^◌, [], ◌∷◌, ◌++◌, List, length, IsTrue, OnOk, OnErr};
 ghost use Rattle.message_bag.specs.Deliveries.{delivered_status, forgotten_status, is_deliverable, may_be_delivered, next_waiting, waiting_status, waits, IsFirstWaiting};
 ghost use Rattle.message_bag.specs.Numbered.{with_changed};
-ghost use Rattle.message_bag.specs.declared.deliveries.Status.{Status};
+ghost use Rattle.message_bag.specs.declared.deliveries.MessageState.{MessageState};
 
 use std::alloc::{AllocError, Global};
 use std::marker::Model;
 
 /// What became of a message.
 #[derive(Clone, Copy, Debug, Drop)]
-pub struct Status {
+pub struct MessageState {
     /// It was delivered at least once.
     pub delivered: bool,
     /// It is never delivered again.
     pub forgotten: bool,
 }
 
-impl Status {
+impl MessageState {
     // Of a message that is posted now.
-    fn waiting() -> Status
+    fn waiting() -> MessageState
         ensures { result ≡ waiting_status }
     {
-        Status {
+        MessageState {
             delivered: false,
             forgotten: false,
         }
@@ -40,7 +40,7 @@ impl Status {
 /// them. Contracts see the list.
 #[derive(Drop)]
 pub struct Deliveries {
-    statuses: Vec<Status>,
+    statuses: Vec<MessageState>,
     // No message up to this number waits, and the next one does, where there is one. So it rises
     // past each message once, and a search from 1 begins where it ends; so does one from behind the
     // message that such a search gave and that was delivered since. Flushes look at each message
@@ -51,9 +51,9 @@ pub struct Deliveries {
 impl Model for Deliveries {
     ghost use Rattle.std.specs.Prelude.{List};
     ghost use Rattle.message_bag.specs.Deliveries.{ArePassed};
-    ghost use Rattle.message_bag.specs.declared.deliveries.Status.{Status};
+    ghost use Rattle.message_bag.specs.declared.deliveries.MessageState.{MessageState};
 
-    ghost Value = { List Status };
+    ghost Value = { List MessageState };
 
     ghost view = { λ d. d.statuses.items };
 
@@ -80,14 +80,14 @@ impl Deliveries {
         ensures added { OnOk result (self.new ≡ self.old ++ waiting_status ∷ []) }
         ensures unchanged { OnErr result (self.new ≡ self.old) }
     {
-        self.statuses.push(Status::waiting())?;
+        self.statuses.push(MessageState::waiting())?;
         Ok(())
     }
 
     /// The last message, which waits, isn't there after all.
     pub(crate) fn take_back(&mut self)
-        requires { (before : List Status) × (self.old ≡ before ++ waiting_status ∷ []) }
-        ensures { (before : List Status) → self.old ≡ before ++ waiting_status ∷ []
+        requires { (before : List MessageState) × (self.old ≡ before ++ waiting_status ∷ []) }
+        ensures { (before : List MessageState) → self.old ≡ before ++ waiting_status ∷ []
             → self.new ≡ before }
     {
         self.statuses.truncate(self.statuses.len() - 1);
@@ -148,7 +148,7 @@ impl Deliveries {
 
 // The least place at or above this one of a message that waits; where there is none, the number of
 // messages, or this place if it lies above.
-fn first_waiting(statuses: &[Status], from: u32) -> u32
+fn first_waiting(statuses: &[MessageState], from: u32) -> u32
     requires { length statuses.now < 2 ^ 32 }
     ensures { IsFirstWaiting statuses.now from result }
 {

@@ -29,14 +29,14 @@ mod bag;
 mod deliveries;
 mod digest;
 mod firsts;
+mod last_adverts;
 mod laws;
 mod post_bag;
 mod reading;
 mod tables;
-mod told;
 
 pub use bag::Bag;
-pub use deliveries::{Deliveries, Status};
+pub use deliveries::{Deliveries, MessageState};
 pub use laws::{
     frames_are_of_one_message, frames_behind_the_first_carry_the_tables, frames_come_in_any_order,
     frames_of_another_version,

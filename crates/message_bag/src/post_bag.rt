@@ -4,7 +4,7 @@ ghost use Rattle.message_bag.specs.Feeding.{HasShortSpelling};
 
 use crate::bag::Bag;
 use crate::deliveries::Deliveries;
-use crate::told::Told;
+use crate::last_adverts::LastAdverts;
 use base::Shared;
 use ctrl_msg::Message;
 use std::alloc::{AllocError, Global};
@@ -18,7 +18,7 @@ pub struct PostBag {
     frames: Bag,
     deliveries: Deliveries,
     // Adverts that were shared.
-    told: Told,
+    told: LastAdverts,
 }
 
 impl Model for PostBag {
@@ -41,7 +41,7 @@ impl PostBag {
         PostBag {
             frames: Bag::new(alloc),
             deliveries: Deliveries::new(alloc),
-            told: Told::new(alloc),
+            told: LastAdverts::new(alloc),
         }
     }
 

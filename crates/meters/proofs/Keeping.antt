@@ -9,7 +9,7 @@ use Rattle.std.proofs.lemmas.Bool.Decides.{nat_tests}
 use Rattle.std.proofs.lemmas.List.Elements.{filter-append}
 use Rattle.std.proofs.lemmas.Bool.{ne_eqb}
 use Rattle.policy_rules.specs.declared.packet.Leaving.{Leaving}
-use Rattle.meters.specs.Meters.{PortLeavings, meter_with, has_ended, is_over_within, leavings_of, meters_after, IsNoted}
+use Rattle.meters.specs.Meters.{PortLeavings, meter_with, has_ended, is_ended_within, leavings_of, meters_after, IsNoted}
 use Rattle.meters.specs.Seen.{Seen}
 use Rattle.meters.specs.declared.meter.Stay.TheVariants as stay
 
@@ -28,8 +28,8 @@ holding-append left more meter =
     ap (λ held. record meter { held = held }) (sym (append_assoc meter.held left more))
 
 is_over_within-cons : (one : Leaving) (more : List Leaving) (meter : Seen)
-    → is_over_within (one ∷ more) meter
-    ≡ (has_ended (meter_with (one ∷ []) meter) || is_over_within more (meter_with (one ∷ []) meter))
+    → is_ended_within (one ∷ more) meter
+    ≡ (has_ended (meter_with (one ∷ []) meter) || is_ended_within more (meter_with (one ∷ []) meter))
 is_over_within-cons one more meter =
     ap (λ rest. has_ended (meter_with (one ∷ []) meter) || rest) (list_any-shift
     (λ k. has_ended (meter_with (take k (one ∷ more)) meter))
@@ -38,20 +38,20 @@ is_over_within-cons one more meter =
     1 (length more))
 
 is_over_within-append : (left more : List Leaving) (meter : Seen)
-    → is_over_within (left ++ more) meter
-    ≡ (is_over_within left meter || is_over_within more (meter_with left meter))
+    → is_ended_within (left ++ more) meter
+    ≡ (is_ended_within left meter || is_ended_within more (meter_with left meter))
 is_over_within-append [] more meter =
-    ap (λ held. is_over_within more (record meter { held = held })) (sym (append-nil meter.held))
+    ap (λ held. is_ended_within more (record meter { held = held })) (sym (append-nil meter.held))
 is_over_within-append (one ∷ left) more meter =
     let now = meter_with (one ∷ []) meter in
-    let then : Bool = is_over_within more (meter_with left now) in
+    let then : Bool = is_ended_within more (meter_with left now) in
     let same : meter_with (one ∷ left) meter ≡ meter_with left now =
     holding-append (one ∷ []) left meter in
     is_over_within-cons one (left ++ more) meter
     ∙ ap (λ rest. has_ended now || rest) (is_over_within-append left more now)
-    ∙ sym (or_assoc (has_ended now) (is_over_within left now) then)
+    ∙ sym (or_assoc (has_ended now) (is_ended_within left now) then)
     ∙ ap (λ before. before || then) (sym (is_over_within-cons one left meter))
-    ∙ ap (λ held. is_over_within (one ∷ left) meter || is_over_within more held) (sym same)
+    ∙ ap (λ held. is_ended_within (one ∷ left) meter || is_ended_within more held) (sym same)
 
 leavings_of-append : (port : ℕ) (left more : PortLeavings)
     → leavings_of port (left ++ more) ≡ leavings_of port left ++ leavings_of port more
@@ -79,12 +79,12 @@ map-cond f meter true = refl
 map-cond f meter false = refl
 
 pub kept-one : (left : PortLeavings) (meter : Seen)
-    → meters_after left (meter ∷ []) ≡ cond (is_over_within (leavings_of meter.port left) meter) []
+    → meters_after left (meter ∷ []) ≡ cond (is_ended_within (leavings_of meter.port left) meter) []
     (meter_with (leavings_of meter.port left) meter ∷ [])
 unfolding meters_after
 kept-one left meter =
     map-cond (λ m. meter_with (leavings_of m.port left) m) meter
-    (is_over_within (leavings_of meter.port left) meter)
+    (is_ended_within (leavings_of meter.port left) meter)
 
 map-chosen : {M : Type 0} (seen : M → Seen) (first : M) (chosen : Bool) (some : List M)
     → (others : List Seen) → map seen some ≡ others
@@ -117,7 +117,7 @@ leavings_elsewhere port leaving meter apart =
 
 over_after_one : (leaving : Leaving) (old new : Seen) (over : Bool)
     → new ≡ meter_with (leaving ∷ []) old → has_ended new ≡ over
-    → is_over_within (leaving ∷ []) old ≡ (over || false)
+    → is_ended_within (leaving ∷ []) old ≡ (over || false)
 over_after_one leaving old new over is_new is_over_now =
     ap (λ now. now || false) (ap has_ended (sym is_new) ∙ is_over_now)
 
@@ -219,7 +219,7 @@ after_all seen left meters at past =
     rw (take_all at meters past, drop_of_length-le meters past, append-nil) refl
 
 kept-cond : (more : PortLeavings) (meter : Seen) (over : Bool)
-    → cond (over || is_over_within (leavings_of meter.port more) meter) []
+    → cond (over || is_ended_within (leavings_of meter.port more) meter) []
     (meter_with (leavings_of meter.port more) meter ∷ [])
     ≡ meters_after more (cond over [] (meter ∷ []))
 unfolding meters_after
@@ -238,7 +238,7 @@ kept_on_one left more meter =
       is_over_within-append before after meter,
       holding-append before after meter,
     )
-    (kept-cond more (meter_with before meter) (is_over_within before meter))
+    (kept-cond more (meter_with before meter) (is_ended_within before meter))
 
 -- who stays through all leavings stays through the earlier ones, and from there through the others
 pub kept_on : (left more : PortLeavings) (meters : List Seen)

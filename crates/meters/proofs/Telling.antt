@@ -4,7 +4,7 @@ use Rattle.std.specs.List.{flat_map, remove}
 use Rattle.std.proofs.Math.ListN.{drop_of_length-le}
 use Rattle.std.proofs.lemmas.List.{append-nil, append_assoc}
 use Rattle.policy_rules.specs.declared.packet.Leaving.{Leaving}
-use Rattle.meters.specs.Gone.{BoardValue, board_after, gone_after, gone_records, told_by}
+use Rattle.meters.specs.Gone.{BoardValue, board_after, gone_after, gone_records, leaving_records}
 use Rattle.meters.specs.Meters.{PortLeavings, kept_meters, meters_after}
 use Rattle.meters.specs.Seen.{Seen}
 use Rattle.meters.specs.declared.flows.FlowRecord.{FlowRecord}
@@ -14,10 +14,10 @@ use Rattle.meters.proofs.Keeping.{drop_at, drop_removed, drop_set, kept-nothing,
 
 module _ {M : Type 0} (seen : M → Seen) (one : ℕ × Leaving) where
   abbrev told : List M → List FlowRecord
-  told meters = flat_map (told_by one) (map seen meters)
+  told meters = flat_map (leaving_records one) (map seen meters)
 
   first_tells : (gone told_now : List FlowRecord) (meters : List M) (at : ℕ) (old : M)
-      → at < length meters → get_or meters at old ≡ old → told_by one (seen old) ≡ told_now
+      → at < length meters → get_or meters at old ≡ old → leaving_records one (seen old) ≡ told_now
       → gone ++ told (drop at meters) ≡ (gone ++ told_now) ++ told (drop (at + 1) meters)
   first_tells gone told_now meters at old within is_old tells =
       ap (λ rest. gone ++ told rest) (drop_at meters at old within is_old)
@@ -25,7 +25,7 @@ module _ {M : Type 0} (seen : M → Seen) (one : ℕ × Leaving) where
       ∙ sym (append_assoc gone told_now (told (drop (at + 1) meters)))
 
   pub told_stay : (gone : List FlowRecord) (meters : List M) (at : ℕ) (old new : M)
-      → at < length meters → get_or meters at old ≡ old → told_by one (seen old) ≡ []
+      → at < length meters → get_or meters at old ≡ old → leaving_records one (seen old) ≡ []
       → gone ++ told (drop at meters) ≡ gone ++ told (drop (at + 1) (set meters at new))
   told_stay gone meters at old new within is_old silent =
       first_tells gone [] meters at old within is_old silent
@@ -34,7 +34,7 @@ module _ {M : Type 0} (seen : M → Seen) (one : ℕ × Leaving) where
 
   pub told_leave : (gone told_now : List FlowRecord) (meters after : List M) (at : ℕ)
       → (old new : M) → at < length meters → get_or meters at old ≡ old
-      → told_by one (seen old) ≡ told_now → after ≡ remove (set meters at new) at
+      → leaving_records one (seen old) ≡ told_now → after ≡ remove (set meters at new) at
       → gone ++ told (drop at meters) ≡ (gone ++ told_now) ++ told (drop at after)
   told_leave gone told_now meters after at old new within is_old tells is_after =
       first_tells gone told_now meters at old within is_old tells
@@ -55,7 +55,7 @@ pub gone_on : (left more : PortLeavings) (meters : List Seen)
 gone_on [] more meters = ap (gone_after more) (sym (kept-nothing meters))
 gone_on (one ∷ left) more meters =
     let now = meters_after (one ∷ []) meters in
-    let first = flat_map (told_by one) meters in
+    let first = flat_map (leaving_records one) meters in
     ap (λ rest. first ++ rest) (gone_on left more now
     ∙ ap (λ last. gone_after left now ++ gone_after more last) (sym (kept_on (one ∷ []) left meters)))
     ∙ sym (append_assoc first (gone_after left now) (gone_after more (meters_after (one ∷ left) meters)))

@@ -2,7 +2,7 @@
 use Rattle.std.specs.Prelude.{◌≡◌, ◌==◌, ◌&&◌, if◌then◌else◌, ℕ, Bool, List, [], ◌∷◌, ◌++◌, map, filter, flat_map}
 use Rattle.base.specs.Masks.{has}
 use Rattle.policy_rules.specs.declared.packet.Leaving.{Leaving}
-use Rattle.meters.specs.Meters.{PortLeavings, has_ended, kept_meters, meter_with, meters_after, records_of}
+use Rattle.meters.specs.Meters.{PortLeavings, has_ended, kept_meters, meter_with, meters_after, flow_records_of}
 use Rattle.meters.specs.Seen.{Seen}
 use Rattle.meters.specs.declared.flows.FlowRecord.{FlowRecord}
 
@@ -11,15 +11,15 @@ abbrev pub leaves_with : ℕ × Leaving → Seen → Bool
 leaves_with one meter = (one.0 == meter.port) && has_ended (meter_with (one.1 ∷ []) meter)
 
 -- the records of a meter that leaves with this leaving, for the list that it then holds
-abbrev pub told_by : ℕ × Leaving → Seen → List FlowRecord
-told_by one meter =
-    if leaves_with one meter then records_of (meter_with (one.1 ∷ []) meter) else []
+abbrev pub leaving_records : ℕ × Leaving → Seen → List FlowRecord
+leaving_records one meter =
+    if leaves_with one meter then flow_records_of (meter_with (one.1 ∷ []) meter) else []
 
 -- the records of the meters that leave while packets leave, leaving by leaving and meter by meter
 abbrev pub gone_after : PortLeavings → List Seen → List FlowRecord
 gone_after [] meters = []
 gone_after (one ∷ left) meters =
-    flat_map (told_by one) meters ++ gone_after left (meters_after (one ∷ []) meters)
+    flat_map (leaving_records one) meters ++ gone_after left (meters_after (one ∷ []) meters)
 
 -- the records of the meters that leave in a network with these ports
 abbrev pub gone_records : ℕ → PortLeavings → List Seen → List FlowRecord
@@ -41,7 +41,7 @@ board_after ports left meters = record {
 }
 
 -- where the old board is the one behind some leavings, the new one is the one behind one more
-abbrev pub GoesOn : ℕ × Leaving → BoardValue Seen → BoardValue Seen → Type 0
-GoesOn one old new =
+abbrev pub GainsLeaving : ℕ × Leaving → BoardValue Seen → BoardValue Seen → Type 0
+GainsLeaving one old new =
     (ports : ℕ) (left : PortLeavings) (meters : List Seen) → old ≡ board_after ports left meters
     → new ≡ board_after ports (left ++ one ∷ []) meters

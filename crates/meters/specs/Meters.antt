@@ -27,8 +27,8 @@ abbrev pub has_ended : Seen → Bool
 has_ended meter = meter.is_ended meter.held
 
 -- the flow records of its list
-abbrev pub records_of : Seen → List FlowRecord
-records_of meter = meter.recorded meter.held
+abbrev pub flow_records_of : Seen → List FlowRecord
+flow_records_of meter = meter.recorded meter.held
 
 -- what a note of a leaving makes of a meter, by its answer
 abbrev pub IsNoted : Leaving → Seen → Seen → Stay → Type 0
@@ -45,15 +45,15 @@ abbrev pub leavings_of : ℕ → PortLeavings → List Leaving
 leavings_of port left = map (λ one. one.1) (filter (λ one. one.0 == port) left)
 
 -- its list, followed by the first k of these leavings, is ended for some k from 1
-abbrev pub is_over_within : List Leaving → Seen → Bool
-is_over_within more meter =
+abbrev pub is_ended_within : List Leaving → Seen → Bool
+is_ended_within more meter =
     list_any (λ k. has_ended (meter_with (take k more) meter)) (range_with_len 1 (length more))
 
 -- the meters that stay while packets leave, in order, each with all leavings of its port
 unfoldable pub meters_after : PortLeavings → List Seen → List Seen
 meters_after left meters =
     map (λ meter. meter_with (leavings_of meter.port left) meter)
-    (filter (λ meter. not (is_over_within (leavings_of meter.port left) meter)) meters)
+    (filter (λ meter. not (is_ended_within (leavings_of meter.port left) meter)) meters)
 
 -- the meters that stay in a network with these ports
 abbrev pub kept_meters : ℕ → PortLeavings → List Seen → List Seen

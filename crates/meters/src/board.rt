@@ -1,8 +1,8 @@
 //! The meters of a network's ports.
 ghost use Rattle.std.specs.Prelude.{◌≡◌, ◌∷◌, ◌++◌, [], map, filter, OnOk};
 ghost use Rattle.base.specs.Masks.{has};
-ghost use Rattle.meters.specs.Meters.{meters_after, kept_meters, records_of};
-ghost use Rattle.meters.specs.Gone.{GoesOn, gone_after, seen_board, told_by};
+ghost use Rattle.meters.specs.Meters.{meters_after, kept_meters, flow_records_of};
+ghost use Rattle.meters.specs.Gone.{GainsLeaving, gone_after, seen_board, leaving_records};
 
 use crate::flows::Flows;
 use crate::meter::{Meter, Stay};
@@ -49,7 +49,7 @@ impl<M: Meter> Board<M> {
         ensures told { OnOk result (self.new.gone
             ≡ self.old.gone ++ gone_after ((port, leaving.now) ∷ []) (map M.seen self.old.meters)) }
         ensures goes_on { OnOk result
-            (GoesOn (port, leaving.now) (seen_board M.seen self.old) (seen_board M.seen self.new)) }
+            (GainsLeaving (port, leaving.now) (seen_board M.seen self.old) (seen_board M.seen self.new)) }
     {
         let mut at = 0;
         while at < self.meters.len() {
@@ -96,9 +96,9 @@ fn offer<M: Meter>(meter: &mut M, port: u32, leaving: &Leaving) -> Stay
     ensures leave { result ≡ Stay.Leave
         → meters_after ((port, leaving.now) ∷ []) (M.seen meter.old ∷ []) ≡ [] }
     ensures silent { result ≡ Stay.Stay
-        → told_by (port, leaving.now) (M.seen meter.old) ≡ [] }
+        → leaving_records (port, leaving.now) (M.seen meter.old) ≡ [] }
     ensures told { result ≡ Stay.Leave
-        → told_by (port, leaving.now) (M.seen meter.old) ≡ records_of (M.seen meter.new) }
+        → leaving_records (port, leaving.now) (M.seen meter.old) ≡ flow_records_of (M.seen meter.new) }
 {
     if meter.port() == port {
         meter.note(leaving)

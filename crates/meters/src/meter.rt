@@ -1,6 +1,6 @@
 //! What each kind of meter promises.
 ghost use Rattle.std.specs.Prelude.{◌≡◌, length, IfOk};
-ghost use Rattle.meters.specs.Meters.{IsNoted, records_of};
+ghost use Rattle.meters.specs.Meters.{IsNoted, flow_records_of};
 ghost use Rattle.meters.specs.Seen.{Seen};
 
 use crate::flows::Flows;
@@ -40,7 +40,7 @@ pub trait Meter: Drop {
     /// # Errors
     /// Want of memory alone.
     fn records(&self) -> Result<Flows, AllocError>
-        ensures { IfOk result (λ flows. flows ≡ records_of (seen self.now)) };
+        ensures { IfOk result (λ flows. flows ≡ flow_records_of (seen self.now)) };
 }
 
 impl Meter for Box<dyn Meter> {

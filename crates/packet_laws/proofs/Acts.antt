@@ -24,7 +24,7 @@ use Rattle.packet_laws.specs.Facts.{PacketFacts, what_is_known}
 use Rattle.packet_laws.specs.KeptFacts.{AllKept}
 use Rattle.packet_laws.specs.Rest.{AreResting}
 use Rattle.packet_laws.specs.Stages.{stage_of}
-use Rattle.packet_laws.specs.WayCauses.{IsAt}
+use Rattle.packet_laws.specs.PacketCauses.{IsAt}
 use Rattle.packet_laws.proofs.AllKept.{all_kept}
 use Rattle.packet_laws.proofs.Here.{IsHere, here_of, leg_in, seeking_of}
 use Rattle.packet_laws.proofs.Lookups.{FindsRule, authority_found, current_planned, rule_there}

@@ -23,7 +23,7 @@ use Rattle.update_machine.specs.Packets.{decision_of, header_in, next_packet}
 use Rattle.update_machine.specs.Setting.{Setting, IsSetting}
 use Rattle.update_machine.specs.Versions.{policy_at, plan_at, HasPlan}
 use Rattle.update_machine.specs.Travels.{leg_of, travels}
-use Rattle.update_machine.specs.Ways.{found_down}
+use Rattle.update_machine.specs.PacketRoutes.{found_down}
 use Rattle.update_machine.proofs.CallerLemmas.{step_stays, begins_planned}
 use Rattle.control_laws.proofs.Facts.{AreKept, Behind, fact_on, have_weaker, with_fact}
 use Rattle.control_laws.proofs.Grown.{message_more}
@@ -40,9 +40,9 @@ use Rattle.packet_laws.specs.Rules.{IsRightEntry, IsRightRule}
 use Rattle.packet_laws.specs.OnWay.{IsUnknown}
 use Rattle.packet_laws.specs.Facts.{is_of_packet, facts_after, what_is_known}
 use Rattle.packet_laws.proofs.PacketFacts.{facts_named, facts_other}
-use Rattle.packet_laws.specs.KeptFacts.{AllKept, BringsRight, IsJudged, IsKept}
+use Rattle.packet_laws.specs.KeptFacts.{AllKept, BringsRight, IsRightlyDecided, HasKeptFacts}
 use Rattle.packet_laws.specs.Stages.{Blocked, CameIn, Judged, OnWay, Stage, stage_of, gives_stage}
-use Rattle.packet_laws.specs.WayCauses.{SendsRightRule, SendsRule, WayCause}
+use Rattle.packet_laws.specs.PacketCauses.{SendsRightRule, SendsRule, PacketCause}
 use Rattle.packet_laws.proofs.CacheRules.{cache_rule_right}
 use Rattle.packet_laws.proofs.Caches.{cache_holds}
 use Rattle.packet_laws.proofs.Growing.{Grows, grows, kept_on, right_on}
@@ -106,19 +106,19 @@ knows setting before i known = record {
 -- the packet that an item names
 named_as : (setting : Setting) (before : List Item) (packet i : ℕ) (next : Item) (stage : Stage)
     → (packet == i) ≡ true → gives_stage i next ≡ Some stage
-    → IsKept setting before (facts_after (retired_mark before) next (what_is_known before packet))
+    → HasKeptFacts setting before (facts_after (retired_mark before) next (what_is_known before packet))
     (Some stage)
-    → IsKept setting before (facts_after (retired_mark before) next (what_is_known before i))
+    → HasKeptFacts setting before (facts_after (retired_mark before) next (what_is_known before i))
     (stage_of (before ++ next ∷ []) i)
 named_as setting before packet i next stage named tells kept =
-    subst (IsKept setting before (facts_after (retired_mark before) next (what_is_known before i)))
+    subst (HasKeptFacts setting before (facts_after (retired_mark before) next (what_is_known before i)))
     (sym (stage_more before next i stage tells))
-    (subst (λ k. IsKept setting before (facts_after (retired_mark before) next (what_is_known before k))
+    (subst (λ k. HasKeptFacts setting before (facts_after (retired_mark before) next (what_is_known before k))
     (Some stage)) (eqb-true packet i named) kept)
 
 named_after : (setting : Setting) (before : List Item) (next : Item) (i : ℕ)
-    → Before setting before → WayCause setting before next → is_of_packet i next ≡ true
-    → IsKept setting before (facts_after (retired_mark before) next (what_is_known before i))
+    → Before setting before → PacketCause setting before next → is_of_packet i next ≡ true
+    → HasKeptFacts setting before (facts_after (retired_mark before) next (what_is_known before i))
     (stage_of (before ++ next ∷ []) i)
 named_after setting before (item.Entered packet s header) i known way named =
     let own : NamesOwn setting (Packet s header) =
@@ -176,22 +176,22 @@ unnamed_stage i _ e = refl
 
 packets_on : (setting : Setting) (before : List Item) (next : Item) → Before setting before
     → IsWayItem setting before next → Grows setting before (before ++ next ∷ []) → (i : ℕ)
-    → IsKept setting (before ++ next ∷ []) (what_is_known (before ++ next ∷ []) i)
+    → HasKeptFacts setting (before ++ next ∷ []) (what_is_known (before ++ next ∷ []) i)
     (stage_of (before ++ next ∷ []) i)
 packets_on setting before next known cause grow i = by_name (is_of_packet i next) refl
   where
     by_name : (b : Bool) → is_of_packet i next ≡ b
-        → IsKept setting (before ++ next ∷ []) (what_is_known (before ++ next ∷ []) i)
+        → HasKeptFacts setting (before ++ next ∷ []) (what_is_known (before ++ next ∷ []) i)
         (stage_of (before ++ next ∷ []) i)
     by_name true e =
-        subst (λ facts. IsKept setting (before ++ next ∷ []) facts
+        subst (λ facts. HasKeptFacts setting (before ++ next ∷ []) facts
         (stage_of (before ++ next ∷ []) i)) (sym (facts_named i before next e))
         (kept_on setting before (before ++ next ∷ []) _ _ grow
         (named_after setting before next i known cause.way e))
     by_name false e =
-        subst (λ facts. IsKept setting (before ++ next ∷ []) facts
+        subst (λ facts. HasKeptFacts setting (before ++ next ∷ []) facts
         (stage_of (before ++ next ∷ []) i)) (sym (facts_other i before next e))
-        (subst (IsKept setting (before ++ next ∷ []) (what_is_known before i))
+        (subst (HasKeptFacts setting (before ++ next ∷ []) (what_is_known before i))
         (sym (stage_stays before next i (unnamed_stage i next e)))
         (kept_on setting before (before ++ next ∷ []) _ _ grow (known.kept.packets i)))
 
@@ -199,7 +199,7 @@ packets_on setting before next known cause grow i = by_name (is_of_packet i next
 
 -- an item names a packet that travels, or the next one, which comes in
 named_travels : (setting : Setting) (before : List Item) (next : Item) (i : ℕ)
-    → WayCause setting before next → is_of_packet i next ≡ true
+    → PacketCause setting before next → is_of_packet i next ≡ true
     → IsTrue (travels before i)
     ⊎ ((i ≡ next_packet before) × (next_packet (before ++ next ∷ []) ≡ next_packet before + 1))
 named_travels setting before (item.Entered packet s header) i way named =
@@ -230,7 +230,7 @@ named_travels setting before (item.Stuck packet switch cause leg down) i way nam
 named_travels setting before next i way named = absurd cc
 
 unknown_on : (setting : Setting) (before : List Item) (next : Item) → Before setting before
-    → WayCause setting before next → (i : ℕ) → next_packet (before ++ next ∷ []) ≤ i
+    → PacketCause setting before next → (i : ℕ) → next_packet (before ++ next ∷ []) ≤ i
     → IsUnknown (what_is_known (before ++ next ∷ []) i)
 unknown_on setting before next known way i past = by_name (is_of_packet i next) refl
   where
@@ -269,7 +269,7 @@ told_right setting before message known tells =
     let here : IsHere setting before i s =
     here_of setting before i s (stage_of before i) known.is knows_it.have knows_it.kept tells.at in
     let header : Header = here.under.header in
-    let judged : IsJudged setting before (what_is_known before i) header =
+    let judged : IsRightlyDecided setting before (what_is_known before i) header =
     knows_it.kept.judged here.travelling tells.judged header here.under.entered in
     let rules : Rules setting before (what_is_known before i) header tells.found.version tells.found =
     rules_of setting before i s tells.found.version tells.found known.is knows_it.have here
@@ -295,12 +295,12 @@ told_right setting before message known tells =
     (sym rules.same) right))
 
 sent_right : (setting : Setting) (before : List Item) (number : ℕ) (message : Message)
-    → Before setting before → WayCause setting before (item.Sent number message)
+    → Before setting before → PacketCause setting before (item.Sent number message)
     → BringsRight setting before message.body
 sent_right setting before number message known way = by_body message.body refl way
   where
     by_body : (body : Body) → message.body ≡ body
-        → WayCause setting before (item.Sent number message)
+        → PacketCause setting before (item.Sent number message)
         → BringsRight setting before message.body
     by_body (CacheRule version word rule act) e way =
         told_right setting before message known

@@ -24,7 +24,7 @@ use Rattle.packet_laws.specs.Amended.{ChangesLeaveOthers, hit_in}
 use Rattle.packet_laws.specs.Facts.{what_is_known}
 use Rattle.packet_laws.specs.KeptFacts.{AllKept}
 use Rattle.packet_laws.specs.Stages.{stage_of}
-use Rattle.packet_laws.specs.WayCauses.{IsDecided, WayCause}
+use Rattle.packet_laws.specs.PacketCauses.{IsDecided, PacketCause}
 use Rattle.packet_laws.proofs.AllKept.{Before, kept_before, known_before, knows}
 use Rattle.packet_laws.proofs.Growing.{Grows, grows}
 use Rattle.packet_laws.proofs.Here.{IsHere, here_of, some_same}
@@ -99,7 +99,7 @@ decides_rightly setting before i version rule act by header known way entered =
     }
 
 right_next : (setting : Setting) (before : List Item) (next : Item) → Before setting before
-    → WayCause setting before next → AreRight setting before
+    → PacketCause setting before next → AreRight setting before
     → (i : ℕ) (header : Header) (decision : Decision)
     → option_or (gives_header i next) (header_in before i) ≡ Some header
     → option_or (gives_decision i next) (decision_of before i) ≡ Some decision

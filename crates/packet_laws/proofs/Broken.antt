@@ -27,14 +27,14 @@ use Rattle.update_machine.specs.Marks.{acked_stamp, controller_heard, current_ma
 use Rattle.update_machine.specs.Packets.{Decision, decision_of, header_in, standing}
 use Rattle.update_machine.specs.Setting.{IsPlanOf, Setting}
 use Rattle.update_machine.specs.Versions.{next_policy}
-use Rattle.update_machine.specs.Ways.{next_switch, route_in, route_place}
+use Rattle.update_machine.specs.PacketRoutes.{next_switch, route_in, route_place}
 use Rattle.update_machine.specs.LinkMasks.{near}
 use Rattle.update_machine.proofs.CallerLemmas.{ends_within}
 use Rattle.update_machine.proofs.ExampleVersions.{first_alone, of_first, of_second}
 use Rattle.update_machine.proofs.Examples.{all_dropped, any_word, on, one, open_net, other, plan_p, ring, line_of_three, rule}
 use Rattle.packet_laws.specs.Facts.{entry_mark}
 use Rattle.packet_laws.specs.StrongCauses.{StrongCause}
-use Rattle.packet_laws.specs.WayCauses.{IsLostInCrash, MovesOver}
+use Rattle.packet_laws.specs.PacketCauses.{IsLostInCrash, MovesOver}
 
 -- ---- packets that are stuck, where the one link failed
 

@@ -2,7 +2,7 @@
 use Rattle.std.proofs.Common.{ℕ, suc, ◌≡◌, ◌≤◌, ◌∙◌, ◌⊎◌, Some, List, sym, subst, inl, inr, arith, All, Contains, false}
 use Rattle.std.proofs.lemmas.List.Elements.{All-contains, All-weaker}
 use Rattle.switch_table.specs.Cache.{CacheValue}
-use Rattle.switch_table.specs.CacheLaws.{WentOver}
+use Rattle.switch_table.specs.CacheLaws.{WasCarried}
 use Rattle.switch_table.specs.Carried.{after_carry, meets_any}
 use Rattle.switch_table.specs.declared.cache.CacheEntry.{CacheEntry}
 use Rattle.switch_table.proofs.CarryLemmas.{only_carried}
@@ -27,7 +27,7 @@ module _ (setting : Setting) (before : List Item) (version : ℕ) (cache : Cache
   there old inside = All-contains (IsRightEntry setting before) cache.entries old all inside
 
   -- an entry of the version before whose word meets no touched word
-  over : (entry : CacheEntry) → WentOver version touched cache entry
+  over : (entry : CacheEntry) → WasCarried version touched cache entry
       → IsRightEntry setting before entry
   over entry went =
       let old = went.old in
@@ -51,12 +51,12 @@ module _ (setting : Setting) (before : List Item) (version : ℕ) (cache : Cache
 
   each : (entry : CacheEntry)
       → ((version ≤ entry.version) × Contains cache.entries entry)
-      ⊎ WentOver version touched cache entry → IsRightEntry setting before entry
+      ⊎ WasCarried version touched cache entry → IsRightEntry setting before entry
   each entry (inl stays) = there entry stays.1
   each entry (inr went) = over entry went
 
   pub carried_right : All (IsRightEntry setting before) (after_carry version touched cache).entries
   carried_right =
       All-weaker (λ entry. ((version ≤ entry.version) × Contains cache.entries entry)
-      ⊎ WentOver version touched cache entry) (IsRightEntry setting before) each _
+      ⊎ WasCarried version touched cache entry) (IsRightEntry setting before) each _
       (only_carried version touched cache)

@@ -14,13 +14,13 @@ use Rattle.update_machine.specs.Boots.{boot_of, heard, is_up}
 use Rattle.update_machine.specs.Packets.{next_packet, standing}
 use Rattle.update_machine.specs.Versions.{stamp_of}
 use Rattle.update_machine.specs.Travels.{leg_of, travels}
-use Rattle.update_machine.specs.Ways.{found_down}
+use Rattle.update_machine.specs.PacketRoutes.{found_down}
 use Rattle.update_machine.specs.Links.{serves}
 use Rattle.update_machine.proofs.Examples.{one, open_net}
 use Rattle.packet_laws.specs.Rest.{AreResting}
 use Rattle.packet_laws.specs.Stages.{stage_of}
 use Rattle.packet_laws.specs.StrongCauses.{StrongCause}
-use Rattle.packet_laws.specs.WayCauses.{IsBlockedOn, IsLookedUp, TakesLeg, WayCause}
+use Rattle.packet_laws.specs.PacketCauses.{IsBlockedOn, IsLookedUp, TakesLeg, PacketCause}
 
 -- a packet came in at switch 0
 abbrev in_at_0 : List Item
@@ -33,7 +33,7 @@ decided = item.Row 1 (Packet 0 one) ∷ item.Entered 1 0 one
 
 -- ---- entries
 
-not_under_another_number : WayCause open_net (item.Row 1 (Packet 0 one) ∷ [])
+not_under_another_number : PacketCause open_net (item.Row 1 (Packet 0 one) ∷ [])
     (item.Entered 2 0 one) → ⊥
 unfolding next_packet
 not_under_another_number way = omega (arith, way.0.number)
@@ -45,7 +45,7 @@ unfolding stage_of
 looked_up_once (inl came) = cc
 looked_up_once (inr misses) = let moving = misses.arrives.moving in cc
 
-not_decided_twice : WayCause open_net decided (item.Decided 1 1 None Drop (Cached 1)) → ⊥
+not_decided_twice : PacketCause open_net decided (item.Decided 1 1 None Drop (Cached 1)) → ⊥
 unfolding standing
 not_decided_twice way =
     let at : 0 ≡ way.switch = way.at.stands in
@@ -54,7 +54,7 @@ not_decided_twice way =
 -- ---- packets that are stuck
 
 -- by a version that isn't the stamp's
-not_stuck_by_another_version : WayCause open_net in_at_0
+not_stuck_by_another_version : PacketCause open_net in_at_0
     (item.Stuck 1 0 NoRoute (Seek 7 0) no_links) → ⊥
 unfolding stamp_of heard is_up boot_of stage_of
 not_stuck_by_another_version way = by_leg way.on
@@ -64,7 +64,7 @@ not_stuck_by_another_version way = by_leg way.on
     by_leg (inr blocked) = let stage = blocked.blocked in cc
 
 -- on its way to an authority once it was decided
-not_stuck_seeking_when_decided : WayCause open_net decided
+not_stuck_seeking_when_decided : PacketCause open_net decided
     (item.Stuck 1 0 NoRoute (Seek 1 0) no_links) → ⊥
 unfolding stage_of
 not_stuck_seeking_when_decided way = by_leg way.on
@@ -74,13 +74,13 @@ not_stuck_seeking_when_decided way = by_leg way.on
     by_leg (inr blocked) = let stage = blocked.blocked in cc
 
 -- for want of an authority on its way out
-not_without_authority_on_its_way_out : WayCause open_net decided
+not_without_authority_on_its_way_out : PacketCause open_net decided
     (item.Stuck 1 0 NoAuthority (Exit 3) no_links) → ⊥
 not_without_authority_on_its_way_out way = let why = way.why in cc
 
 -- ---- ways
 
-not_sought_by_another_version : WayCause open_net in_at_0 (item.Seeking 1 2 0 (0 ∷ 1 ∷ [])) → ⊥
+not_sought_by_another_version : PacketCause open_net in_at_0 (item.Seeking 1 2 0 (0 ∷ 1 ∷ [])) → ⊥
 unfolding standing stamp_of heard is_up boot_of
 not_sought_by_another_version way =
     let at : 0 ≡ way.switch = way.at.stands in
@@ -88,11 +88,11 @@ not_sought_by_another_version way =
     let own : stamp_of in_at_0 way.switch ≡ 1 = subst (λ s. stamp_of in_at_0 s ≡ 1) at refl in
     omega (arith, stamp, own)
 
-not_rerouted_unless_blocked : WayCause open_net in_at_0 (item.Rerouted 1 (0 ∷ [])) → ⊥
+not_rerouted_unless_blocked : PacketCause open_net in_at_0 (item.Rerouted 1 (0 ∷ [])) → ⊥
 unfolding stage_of
 not_rerouted_unless_blocked way = let stage = way.blocked.blocked in cc
 
-not_moved_before_it_is_looked_up : WayCause open_net in_at_0 (item.Hopped 1 1) → ⊥
+not_moved_before_it_is_looked_up : PacketCause open_net in_at_0 (item.Hopped 1 1) → ⊥
 unfolding stage_of
 not_moved_before_it_is_looked_up way = let stage = way.moving in cc
 

@@ -22,7 +22,7 @@ use Rattle.update_machine.specs.Pieces.{hop_items, nothing, packet_items}
 use Rattle.update_machine.specs.Setting.{Setting}
 use Rattle.update_machine.specs.Versions.{stamp_of}
 use Rattle.update_machine.specs.Travels.{leg_of, gives_travelling, travels}
-use Rattle.update_machine.specs.Ways.{next_switch, owner}
+use Rattle.update_machine.specs.PacketRoutes.{next_switch, owner}
 use Rattle.update_machine.proofs.CallerLemmas.{folded_append}
 use Rattle.packet_laws.specs.Rest.{IsMoving}
 use Rattle.packet_laws.specs.Stages.{OnWay, gives_stage}

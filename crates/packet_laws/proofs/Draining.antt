@@ -21,7 +21,7 @@ use Rattle.update_machine.proofs.CallerLemmas.{Nears, last_given_append, loop_en
 use Rattle.control_laws.proofs.Facts.{AreKept, Both, fact_on, have_both}
 use Rattle.packet_laws.specs.Drains.{drain_left, hops_left}
 use Rattle.packet_laws.specs.Hops.{changes_taken, hops_taken, most_hops}
-use Rattle.packet_laws.specs.WayCauses.{WayCause}
+use Rattle.packet_laws.specs.PacketCauses.{PacketCause}
 use Rattle.packet_laws.proofs.Others.{IsNoRow}
 use Rattle.packet_laws.proofs.Pieces.{piece_ways}
 use Rattle.packet_laws.proofs.Rests.{no_rows}
@@ -59,7 +59,7 @@ still_present before next i none present =
     step_stays before (next ∷ []) (no_row_concerns before next none, tt) ∙ present
 
 hopping_kept : (setting : Setting) (i count : ℕ)
-    → AreKept (Both (WayCause setting) (λ js next. IsNoRow next)) (IsHopping i count)
+    → AreKept (Both (PacketCause setting) (λ js next. IsNoRow next)) (IsHopping i count)
 hopping_kept setting i count before (item.Entered packet s header) both are =
     let way = both.first.0.row in
     let clash = sym are.present ∙ way in absurd cc
@@ -110,7 +110,7 @@ hop_is setting journal row i ready on =
 
     hopping : IsHopping i (count_of is_packet journal) (here ++ items)
     hopping =
-        fact_on (Both (WayCause setting) (λ js next. IsNoRow next))
+        fact_on (Both (PacketCause setting) (λ js next. IsNoRow next))
         (IsHopping i (count_of is_packet journal))
         (hopping_kept setting i (count_of is_packet journal)) here items
         (have_both _ _ here items (piece_ways setting journal row (Hop i) ready.settled.rests).1

@@ -27,7 +27,7 @@ use Rattle.update_machine.specs.Moves.{header_at}
 use Rattle.update_machine.specs.Packets.{Decision, decision_of, header_in, standing}
 use Rattle.update_machine.specs.Setting.{Setting}
 use Rattle.update_machine.specs.Versions.{plan_at}
-use Rattle.update_machine.specs.Ways.{found_down, no_switch, owner, targets_of}
+use Rattle.update_machine.specs.PacketRoutes.{found_down, no_switch, owner, targets_of}
 use Rattle.update_machine.specs.ExactCauses.{SeeksOwn, FindsNoPath}
 use Rattle.update_machine.proofs.CallerLemmas.{plan_is, unreached}
 use Rattle.control_laws.specs.ItemCauses.{HasItemCause}
@@ -36,10 +36,10 @@ use Rattle.control_laws.proofs.Claims.{own_end}
 use Rattle.control_laws.proofs.NetLinks.{linked_by_mask}
 use Rattle.packet_laws.specs.OnWay.{FollowsLinks, IsOnLeg, IsOnWay, IsPartitionOf}
 use Rattle.packet_laws.specs.Facts.{PacketFacts, entry_mark, what_is_known}
-use Rattle.packet_laws.specs.KeptFacts.{IsJudged}
+use Rattle.packet_laws.specs.KeptFacts.{IsRightlyDecided}
 use Rattle.packet_laws.specs.Stages.{stage_of}
 use Rattle.packet_laws.specs.StrongCauses.{SeeksRightly}
-use Rattle.packet_laws.specs.WayCauses.{FindsNoRoute, IsAt, IsAtPort, IsBlockedOn, IsLostHere, LeavesHere, MeetsDown, TakesLeg, WayCause}
+use Rattle.packet_laws.specs.PacketCauses.{FindsNoRoute, IsAt, IsAtPort, IsBlockedOn, IsLostHere, LeavesHere, MeetsDown, TakesLeg, PacketCause}
 use Rattle.packet_laws.proofs.Here.{IsHere, decision_in, exiting_of, header_in_facts, leg_in, next_in, stands_in, seeking_of, some_same}
 use Rattle.packet_laws.proofs.KeptFacts.{Knows, here_known, port_named, redirected_to, stage_looked, undecided_of}
 use Rattle.packet_laws.proofs.OpenWays.{Sees, none_leads, open_joined}
@@ -349,7 +349,7 @@ leaves_by setting before i port leaving knows way here = by_port way.at_port
         → LeavesBy setting before i way.switch port
     by_port (inl now) =
         let decision : Decision = now.2.0 in
-        let judged : IsJudged setting before facts here.under.header =
+        let judged : IsRightlyDecided setting before facts here.under.header =
         knows.kept.judged here.travelling now.0 here.under.header here.under.entered in
         let same : judged.decision ≡ decision =
         some_same facts.decision judged.decision decision judged.decided
@@ -440,7 +440,7 @@ not_serving before s known down = by_serving (serves before s) refl
 
 pub end_caused : (setting : Setting) (before : List Item) (next : Item)
     → ((i : ℕ) → Knows setting before i (stage_of before i)) → IsKnown before
-    → HasItemCause setting before next → WayCause setting before next
+    → HasItemCause setting before next → PacketCause setting before next
     → HasCause setting before next
 end_caused setting before (item.Left packet port leaving) knows served own way =
     leaves_rightly setting before packet port leaving (knows packet) way

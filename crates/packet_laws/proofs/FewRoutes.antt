@@ -15,7 +15,7 @@ use Rattle.update_machine.specs.Marks.{current_mark, most_versions, retired_mark
 use Rattle.update_machine.specs.Packets.{Decision, decision_of}
 use Rattle.update_machine.specs.Setting.{Setting, IsSetting}
 use Rattle.update_machine.specs.Travels.{leg_of}
-use Rattle.update_machine.specs.Ways.{found_down}
+use Rattle.update_machine.specs.PacketRoutes.{found_down}
 use Rattle.control_laws.specs.ItemCauses.{HasItemCause}
 use Rattle.control_laws.proofs.Facts.{Behind, Both, fact_on, have_both}
 use Rattle.control_laws.proofs.Marks.{bounded}
@@ -28,7 +28,7 @@ use Rattle.packet_laws.specs.Hops.{detour_count, exit_count, is_detour, is_exit,
 use Rattle.packet_laws.specs.KeptFacts.{AllKept}
 use Rattle.packet_laws.specs.Stages.{Blocked, Judged, Stage, stage_of, gives_stage}
 use Rattle.packet_laws.specs.StrongCauses.{FindsLinkDown, FurtherCause, StrongCause}
-use Rattle.packet_laws.specs.WayCauses.{IsLookedUp, MeetsDown, TakesRoute, WayCause}
+use Rattle.packet_laws.specs.PacketCauses.{IsLookedUp, MeetsDown, TakesRoute, PacketCause}
 use Rattle.packet_laws.proofs.AllKept.{Before, kept_before, known_before, knows}
 use Rattle.packet_laws.proofs.Here.{IsHere, decision_in, here_of, leg_in, next_in, seeking_of, some_same}
 use Rattle.packet_laws.proofs.KeptFacts.{Knows, seeking_after}
@@ -152,7 +152,7 @@ finds setting before i one two known few meets down =
 -- what stands before the item, of the packet that it names
 record Premises (setting : Setting) (before : List Item) (next : Item) : Type 0 where
   known : Before setting before
-  way : WayCause setting before next
+  way : PacketCause setting before next
   further : FurtherCause setting before next
 
 risen : {leg : Option Leg} {search_count was current : ℕ} → was ≤ current

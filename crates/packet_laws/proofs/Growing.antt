@@ -22,7 +22,7 @@ use Rattle.control_laws.proofs.Versions.{caused_numbered}
 use Rattle.packet_laws.specs.Rules.{IsRightRule}
 use Rattle.packet_laws.specs.OnWay.{IsOnLeg, IsOnWay, IsPartitionOf, IsSought, IsUnderWay}
 use Rattle.packet_laws.specs.Facts.{PacketFacts}
-use Rattle.packet_laws.specs.KeptFacts.{IsJudged, IsKept}
+use Rattle.packet_laws.specs.KeptFacts.{IsRightlyDecided, HasKeptFacts}
 use Rattle.packet_laws.specs.Stages.{Stage}
 
 -- marks rise, and the versions that are current or were keep their policies and plans
@@ -118,8 +118,8 @@ way_on setting before after facts grow way = record {
 }
 
 judged_on : (setting : Setting) (before after : List Item) (facts : PacketFacts)
-    (header : Header) → Grows setting before after → IsJudged setting before facts header
-    → IsJudged setting after facts header
+    (header : Header) → Grows setting before after → IsRightlyDecided setting before facts header
+    → IsRightlyDecided setting after facts header
 judged_on setting before after facts header grow judged = record {
   decision = judged.decision;
   decided = judged.decided;
@@ -135,8 +135,8 @@ judged_on setting before after facts header grow judged = record {
 }
 
 pub kept_on : (setting : Setting) (before after : List Item) (facts : PacketFacts)
-    (stage : Option Stage) → Grows setting before after → IsKept setting before facts stage
-    → IsKept setting after facts stage
+    (stage : Option Stage) → Grows setting before after → HasKeptFacts setting before facts stage
+    → HasKeptFacts setting after facts stage
 kept_on setting before after facts stage grow kept = record {
   under_way = λ travels. under_on setting before after facts grow (kept.under_way travels);
   came_in = kept.came_in;

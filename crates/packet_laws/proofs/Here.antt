@@ -16,13 +16,13 @@ use Rattle.update_machine.specs.Packets.{Decision, decision_of, header_in, stand
 use Rattle.update_machine.specs.Setting.{Setting, IsSetting}
 use Rattle.update_machine.specs.Versions.{policy_at, stamp_of, plan_at}
 use Rattle.update_machine.specs.Travels.{leg_of, travels}
-use Rattle.update_machine.specs.Ways.{found_down, next_switch}
+use Rattle.update_machine.specs.PacketRoutes.{found_down, next_switch}
 use Rattle.control_laws.specs.ItemCauses.{HasItemCause}
 use Rattle.packet_laws.specs.OnWay.{IsOnLeg, IsOnWay, IsSought, IsUnderWay}
 use Rattle.packet_laws.specs.Facts.{PacketFacts, what_is_known}
-use Rattle.packet_laws.specs.KeptFacts.{IsKept}
+use Rattle.packet_laws.specs.KeptFacts.{HasKeptFacts}
 use Rattle.packet_laws.specs.Stages.{Stage}
-use Rattle.packet_laws.specs.WayCauses.{AuthorityFinds, IsAt}
+use Rattle.packet_laws.specs.PacketCauses.{AuthorityFinds, IsAt}
 use Rattle.packet_laws.proofs.Lookups.{FindsRule, IsStamped, authority_found, current_planned, deciding, rule_there, stamped}
 use Rattle.packet_laws.proofs.Plans.{Finds, IsPlanned, in_plan}
 
@@ -77,7 +77,7 @@ pub record IsHere (setting : Setting) (before : List Item) (i s : ℕ) : Type 0 
 
 pub here_of : (setting : Setting) (before : List Item) (i s : ℕ) (stage : Option Stage)
     → IsSetting setting → HaveCauses (HasItemCause setting) [] before
-    → IsKept setting before (what_is_known before i) stage → IsAt before i s
+    → HasKeptFacts setting before (what_is_known before i) stage → IsAt before i s
     → IsHere setting before i s
 here_of setting before i s stage is have kept at =
     let travelling : IsTrue (what_is_known before i).travels = travels_in before i at.travelling in

@@ -38,16 +38,16 @@ use Rattle.update_machine.specs.Adverts.{route_from}
 use Rattle.update_machine.specs.Packets.{Decision}
 use Rattle.update_machine.specs.Setting.{Setting, IsSetting, NamesOwnPort}
 use Rattle.update_machine.specs.Versions.{policy_at, stamp_of, tables_at, plan_at}
-use Rattle.update_machine.specs.Ways.{found_down, no_switch, owner, targets_of}
+use Rattle.update_machine.specs.PacketRoutes.{found_down, no_switch, owner, targets_of}
 use Rattle.control_laws.specs.ItemCauses.{HasItemCause}
 use Rattle.control_laws.specs.Adverts.{LinksAreThere}
 use Rattle.control_laws.proofs.BothCauses.{HasBothCauses}
 use Rattle.packet_laws.specs.Rules.{IsRightEntry}
 use Rattle.packet_laws.specs.OnWay.{IsOnLeg, IsOnWay, IsPartitionOf, IsSought, IsUnderWay, LeadsTo}
 use Rattle.packet_laws.specs.Facts.{PacketFacts, facts_after, what_is_known}
-use Rattle.packet_laws.specs.KeptFacts.{Avoids, IsJudged, IsKept}
+use Rattle.packet_laws.specs.KeptFacts.{Avoids, IsRightlyDecided, HasKeptFacts}
 use Rattle.packet_laws.specs.Stages.{Blocked, CameIn, Judged, OnWay, Stage, stage_of}
-use Rattle.packet_laws.specs.WayCauses.{AuthorityDecides, CacheDecides, DecidesBy, IsAt, IsDecided, IsLookedUp, IsRedirected, MeetsDown, MovesOver, TakesDetour, TakesExit, TakesRoute}
+use Rattle.packet_laws.specs.PacketCauses.{AuthorityDecides, CacheDecides, DecidesBy, IsAt, IsDecided, IsLookedUp, IsRedirected, MeetsDown, MovesOver, TakesDetour, TakesExit, TakesRoute}
 use Rattle.packet_laws.proofs.Here.{IsHere, Rules, found_in, here_of, leg_in, next_in, decision_in, rules_of, seeking_of, some_same}
 use Rattle.packet_laws.proofs.Lookups.{FindsTargets, redirect_found}
 use Rattle.packet_laws.proofs.PacketBlocks.{WhenDecided}
@@ -61,7 +61,7 @@ pub record Knows (setting : Setting) (before : List Item) (i : ℕ) (stage : Opt
     pub have : HaveCauses (HasItemCause setting) [] before
     pub both : HaveCauses (HasBothCauses setting) [] before
     pub links : LinksAreThere setting before
-    pub kept : IsKept setting before (what_is_known before i) stage
+    pub kept : HasKeptFacts setting before (what_is_known before i) stage
 
 -- where it stands
 pub here_known : (setting : Setting) (before : List Item) (i s : ℕ)
@@ -72,7 +72,7 @@ here_known setting before i s knows at =
 -- a packet that moves on
 moving_on : (setting : Setting) (before : List Item) (facts : PacketFacts)
     → IsOnWay setting before facts → Avoids facts.found facts.route
-    → IsKept setting before facts (Some OnWay)
+    → HasKeptFacts setting before facts (Some OnWay)
 moving_on setting before facts on avoids = record {
   under_way = λ travels. on.under_way;
   came_in = λ travels is. absurd cc;
@@ -83,7 +83,7 @@ moving_on setting before facts on avoids = record {
 
 -- a packet that doesn't travel
 pub gone : (setting : Setting) (before : List Item) (facts : PacketFacts) (stage : Option Stage)
-    → facts.travels ≡ false → IsKept setting before facts stage
+    → facts.travels ≡ false → HasKeptFacts setting before facts stage
 gone setting before facts stage ended = record {
   under_way = λ travels. absurd cc;
   came_in = λ travels is. absurd cc;
@@ -107,7 +107,7 @@ linked_there setting one two net linked =
 -- ---- undecided packets
 
 pub undecided_of : (setting : Setting) (before : List Item) (i s : ℕ) (stage : Option Stage)
-    → IsKept setting before (what_is_known before i) stage
+    → HasKeptFacts setting before (what_is_known before i) stage
     → (here : IsHere setting before i s) → (stage ≡ Some CameIn) ⊎ ((stage ≡ Some OnWay)
     × ((v : ℕ) × (p : ℕ) × ((what_is_known before i).leg ≡ Some (Seek v p))))
     → (what_is_known before i).decision ≡ None
@@ -119,7 +119,7 @@ undecided_of setting before i s stage kept here (inr moving) =
     moving.1.2).undecided
 
 sought_of : (setting : Setting) (before : List Item) (i s : ℕ) (stage : Option Stage)
-    → IsKept setting before (what_is_known before i) stage
+    → HasKeptFacts setting before (what_is_known before i) stage
     → (here : IsHere setting before i s) → (stage ≡ Some CameIn) ⊎ (stage ≡ Some OnWay)
     → (v p : ℕ) → (what_is_known before i).leg ≡ Some (Seek v p)
     → IsSought setting before (what_is_known before i).mark here.under.header v p
@@ -199,7 +199,7 @@ sets_out : (setting : Setting) (before : List Item) (i s : ℕ) (taken : Option 
     (targets route : List ℕ) (here : IsHere setting before i s) → taken ≡ Some leg
     → IsWay setting s targets (what_is_known before i).found route
     → let after = record (what_is_known before i) { leg = taken; route = route; hops = 0 } in
-    IsOnLeg setting before after here.under.header leg → IsKept setting before after (Some OnWay)
+    IsOnLeg setting before after here.under.header leg → HasKeptFacts setting before after (Some OnWay)
 sets_out setting before i s taken leg targets route here takes way on =
     moving_on setting before _ (record {
       under_way = record {
@@ -216,7 +216,7 @@ sets_out setting before i s taken leg targets route here takes way on =
 pub seeking_after : (setting : Setting) (before : List Item) (i mark version partition : ℕ)
     (route : List ℕ) → Knows setting before i (stage_of before i)
     → TakesRoute setting before i (Seek version partition) route
-    → IsKept setting before
+    → HasKeptFacts setting before
     (facts_after mark (item.Seeking i version partition route) (what_is_known before i)) (Some OnWay)
 seeking_after setting before i mark version partition route knows takes =
     let facts : PacketFacts = what_is_known before i in
@@ -255,13 +255,13 @@ port_named setting port act is named =
 
 pub exiting_after : (setting : Setting) (before : List Item) (i mark : ℕ) (route : List ℕ)
     → Knows setting before i (stage_of before i) → TakesExit setting before i route
-    → IsKept setting before (facts_after mark (item.Exiting i route) (what_is_known before i)) (Some OnWay)
+    → HasKeptFacts setting before (facts_after mark (item.Exiting i route) (what_is_known before i)) (Some OnWay)
 exiting_after setting before i mark route knows exits =
     let facts : PacketFacts = what_is_known before i in
     let s : ℕ = exits.by.switch in
     let out = exits.by.takes in
     let here : IsHere setting before i s = here_known setting before i s knows exits.by.at in
-    let judged : IsJudged setting before facts here.under.header =
+    let judged : IsRightlyDecided setting before facts here.under.header =
     knows.kept.judged here.travelling out.judged here.under.header here.under.entered in
     let decided : facts.decision ≡ Some out.decision =
     decision_in before i (Some out.decision) out.decided in
@@ -306,7 +306,7 @@ leg_by setting before facts route header (Exit port) on leads = record {
 
 pub rerouted_after : (setting : Setting) (before : List Item) (i mark : ℕ) (route : List ℕ)
     → Knows setting before i (stage_of before i) → TakesDetour setting before i route
-    → IsKept setting before (facts_after mark (item.Rerouted i route) (what_is_known before i)) (Some OnWay)
+    → HasKeptFacts setting before (facts_after mark (item.Rerouted i route) (what_is_known before i)) (Some OnWay)
 rerouted_after setting before i mark route knows turns =
     let facts : PacketFacts = what_is_known before i in
     let s : ℕ = turns.switch in
@@ -331,7 +331,7 @@ rerouted_after setting before i mark route knows turns =
 
 pub hopped_after : (setting : Setting) (before : List Item) (i mark next : ℕ)
     → Knows setting before i (stage_of before i) → MovesOver setting before i next
-    → IsKept setting before (facts_after mark (item.Hopped i next) (what_is_known before i)) (Some OnWay)
+    → HasKeptFacts setting before (facts_after mark (item.Hopped i next) (what_is_known before i)) (Some OnWay)
 hopped_after setting before i mark next knows moves =
     let here = here_known setting before i moves.switch knows moves.at in
     let was = knows.kept.on_way here.travelling (inl moves.moving) in
@@ -354,7 +354,7 @@ hopped_after setting before i mark next knows moves =
 
 pub found_after : (setting : Setting) (before : List Item) (i mark one two : ℕ)
     → Knows setting before i (stage_of before i) → MeetsDown setting before i one two
-    → IsKept setting before (facts_after mark (item.FoundDown i one two) (what_is_known before i))
+    → HasKeptFacts setting before (facts_after mark (item.FoundDown i one two) (what_is_known before i))
     (Some Blocked)
 found_after setting before i mark one two knows meets = record {
   under_way = λ travels. under;
@@ -387,7 +387,7 @@ found_after setting before i mark one two knows meets = record {
 pub entered_after : (setting : Setting) (before : List Item) (i s : ℕ) (header : Header)
     (facts : PacketFacts) → s < length setting.net.switches → IsHeader header
     → facts.decision ≡ None → facts.leg ≡ None
-    → IsKept setting before (facts_after (retired_mark before) (item.Entered i s header) facts)
+    → HasKeptFacts setting before (facts_after (retired_mark before) (item.Entered i s header) facts)
     (Some CameIn)
 entered_after setting before i s header facts there sound undecided no_leg = record {
   under_way = λ travels. record {
@@ -558,7 +558,7 @@ pub decided_after : (setting : Setting) (before : List Item) (i mark version : �
     (act : Action) (by : How) → Knows setting before i (stage_of before i)
     → ((s : ℕ) → All (IsRightEntry setting before) (cache_of setting before s).entries)
     → IsDecided setting before i version rule act by
-    → IsKept setting before (facts_after mark (item.Decided i version rule act by) (what_is_known before i))
+    → HasKeptFacts setting before (facts_after mark (item.Decided i version rule act by) (what_is_known before i))
     (Some Judged)
 decided_after setting before i mark version rule act by knows right decided =
     let facts : PacketFacts = what_is_known before i in
@@ -567,7 +567,7 @@ decided_after setting before i mark version rule act by knows right decided =
     let here : IsHere setting before i s = here_known setting before i s knows decided.at in
     let now : IsDecidedNow setting before i s version rule act here.under.header =
     decided_now setting before i s version rule act by knows here (right s) decided.by in
-    let judged : IsJudged setting before after here.under.header = record {
+    let judged : IsRightlyDecided setting before after here.under.header = record {
       decision = record { version = version; rule = rule; action = act };
       decided = refl;
       not_retired = now.rightly.not_retired;
@@ -585,7 +585,7 @@ decided_after setting before i mark version rule act by knows right decided =
       };
       came_in = λ travels is. absurd cc;
       judged = λ travels is header entered.
-          subst (IsJudged setting before after)
+          subst (IsRightlyDecided setting before after)
           (some_same facts.header here.under.header header here.under.entered entered) judged;
       on_way = λ travels is. grind arith;
       avoids = λ travels is. absurd cc;

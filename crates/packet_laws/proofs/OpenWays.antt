@@ -18,7 +18,7 @@ use Rattle.update_machine.specs.LinkMasks.{adverts_of_others, links_known, near}
 use Rattle.update_machine.specs.Causes.{HaveCauses, Leads, finds_down, is_open}
 use Rattle.update_machine.specs.Links.{is_end, serves}
 use Rattle.update_machine.specs.Setting.{Setting}
-use Rattle.update_machine.specs.Ways.{found_down}
+use Rattle.update_machine.specs.PacketRoutes.{found_down}
 use Rattle.update_machine.proofs.CallerLemmas.{heard_by_origin, link_not_found}
 use Rattle.control_laws.proofs.BothCauses.{HasBothCauses}
 use Rattle.control_laws.proofs.Claims.{IsNamed, names_end, own_end}

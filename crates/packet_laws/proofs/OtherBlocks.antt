@@ -27,7 +27,7 @@ use Rattle.control_laws.proofs.Resent.{each_by_controller, each_to_member, later
 use Rattle.control_laws.proofs.Sends.{each, each_flat_map, each_map}
 use Rattle.control_laws.proofs.Sent.{each_by_switch, sends_each}
 use Rattle.control_laws.proofs.SwitchCases.{switch_cases}
-use Rattle.packet_laws.specs.WayCauses.{WayCause}
+use Rattle.packet_laws.specs.PacketCauses.{PacketCause}
 
 -- ---- items
 
@@ -57,11 +57,11 @@ abbrev pub AreAside : List Item → List Item → Type 0
 AreAside journal items = HaveCauses IsAside journal items
 
 aside_way : (setting : Setting) (before : List Item) (next : Item) → IsAside before next
-    → WayCause setting before next
+    → PacketCause setting before next
 aside_way setting before (item.Sent number message) aside = by_body message.body aside
   where
     by_body : (body : Body) → IsOther body
-        → WayCause setting before (item.Sent number (record { to = message.to; body = body }))
+        → PacketCause setting before (item.Sent number (record { to = message.to; body = body }))
     by_body (CacheRule version word rule action) other = absurd other
     by_body _ other = tt
 aside_way setting before (item.Delivered number) aside = tt
@@ -79,9 +79,9 @@ aside_way setting before item.Nothing aside = tt
 aside_way setting before _ aside = absurd aside
 
 pub aside_ways : (setting : Setting) (journal items : List Item) → AreAside journal items
-    → HaveCauses (WayCause setting) journal items
+    → HaveCauses (PacketCause setting) journal items
 aside_ways setting journal items aside =
-    have_weaker IsAside (WayCause setting) (aside_way setting) journal items aside
+    have_weaker IsAside (PacketCause setting) (aside_way setting) journal items aside
 
 -- ---- messages
 

@@ -29,17 +29,17 @@ use Rattle.update_machine.specs.Pieces.{hop_items, lose_items, nothing, packet_i
 use Rattle.update_machine.specs.Setting.{Setting}
 use Rattle.update_machine.specs.Versions.{holds_version, stamp_of, plan_at}
 use Rattle.update_machine.specs.Travels.{ingress_of, is_at, leg_of, gives_travelling, travels}
-use Rattle.update_machine.specs.Ways.{changes_hops, found_down, next_switch, owner, route_in, route_place, targets_of, gives_route}
+use Rattle.update_machine.specs.PacketRoutes.{changes_hops, found_down, next_switch, owner, route_in, route_place, targets_of, gives_route}
 use Rattle.update_machine.proofs.CallerLemmas.{folded_append, have_append, have_first, last_given_append, lookup_stays, near_stays, policies_keep, switch_keeps}
 use Rattle.control_laws.proofs.Grown.{last_more, serving_more}
 use Rattle.control_laws.proofs.Facts.{own}
 use Rattle.packet_laws.specs.Stages.{Stage, Blocked, CameIn, Judged, OnWay, stage_of, gives_stage}
 use Rattle.packet_laws.specs.Rest.{AreResting, IsServed}
-use Rattle.packet_laws.specs.WayCauses.{Arrives, AuthorityFinds, IsAt, IsLookedUp, IsLookedUpBy, IsOfRow, ReachesAuthority, TakesLeg, WayCause}
+use Rattle.packet_laws.specs.PacketCauses.{Arrives, AuthorityFinds, IsAt, IsLookedUp, IsLookedUpBy, IsOfRow, ReachesAuthority, TakesLeg, PacketCause}
 use Rattle.packet_laws.proofs.FirstLinks.{first_usable}
 
 abbrev pub Ways : Setting → List Item → List Item → Type 0
-Ways setting journal items = HaveCauses (WayCause setting) journal items
+Ways setting journal items = HaveCauses (PacketCause setting) journal items
 
 -- ---- what stays behind one more item
 
@@ -86,7 +86,7 @@ still before next i s travelling stands serving at = record {
 takes_cause : (setting : Setting) (journal : List Item) (i s : ℕ) (leg : Leg) (route : List ℕ)
     → IsAt journal i s → TakesLeg setting journal i s leg
     → route_for setting journal i s leg ≡ Some route
-    → WayCause setting journal (takes_route i leg route)
+    → PacketCause setting journal (takes_route i leg route)
 takes_cause setting journal i s (Seek version partition) route at takes leads =
     record { switch = s; at = at; takes = takes; leads = leads }
 takes_cause setting journal i s (Exit port) route at takes leads =
@@ -253,7 +253,7 @@ cache_ways setting journal i s found here finds = by_apart (is_at s (ingress_of 
     ends : (after : List Item) → IsDecidedHere after i s decision
         → Ways setting after (in_turn (end_items setting i s found.rule.action ∷ []) after)
     ends after judged =
-        have_append (WayCause setting) after (end_items setting i s found.rule.action after) []
+        have_append (PacketCause setting) after (end_items setting i s found.rule.action after) []
         (end_ways setting after i s decision found.rule.action judged refl) tt
 
     by_apart : (b : Bool) → is_at s (ingress_of journal i) ≡ b
@@ -298,7 +298,7 @@ authority_ways setting journal i s version (Some found) at when finds =
     let here : AuthorityFinds setting journal i s found.version found =
     subst (λ v. AuthorityFinds setting journal i s v found) (sym own_version)
     (finds found refl).1 in
-    have_first (WayCause setting)
+    have_first (PacketCause setting)
     (item.Decided i found.version found.rule.rule found.rule.action
     (how.Authority s found.part.number))
     (in_turn (cache_items setting i s found ∷ end_items setting i s found.rule.action ∷ []))
@@ -356,7 +356,7 @@ found_ways : (setting : Setting) (journal : List Item) (i s : ℕ) (what : Found
     → lookup_at setting journal s (header_at journal i) ≡ what
     → Ways setting journal (found_items setting i s what journal)
 found_ways setting journal i s (found.Cached entry) at looked answer =
-    have_first (WayCause setting)
+    have_first (PacketCause setting)
     (item.Decided i entry.version entry.rule entry.action (how.Cached entry.message))
     (end_items setting i s entry.action) journal
     (record { switch = s; at = at; by = search (rules, looked, answer) })
@@ -473,7 +473,7 @@ reroute_ways setting journal i s at blocked = by_leg (leg_of journal i) refl
         let after : List Item = journal ++ turned ∷ [] in
         let same : near setting after s ≡ near setting journal s =
         near_stays setting s journal (turned ∷ []) (refl, tt) in
-        have_first (WayCause setting) turned (go_on setting i s) journal
+        have_first (PacketCause setting) turned (go_on setting i s) journal
         (record {
           switch = s;
           at = at;
@@ -523,7 +523,7 @@ move_ways setting journal i s at moving = by_next (next_switch journal i) refl
         (record { switch = s; at = at; moving = moving; goes_on = goes_on; usable = e }, tt)
     by_link next false goes_on e =
         let met : Item = item.FoundDown i s next in
-        have_first (WayCause setting) met (reroute_items setting i s) journal
+        have_first (PacketCause setting) met (reroute_items setting i s) journal
         (record { at = at; moving = moving; goes_on = goes_on; unusable = e })
         (reroute_ways setting (journal ++ met ∷ []) i s (still journal met i s refl refl refl at)
         (stage_more journal met i Blocked (rw (own i) refl)))
@@ -562,7 +562,7 @@ packet_ways setting journal i s header of_row = by_serving (serves journal s) re
     by_serving false e = (((header, of_row), e), tt)
     by_serving true e =
         let entered : Item = item.Entered i s header in
-        have_first (WayCause setting) entered (lookup_items setting i s) journal (of_row, e)
+        have_first (PacketCause setting) entered (lookup_items setting i s) journal (of_row, e)
         (lookup_ways setting (journal ++ entered ∷ []) i s (entered_at journal i s header e)
         (inl (stage_more journal entered i CameIn (rw (own i) refl))))
 

@@ -10,7 +10,7 @@ use Rattle.update_machine.specs.Folds.{last_given}
 use Rattle.update_machine.specs.Marks.{retired_mark}
 use Rattle.update_machine.specs.Packets.{decision_of, header_in, standing, gives_decision, gives_header, gives_standing}
 use Rattle.update_machine.specs.Travels.{changes_leg, ingress_of, leg_of, gives_ingress, gives_travelling, travels}
-use Rattle.update_machine.specs.Ways.{changes_found, changes_hops, found_down, route_in, route_place, gives_route}
+use Rattle.update_machine.specs.PacketRoutes.{changes_found, changes_hops, found_down, route_in, route_place, gives_route}
 use Rattle.update_machine.proofs.CallerLemmas.{folded_append, last_given_append}
 use Rattle.packet_laws.specs.Facts.{PacketFacts, changes_mark, entry_mark, is_of_packet, facts_after, what_is_known}
 

@@ -22,7 +22,7 @@ use Rattle.update_machine.proofs.CallerLemmas.{have_first, have_put, last_given_
 use Rattle.control_laws.proofs.Commands.{confirm_control}
 use Rattle.control_laws.proofs.Grown.{serving_more, up_more}
 use Rattle.packet_laws.specs.Rest.{AreResting, IsServed}
-use Rattle.packet_laws.specs.WayCauses.{WayCause, ends_with_row, fallen_switch, gives_fall, gives_row_test}
+use Rattle.packet_laws.specs.PacketCauses.{PacketCause, ends_with_row, fallen_switch, gives_fall, gives_row_test}
 use Rattle.packet_laws.proofs.OtherBlocks.{AreAside, aside_ways, changes_aside, control_aside, deliver_aside, expire_aside, forget_aside, link_aside, resend_aside, restart_aside, update_aside}
 use Rattle.packet_laws.proofs.PacketBlocks.{Ways, hop_ways, lose_ways, packet_ways, stage_stays}
 
@@ -126,7 +126,7 @@ crash_ways setting before s journal crashes same = by_up (is_up before s)
     ])
     by_up false = (tt, tt)
     by_up true =
-        have_put (WayCause setting) (item.Down s ∷ map item.Lost (packets_at before s))
+        have_put (PacketCause setting) (item.Down s ∷ map item.Lost (packets_at before s))
         (link_changes setting before) journal (
           crashes,
           losts_ways setting before s 1 (count_of is_packet before)
@@ -225,5 +225,5 @@ pub piece_ways : (setting : Setting) (before : List Item) (row : ℕ) (step : St
     → AreResting before → Ways setting before (piece setting before row step)
 unfolding piece
 piece_ways setting before row step rests =
-    have_first (WayCause setting) (item.Row row step) (step_items setting before step) before tt
+    have_first (PacketCause setting) (item.Row row step) (step_items setting before step) before tt
     (step_ways setting before row step rests)

@@ -31,7 +31,7 @@ use Rattle.control_laws.proofs.Stepping.{pieces_caused}
 use Rattle.control_laws.proofs.Traffic.{IsTraffic, Traffic, packet_has, step_traffic}
 use Rattle.packet_laws.specs.Rest.{AreResting, AreServed, IsMoving}
 use Rattle.packet_laws.specs.Stages.{stage_of}
-use Rattle.packet_laws.specs.WayCauses.{WayCause}
+use Rattle.packet_laws.specs.PacketCauses.{PacketCause}
 use Rattle.packet_laws.proofs.CrashServed.{crash_served}
 use Rattle.packet_laws.proofs.Done.{hop_done, packet_done}
 use Rattle.packet_laws.proofs.Lookups.{FindsRule, authority_found, rule_there, stamped}
@@ -68,7 +68,7 @@ IsAsked setting before _ = ⊤
 -- the causes of an item of a network that is asked for steps of its own
 pub record IsWayItem (setting : Setting) (before : List Item) (next : Item) : Type 0 where
   pub switches : HasItemCause setting before next
-  pub way : WayCause setting before next
+  pub way : PacketCause setting before next
   pub links : HasLinkCause setting before next
   pub asked : IsAsked setting before next
 
@@ -83,22 +83,22 @@ switches_of_all setting before items have =
     have
 
 pub ways_of_all : (setting : Setting) (before items : List Item)
-    → HaveCauses (IsWayItem setting) before items → HaveCauses (WayCause setting) before items
+    → HaveCauses (IsWayItem setting) before items → HaveCauses (PacketCause setting) before items
 ways_of_all setting before items have =
-    have_weaker (IsWayItem setting) (WayCause setting) (λ js next is. is.way) before items have
+    have_weaker (IsWayItem setting) (PacketCause setting) (λ js next is. is.way) before items have
 
-pub numbered : (setting : Setting) (journal : List Item) → HaveCauses (WayCause setting) [] journal
+pub numbered : (setting : Setting) (journal : List Item) → HaveCauses (PacketCause setting) [] journal
     → AreNumbered journal
 unfolding travels
 numbered setting journal have =
-    fact_on (WayCause setting) AreNumbered (numbered_kept setting) [] journal have
+    fact_on (PacketCause setting) AreNumbered (numbered_kept setting) [] journal have
     (λ i travelling. absurd cc)
 
 have_legs : (setting : Setting) (journal : List Item) → HaveCauses (IsWayItem setting) [] journal
     → HaveLegs journal
 unfolding stage_of
 have_legs setting journal have =
-    fact_on (WayCause setting) HaveLegs (legs_kept setting) [] journal
+    fact_on (PacketCause setting) HaveLegs (legs_kept setting) [] journal
     (ways_of_all setting [] journal have) (λ i moving. absurd cc)
 
 -- ---- items behind which packets are served
@@ -106,13 +106,13 @@ have_legs setting journal have =
 -- items of which none is of a switch that goes down
 served_on : (setting : Setting) (before items : List Item)
     → HaveCauses (HasItemCause setting) [] before → HaveCauses (HasItemCause setting) before items
-    → HaveCauses (WayCause setting) before items
+    → HaveCauses (PacketCause setting) before items
     → HaveCauses (λ js next. NotDown next) before items → AreServed before
     → AreServed (before ++ items)
 served_on setting before items past switches ways up served =
     fact_on (IsCausedUp setting) AreServed (served_kept setting) before items
     (have_weaker
-    (Both (Past (HasItemCause setting)) (Both (WayCause setting) (λ js next. NotDown next)))
+    (Both (Past (HasItemCause setting)) (Both (PacketCause setting) (λ js next. NotDown next)))
     (IsCausedUp setting)
     (λ js next both. record {
       caused = record {
@@ -212,7 +212,7 @@ piece_causes setting before row step own rests =
       record { switches = switches.0; way = ways.0; links = links.0; asked = own },
       have_weaker
           (Both (HasItemCause setting)
-          (Both (WayCause setting) (Both (HasLinkCause setting) (IsAsked setting))))
+          (Both (PacketCause setting) (Both (HasLinkCause setting) (IsAsked setting))))
           (IsWayItem setting)
           (λ js next both. record {
             switches = both.first;

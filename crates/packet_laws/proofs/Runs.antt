@@ -32,7 +32,7 @@ use Rattle.packet_laws.specs.Facts.{PacketFacts, is_of_packet, facts_after, what
 use Rattle.packet_laws.proofs.PacketFacts.{other_number, facts_named, facts_other, facts_grow}
 use Rattle.packet_laws.specs.KeptFacts.{AllKept}
 use Rattle.packet_laws.specs.Stages.{stage_of}
-use Rattle.packet_laws.specs.WayCauses.{IsDecided, WayCause}
+use Rattle.packet_laws.specs.PacketCauses.{IsDecided, PacketCause}
 use Rattle.packet_laws.proofs.AllKept.{Before, kept_before, known_before, knows}
 use Rattle.packet_laws.proofs.Here.{IsHere, decision_in, here_of, some_same, travels_in}
 use Rattle.packet_laws.proofs.Ends.{leaves_rightly}
@@ -397,7 +397,7 @@ abbrev KeptItem : Setting → List Item → Item → Type 0
 KeptItem setting = Behind (Past (IsWayItem setting)) (AllKept setting)
 
 left_action : (setting : Setting) (journal : List Item) (i port : ℕ) (leaving : Leaving)
-    → Before setting journal → WayCause setting journal (item.Left i port leaving)
+    → Before setting journal → PacketCause setting journal (item.Left i port leaving)
     → (packet : Packet) → IsSeen packet (what_is_known journal i) → MayEnd packet (LeftBy port)
 left_action setting journal i port leaving before way packet seen =
     let rightly = leaves_rightly setting journal i port leaving (knows setting journal i before)

@@ -23,7 +23,7 @@ use Rattle.control_laws.proofs.Grown.{serving_more}
 use Rattle.control_laws.proofs.NetLinks.{ends_serve}
 use Rattle.packet_laws.specs.Rest.{AreServed, IsServed}
 use Rattle.packet_laws.specs.Stages.{Blocked, CameIn, Judged, OnWay, Stage, stage_of, gives_stage}
-use Rattle.packet_laws.specs.WayCauses.{WayCause}
+use Rattle.packet_laws.specs.PacketCauses.{PacketCause}
 use Rattle.packet_laws.proofs.Others.{ends_or_not}
 use Rattle.packet_laws.proofs.PacketBlocks.{ended, stage_next, standing_more, travels_more}
 
@@ -39,7 +39,7 @@ packet_more before next = rw (count_of_append is_packet before (next ∷ [])) (o
 -- the causes of items of switches and of packets
 pub record IsCaused (setting : Setting) (before : List Item) (next : Item) : Type 0 where
   pub switches : HasItemCause setting before next
-  pub way : WayCause setting before next
+  pub way : PacketCause setting before next
   pub known : ServingIsKnown before
 
 abbrev pub NotDown : Item → Type 0
@@ -172,7 +172,7 @@ number_stays before next i (inl same) numbered travelling =
     let there = numbered (rw (travels_more before next i, same) at travelling) in
     (there.0, omega (arith, there.1, packet_more before next))
 
-pub numbered_kept : (setting : Setting) → AreKept (WayCause setting) AreNumbered
+pub numbered_kept : (setting : Setting) → AreKept (PacketCause setting) AreNumbered
 numbered_kept setting before (item.Entered packet s header) way numbered i travelling =
     by_same (packet == i) refl
   where
@@ -248,7 +248,7 @@ off_way before next packet i stage other tells same has moving =
     (λ e. absurd (other (rw (stage_next before next i, tells, e) at moving)))
     (λ e. (rw (tells, e) refl, same)) moving
 
-pub legs_kept : (setting : Setting) → AreKept (WayCause setting) HaveLegs
+pub legs_kept : (setting : Setting) → AreKept (PacketCause setting) HaveLegs
 legs_kept setting before (item.Seeking packet version partition route) way has i moving =
     let next : Item = item.Seeking packet version partition route in
     leg_behind before next packet i has

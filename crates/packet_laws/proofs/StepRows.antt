@@ -10,13 +10,13 @@ use Rattle.update_machine.specs.Causes.{present_step}
 use Rattle.update_machine.specs.Travels.{travels}
 use Rattle.update_machine.specs.Links.{serves}
 use Rattle.update_machine.proofs.Examples.{one, open_net}
-use Rattle.packet_laws.specs.WayCauses.{IsLostInCrash, WayCause, ends_with_row, fallen_switch}
+use Rattle.packet_laws.specs.PacketCauses.{IsLostInCrash, PacketCause, ends_with_row, fallen_switch}
 
-in_by_its_row : WayCause open_net (item.Row 1 (Packet 0 one) ∷ []) (item.Entered 1 0 one)
+in_by_its_row : PacketCause open_net (item.Row 1 (Packet 0 one) ∷ []) (item.Entered 1 0 one)
 unfolding next_packet present_step ends_with_row serves
 in_by_its_row = (record { number = refl; row = refl; behind = refl }, refl)
 
-not_two_by_one_row : WayCause open_net (item.Row 1 (Packet 0 one) ∷ item.Entered 1 0 one ∷ [])
+not_two_by_one_row : PacketCause open_net (item.Row 1 (Packet 0 one) ∷ item.Entered 1 0 one ∷ [])
     (item.Entered 2 0 one) → ⊥
 unfolding ends_with_row
 not_two_by_one_row way = let last : false ≡ true = way.0.behind in cc
@@ -26,7 +26,7 @@ abbrev crashed : List Item
 crashed =
     item.Row 1 (Packet 0 one) ∷ item.Entered 1 0 one ∷ item.Row 2 (Crash 0) ∷ item.Down 0 ∷ []
 
-lost_with_it : WayCause open_net crashed (item.Lost 1)
+lost_with_it : PacketCause open_net crashed (item.Lost 1)
 unfolding travels present_step fallen_switch is_up standing
 lost_with_it = record {
   travelling = refl;
@@ -39,7 +39,7 @@ down_already =
     item.Row 1 (Packet 0 one) ∷ item.Entered 1 0 one ∷ item.Row 2 (Crash 0) ∷ item.Down 0
     ∷ item.Row 3 (Crash 0) ∷ item.Nothing ∷ []
 
-not_lost_when_it_was_down : WayCause open_net down_already (item.Lost 1) → ⊥
+not_lost_when_it_was_down : PacketCause open_net down_already (item.Lost 1) → ⊥
 unfolding present_step fallen_switch
 not_lost_when_it_was_down way = by_how way.how
   where

@@ -12,7 +12,7 @@ use Rattle.journal.specs.declared.item.Item.TheVariants as item
 use Rattle.update_machine.specs.Causes.{HaveCauses}
 use Rattle.update_machine.specs.LinkMasks.{links_known}
 use Rattle.update_machine.specs.Moves.{route_for}
-use Rattle.update_machine.specs.Ways.{found_down, targets_of}
+use Rattle.update_machine.specs.PacketRoutes.{found_down, targets_of}
 use Rattle.update_machine.specs.Setting.{Setting, IsSetting}
 use Rattle.update_machine.specs.Versions.{holds_version, stamp_of}
 use Rattle.update_machine.specs.Packets.{standing}
@@ -26,7 +26,7 @@ use Rattle.packet_laws.specs.Facts.{PacketFacts, what_is_known}
 use Rattle.packet_laws.specs.KeptFacts.{AllKept}
 use Rattle.packet_laws.specs.Stages.{stage_of}
 use Rattle.packet_laws.specs.StrongCauses.{FindsLinkDown, FurtherCause, IsLeastRoute, IsOnRightLeg, IsStuckOnLeg, RaisesOnLeg, RaisesUnheld, RaisesVersion, SeeksRightly, StrongCause}
-use Rattle.packet_laws.specs.WayCauses.{FindsNoRoute, IsAt, IsBlockedOn, IsDecided, IsLookedUp, IsRedirected, MeetsDown, TakesLeg, WayCause}
+use Rattle.packet_laws.specs.PacketCauses.{FindsNoRoute, IsAt, IsBlockedOn, IsDecided, IsLookedUp, IsRedirected, MeetsDown, TakesLeg, PacketCause}
 use Rattle.packet_laws.proofs.AllKept.{Before, kept_before, known_before, knows}
 use Rattle.packet_laws.proofs.Ends.{decision_out, leaves_rightly, mark_in, meets_link, seeks_rightly, stands_known, stuck_rightly}
 use Rattle.packet_laws.proofs.Here.{IsHere, here_of, leg_in, seeking_of, some_same}
@@ -191,7 +191,7 @@ least_route setting before i s leg route knows_it at leads =
     }
 
 further : (setting : Setting) (before : List Item) (next : Item) → Before setting before
-    → HasItemCause setting before next → WayCause setting before next
+    → HasItemCause setting before next → PacketCause setting before next
     → FurtherCause setting before next
 further setting before (item.Submitted file version) known cause way = cause
 further setting before (item.Retired version) known cause way = cause

@@ -3,7 +3,7 @@ use Rattle.std.proofs.Common.{ℕ, Some, List, [], inl}
 use Rattle.std.specs.Prelude.{IsTrue}
 use Rattle.policy_rules.specs.declared.packet.Leg.TheVariants.{Seek}
 use Rattle.journal.specs.declared.item.Item.{Item}
-use Rattle.update_machine.specs.Ways.{found_down, route_in}
+use Rattle.update_machine.specs.PacketRoutes.{found_down, route_in}
 use Rattle.update_machine.specs.Setting.{Setting, IsSetting}
 use Rattle.control_laws.proofs.Serving.{serving_hold}
 use Rattle.packet_laws.specs.OnWay.{IsOnWay}

@@ -20,10 +20,10 @@ use Rattle.packet_laws.specs.OnWay.{IsOnLeg, IsOnWay}
 use Rattle.packet_laws.specs.Facts.{PacketFacts, is_of_packet, facts_after, what_is_known}
 use Rattle.packet_laws.proofs.PacketFacts.{facts_grow}
 use Rattle.packet_laws.specs.Hops.{changes_taken, detour_count, exit_count, hops_taken, is_detour, is_exit, is_search, most_hops, most_switches, routes_taken, search_count}
-use Rattle.packet_laws.specs.KeptFacts.{AllKept, IsKept}
+use Rattle.packet_laws.specs.KeptFacts.{AllKept, HasKeptFacts}
 use Rattle.packet_laws.specs.Rest.{AreResting}
 use Rattle.packet_laws.specs.Stages.{OnWay, Stage, stage_of, gives_stage}
-use Rattle.packet_laws.specs.WayCauses.{WayCause}
+use Rattle.packet_laws.specs.PacketCauses.{PacketCause}
 use Rattle.packet_laws.proofs.AllKept.{Before, kept_before, known_before, knows}
 use Rattle.packet_laws.proofs.Here.{travels_in}
 use Rattle.packet_laws.proofs.KeptFacts.{exiting_after, rerouted_after, seeking_after}
@@ -75,7 +75,7 @@ route_few setting before held way = by_leg way.leg way.on_leg
 
 -- as one is that the packet begins
 begun_few : (setting : Setting) (before : List Item) (packet i : ℕ) (held : PacketFacts)
-    → (packet == i) ≡ true → IsKept setting before held (Some OnWay)
+    → (packet == i) ≡ true → HasKeptFacts setting before held (Some OnWay)
     → held.travels ≡ (what_is_known before packet).travels
     → IsTrue (what_is_known before i).travels → length held.route ≤ 64
 begun_few setting before packet i held e kept same tr =
@@ -87,7 +87,7 @@ begun_few setting before packet i held e kept same tr =
 -- what stands before the item
 record Premises (setting : Setting) (before : List Item) (next : Item) : Type 0 where
   known : Before setting before
-  way : WayCause setting before next
+  way : PacketCause setting before next
   begins : BeginsRested before next
 
 -- a packet that isn't on its way

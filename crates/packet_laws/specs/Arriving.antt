@@ -7,7 +7,7 @@ use Rattle.update_machine.specs.Packets.{header_in, standing}
 use Rattle.update_machine.specs.Setting.{Setting}
 use Rattle.update_machine.specs.Travels.{leg_of, travels}
 use Rattle.control_laws.specs.Authorities.{EndsAt}
-use Rattle.packet_laws.specs.WayCauses.{Arrives}
+use Rattle.packet_laws.specs.PacketCauses.{Arrives}
 
 -- the packet with this header is on its way by this leg, and its route ends at the switch, also
 -- where it just took that route in the midst of a hop

@@ -12,5 +12,5 @@ pub use Rattle.packet_laws.specs.Routes.{finding_count, hops_on_route, most_rout
 pub use Rattle.packet_laws.specs.Stops.{GoesOrStops}
 pub use Rattle.packet_laws.specs.StrongCauses.{StrongCause}
 pub use Rattle.packet_laws.specs.Travelling.{PacketsTravel, RulesAreRight}
-pub use Rattle.packet_laws.specs.WayCauses.{WayCause}
+pub use Rattle.packet_laws.specs.PacketCauses.{PacketCause}
 pub use Rattle.packet_laws.specs.Whole.{KeepVersionsWhole}

@@ -10,7 +10,7 @@ use Rattle.update_machine.specs.Folds.{folded_value}
 use Rattle.update_machine.specs.Marks.{retired_mark}
 use Rattle.update_machine.specs.Packets.{Decision, decision_of, header_in, standing}
 use Rattle.update_machine.specs.Travels.{ingress_of, leg_of, port_in, travels}
-use Rattle.update_machine.specs.Ways.{found_down, route_in, route_place}
+use Rattle.update_machine.specs.PacketRoutes.{found_down, route_in, route_place}
 
 -- ---- the mark of a packet
 

@@ -26,7 +26,7 @@ Avoids down route = (k one two : ℕ) → slice_get route k ≡ Some one
 
 -- it was decided by the first match of a version that wasn't retired as it came in and is at most
 -- the current one
-pub record IsJudged (setting : Setting) (journal : List Item) (facts : PacketFacts)
+pub record IsRightlyDecided (setting : Setting) (journal : List Item) (facts : PacketFacts)
     (header : Header) : Type 0 where
   pub decision : Decision
   pub decided : facts.decision ≡ Some decision
@@ -41,13 +41,13 @@ pub record IsJudged (setting : Setting) (journal : List Item) (facts : PacketFac
 -- what is kept of a packet of which this is known, in this stage: it is undecided as it comes in;
 -- it stands at its place of a route that leads to a target of its leg, also where it found the next
 -- link down; and while it moves on, its route uses no link that it found down
-pub record IsKept (setting : Setting) (journal : List Item) (facts : PacketFacts)
+pub record HasKeptFacts (setting : Setting) (journal : List Item) (facts : PacketFacts)
     (stage : Option Stage) : Type 0 where
   pub under_way : IsTrue facts.travels → IsUnderWay setting journal facts
   pub came_in : IsTrue facts.travels → stage ≡ Some CameIn
       → (facts.decision ≡ None) × (facts.leg ≡ None)
   pub judged : IsTrue facts.travels → stage ≡ Some Judged
-      → (header : Header) → facts.header ≡ Some header → IsJudged setting journal facts header
+      → (header : Header) → facts.header ≡ Some header → IsRightlyDecided setting journal facts header
   pub on_way : IsTrue facts.travels → (stage ≡ Some OnWay) ⊎ (stage ≡ Some Blocked)
       → IsOnWay setting journal facts
   pub avoids : IsTrue facts.travels → stage ≡ Some OnWay → Avoids facts.found facts.route
@@ -60,7 +60,7 @@ BringsRight setting journal _ = ⊤
 
 -- all packets, those that didn't come in, all messages that were sent, and all caches
 pub record AllKept (setting : Setting) (journal : List Item) : Type 0 where
-  pub packets : (i : ℕ) → IsKept setting journal (what_is_known journal i) (stage_of journal i)
+  pub packets : (i : ℕ) → HasKeptFacts setting journal (what_is_known journal i) (stage_of journal i)
   pub unknown : (i : ℕ) → next_packet journal ≤ i → IsUnknown (what_is_known journal i)
   pub sent : (n : ℕ) (message : Message) → message_of journal n ≡ Some message
       → BringsRight setting journal message.body

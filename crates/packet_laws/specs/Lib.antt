@@ -2,7 +2,7 @@ pub mod Facts
 pub mod OnWay
 pub mod Rules
 pub mod Stages
-pub mod WayCauses
+pub mod PacketCauses
 pub mod Rest
 pub mod Between
 pub mod KeptFacts

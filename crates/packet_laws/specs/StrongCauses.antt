@@ -18,13 +18,13 @@ use Rattle.update_machine.specs.Packets.{decision_of, standing}
 use Rattle.update_machine.specs.Setting.{Setting}
 use Rattle.update_machine.specs.Travels.{leg_of}
 use Rattle.update_machine.specs.Versions.{holds_version}
-use Rattle.update_machine.specs.Ways.{found_down, targets_of}
+use Rattle.update_machine.specs.PacketRoutes.{found_down, targets_of}
 use Rattle.update_machine.specs.ExactCauses.{FindsNextDown, FindsNoPath, SeeksOwn}
 use Rattle.control_laws.specs.ItemCauses.{RetiresRightly, SubmitsRightly}
 use Rattle.packet_laws.specs.Facts.{entry_mark}
 use Rattle.packet_laws.specs.KeptFacts.{Avoids}
 use Rattle.packet_laws.specs.Stages.{Blocked, stage_of}
-use Rattle.packet_laws.specs.WayCauses.{WayCause}
+use Rattle.packet_laws.specs.PacketCauses.{PacketCause}
 
 -- a link of the network, from where the packet stands to the next switch of its route, which its
 -- switch can't use
@@ -127,4 +127,4 @@ FurtherCause setting before _ = ⊤
 -- the cause of an item, and what is asked beyond it
 abbrev pub StrongCause : Setting → List Item → Item → Type 0
 StrongCause setting before next =
-    WayCause setting before next × FurtherCause setting before next
+    PacketCause setting before next × FurtherCause setting before next

@@ -4,7 +4,7 @@ use Rattle.ctrl_msg.specs.declared.message.Message.{Message}
 use Rattle.policy_rules.specs.declared.packet.Leg.TheVariants.{Seek}
 use Rattle.journal.specs.declared.item.Item.{Item}
 use Rattle.update_machine.specs.Caches.{cache_of}
-use Rattle.update_machine.specs.Ways.{found_down, route_in}
+use Rattle.update_machine.specs.PacketRoutes.{found_down, route_in}
 use Rattle.update_machine.specs.Setting.{Setting}
 use Rattle.update_machine.specs.Versions.{holds_version, stamp_of}
 use Rattle.update_machine.specs.Travels.{leg_of, travels}

@@ -4,7 +4,7 @@ ghost use Rattle.steps.specs.Steps.{IsEvent};
 ghost use Rattle.steps.specs.declared.step.Step.TheVariants.{Deliver, Hop};
 ghost use Rattle.update_machine.specs.Exports.{Answers, AreAll, AreSome, Event, HasCause, HasPlay, HaveCauses, IsPlay, IsReached, IsRun, IsSetting, Item, Setting, StepOfRow, current_mark, most_versions, next_delivery, next_hop, next_packet, next_travelling, next_waiting, piece};
 ghost use Rattle.control_laws.specs.Always.{HoldsReached};
-ghost use Rattle.packet_laws.specs.Exports.{AllKept, AreEntered, AreResting, ChangesLeaveOthers, GoesOrStops, HoldsBetween, KeepVersionsWhole, PacketsArrive, PacketsTravel, RulesAreRight, UntouchedStay, StrongCause, WayCause, detour_count, drain_left, exit_count, finding_count, hops_on_route, hops_taken, most_hops, most_routes, most_switches, routes_taken, rows_played, search_count, step_rows};
+ghost use Rattle.packet_laws.specs.Exports.{AllKept, AreEntered, AreResting, ChangesLeaveOthers, GoesOrStops, HoldsBetween, KeepVersionsWhole, PacketsArrive, PacketsTravel, RulesAreRight, UntouchedStay, StrongCause, PacketCause, detour_count, drain_left, exit_count, finding_count, hops_on_route, hops_taken, most_hops, most_routes, most_switches, routes_taken, rows_played, search_count, step_rows};
 
 use control_laws::{
     acknowledgements_hold, boots_are_known, installs_are_planned, items_have_causes,
@@ -17,7 +17,7 @@ use policy_rules::amendment_laws;
 /// for steps of all kinds.
 pub fn packet_items_have_causes()
     ensures { HoldsReached (λ setting journal.
-        IsSetting setting → HaveCauses (WayCause setting) [] journal) }
+        IsSetting setting → HaveCauses (PacketCause setting) [] journal) }
 {}
 
 /// Between steps each travelling packet is on its way, at a switch that serves: those that stood at

@@ -10,7 +10,7 @@
 #![tactic(auto)]
 
 mod laws;
-mod way_laws;
+mod packet_cause_laws;
 
 pub use laws::{
     answered_rows_are_entered, answers_are_runs, cache_rules_are_right, causes_are_strong,
@@ -19,4 +19,4 @@ pub use laws::{
     packet_rows_are_entered, packets_arrive, packets_rest, packets_take_few_hops,
     packets_take_few_routes, packets_travel, plays_exist, untouched_rules_stay,
 };
-pub use way_laws::{journals_hold_so_far, plays_held_on_the_way, steps_are_kept};
+pub use packet_cause_laws::{journals_hold_so_far, plays_held_on_the_way, steps_are_kept};

@@ -24,7 +24,7 @@ use Rattle.policy_rules.specs.declared.file.PolicyFile.TheVariants.{Whole, Chang
 use Rattle.policy_rules.specs.declared.policy.Row.{Row}
 use Rattle.policy_file.specs.Changes.{change_heading, change_of, change_rows, edit_read, is_change_text, on_ok, policy_file_of}
 use Rattle.policy_file.specs.Printing.{change_text, edit_fields, fields_line, policy_text, row_fields, rows_text}
-use Rattle.policy_file.specs.Reading.{IsReadUpTo, RowFormat, State, policy_heading, policy_of, policy_rows, row_read, rows_under_heading}
+use Rattle.policy_file.specs.Reading.{IsReadUpTo, RowFormat, StateEach, policy_heading, policy_of, policy_rows, row_read, rows_under_heading}
 use Rattle.policy_file.proofs.Plain.{ArePlain, IsPlain, IsPlainRecord, plain_edit, plain_row}
 use Rattle.policy_file.proofs.Rows.{NoneRepeats, all_fresh_edits, all_fresh_rows, all_read}
 use Rattle.csv_records.proofs.CallerLemmas.{over}
@@ -110,7 +110,7 @@ module _ {X : Type 0} (fields : X → List (List ℕ)) where
   StateRows format rows = AllByRecursion (λ row. format.read (fields row) ≡ Ok row) rows
 
   states_back : (format : RowFormat X) (rows : List X) → StateRows format rows
-      → State format (map fields rows) rows
+      → StateEach format (map fields rows) rows
   states_back format [] back = refl
   states_back format (row ∷ rows) back =
       ap (λ outcome. outcome ∷ map format.read (map fields rows)) back.0
@@ -124,7 +124,7 @@ module _ {X : Type 0} (fields : X → List (List ℕ)) where
   rows_back format rows fresh few back heads =
       let long : length (map fields rows) ≡ length rows = length-map rows fields in
       let read : IsReadUpTo format (map fields rows) rows None = record {
-        stated = subst (λ xs. State format xs rows)
+        stated = subst (λ xs. StateEach format xs rows)
             (sym (take_all (length rows) (map fields rows) (omega arith)))
             (states_back format rows back);
         few = few;

@@ -17,7 +17,7 @@ use Rattle.policy_file.specs.declared.error.PolicyRefusal.{PolicyRefusal}
 use Rattle.policy_file.specs.declared.error.PolicyRefusal.TheVariants as why
 use Rattle.base.specs.declared.row.InRow.{InRow}
 use Rattle.policy_file.specs.Changes.{change_heading, change_rows, has_change_heading}
-use Rattle.policy_file.specs.Reading.{IsReadUpTo, RowFormat, State, first_some, policy_rows, refusal_after, refusal_at, rows_of, rows_stated, rows_under_heading}
+use Rattle.policy_file.specs.Reading.{IsReadUpTo, RowFormat, StateEach, first_some, policy_rows, refusal_after, refusal_at, rows_of, rows_stated, rows_under_heading}
 
 -- ---- the first number that has something
 
@@ -49,31 +49,31 @@ module _ {X : Type 0} (format : RowFormat X) where
   fine row = Ok row
 
   pub state_push : (records : Records) (rows : List X) (fields : List (List ℕ)) (row : X)
-      → State format records rows → format.read fields ≡ Ok row
-      → State format (records ++ fields ∷ []) (rows ++ row ∷ [])
+      → StateEach format records rows → format.read fields ≡ Ok row
+      → StateEach format (records ++ fields ∷ []) (rows ++ row ∷ [])
   state_push records rows fields row stated is =
       map-append format.read records (fields ∷ [])
       ∙ ap (λ xs. xs ++ format.read fields ∷ []) stated
       ∙ ap (λ r. map fine rows ++ r ∷ []) is ∙ sym (map-append fine rows (row ∷ []))
 
-  state_take : (records : Records) (rows : List X) (k : ℕ) → State format records rows
-      → State format (take k records) (take k rows)
+  state_take : (records : Records) (rows : List X) (k : ℕ) → StateEach format records rows
+      → StateEach format (take k records) (take k rows)
   state_take records rows k stated = sym (take-map format.read k records) ∙ ap (take k) stated
       ∙ take-map fine k rows
 
-  state_length : (records : Records) (rows : List X) → State format records rows
+  state_length : (records : Records) (rows : List X) → StateEach format records rows
       → length records ≡ length rows
   state_length records rows stated = sym (length-map records format.read) ∙ ap length stated
       ∙ length-map rows fine
 
-  state_at : (records : Records) (rows : List X) (k : ℕ) (d : X) → State format records rows
+  state_at : (records : Records) (rows : List X) (k : ℕ) (d : X) → StateEach format records rows
       → k < length rows → format.read (get_or records k []) ≡ Ok (get_or rows k d)
   state_at records rows k d stated within =
       let inside : k < length records = omega (arith, state_length records rows stated) in
       sym (get_or-map format.read records k [] (fine d) inside)
       ∙ ap (λ xs. get_or xs k (fine d)) stated ∙ get_or-map fine rows k d (fine d) within
 
-  state_rows : (records : Records) (rows : List X) → State format records rows
+  state_rows : (records : Records) (rows : List X) → StateEach format records rows
       → rows_stated format records ≡ rows
   state_rows records rows stated = outcomes records ∙ ap (filter_map result_ok) stated
       ∙ all_fine rows
@@ -91,7 +91,7 @@ module _ {X : Type 0} (format : RowFormat X) where
   -- ---- why a record is refused
 
   abbrev pub Stated : Records → List X → Type 0
-  Stated records rows = State format (take (length rows) records) rows
+  Stated records rows = StateEach format (take (length rows) records) rows
 
   -- none of the first p rows repeats an earlier one
   abbrev pub NoneRepeats : List X → ℕ → Type 0
@@ -108,8 +108,8 @@ module _ {X : Type 0} (format : RowFormat X) where
       let first : get_or records k [] ≡ get_or (take n records) k [] =
       sym (get_or-take n records k [] within) in
       let row = get_or rows k d in
-      let earlier : State format (take k records) (take k rows) =
-      subst (λ xs. State format xs (take k rows)) (take-take k n records (omega arith))
+      let earlier : StateEach format (take k records) (take k rows) =
+      subst (λ xs. StateEach format xs (take k rows)) (take-take k n records (omega arith))
       (state_take (take n records) rows k stated) in
       ap (λ b. cond b (Some why.TooManyRows) (refusal_after format
       (rows_stated format (take k records)) (format.read (get_or records k []))))
@@ -171,7 +171,7 @@ module _ {X : Type 0} (format : RowFormat X) where
       → NoneRepeats rows (length rows) → rows_of format records ≡ Ok rows
   all_read records rows read none =
       let end : length records ≡ length rows = read.ends in
-      let stated : State format records rows = subst (λ xs. State format xs rows)
+      let stated : StateEach format records rows = subst (λ xs. StateEach format xs rows)
       (take_all (length rows) records (omega arith)) read.stated in
       ap (λ first. option_map_or Err first (Ok (rows_stated format records)))
       (none_below (λ place. option_map (at_row place) (refusal_at format records place))
@@ -255,7 +255,7 @@ ends_at records n fields after left false is at takes most =
 module _ {X : Type 0} (format : RowFormat X) where
   -- no record is left behind those that state these rows
   pub ended : (records : Records) (rows : List X) (fields : List (List ℕ)) (after left : Records)
-      (found : Bool) → State format (take (length rows) records) rows → length rows ≤ 2000
+      (found : Bool) → StateEach format (take (length rows) records) rows → length rows ≤ 2000
       → length rows ≤ length records → found ≡ false → left ≡ drop (length rows) records
       → TakesRecord left found fields after → IsReadUpTo format records rows None
   ended records rows fields after left found stated few within none at takes = record {

@@ -141,13 +141,13 @@ policy_of bytes = rows_in policy_rows bytes
 -- ---- rows that were read of records
 
 -- the records state these rows, one each
-abbrev pub State : {X : Type 0} → RowFormat X → List (List (List ℕ)) → List X → Type 0
-State format records rows = map format.read records ≡ map (λ row. Ok row) rows
+abbrev pub StateEach : {X : Type 0} → RowFormat X → List (List (List ℕ)) → List X → Type 0
+StateEach format records rows = map format.read records ≡ map (λ row. Ok row) rows
 
 -- the first records state these rows; then the records end, or the next is refused for this
 pub record IsReadUpTo {X : Type 0} (format : RowFormat X) (records : List (List (List ℕ)))
     (rows : List X) (end : Option PolicyRefusal) : Type 0 where
-  pub stated : State format (take (length rows) records) rows
+  pub stated : StateEach format (take (length rows) records) rows
   pub few : length rows ≤ 2000
   pub within : length rows ≤ length records
   pub ends : MatchOption end (length records ≡ length rows)

@@ -93,7 +93,7 @@ fn priorities_are_read_back()
 }
 
 // What is written as a record.
-trait Line {
+trait CsvRecord {
     /// The heading of such records.
     ghost heading: { List (List ℕ) };
 
@@ -111,7 +111,7 @@ trait Line {
             (string_bytes text.new ≡ string_bytes text.old ++ fields_line (fields self.now)) };
 }
 
-impl Line for Row {
+impl CsvRecord for Row {
     ghost heading = { policy_heading };
 
     ghost fields = { row_fields };
@@ -127,7 +127,7 @@ impl Line for Row {
     }
 }
 
-impl Line for Edit {
+impl CsvRecord for Edit {
     ghost heading = { change_heading };
 
     ghost fields = { edit_fields };
@@ -149,7 +149,7 @@ impl Line for Edit {
 }
 
 // The heading's line, and then a line for each row.
-fn text_of<R: Line>(alloc: Global, rows: &[R]) -> Result<Vec<u8>, AllocError>
+fn text_of<R: CsvRecord>(alloc: Global, rows: &[R]) -> Result<Vec<u8>, AllocError>
     ensures { IfOk result (λ bytes.
         bytes.items ≡ fields_line R.heading ++ rows_text R.fields rows.now) }
 {
@@ -160,7 +160,7 @@ fn text_of<R: Line>(alloc: Global, rows: &[R]) -> Result<Vec<u8>, AllocError>
 }
 
 // Appends a line for each row.
-fn write_rows<R: Line>(text: &mut String, rows: &[R]) -> Result<(), AllocError>
+fn write_rows<R: CsvRecord>(text: &mut String, rows: &[R]) -> Result<(), AllocError>
     ensures { OnOk result
         (string_bytes text.new ≡ string_bytes text.old ++ rows_text R.fields rows.now) }
 {

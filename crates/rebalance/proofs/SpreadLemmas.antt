@@ -4,7 +4,7 @@ use Rattle.std.specs.List.{list_any, range_with_len, sum_by}
 use Rattle.placement.specs.Placement.{AreHosted, TurnRule, is_target, placing, targets_at}
 use Rattle.placement.proofs.CallerLemmas.{first_distinct, first_there, hosted_fits, hosted_or_refused, same_hosted, same_refused, sum-filter}
 use Rattle.rebalance.specs.Loads.{Fits, peak}
-use Rattle.rebalance.specs.Spread.{AreWeighed, FindsFewer, IsKept, IsProposal, IsSpread, SpreadLaws, spreading}
+use Rattle.rebalance.specs.Spread.{AreWeighed, FindsFewer, KeepsPlacement, IsProposal, IsSpread, SpreadLaws, spreading}
 use Rattle.rebalance.proofs.LoadLemmas.{bound-le}
 
 -- ---- where there is room
@@ -38,7 +38,7 @@ hosted-fit t P each hosted =
 -- a spread that isn't lower is none, since there is no other one
 pub kept_by_peak : (sizes weights rooms : List ℕ) (backups : ℕ) (old P : List (List ℕ))
     → IsSpread sizes weights rooms backups P → peak weights old ≤ peak weights P
-    → IsKept sizes weights rooms backups old old
+    → KeepsPlacement sizes weights rooms backups old old
 kept_by_peak sizes weights rooms backups old P spread most = record {
   same = refl;
   none = λ other is.
@@ -48,7 +48,7 @@ kept_by_peak sizes weights rooms backups old P spread most = record {
 
 -- where a partition is refused there is none
 pub kept_by_lack : (sizes weights rooms : List ℕ) (backups p : ℕ) (old : List (List ℕ))
-    → FindsFewer sizes weights rooms backups p → IsKept sizes weights rooms backups old old
+    → FindsFewer sizes weights rooms backups p → KeepsPlacement sizes weights rooms backups old old
 kept_by_lack sizes weights rooms backups p old fewer = record {
   same = refl;
   none = λ other is.

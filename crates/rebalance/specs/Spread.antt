@@ -28,7 +28,7 @@ pub record IsLower (sizes weights rooms : List ℕ) (backups : ℕ) (old new : L
   pub lower : peak weights new < peak weights old
 
 -- no spread is lower, and so the old placement stays
-pub record IsKept (sizes weights rooms : List ℕ) (backups : ℕ) (old new : List (List ℕ))
+pub record KeepsPlacement (sizes weights rooms : List ℕ) (backups : ℕ) (old new : List (List ℕ))
     : Type 0 where
   pub same : new ≡ old
   pub none : (other : List (List ℕ)) → IsSpread sizes weights rooms backups other
@@ -36,7 +36,7 @@ pub record IsKept (sizes weights rooms : List ℕ) (backups : ℕ) (old new : Li
 
 abbrev pub IsProposal : List ℕ → List ℕ → List ℕ → ℕ → List (List ℕ) → List (List ℕ) → Type 0
 IsProposal sizes weights rooms backups old new =
-    IsLower sizes weights rooms backups old new ⊎ IsKept sizes weights rooms backups old new
+    IsLower sizes weights rooms backups old new ⊎ KeepsPlacement sizes weights rooms backups old new
 
 -- ---- what is so of each
 

@@ -6,7 +6,7 @@ use Rattle.std.proofs.lemmas.Bool.Decides.{nat_tests}
 use Rattle.ctrl_msg.specs.declared.message.Body.{Body}
 use Rattle.ctrl_msg.specs.declared.message.Body.TheVariants.{OpenAt, Stamp, CacheRule}
 use Rattle.switch_table.specs.Cache.{CacheValue, newest_entries, same_key}
-use Rattle.switch_table.specs.Carried.{after_carry, carried_entry, goes_over, under}
+use Rattle.switch_table.specs.Carried.{after_carry, carried_entry, is_carried, under}
 use Rattle.switch_table.specs.declared.cache.CacheEntry.{CacheEntry}
 use Rattle.ternary.specs.Word.{WordValue}
 use Rattle.journal.specs.declared.item.Item.{Item}
@@ -133,7 +133,7 @@ said_from touched_of stamp number cache (Stamp boot version touched) from =
             → version ≤ entry.version
         carried old entry is =
             by_version (nat_le version old.version) refl
-            (goes_over version (touched_of version) cache.entries old) is
+            (is_carried version (touched_of version) cache.entries old) is
           where
             by_version : (b : Bool) → nat_le version old.version ≡ b → (c : Bool)
                 → (if b then Some old else if c then Some (under version old) else None)

@@ -28,7 +28,7 @@ use Rattle.update_machine.specs.Moves.{arrive_by, arrive_items, authority_items,
 use Rattle.update_machine.specs.Packets.{decision_of}
 use Rattle.update_machine.specs.Setting.{Setting}
 use Rattle.update_machine.specs.Versions.{holds_version, policy_at, tables_at, plan_at}
-use Rattle.update_machine.specs.Ways.{targets_of}
+use Rattle.update_machine.specs.PacketRoutes.{targets_of}
 use Rattle.update_machine.proofs.CallerLemmas.{policies_keep}
 use Rattle.packet_laws.specs.OnWay.{IsOnLeg}
 use Rattle.packet_laws.specs.Facts.{PacketFacts, what_is_known}

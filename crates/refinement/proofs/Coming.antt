@@ -16,7 +16,7 @@ use Rattle.switch_core.specs.declared.packet.Packet.{Packet}
 use Rattle.update_machine.specs.Links.{serves}
 use Rattle.update_machine.specs.Messages.{next_message}
 use Rattle.update_machine.specs.Moves.{lookup_items}
-use Rattle.update_machine.specs.Ways.{targets_of}
+use Rattle.update_machine.specs.PacketRoutes.{targets_of}
 use Rattle.update_machine.specs.Pieces.{packet_items}
 use Rattle.update_machine.specs.Setting.{Setting}
 use Rattle.update_machine.proofs.CallerLemmas.{have_append, messages_keep, switch_keeps}

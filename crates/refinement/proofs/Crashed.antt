@@ -29,7 +29,7 @@ use Rattle.update_machine.specs.Packets.{is_packet}
 use Rattle.update_machine.specs.Pieces.{crash_items, nothing, piece}
 use Rattle.update_machine.specs.Setting.{Setting}
 use Rattle.update_machine.specs.Travels.{packets_at}
-use Rattle.update_machine.specs.Ways.{targets_of}
+use Rattle.update_machine.specs.PacketRoutes.{targets_of}
 use Rattle.update_machine.specs.LinkMasks.{near}
 use Rattle.update_machine.proofs.CallerLemmas.{have_append, last_given_append, links_keep}
 use Rattle.world_log.specs.Linking.{AreRelinked, all_adverts_sent, near_all}

@@ -16,13 +16,13 @@ use Rattle.switch_core.specs.declared.answers.Decision.{Decision}
 use Rattle.switch_core.specs.declared.packet.Packet.{Packet}
 use Rattle.update_machine.specs.Messages.{is_sending, next_message, send_items, sent_from}
 use Rattle.update_machine.specs.Moves.{AuthorityRule, authority_items, cache_items, end_items, header_at, in_turn, cache_rule as rule_message}
-use Rattle.update_machine.specs.Ways.{found_down}
+use Rattle.update_machine.specs.PacketRoutes.{found_down}
 use Rattle.update_machine.specs.Setting.{Setting}
 use Rattle.update_machine.specs.Travels.{is_at}
 use Rattle.update_machine.proofs.CallerLemmas.{count_of_append}
 use Rattle.packet_laws.specs.Facts.{what_is_known}
 use Rattle.packet_laws.proofs.PacketFacts.{facts_grow}
-use Rattle.world_log.specs.Writing.{cache_message, decided_items, messages_in}
+use Rattle.world_log.specs.Writing.{cache_message, decided_items, message_list}
 use Rattle.refinement.proofs.Ends.{IsDecided, end_law}
 use Rattle.refinement.proofs.Legs.{at_switch}
 use Rattle.refinement.proofs.Others.{sends_unnamed, unnamed}
@@ -84,7 +84,7 @@ told_is s packet found own false other =
 sends_law : (setting : Setting) (journal : List Item) (s : ℕ) (packet : Packet)
     (found : AuthorityRule) → IsPacket journal packet → IsOwnRule found
     → cache_items setting packet.number s found journal
-    ≡ sent_from (next_message journal) (messages_in (told_by_rule s packet found))
+    ≡ sent_from (next_message journal) (message_list (told_by_rule s packet found))
 unfolding cache_items sent_from what_is_known
 sends_law setting journal s packet found is own =
     ap (λ (ingress : Option ℕ). elim (is_at s ingress) [
@@ -103,18 +103,18 @@ sends_law setting journal s packet found is own =
           | true ↦ []
           | false ↦ send_items journal (rule_message found packet.ingress packet.header ∷ [])
         ]
-        ≡ sent_from (next_message journal) (messages_in (told_by_rule s packet found))
+        ≡ sent_from (next_message journal) (message_list (told_by_rule s packet found))
     by_ingress true here =
-        ap (λ message. sent_from (next_message journal) (messages_in message))
+        ap (λ message. sent_from (next_message journal) (message_list message))
         (sym (told_is s packet found own true here))
     by_ingress false other =
-        ap (λ message. sent_from (next_message journal) (messages_in message))
+        ap (λ message. sent_from (next_message journal) (message_list message))
         (sym (told_is s packet found own false other))
 
 -- the switch is as it was behind it
 sees_sent : (setting : Setting) (journal : List Item) (s : ℕ) (w : SwitchValue) (mask number : ℕ)
     (message : Option Message) → Sees setting journal s w mask
-    → Sees setting (journal ++ sent_from number (messages_in message)) s w mask
+    → Sees setting (journal ++ sent_from number (message_list message)) s w mask
 unfolding sent_from
 sees_sent setting journal s w mask number None sees =
     subst (λ js. Sees setting js s w mask) (sym (append-nil journal)) sees
@@ -160,10 +160,10 @@ decided_facts journal packet decision is =
 -- and behind what is sent then
 decided_sent : (journal : List Item) (packet : Packet) (decision : Decision) (number : ℕ)
     (message : Option Message) → IsDecided journal packet decision
-    → IsDecided (journal ++ sent_from number (messages_in message)) packet decision
+    → IsDecided (journal ++ sent_from number (message_list message)) packet decision
 unfolding what_is_known
 decided_sent journal packet decision number message is =
-    let sent : List Item = sent_from number (messages_in message) in
+    let sent : List Item = sent_from number (message_list message) in
     let same : what_is_known (journal ++ sent) packet.number ≡ what_is_known journal packet.number =
     facts_all packet.number journal sent
     ∙ unnamed packet.number journal sent (what_is_known journal packet.number)
@@ -198,7 +198,7 @@ pub authority_law : (setting : Setting) (journal : List Item) (s : ℕ) (w : Swi
     → authority_items setting packet.number s (Some found) journal
     ≡ decided_items (at_switch s packet)
     (by_rule s found.version found.part.number found.rule)
-    (sent_from (next_message journal) (messages_in (told_by_rule s packet found)))
+    (sent_from (next_message journal) (message_list (told_by_rule s packet found)))
     (next_of w (around mask ports) packet found.rule.action)
 unfolding authority_items
 authority_law setting journal s w mask sees there ports owners packet is found own =
@@ -208,12 +208,12 @@ authority_law setting journal s w mask sees there ports owners packet is found o
     decision.how in
     let after : List Item = journal ++ decided ∷ [] in
     let sent : List Item =
-    sent_from (next_message journal) (messages_in (told_by_rule s packet found)) in
+    sent_from (next_message journal) (message_list (told_by_rule s packet found)) in
     let same : next_message after ≡ next_message journal =
     number_stays journal packet decision in
     let told : cache_items setting i s found after ≡ sent =
     sends_law setting after s packet found (decided_packet journal packet decision is) own
-    ∙ ap (λ n. sent_from n (messages_in (told_by_rule s packet found))) same in
+    ∙ ap (λ n. sent_from n (message_list (told_by_rule s packet found))) same in
     let seen : Sees setting (after ++ sent) s w mask =
     sees_sent setting after s w mask (next_message journal) (told_by_rule s packet found)
     (sees_one setting journal decided s w mask

@@ -20,7 +20,7 @@ use Rattle.tunnel.specs.Tunnel.{TunnelValue}
 use Rattle.update_machine.specs.Moves.{end_items, leaving_item as left, leg_items}
 use Rattle.update_machine.specs.Packets.{decision_of, header_in}
 use Rattle.update_machine.specs.Setting.{Setting}
-use Rattle.update_machine.specs.Ways.{found_down, no_switch, owner}
+use Rattle.update_machine.specs.PacketRoutes.{found_down, no_switch, owner}
 use Rattle.update_machine.proofs.CallerLemmas.{known_link_laws}
 use Rattle.world_log.specs.Writing.{end_item, left_item, set_item}
 use Rattle.travelling.specs.Travelling.{Standing}

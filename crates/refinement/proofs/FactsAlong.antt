@@ -7,7 +7,7 @@ use Rattle.five_tuple.specs.HeaderNumbers.{header_of}
 use Rattle.journal.specs.declared.item.Item.{Item}
 use Rattle.update_machine.specs.Concerns.{NoneConcern, concerns_policies}
 use Rattle.update_machine.specs.Marks.{retired_mark}
-use Rattle.update_machine.specs.Ways.{targets_in, targets_of}
+use Rattle.update_machine.specs.PacketRoutes.{targets_in, targets_of}
 use Rattle.update_machine.specs.Setting.{Setting}
 use Rattle.update_machine.proofs.CallerLemmas.{policies_keep}
 use Rattle.packet_laws.specs.Facts.{PacketFacts, is_of_packet, facts_after, what_is_known}

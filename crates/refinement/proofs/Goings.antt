@@ -30,13 +30,13 @@ use Rattle.tunnel.specs.Tunnel.{TunnelValue}
 use Rattle.update_machine.specs.Caches.{lookup_at}
 use Rattle.update_machine.specs.Marks.{retired_mark}
 use Rattle.update_machine.specs.Messages.{sent_from}
-use Rattle.update_machine.specs.Ways.{no_switch, owner, targets_of}
+use Rattle.update_machine.specs.PacketRoutes.{no_switch, owner, targets_of}
 use Rattle.update_machine.specs.Setting.{Setting}
 use Rattle.update_machine.specs.Versions.{stamp_of, tables_at}
 use Rattle.packet_laws.specs.OnWay.{IsUnknown}
 use Rattle.packet_laws.specs.Facts.{PacketFacts, facts_after}
 use Rattle.packet_laws.proofs.Lookups.{FindsTargets, redirect_found}
-use Rattle.world_log.specs.Writing.{answer_items, answer_flight, cache_message, entered_items, entered_flight, messages_in}
+use Rattle.world_log.specs.Writing.{answer_items, answer_flight, cache_message, entered_items, entered_flight, message_list}
 use Rattle.travelling.specs.Travelling.{Standing}
 use Rattle.refinement.proofs.Legs.{at_switch}
 use Rattle.refinement.proofs.Looking.{IsAsked, targets_are, its_stamp}
@@ -205,7 +205,7 @@ pub answer_goes : (targets : Targets) (before : List Item) (number : ℕ) (at : 
 answer_goes targets before number at version rule (answer.Decided decision cache onward) facts seen
     of comes =
     decided_goes targets before
-    (sent_from number (messages_in (cache_message at.ingress cache))) at at.ingress decision onward
+    (sent_from number (message_list (cache_message at.ingress cache))) at at.ingress decision onward
     facts (sends_unnamed at.packet number (cache_message at.ingress cache)) seen comes
 answer_goes targets before number at version rule (answer.Seek tunnel) facts seen of comes =
     let P : ℕ → Option ℕ → TunnelValue → Type 0 = λ v r t. answer_flight v r (answer.Seek t)

@@ -25,7 +25,7 @@ use Rattle.update_machine.specs.Packets.{is_packet, standing}
 use Rattle.update_machine.specs.Pieces.{nothing, piece, hop_items as hop_items_of}
 use Rattle.update_machine.specs.Setting.{Setting}
 use Rattle.update_machine.specs.Travels.{is_at, travels, travels_at}
-use Rattle.update_machine.specs.Ways.{targets_of}
+use Rattle.update_machine.specs.PacketRoutes.{targets_of}
 use Rattle.packet_laws.specs.Facts.{PacketFacts, what_is_known}
 use Rattle.packet_laws.proofs.PacketFacts.{facts_grow}
 use Rattle.world_log.specs.Packets.{arrival_items, ended_items, ended_switch, hop_written, hop_flight, hopped_flight, turned_items}

@@ -9,7 +9,7 @@ use Rattle.steps.specs.Steps.{IsStep}
 use Rattle.steps.specs.declared.step.Step.{Step}
 use Rattle.update_machine.specs.Answers.{IsReached, StepOfRow, after_steps}
 use Rattle.update_machine.specs.Causes.{HaveCauses}
-use Rattle.update_machine.specs.Ways.{targets_in, targets_of}
+use Rattle.update_machine.specs.PacketRoutes.{targets_in, targets_of}
 use Rattle.update_machine.specs.Pieces.{piece}
 use Rattle.update_machine.specs.Setting.{Setting, IsSetting}
 use Rattle.update_machine.proofs.CallerLemmas.{plan_stays}

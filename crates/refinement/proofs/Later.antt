@@ -29,7 +29,7 @@ use Rattle.update_machine.specs.Packets.{is_packet}
 use Rattle.refinement.specs.Calls.{AreInStep, IsInStep}
 use Rattle.world_log.specs.Packets.{arrival_items, arrival_posts, ended_items, ended_posts, hop_written, hop_posts, hopped_flight, turned_items}
 use Rattle.travelling.specs.Travelling.{Flight, standing_at, Standing}
-use Rattle.world_log.specs.Writing.{answer_items, answer_posts, arrived_items, arrived_posts, cache_message, decided_items, end_item, entered_items, entered_posts, messages_in}
+use Rattle.world_log.specs.Writing.{answer_items, answer_posts, arrived_items, arrived_posts, cache_message, decided_items, end_item, entered_items, entered_posts, message_list}
 use Rattle.refinement.proofs.Posting.{SendFrom, posts_in}
 
 -- they bring no packet in
@@ -59,7 +59,7 @@ end_later at decision (next.Stuck cause) = tt
 
 pub decided_later : (number : ℕ) (at : Standing) (decision : Decision) (message : Option Message)
     (onward : Next)
-    → AreInStep (decided_items at decision (sent_from number (messages_in message)) onward)
+    → AreInStep (decided_items at decision (sent_from number (message_list message)) onward)
 unfolding sent_from
 decided_later number at decision None onward =
     (tt, (end_later at decision onward, tt))
@@ -95,7 +95,7 @@ end_still at decision (next.Stuck cause) = refl
 
 decided_still : (number : ℕ) (at : Standing) (decision : Decision) (message : Option Message)
     (onward : Next) → stays_on_way
-    (decided_items at decision (sent_from number (messages_in message)) onward) ≡ false
+    (decided_items at decision (sent_from number (message_list message)) onward) ≡ false
 unfolding sent_from
 decided_still number at decision None onward = end_still at decision onward
 decided_still number at decision (Some message) onward = end_still at decision onward
@@ -131,8 +131,8 @@ end_sends number at decision (next.Stuck cause) = (tt, refl)
 decided_sends : (number : ℕ) (at : Standing) (decision : Decision) (message : Option Message)
     (onward : Next)
     → (let items : List Item =
-    decided_items at decision (sent_from number (messages_in message)) onward in
-    SendFrom number items × (posts_in items ≡ map new_post (messages_in message)))
+    decided_items at decision (sent_from number (message_list message)) onward in
+    SendFrom number items × (posts_in items ≡ map new_post (message_list message)))
 unfolding sent_from
 decided_sends number at decision None onward = end_sends number at decision onward
 decided_sends number at decision (Some message) onward =

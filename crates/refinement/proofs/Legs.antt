@@ -17,7 +17,7 @@ use Rattle.switch_core.specs.declared.packet.Packet.{Packet}
 use Rattle.tunnel.specs.Moves.{tunnel_begun}
 use Rattle.update_machine.specs.Adverts.{is_cut_off, route_from}
 use Rattle.update_machine.specs.Moves.{cause_at, leg_items, takes_route}
-use Rattle.update_machine.specs.Ways.{found_down, targets_of}
+use Rattle.update_machine.specs.PacketRoutes.{found_down, targets_of}
 use Rattle.update_machine.specs.Setting.{Setting}
 use Rattle.travelling.specs.Travelling.{Standing}
 use Rattle.world_log.specs.Writing.{set_item}

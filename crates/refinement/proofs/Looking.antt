@@ -31,7 +31,7 @@ use Rattle.update_machine.specs.Caches.{lookup_at}
 use Rattle.update_machine.specs.Causes.{HaveCauses}
 use Rattle.update_machine.specs.Messages.{next_message, sent_from}
 use Rattle.update_machine.specs.Moves.{authority_items, authority_rule, found_items, lookup_items}
-use Rattle.update_machine.specs.Ways.{targets_of}
+use Rattle.update_machine.specs.PacketRoutes.{targets_of}
 use Rattle.update_machine.specs.Setting.{Setting, IsSetting}
 use Rattle.update_machine.specs.Versions.{policy_at, stamp_of, tables_at, plan_at}
 use Rattle.control_laws.specs.ItemCauses.{HasItemCause}

@@ -32,7 +32,7 @@ use Rattle.update_machine.specs.Handled.{stays_on_way}
 use Rattle.update_machine.specs.LinkMasks.{near}
 use Rattle.update_machine.specs.Messages.{next_message}
 use Rattle.update_machine.specs.Moves.{arrive_items, cause_at, go_on, move_items, items_then, reroute_by, reroute_items, route_for, stuck_on}
-use Rattle.update_machine.specs.Ways.{found_down, next_switch, no_switch, owner, targets_of}
+use Rattle.update_machine.specs.PacketRoutes.{found_down, next_switch, no_switch, owner, targets_of}
 use Rattle.update_machine.specs.Setting.{Setting}
 use Rattle.update_machine.specs.Travels.{leg_of}
 use Rattle.update_machine.proofs.CallerLemmas.{have_append, messages_keep, switch_keeps}

@@ -14,7 +14,7 @@ use Rattle.update_machine.specs.Marks.{retired_mark}
 use Rattle.update_machine.specs.Messages.{sent_from}
 use Rattle.update_machine.specs.Moves.{takes_route}
 use Rattle.packet_laws.specs.Facts.{PacketFacts, is_of_packet, facts_after}
-use Rattle.world_log.specs.Writing.{answer_items, arrived_items, cache_message, end_item, entered_items, messages_in}
+use Rattle.world_log.specs.Writing.{answer_items, arrived_items, cache_message, end_item, entered_items, message_list}
 use Rattle.travelling.specs.Travelling.{Flight, Standing}
 use Rattle.refinement.proofs.FactsAlong.{facts_along}
 
@@ -48,7 +48,7 @@ none_more i (one ∷ first) items none more = (none.0, none_more i first items n
 
 -- messages name no packet
 pub sends_unnamed : (i number : ℕ) (message : Option Message)
-    → NoneName i (sent_from number (messages_in message))
+    → NoneName i (sent_from number (message_list message))
 unfolding sent_from
 sends_unnamed i number None = tt
 sends_unnamed i number (Some message) = (refl, tt)
@@ -70,7 +70,7 @@ answer_other : (q number : ℕ) (at : Standing) (what : Answer) → (at.packet =
     → NoneName q (answer_items number at what)
 answer_other q number at (answer.Decided decision cache onward) other = (
   other,
-  none_more q (sent_from number (messages_in (cache_message at.ingress cache)))
+  none_more q (sent_from number (message_list (cache_message at.ingress cache)))
       (end_item at decision onward ∷ [])
       (sends_unnamed q number (cache_message at.ingress cache))
       (end_other q at decision onward other, tt),

@@ -9,7 +9,7 @@ use Rattle.update_machine.specs.Moves.{header_at}
 use Rattle.update_machine.specs.Packets.{decision_of}
 use Rattle.update_machine.specs.Setting.{Setting}
 use Rattle.update_machine.specs.Travels.{ingress_of, leg_of, travels}
-use Rattle.update_machine.specs.Ways.{found_down, route_in, route_place, targets_of}
+use Rattle.update_machine.specs.PacketRoutes.{found_down, route_in, route_place, targets_of}
 
 -- its leg; any where it has none
 abbrev pub own_leg : List Item → ℕ → Leg

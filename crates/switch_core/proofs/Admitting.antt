@@ -10,25 +10,25 @@ use Rattle.switch_core.specs.State.{SwitchValue, call_counted, serves}
 use Rattle.switch_core.specs.Verdicts.{IsByLookup, answer_of}
 use Rattle.switch_core.specs.declared.answers.Entered.{Entered}
 use Rattle.switch_core.specs.declared.packet.Packet.{Packet}
-use Rattle.switch_core.specs.declared.verdicts.Verdict.{Verdict}
-use Rattle.switch_core.specs.declared.verdicts.Verdict.TheVariants.{Out, Decided, Seek}
+use Rattle.switch_core.specs.declared.verdicts.Forwarding.{Forwarding}
+use Rattle.switch_core.specs.declared.verdicts.Forwarding.TheVariants.{Out, Decided, Seek}
 use Rattle.switch_core.proofs.Arrivals.{entry_by}
 
 -- one more call changes no answer
-pub answer_counted : (s after : SwitchValue) (site : Site) (packet : Packet) (verdict : Verdict) →
+pub answer_counted : (s after : SwitchValue) (site : Site) (packet : Packet) (verdict : Forwarding) →
     after ≡ call_counted s → answer_of after site packet verdict ≡ answer_of s site packet verdict
 unfolding next_of leave_by set_out cause_of are_isolated
 answer_counted s after site packet verdict is =
     ap (λ w. answer_of w site packet verdict) is ∙ by_verdict verdict
   where
-    by_verdict : (verdict : Verdict) →
+    by_verdict : (verdict : Forwarding) →
         answer_of (call_counted s) site packet verdict ≡ answer_of s site packet verdict
     by_verdict (Out port) = refl
     by_verdict (Decided decision word) = refl
     by_verdict (Seek leg targets) = refl
 
 module _ (s after : SwitchValue) (site : Site) (number : ℕ) (header : Header)
-    (verdict : Verdict) where
+    (verdict : Forwarding) where
   -- what is said of a packet that comes in at a switch that serves
   pub was_admitted : (ingress : ℕ) → after ≡ call_counted s → serves s ≡ true → ingress ≡ s.number →
       answer_of s site (packet_with number header ingress no_links) verdict
@@ -65,7 +65,7 @@ module _ (s after : SwitchValue) (site : Site) (number : ℕ) (header : Header)
           is answer (ap (λ i. what i down) here ∙ ap (what s.number) none ∙ own)
 
 -- of a packet that comes in there is a lookup
-pub by_lookup : (s : SwitchValue) (site : Site) (packet : Packet) (verdict : Verdict)
+pub by_lookup : (s : SwitchValue) (site : Site) (packet : Packet) (verdict : Forwarding)
     (answer : Option Answer) →
     Some (answer_of s site packet verdict) ≡ option_map Answered answer → IsByLookup verdict
 by_lookup s site packet (Out port) None is = absurd cc

@@ -17,7 +17,7 @@ use Rattle.failover.specs.Routes.{route_of}
 use Rattle.failover.specs.declared.advert.Advert.{Advert}
 use Rattle.tunnel.specs.Moves.{here, marked_down, next, on_route, route_from_here}
 use Rattle.tunnel.specs.Tunnel.{TunnelValue}
-use Rattle.switch_core.specs.AnswerLaws.{IsSamePacket, down_with, way_around}
+use Rattle.switch_core.specs.AnswerLaws.{IsSamePacket, down_with, route_around}
 use Rattle.switch_core.specs.Ends.{cause_of}
 use Rattle.switch_core.specs.Moving.{Moved, StandsAt, link_found_down, hop_answer, hopped_to, move_answer, moved_along, rerouted_here}
 use Rattle.switch_core.specs.State.{SwitchValue}
@@ -68,14 +68,14 @@ hop_moves s near t other is usable =
 -- along the way around a link
 hop_around : (s : SwitchValue) (near : ℕ) (t : TunnelValue) (other : ℕ)
     (way : Option (List ℕ)) → link_found_down near (next t) ≡ Some other →
-    way_around s near t other ≡ way →
+    route_around s near t other ≡ way →
     hop_answer s near t ≡ moved_along s near (marked_down t other) way
 unfolding hop_answer rerouted_here
 hop_around s near t other way found is =
     ap (hopped_to s near t) found ∙ ap (moved_along s near (marked_down t other)) is
 
 pub hop_stuck : (s : SwitchValue) (near : ℕ) (t : TunnelValue) (other : ℕ) →
-    link_found_down near (next t) ≡ Some other → way_around s near t other ≡ None →
+    link_found_down near (next t) ≡ Some other → route_around s near t other ≡ None →
     hop_answer s near t ≡ record {
       end = Stuck (cause_of s near (down_with t other) t.leg t.targets);
       tunnel = record t { down = down_with t other };
@@ -95,7 +95,7 @@ IsTurned s near t other way second = MatchOption second
     })
 
 pub hop_turns : (s : SwitchValue) (near : ℕ) (t : TunnelValue) (other : ℕ) (way : List ℕ) →
-    link_found_down near (next t) ≡ Some other → way_around s near t other ≡ Some way →
+    link_found_down near (next t) ≡ Some other → route_around s near t other ≡ Some way →
     IsTurned s near t other way (slice_get way 1)
 hop_turns s near t other way found some =
     by_second (slice_get way 1) (hop_around s near t other (Some way) found some)
@@ -263,7 +263,7 @@ hop_usable s near t other = by_found (link_found_down near (next t)) refl
     by_second on (Some second) usable end =
         let same : second ≡ other = cc in usable other (ap Some same)
 
-    by_way : (from : ℕ) (way : Option (List ℕ)) → way_around s near t from ≡ way →
+    by_way : (from : ℕ) (way : Option (List ℕ)) → route_around s near t from ≡ way →
         (moved_along s near (marked_down t from) way).end ≡ Move other → IsTrue (has near other)
     by_way from None is end = absurd (cc)
     by_way from (Some way) is end =
@@ -274,7 +274,7 @@ hop_usable s near t other = by_found (link_found_down near (next t)) refl
     by_found : (found : Option ℕ) → link_found_down near (next t) ≡ found →
         (hopped_to s near t found).end ≡ Move other → IsTrue (has near other)
     by_found None none end = by_next (next t) none end
-    by_found (Some from) found end = by_way from (way_around s near t from) refl end
+    by_found (Some from) found end = by_way from (route_around s near t from) refl end
 
 -- ---- where it arrives
 
@@ -298,7 +298,7 @@ hop_stays s near t stands = by_found (link_found_down near (next t))
     by_next on is None end = is
     by_next on is (Some other) end = absurd (cc)
 
-    by_way : (from : ℕ) (way : Option (List ℕ)) → way_around s near t from ≡ way →
+    by_way : (from : ℕ) (way : Option (List ℕ)) → route_around s near t from ≡ way →
         (moved_along s near (marked_down t from) way).end ≡ Arrive →
         StandsAt s (moved_along s near (marked_down t from) way).tunnel.route
         (moved_along s near (marked_down t from) way).tunnel.place
@@ -313,4 +313,4 @@ hop_stays s near t stands = by_found (link_found_down near (next t))
     by_found : (found : Option ℕ) → (hopped_to s near t found).end ≡ Arrive →
         StandsAt s (hopped_to s near t found).tunnel.route (hopped_to s near t found).tunnel.place
     by_found None end = by_next t stands (next t) end
-    by_found (Some from) end = by_way from (way_around s near t from) refl end
+    by_found (Some from) end = by_way from (route_around s near t from) refl end

@@ -21,7 +21,7 @@ use Rattle.switch_table.specs.declared.search.Found.{Found}
 use Rattle.switch_table.specs.declared.search.Found.TheVariants.{Cached, Authority, Redirect}
 use Rattle.switch_table.specs.declared.tables.Tables.{Tables}
 use Rattle.ctrl_msg.specs.declared.message.Body.TheVariants.{CacheRule}
-use Rattle.switch_core.specs.AnswerLaws.{IsRightAnswer, IsArrival, IsArriving, IsDecidedIn, IsEntry, IsHop, IsReady, IsWayOn, OwnRule, down_with, lookup_by_stamp, route_known, setting_out, way_around}
+use Rattle.switch_core.specs.AnswerLaws.{IsRightAnswer, IsArrival, IsArriving, IsDecidedIn, IsEntry, IsHop, IsReady, IsNextOf, OwnRule, down_with, lookup_by_stamp, route_known, setting_out, route_around}
 use Rattle.switch_core.specs.Answering.{arrive_answer, enter_answer, looked_up, packet_of}
 use Rattle.switch_core.specs.Deciding.{by_rule, own_part}
 use Rattle.switch_core.specs.Ends.{Site, cause_of, next_of}
@@ -149,7 +149,7 @@ one_arrival s site t answer arriving law = by_leg t.leg refl
 -- ---- of a packet that was decided
 
 pub one_way_on : (s : SwitchValue) (site : Site) (packet : Packet) (action : Action)
-    (way : Next) → IsWayOn s site packet action way → way ≡ next_of s site packet action
+    (way : Next) → IsNextOf s site packet action way → way ≡ next_of s site packet action
 one_way_on s site packet action way law = by_action action refl
   where
     by_owner : (port : ℕ) → action ≡ OutBy port → (owner : Option ℕ) →
@@ -186,7 +186,7 @@ pub one_hop : (s : SwitchValue) (near : ℕ) (t : TunnelValue) (after : Moved) �
 one_hop s near t after law = by_next (next t) refl
   where
     by_way : (other : ℕ) → link_found_down near (next t) ≡ Some other → (way : Option (List ℕ)) →
-        way_around s near t other ≡ way → after ≡ hop_answer s near t
+        route_around s near t other ≡ way → after ≡ hop_answer s near t
     by_way other found None is =
         law.stuck other found is ∙ sym (hop_stuck s near t other found is)
     by_way other found (Some way) is =
@@ -206,7 +206,7 @@ one_hop s near t after law = by_next (next t) refl
     by_test other onward true usable =
         law.moves other onward usable ∙ sym (hop_moves s near t other onward usable)
     by_test other onward false down =
-        by_way other ((down_is near t other).1 (onward, down)) (way_around s near t other) refl
+        by_way other ((down_is near t other).1 (onward, down)) (route_around s near t other) refl
 
     by_next : (after_it : Option ℕ) → next t ≡ after_it → after ≡ hop_answer s near t
     by_next None none = law.arrives none ∙ sym (hop_arrives s near t none)

@@ -178,7 +178,7 @@ pub record EnterLaws : Type 0 where
 
 -- ---- a packet was decided
 
-pub record IsWayOn (s : SwitchValue) (site : Site) (packet : Packet) (action : Action)
+pub record IsNextOf (s : SwitchValue) (site : Site) (packet : Packet) (action : Action)
     (way : Next) : Type 0 where
   -- dropped exactly where the action is to drop it
   pub dropped : (way ≡ goes.Dropped) ↔ (action ≡ Drop)
@@ -198,9 +198,9 @@ pub record IsWayOn (s : SwitchValue) (site : Site) (packet : Packet) (action : A
 -- the way on of a packet that was decided is one, and the only one
 pub record ExitLaws : Type 0 where
   pub is : (s : SwitchValue) (site : Site) (packet : Packet) (action : Action) →
-      IsWayOn s site packet action (next_of s site packet action)
+      IsNextOf s site packet action (next_of s site packet action)
   pub only : (s : SwitchValue) (site : Site) (packet : Packet) (action : Action)
-      (way : Next) → IsWayOn s site packet action way → way ≡ next_of s site packet action
+      (way : Next) → IsNextOf s site packet action way → way ≡ next_of s site packet action
 
 -- ---- a packet arrives
 
@@ -280,8 +280,8 @@ abbrev pub down_with : TunnelValue → ℕ → List ℕ
 down_with t other = with_link t.down (here t) other
 
 -- its new route then
-abbrev pub way_around : SwitchValue → ℕ → TunnelValue → ℕ → Option (List ℕ)
-way_around s near t other = route_of s.database (here t) t.targets near (down_with t other)
+abbrev pub route_around : SwitchValue → ℕ → TunnelValue → ℕ → Option (List ℕ)
+route_around s near t other = route_of s.database (here t) t.targets near (down_with t other)
 
 pub record IsHop (s : SwitchValue) (near : ℕ) (t : TunnelValue) (after : Moved) : Type 0 where
   -- a link is found down exactly where it leads to the next switch of the route, and isn't usable
@@ -295,7 +295,7 @@ pub record IsHop (s : SwitchValue) (near : ℕ) (t : TunnelValue) (after : Moved
   -- a link that is found down joins the others, and where no way leads around them the packet is
   -- stuck
   pub stuck : (other : ℕ) → link_found_down near (next t) ≡ Some other →
-      way_around s near t other ≡ None →
+      route_around s near t other ≡ None →
       after ≡ record {
         end = hop.Stuck (cause_of s near (down_with t other) t.leg t.targets);
         tunnel = record t { down = down_with t other };
@@ -303,7 +303,7 @@ pub record IsHop (s : SwitchValue) (near : ℕ) (t : TunnelValue) (after : Moved
   -- otherwise it takes that way: it has arrived where the way ends here, and moves to its second
   -- switch where it doesn't
   pub turns : (other : ℕ) (way : List ℕ) → link_found_down near (next t) ≡ Some other →
-      way_around s near t other ≡ Some way →
+      route_around s near t other ≡ Some way →
       MatchOption (slice_get way 1)
       (after ≡ record {
         end = hop.Arrive;

@@ -1,5 +1,5 @@
 pub mod State
-pub mod Ways
+pub mod KeptRoutes
 pub mod Ends
 pub mod Deciding
 pub mod Answers

@@ -10,8 +10,8 @@ use Rattle.switch_core.specs.Answers.{Arrival}
 use Rattle.switch_core.specs.Answers as answer
 use Rattle.switch_core.specs.declared.answers.Decision.{Decision}
 use Rattle.switch_core.specs.declared.packet.Packet.{Packet}
-use Rattle.switch_core.specs.declared.verdicts.Verdict.{Verdict}
-use Rattle.switch_core.specs.declared.verdicts.Verdict.TheVariants.{Out, Decided, Seek}
+use Rattle.switch_core.specs.declared.verdicts.Forwarding.{Forwarding}
+use Rattle.switch_core.specs.declared.verdicts.Forwarding.TheVariants.{Out, Decided, Seek}
 
 -- the decision's rule with this word, for a cache
 abbrev pub cached_by : Decision → Option WordValue → Option Body
@@ -19,7 +19,7 @@ cached_by decision word =
     option_map (λ word. CacheRule decision.version word decision.rule decision.action) word
 
 -- the answer, with the route that is to be taken
-abbrev pub answer_of : SwitchValue → Site → Packet → Verdict → Arrival
+abbrev pub answer_of : SwitchValue → Site → Packet → Forwarding → Arrival
 answer_of s site packet (Out port) = answer.Out port
 answer_of s site packet (Decided decision word) =
     answer.Answered (answer.Decided decision (cached_by decision word)
@@ -28,10 +28,10 @@ answer_of s site packet (Seek leg targets) =
     answer.Answered (seek_by leg (set_out s site.near packet leg targets))
 
 -- the answer to a packet that comes in
-abbrev pub admitted_as : SwitchValue → Site → Packet → Option Verdict → Option Arrival
+abbrev pub admitted_as : SwitchValue → Site → Packet → Option Forwarding → Option Arrival
 admitted_as s site packet verdict = option_map (answer_of s site packet) verdict
 
 -- no lookup says of a packet that it is at the end of its way to a port
-abbrev pub IsByLookup : Verdict → Type 0
+abbrev pub IsByLookup : Forwarding → Type 0
 IsByLookup (Out port) = ⊥
 IsByLookup _ = ⊤

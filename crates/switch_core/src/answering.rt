@@ -11,7 +11,7 @@ use crate::kept::KeptTables;
 use crate::packet::{Arriving, Packet};
 use crate::site::Site;
 use crate::switch::Switch;
-use crate::verdicts::Verdict;
+use crate::verdicts::Forwarding;
 use failover::DownSet;
 use five_tuple::Header;
 use net_file::Ports;
@@ -50,7 +50,7 @@ impl Switch {
     /// `enter` before any route is taken: what is said of a packet that comes in here, whatever its
     /// number; `None` exactly where the switch doesn't serve. It copies no route and no set of
     /// links.
-    pub fn admit(&mut self, h: &Header) -> Option<Verdict>
+    pub fn admit(&mut self, h: &Header) -> Option<Forwarding>
         requires { CanLookUp self.old }
         ensures answer { (site : SiteValue) (number : ℕ) →
             admitted_as self.new site (incoming_packet self.old number h.now) result
@@ -96,7 +96,7 @@ impl Switch {
     /// `arrive` before any route is taken: what is said of a packet that stands here, at the end of
     /// its route, whatever its number and the links that it found down. It copies no route and no
     /// set of links.
-    pub fn receive(&mut self, t: Arriving) -> Verdict
+    pub fn receive(&mut self, t: Arriving) -> Forwarding
         requires serving { IsTrue (serves self.old) }
         requires stamped { CanLookUp self.old }
         requires here { StandsAt self.old t.route.now t.place }
@@ -112,7 +112,7 @@ impl Switch {
         match t.leg {
             Leg::Exit { port } => {
                 self.count();
-                Verdict::Out(port)
+                Forwarding::Out(port)
             }
             Leg::Seek { version, partition } => {
                 let verdict = self.judge(t.header, t.ingress, version, partition);
@@ -123,7 +123,7 @@ impl Switch {
     }
 
     // By the tables of this version, if they are held, and otherwise by a lookup.
-    fn judge(&self, h: &Header, ingress: u32, version: u32, partition: u32) -> Verdict
+    fn judge(&self, h: &Header, ingress: u32, version: u32, partition: u32) -> Forwarding
         requires stamped { IsTrue (holds_version self.now self.now.stamp) }
         requires authority { IsAtAuthority self.now h.now (SeekLeg version partition) }
         ensures { (site : SiteValue) (number : ℕ) (down : List ℕ) →
@@ -139,7 +139,7 @@ impl Switch {
 
     // By a lookup under the switch's stamp.
     #[tactic(auto, unfolding(crate::specs::Answering::looked_up))]
-    fn look_up(&self, h: &Header, ingress: u32) -> Verdict
+    fn look_up(&self, h: &Header, ingress: u32) -> Forwarding
         requires { IsTrue (holds_version self.now self.now.stamp) }
         ensures { (site : SiteValue) (number : ℕ) (down : List ℕ) →
             answer_of self.now site (packet_with number h.now ingress down) result
@@ -154,7 +154,7 @@ impl Switch {
 
     // By what was found in these tables.
     #[tactic(auto, unfolding(crate::specs::Answering::answer_by))]
-    fn by_found(&self, h: &Header, ingress: u32, tables: &Tables, found: &Found) -> Verdict
+    fn by_found(&self, h: &Header, ingress: u32, tables: &Tables, found: &Found) -> Forwarding
         requires { IsFound tables.now h.now found.now }
         ensures { (site : SiteValue) (number : ℕ) (down : List ℕ) →
             answer_of self.now site (packet_with number h.now ingress down) result
@@ -162,7 +162,7 @@ impl Switch {
             (packet_with number h.now ingress down) tables.now found.now) }
     {
         match found {
-            Found::Cached(entry) => Verdict::Decided {
+            Found::Cached(entry) => Forwarding::Decided {
                 decision: Decision::by_entry(entry),
                 word: None,
             },
@@ -170,7 +170,7 @@ impl Switch {
                 let part = own_part(tables, *partition).unwrap();
                 self.decide_at(h, ingress, tables.version, part, *rule)
             }
-            Found::Redirect { partition, targets } => Verdict::Seek {
+            Found::Redirect { partition, targets } => Forwarding::Seek {
                 leg: Leg::Seek {
                     version: tables.version,
                     partition: *partition,
@@ -182,7 +182,7 @@ impl Switch {
 
     // By these tables' partition of this number.
     #[tactic(auto, unfolding(crate::specs::Answering::decided_in))]
-    fn decide_in(&self, h: &Header, ingress: u32, partition: u32, tables: &KeptTables) -> Verdict
+    fn decide_in(&self, h: &Header, ingress: u32, partition: u32, tables: &KeptTables) -> Forwarding
         requires { IsSomeAnd (own_part tables.now partition)
             (λ part. IsTrue (is_in h.now part)) }
         ensures { (site : SiteValue) (number : ℕ) (down : List ℕ) →
@@ -205,7 +205,7 @@ impl Switch {
         version: u32,
         part: &Partition,
         place: u32,
-    ) -> Verdict
+    ) -> Forwarding
         requires { IsFirstHit h.now part.now place }
         ensures { (site : SiteValue) (number : ℕ) (down : List ℕ) →
             answer_of self.now site (packet_with number h.now ingress down) result
@@ -213,7 +213,7 @@ impl Switch {
             (packet_with number h.now ingress down) version part.now place) }
     {
         let rule = rule_in(part, place);
-        Verdict::Decided {
+        Forwarding::Decided {
             decision: Decision::by_rule(self.number, version, part.number, rule),
             word: cache_word(self.number, h, ingress, part, place),
         }

@@ -22,7 +22,7 @@ impl Switch {
     /// # Errors
     /// Want of memory alone. Why there is none is inside.
     #[tactic(auto, unfolding(crate::specs::Ends::set_out))]
-    pub fn shared_way(
+    pub fn shared_route(
         &mut self,
         alloc: Global,
         near: u64,
@@ -40,7 +40,7 @@ impl Switch {
     {
         let number = self.number;
         match self.database.to_first(alloc, number, targets, near, down)? {
-            None => Ok(Err(self.no_way(near, down, &leg, targets))),
+            None => Ok(Err(self.cause_without_route(near, down, &leg, targets))),
             Some(route) => Ok(Ok(route)),
         }
     }
@@ -48,7 +48,13 @@ impl Switch {
     // Why there is none past these links.
     #[cold]
     #[inline(never)]
-    fn no_way(&self, near: u64, down: Option<&DownSet>, leg: &Leg, targets: &Targets) -> Cause
+    fn cause_without_route(
+        &self,
+        near: u64,
+        down: Option<&DownSet>,
+        leg: &Leg,
+        targets: &Targets,
+    ) -> Cause
         ensures { result ≡ cause_of self.now near
             (unwrap_or (option_copied down.entry) no_links) leg.now targets.now }
     {

@@ -3,7 +3,7 @@
 //! A `Switch` promises that each of its calls is a step that `specs/` states on the record that
 //! contracts see: its number, boot, stamp, tables by version, cache, database of adverts, and how
 //! many packet calls it answered. The laws say what those steps are in terms of lookups, rules,
-//! routes and tunnels. Only `begin`, `hear` and `shared_way` take memory.
+//! routes and tunnels. Only `begin`, `hear` and `shared_route` take memory.
 //!
 //! ```text
 //! let mut switch = Switch::begin(alloc, 0, 256, tables, base)?;
@@ -21,13 +21,13 @@ mod ends;
 mod hearing;
 mod hopping;
 mod kept;
+mod kept_routes;
 mod laws;
 mod life;
 mod packet;
 mod site;
 mod switch;
 mod verdicts;
-mod ways;
 
 pub use answers::{Arrived, Decision, Entered, Heard, Hop, HopEnd, Next, Replies};
 pub use laws::{
@@ -37,4 +37,4 @@ pub use packet::Arriving;
 pub use policy_rules::{Cause, How};
 pub use site::Site;
 pub use switch::Switch;
-pub use verdicts::Verdict;
+pub use verdicts::Forwarding;

@@ -5,7 +5,7 @@ ghost use Rattle.switch_table.specs.Tables.{AreSoundTables};
 ghost use Rattle.switch_core.specs.State.{HasOwnUpTo, IsSwitch, new_switch, call_counted, held_tables, holds_version, serves, stamp_tables};
 
 use crate::kept::KeptTables;
-use crate::ways::Ways;
+use crate::kept_routes::SharedRoutes;
 use ctrl_msg::SharedTables;
 use failover::{Advert, Database};
 use std::alloc::{AllocError, Global};
@@ -24,7 +24,7 @@ pub struct Switch {
     pub(crate) collected: u32,
     pub(crate) tables: Vec<KeptTables>,
     pub(crate) cache: Cache,
-    pub(crate) database: Ways,
+    pub(crate) database: SharedRoutes,
     pub(crate) seq: u32,
     pub(crate) handled: u64,
 }
@@ -71,7 +71,7 @@ impl Switch {
             collected: 0,
             tables: list,
             cache: Cache::new(alloc, cache),
-            database: Ways::new(alloc, base),
+            database: SharedRoutes::new(alloc, base),
             seq: 1,
             handled: 0,
         })

@@ -13,9 +13,9 @@ use policy_rules::{Action, Cause, Leg, Targets};
 use ternary::Word;
 
 /// What a switch says of a packet, before a route is taken: small beside the answer, which has room
-/// for a route. `Switch::shared_way` finds the route.
+/// for a route. `Switch::shared_route` finds the route.
 #[derive(Drop)]
-pub enum Verdict {
+pub enum Forwarding {
     /// Out of the network, by this port of the switch: at the end of the packet's way to it.
     Out(u32),
     /// Decided, with the word of a rule for the cache of the switch where the packet entered,
@@ -57,19 +57,21 @@ fn cached_by(decision: &Decision, word: Option<Word>) -> Option<Body>
 
 impl Switch {
     /// The answer to a packet that comes in, of this verdict.
-    pub(crate) fn answer_entry(&self, site: Site, packet: &Packet, verdict: Verdict) -> Entered
+    pub(crate) fn answer_entry(&self, site: Site, packet: &Packet, verdict: Forwarding) -> Entered
         requires { IsByLookup verdict }
         ensures { (answer : Answer)
             → answer_of self.now (site_of site.entry) packet.now verdict ≡ Answered answer
             → result ≡ entered_with answer }
     {
         match verdict {
-            Verdict::Out(_) => unreachable!(),
-            Verdict::Decided { decision, .. } => Entered::Decided {
+            Forwarding::Out(_) => unreachable!(),
+            Forwarding::Decided { decision, .. } => Entered::Decided {
                 decision,
                 next: self.next(site, packet, decision.action),
             },
-            Verdict::Seek { leg, targets } => match self.set_out(site.near, packet, leg, &targets) {
+            Forwarding::Seek { leg, targets } => match self.set_out(
+                site.near, packet, leg, &targets,
+            ) {
                 Ok(tunnel) => Entered::Seek(tunnel),
                 Err(cause) => Entered::Stuck { cause, leg },
             },
@@ -77,18 +79,20 @@ impl Switch {
     }
 
     /// The answer to a packet at the end of its route, of this verdict.
-    pub(crate) fn answer_arrival(&self, site: Site, packet: &Packet, verdict: Verdict) -> Arrived
+    pub(crate) fn answer_arrival(&self, site: Site, packet: &Packet, verdict: Forwarding) -> Arrived
         ensures { result
             ≡ arrival_of (answer_of self.now (site_of site.entry) packet.now verdict) }
     {
         match verdict {
-            Verdict::Out(port) => Arrived::Out(port),
-            Verdict::Decided { decision, word } => Arrived::Decided {
+            Forwarding::Out(port) => Arrived::Out(port),
+            Forwarding::Decided { decision, word } => Arrived::Decided {
                 decision,
                 cache: cached_by(&decision, word),
                 next: self.next(site, packet, decision.action),
             },
-            Verdict::Seek { leg, targets } => match self.set_out(site.near, packet, leg, &targets) {
+            Forwarding::Seek { leg, targets } => match self.set_out(
+                site.near, packet, leg, &targets,
+            ) {
                 Ok(tunnel) => Arrived::Seek(tunnel),
                 Err(cause) => Arrived::Stuck { cause, leg },
             },

@@ -12,8 +12,8 @@ use Rattle.ternary.specs.Meets.{any_word}
 use Rattle.ternary.specs.Word.{WordValue}
 use Rattle.ternary.proofs.CallerLemmas.{any_covers, meets_cover}
 use Rattle.switch_table.specs.Cache.{CacheValue, HaveDistinctKeys, IsCache, after_raise, same_key}
-use Rattle.switch_table.specs.CacheLaws.{WentOver}
-use Rattle.switch_table.specs.Carried.{after_carry, all_touched, carried_entry, goes_over, meets_any, under}
+use Rattle.switch_table.specs.CacheLaws.{WasCarried}
+use Rattle.switch_table.specs.Carried.{after_carry, all_touched, carried_entry, is_carried, meets_any, under}
 use Rattle.switch_table.specs.Keys.{Pair, has_key, key_of, pair_of}
 use Rattle.switch_table.specs.declared.cache.CacheEntry.{CacheEntry}
 use Rattle.switch_table.proofs.QueueLemmas.{apart-sym, has_key_of_pairs, none_before, same_key_from, same_key_parts}
@@ -92,7 +92,7 @@ over_from true true true b m t = absurd (cc m)
 over_from false met there b m t = absurd (cc b)
 
 gone_over : (version : ℕ) (touched : List WordValue) (entries : List CacheEntry)
-    (entry : CacheEntry) → goes_over version touched entries entry ≡ true
+    (entry : CacheEntry) → is_carried version touched entries entry ≡ true
     → GoesOver version touched entries entry
 gone_over version touched entries entry is =
     let parts = over_parts (eqb (entry.version + 1) version) (meets_any touched entry.word)
@@ -149,8 +149,8 @@ pair_carried : (version : ℕ) (touched : List WordValue) (entries : List CacheE
     → IfSome (carried_entry version touched entries a) (λ y.
     IfSome (carried_entry version touched entries b) (λ z. same_key y z ≡ false))
 pair_carried version touched entries a b (in_a, (in_b, apart)) =
-    by_case (leb version a.version) (goes_over version touched entries a)
-    (leb version b.version) (goes_over version touched entries b) refl refl
+    by_case (leb version a.version) (is_carried version touched entries a)
+    (leb version b.version) (is_carried version touched entries b) refl refl
   where
     over : CacheEntry → CacheEntry
     over entry = under version entry
@@ -159,8 +159,8 @@ pair_carried version touched entries a b (in_a, (in_b, apart)) =
     left stays goes entry = cond stays (Some entry) (cond goes (Some (over entry)) None)
 
     by_case : (stays_a goes_a stays_b goes_b : Bool)
-        → goes_over version touched entries a ≡ goes_a
-        → goes_over version touched entries b ≡ goes_b
+        → is_carried version touched entries a ≡ goes_a
+        → is_carried version touched entries b ≡ goes_b
         → IfSome (left stays_a goes_a a) (λ y. IfSome (left stays_b goes_b b) (λ z. same_key y z ≡ false))
     by_case true _ true _ _ _ = apart
     by_case true _ false true _ is = apart-sym (over b) a
@@ -222,12 +222,12 @@ untouched_stays version touched cache entry there before apart =
     by_case : (twin : Bool) → list_any (same_key (under version entry)) entries ≡ twin
         → Any IsIt carried
     by_case false alone =
-        let goes : goes_over version touched entries entry ≡ true =
+        let goes : is_carried version touched entries entry ≡ true =
         over_from (eqb (entry.version + 1) version) (meets_any touched entry.word)
         (list_any (same_key (under version entry)) entries) (eq-eqb _ _ before) apart alone in
         let left : carried_entry version touched entries entry ≡ Some (under version entry) =
         ap (λ b. cond b (Some entry)
-        (cond (goes_over version touched entries entry) (Some (under version entry)) None)) below
+        (cond (is_carried version touched entries entry) (Some (under version entry)) None)) below
         ∙ ap (λ b. cond b (Some (under version entry)) None) goes in
         found (under version entry)
         (contains_left (carried_entry version touched entries) entries entry (under version entry)
@@ -241,7 +241,7 @@ untouched_stays version touched cache entry there before apart =
         le-leb version twin.version (omega (arith, versions)) in
         let left : carried_entry version touched entries twin ≡ Some twin =
         ap (λ b. cond b (Some twin)
-        (cond (goes_over version touched entries twin) (Some (under version twin)) None)) stays in
+        (cond (is_carried version touched entries twin) (Some (under version twin)) None)) stays in
         found twin
         (contains_left (carried_entry version touched entries) entries twin twin
         (any.0, any.2, any.3) left) (sym versions, sym keys.1)
@@ -250,7 +250,7 @@ untouched_stays version touched cache entry there before apart =
 
 pub only_carried : (version : ℕ) (touched : List WordValue) (cache : CacheValue)
     → All (λ (entry : CacheEntry). ((version ≤ entry.version) × Contains cache.entries entry)
-    ⊎ WentOver version touched cache entry) (after_carry version touched cache).entries
+    ⊎ WasCarried version touched cache entry) (after_carry version touched cache).entries
 only_carried version touched cache =
     All-filter_map Is (carried_entry version touched entries) entries
     (All-weaker (Contains entries) (λ entry. IfSome (carried_entry version touched entries entry) Is)
@@ -261,10 +261,10 @@ only_carried version touched cache =
 
     Is : CacheEntry → Type 0
     Is entry = ((version ≤ entry.version) × Contains entries entry)
-        ⊎ WentOver version touched cache entry
+        ⊎ WasCarried version touched cache entry
 
     by_case : (entry : CacheEntry) (stays goes : Bool) → Contains entries entry
-        → leb version entry.version ≡ stays → goes_over version touched entries entry ≡ goes
+        → leb version entry.version ≡ stays → is_carried version touched entries entry ≡ goes
         → IfSome (cond stays (Some entry) (cond goes (Some (under version entry)) None)) Is
     by_case entry true _ there le _ = inl (leb-true version entry.version le, there)
     by_case entry false true there _ is =
@@ -281,14 +281,14 @@ only_carried version touched cache =
     each : (entry : CacheEntry) → Contains entries entry
         → IfSome (carried_entry version touched entries entry) Is
     each entry there = by_case entry (leb version entry.version)
-        (goes_over version touched entries entry) there refl refl
+        (is_carried version touched entries entry) there refl refl
 
 -- ---- where all is touched
 
 none_over : (version : ℕ) (entries : List CacheEntry) (entry : CacheEntry)
-    → goes_over version all_touched entries entry ≡ false
+    → is_carried version all_touched entries entry ≡ false
 none_over version entries entry =
-    false_from_ne_true (goes_over version all_touched entries entry) (λ is.
+    false_from_ne_true (is_carried version all_touched entries entry) (λ is.
     let met = (gone_over version all_touched entries entry is).apart in
     absurd (cc (met, meets_all entry.word)))
 

@@ -7,7 +7,7 @@ use Rattle.std.proofs.lemmas.List.Elements.{All-head, All-tail}
 use Rattle.std.proofs.Math.Bool.{and-false, and_assoc as and_joined}
 use Rattle.ternary.specs.Word.{WordValue, holds}
 use Rattle.switch_table.specs.Cache.{first_entry}
-use Rattle.switch_table.specs.Keys.{Pair, entries_of, entry_of, equal_keys, is_hit, key_of, key_under}
+use Rattle.switch_table.specs.Keys.{Pair, kept_entries, kept_entry, equal_keys, is_hit, key_of, key_under}
 use Rattle.switch_table.specs.Masks.{HasMaskIn}
 use Rattle.switch_table.specs.Queue.{AreMasked, HaveVersions}
 use Rattle.switch_table.specs.declared.cache.CacheEntry.{CacheEntry}
@@ -67,33 +67,33 @@ entry_hit shift version header masks entry has =
 -- whether the pair's key is such a one, by its entry
 pair_hit : (shift version header : ℕ) (masks : List WordValue) (pair : Pair)
     → HasVersion shift pair → HasMaskIn masks pair.0.word
-    → is_hit (version + shift) header masks pair.0 ≡ holds_of version header (entry_of shift pair)
+    → is_hit (version + shift) header masks pair.0 ≡ holds_of version header (kept_entry shift pair)
 pair_hit shift version header masks pair is has =
-    sym (entry_hit shift version header masks (entry_of shift pair) has
+    sym (entry_hit shift version header masks (kept_entry shift pair) has
     ∙ ap (is_hit (version + shift) header masks) (key_of_entry shift pair is))
 
 pub first_by_hits : (shift version header : ℕ) (masks : List WordValue) (pairs : List Pair)
-    → HaveVersions shift pairs → AreMasked (Some masks) (entries_of shift pairs)
-    → option_map (entry_of shift)
+    → HaveVersions shift pairs → AreMasked (Some masks) (kept_entries shift pairs)
+    → option_map (kept_entry shift)
     (find (λ (pair : Pair). is_hit (version + shift) header masks pair.0) pairs)
-    ≡ first_entry version header (entries_of shift pairs)
+    ≡ first_entry version header (kept_entries shift pairs)
 first_by_hits shift version header masks [] are masked = refl
 first_by_hits shift version header masks (pair ∷ pairs) are masked =
     let IsMasked = λ (entry : CacheEntry). HasMaskIn masks entry.word in
     let here = pair_hit shift version header masks pair (All-head (HasVersion shift) pair pairs are)
-    (All-head IsMasked (entry_of shift pair) (entries_of shift pairs) masked) in
-    let left = first_entry version header (entries_of shift pairs) in
+    (All-head IsMasked (kept_entry shift pair) (kept_entries shift pairs) masked) in
+    let left = first_entry version header (kept_entries shift pairs) in
     by_case (is_hit (version + shift) header masks pair.0) left
     (first_by_hits shift version header masks pairs (All-tail (HasVersion shift) pair pairs are)
-    (All-tail IsMasked (entry_of shift pair) (entries_of shift pairs) masked))
-    ∙ ap (λ b. cond b (Some (entry_of shift pair)) left) here
+    (All-tail IsMasked (kept_entry shift pair) (kept_entries shift pairs) masked))
+    ∙ ap (λ b. cond b (Some (kept_entry shift pair)) left) here
   where
     found : Option Pair
     found = find (λ (p : Pair). is_hit (version + shift) header masks p.0) pairs
 
-    by_case : (b : Bool) (left : Option CacheEntry) → option_map (entry_of shift) found ≡ left
-        → option_map (entry_of shift) (cond b (Some pair) found)
-        ≡ cond b (Some (entry_of shift pair)) left
+    by_case : (b : Bool) (left : Option CacheEntry) → option_map (kept_entry shift) found ≡ left
+        → option_map (kept_entry shift) (cond b (Some pair) found)
+        ≡ cond b (Some (kept_entry shift pair)) left
     by_case true left rest = refl
     by_case false left rest = rest
 

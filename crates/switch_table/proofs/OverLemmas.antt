@@ -5,8 +5,8 @@ use Rattle.std.proofs.lemmas.Bool.{and_parts, eq-eqb, eqb-true, false_from_ne_tr
 use Rattle.std.proofs.lemmas.List.Elements.{All-head, All-tail, All-weaker, filter_passes}
 use Rattle.ternary.specs.Word.{WordValue}
 use Rattle.switch_table.specs.Cache.{same_key}
-use Rattle.switch_table.specs.Carried.{carried_entry, goes_over, meets_any, under}
-use Rattle.switch_table.specs.Keys.{Pair, entries_of, entry_of, is_over}
+use Rattle.switch_table.specs.Carried.{carried_entry, is_carried, meets_any, under}
+use Rattle.switch_table.specs.Keys.{Pair, kept_entries, kept_entry, is_carried_key}
 use Rattle.switch_table.specs.Masks.{HasMaskOf}
 use Rattle.switch_table.specs.Queue.{AreMasked, AreUpTo, HaveVersions}
 use Rattle.switch_table.specs.declared.cache.CacheEntry.{CacheEntry}
@@ -46,7 +46,7 @@ alone_below version entry (x ∷ xs) below =
 -- the pairs of the version under the lower shift
 abbrev pub pairs_over : ℕ → ℕ → List WordValue → List Pair → List Pair
 pairs_over shift version touched pairs =
-    filter (λ (pair : Pair). is_over (version + (shift - 1)) touched pair.0) pairs
+    filter (λ (pair : Pair). is_carried_key (version + (shift - 1)) touched pair.0) pairs
 
 -- the entry is of the version before, as its number says
 before_is : (shift version number : ℕ) → 0 < shift → shift ≤ number
@@ -67,14 +67,14 @@ before_is shift version number some fits =
 
 -- an entry that goes over keeps its pair
 entry_stays : (shift version : ℕ) (touched : List WordValue) (pair : Pair) → 0 < shift
-    → is_over (version + (shift - 1)) touched pair.0 ≡ true
-    → entry_of (shift - 1) pair ≡ under version (entry_of shift pair)
+    → is_carried_key (version + (shift - 1)) touched pair.0 ≡ true
+    → kept_entry (shift - 1) pair ≡ under version (kept_entry shift pair)
 entry_stays shift version touched pair some is =
     let parts = and_parts (eqb pair.0.number (version + (shift - 1)))
     (not (meets_any touched pair.0.word)) is in
     let number = eqb-true pair.0.number (version + (shift - 1)) parts.0 in
     let versions : pair.0.number - (shift - 1) ≡ version = omega (arith, number, some) in
-    λ i. record (entry_of shift pair) { version = versions i }
+    λ i. record (kept_entry shift pair) { version = versions i }
 
 left_of : (version : ℕ) (entry : CacheEntry) (goes before apart stays there : Bool)
     → goes ≡ (before && apart) → stays ≡ false → there ≡ false
@@ -92,25 +92,25 @@ left_of version entry goes before apart false true _ _ there = absurd (cc there)
 -- the pairs that stay are those of what is left of the entries
 pub carried_pairs : (shift version : ℕ) (touched : List WordValue) (entries : List CacheEntry)
     (pairs : List Pair) → 0 < shift → HaveVersions shift pairs → All (IsBelow version) entries
-    → All (IsBelow version) (entries_of shift pairs)
-    → entries_of (shift - 1) (pairs_over shift version touched pairs)
-    ≡ filter_map (carried_entry version touched entries) (entries_of shift pairs)
+    → All (IsBelow version) (kept_entries shift pairs)
+    → kept_entries (shift - 1) (pairs_over shift version touched pairs)
+    ≡ filter_map (carried_entry version touched entries) (kept_entries shift pairs)
 carried_pairs shift version touched entries [] some are all below = refl
 carried_pairs shift version touched entries (pair ∷ pairs) some are all below =
-    let entry = entry_of shift pair in
-    let old = entries_of shift pairs in
+    let entry = kept_entry shift pair in
+    let old = kept_entries shift pairs in
     let has = All-head (HasVersion shift) pair pairs are in
-    let goes : is_over (version + (shift - 1)) touched pair.0
+    let goes : is_carried_key (version + (shift - 1)) touched pair.0
     ≡ (eqb (entry.version + 1) version && not (meets_any touched entry.word)) =
     ap (λ b. b && not (meets_any touched entry.word))
     (before_is shift version pair.0.number some has.0) in
-    let left : cond (is_over (version + (shift - 1)) touched pair.0) (Some (under version entry)) None
+    let left : cond (is_carried_key (version + (shift - 1)) touched pair.0) (Some (under version entry)) None
     ≡ carried_entry version touched entries entry =
-    left_of version entry (is_over (version + (shift - 1)) touched pair.0)
+    left_of version entry (is_carried_key (version + (shift - 1)) touched pair.0)
     (eqb (entry.version + 1) version) (not (meets_any touched entry.word))
     (leb version entry.version) (list_any (same_key (under version entry)) entries) goes
     (All-head (IsBelow version) entry old below) (alone_below version entry entries all) in
-    by_case (is_over (version + (shift - 1)) touched pair.0) refl
+    by_case (is_carried_key (version + (shift - 1)) touched pair.0) refl
     (filter_map (carried_entry version touched entries) old)
     (carried_pairs shift version touched entries pairs some
     (All-tail (HasVersion shift) pair pairs are) all
@@ -120,10 +120,10 @@ carried_pairs shift version touched entries (pair ∷ pairs) some are all below 
     kept : List Pair
     kept = pairs_over shift version touched pairs
 
-    by_case : (stays : Bool) → is_over (version + (shift - 1)) touched pair.0 ≡ stays
-        → (rest : List CacheEntry) → entries_of (shift - 1) kept ≡ rest
-        → entries_of (shift - 1) (cond stays (pair ∷ kept) kept)
-        ≡ cons_option (cond stays (Some (under version (entry_of shift pair))) None) rest
+    by_case : (stays : Bool) → is_carried_key (version + (shift - 1)) touched pair.0 ≡ stays
+        → (rest : List CacheEntry) → kept_entries (shift - 1) kept ≡ rest
+        → kept_entries (shift - 1) (cond stays (pair ∷ kept) kept)
+        ≡ cons_option (cond stays (Some (under version (kept_entry shift pair))) None) rest
     by_case true is rest same =
         let here = entry_stays shift version touched pair some is in λ i. here i ∷ same i
     by_case false is rest same = same
@@ -135,7 +135,7 @@ versions_over shift version touched pairs some small =
     (filter test pairs) (filter_passes test pairs)
   where
     test : Pair → Bool
-    test pair = is_over (version + (shift - 1)) touched pair.0
+    test pair = is_carried_key (version + (shift - 1)) touched pair.0
 
     each : (pair : Pair) → test pair ≡ true → HasVersion (shift - 1) pair
     each pair is =
@@ -155,7 +155,7 @@ masked_carried masks version touched entries masked =
     (All-weaker IsMasked
     (λ entry. IfSome (carried_entry version touched entries entry) IsMasked)
     (λ entry is. by_case entry (leb version entry.version)
-    (goes_over version touched entries entry) is) entries masked)
+    (is_carried version touched entries entry) is) entries masked)
   where
     IsMasked : CacheEntry → Type 0
     IsMasked entry = HasMaskOf masks entry.word
@@ -175,7 +175,7 @@ up_to_carried version newest next touched entries up_to old new =
     (All-weaker (λ (entry : CacheEntry). entry.version ≤ newest)
     (λ entry. IfSome (carried_entry version touched entries entry) IsUpTo)
     (λ entry le. by_case entry (leb version entry.version)
-    (goes_over version touched entries entry) le) entries up_to)
+    (is_carried version touched entries entry) le) entries up_to)
   where
     IsUpTo : CacheEntry → Type 0
     IsUpTo entry = entry.version ≤ next

@@ -14,7 +14,7 @@ use Rattle.std.proofs.lemmas.Option.{get_or_from_slice_get, slice_get_within}
 use Rattle.ternary.specs.Meets.{word_eq}
 use Rattle.ternary.specs.Word.{WordValue}
 use Rattle.switch_table.specs.Cache.{HaveDistinctKeys, same_key}
-use Rattle.switch_table.specs.Keys.{HaveOwnKeys, Pair, entries_of, entry_of, equal_keys, has_key, key_of, pair_of}
+use Rattle.switch_table.specs.Keys.{HaveOwnKeys, Pair, kept_entries, kept_entry, equal_keys, has_key, key_of, pair_of}
 use Rattle.switch_table.specs.Masks.{HasMaskOf}
 use Rattle.switch_table.specs.Queue.{AreMasked, AreUpTo, HaveVersions, IsQueue}
 use Rattle.switch_table.specs.declared.cache.CacheEntry.{CacheEntry}
@@ -94,13 +94,13 @@ push_distinct entries entry distinct absent =
 abbrev pub HasVersion : ℕ → Pair → Type 0
 HasVersion shift pair = (shift ≤ pair.0.number) × (pair.0.number < shift + 2 ^ 32)
 
-pub entry_of_pair : (shift : ℕ) (entry : CacheEntry) → entry_of shift (pair_of shift entry) ≡ entry
+pub entry_of_pair : (shift : ℕ) (entry : CacheEntry) → kept_entry shift (pair_of shift entry) ≡ entry
 entry_of_pair shift entry =
     let versions : entry.version + shift - shift ≡ entry.version = omega arith in
     λ i. record entry { version = versions i }
 
 pub key_of_entry : (shift : ℕ) (pair : Pair) → HasVersion shift pair
-    → key_of shift (entry_of shift pair) ≡ pair.0
+    → key_of shift (kept_entry shift pair) ≡ pair.0
 key_of_entry shift pair is =
     let numbers : pair.0.number - shift + shift ≡ pair.0.number = omega (arith, is.0) in
     λ i. record { number = numbers i; word = pair.0.word }
@@ -113,14 +113,14 @@ same_key-is shift a b =
 
 -- an entry's key is that of the pair
 same_key_of : (shift : ℕ) (entry : CacheEntry) (pair : Pair) → HasVersion shift pair
-    → equal_keys (key_of shift entry) pair.0 ≡ same_key entry (entry_of shift pair)
+    → equal_keys (key_of shift entry) pair.0 ≡ same_key entry (kept_entry shift pair)
 same_key_of shift entry pair is =
-    sym (same_key-is shift entry (entry_of shift pair)
+    sym (same_key-is shift entry (kept_entry shift pair)
     ∙ ap (equal_keys (key_of shift entry)) (key_of_entry shift pair is))
 
 pub has_key_of_entry : (shift : ℕ) (entry : CacheEntry) (pairs : List Pair)
     → HaveVersions shift pairs
-    → has_key (key_of shift entry) pairs ≡ list_any (same_key entry) (entries_of shift pairs)
+    → has_key (key_of shift entry) pairs ≡ list_any (same_key entry) (kept_entries shift pairs)
 has_key_of_entry shift entry [] are = refl
 has_key_of_entry shift entry (pair ∷ pairs) are =
     let here = same_key_of shift entry pair (All-head (HasVersion shift) pair pairs are) in
@@ -130,25 +130,25 @@ has_key_of_entry shift entry (pair ∷ pairs) are =
 apart_from_all : (shift : ℕ) (pair : Pair) (pairs : List Pair) → HasVersion shift pair
     → HaveVersions shift pairs
     → AllByRecursion (λ key. equal_keys pair.0 key ≡ false) (keys_of pairs)
-    → All (λ entry. same_key (entry_of shift pair) entry ≡ false) (entries_of shift pairs)
+    → All (λ entry. same_key (kept_entry shift pair) entry ≡ false) (kept_entries shift pairs)
 apart_from_all shift pair [] is are apart =
-    All-nil (λ entry. same_key (entry_of shift pair) entry ≡ false)
+    All-nil (λ entry. same_key (kept_entry shift pair) entry ≡ false)
 apart_from_all shift pair (next ∷ pairs) is are apart =
-    let here : same_key (entry_of shift pair) (entry_of shift next) ≡ false =
-    sym (same_key_of shift (entry_of shift pair) next (All-head (HasVersion shift) next pairs are))
+    let here : same_key (kept_entry shift pair) (kept_entry shift next) ≡ false =
+    sym (same_key_of shift (kept_entry shift pair) next (All-head (HasVersion shift) next pairs are))
     ∙ ap (λ key. equal_keys key next.0) (key_of_entry shift pair is) ∙ apart.0 in
-    All-cons (λ entry. same_key (entry_of shift pair) entry ≡ false) (entry_of shift next)
-    (entries_of shift pairs) here
+    All-cons (λ entry. same_key (kept_entry shift pair) entry ≡ false) (kept_entry shift next)
+    (kept_entries shift pairs) here
     (apart_from_all shift pair pairs is (All-tail (HasVersion shift) next pairs are) apart.1)
 
 -- no two entries have one key where no two pairs do
 pub entries_distinct : (shift : ℕ) (pairs : List Pair) → HaveVersions shift pairs
-    → HaveOwnKeys pairs → HaveDistinctKeys (entries_of shift pairs)
+    → HaveOwnKeys pairs → HaveDistinctKeys (kept_entries shift pairs)
 unfolding IsDistinct
 entries_distinct shift [] are own = none_distinct
 entries_distinct shift (pair ∷ pairs) are own =
     let rest = All-tail (HasVersion shift) pair pairs are in
-    AllPairs-cons (λ a b. same_key a b ≡ false) (entry_of shift pair) (entries_of shift pairs)
+    AllPairs-cons (λ a b. same_key a b ≡ false) (kept_entry shift pair) (kept_entries shift pairs)
     (apart_from_all shift pair pairs (All-head (HasVersion shift) pair pairs are) rest own.0)
     (entries_distinct shift pairs rest own.1)
 
@@ -160,26 +160,26 @@ map-remove f xs k =
     ∙ ap (λ ys. take k (map f xs) ++ ys) (sym (drop-map f (suc k) xs))
 
 pub entries_removed : (shift : ℕ) (pairs : List Pair) (place : ℕ)
-    → entries_of shift (remove pairs place) ≡ remove (entries_of shift pairs) place
-entries_removed shift pairs place = map-remove (entry_of shift) pairs place
+    → kept_entries shift (remove pairs place) ≡ remove (kept_entries shift pairs) place
+entries_removed shift pairs place = map-remove (kept_entry shift) pairs place
 
 -- a test of pairs that is one of their entries
 pub entries_filtered : (shift : ℕ) (test : Pair → Bool) (kept : CacheEntry → Bool)
-    → ((pair : Pair) → HasVersion shift pair → test pair ≡ kept (entry_of shift pair))
+    → ((pair : Pair) → HasVersion shift pair → test pair ≡ kept (kept_entry shift pair))
     → (pairs : List Pair) → HaveVersions shift pairs
-    → entries_of shift (filter test pairs) ≡ filter kept (entries_of shift pairs)
+    → kept_entries shift (filter test pairs) ≡ filter kept (kept_entries shift pairs)
 entries_filtered shift test kept same [] are = refl
 entries_filtered shift test kept same (pair ∷ pairs) are =
     let here = same pair (All-head (HasVersion shift) pair pairs are) in
     by_case (test pair) _
     (entries_filtered shift test kept same pairs (All-tail (HasVersion shift) pair pairs are))
-    ∙ ap (λ b. cond b (entry_of shift pair ∷ filter kept (entries_of shift pairs))
-    (filter kept (entries_of shift pairs))) here
+    ∙ ap (λ b. cond b (kept_entry shift pair ∷ filter kept (kept_entries shift pairs))
+    (filter kept (kept_entries shift pairs))) here
   where
-    by_case : (stays : Bool) (left : List CacheEntry) → entries_of shift (filter test pairs) ≡ left
-        → entries_of shift (cond stays (pair ∷ filter test pairs) (filter test pairs))
-        ≡ cond stays (entry_of shift pair ∷ left) left
-    by_case true left rest = ap (λ es. entry_of shift pair ∷ es) rest
+    by_case : (stays : Bool) (left : List CacheEntry) → kept_entries shift (filter test pairs) ≡ left
+        → kept_entries shift (cond stays (pair ∷ filter test pairs) (filter test pairs))
+        ≡ cond stays (kept_entry shift pair ∷ left) left
+    by_case true left rest = ap (λ es. kept_entry shift pair ∷ es) rest
     by_case false left rest = rest
 
 leb-shift : (shift version number : ℕ) → shift ≤ number
@@ -198,8 +198,8 @@ leb-shift shift version number fits = by_case (leb version (number - shift)) ref
         false≢true (sym is ∙ le-leb version (number - shift) less))
 
 pub entries_from : (shift version : ℕ) (pairs : List Pair) → HaveVersions shift pairs
-    → entries_of shift (filter (λ (pair : Pair). leb (version + shift) pair.0.number) pairs)
-    ≡ filter (λ (entry : CacheEntry). leb version entry.version) (entries_of shift pairs)
+    → kept_entries shift (filter (λ (pair : Pair). leb (version + shift) pair.0.number) pairs)
+    ≡ filter (λ (entry : CacheEntry). leb version entry.version) (kept_entries shift pairs)
 entries_from shift version pairs are =
     entries_filtered shift (λ (pair : Pair). leb (version + shift) pair.0.number)
     (λ (entry : CacheEntry). leb version entry.version)
@@ -208,7 +208,7 @@ entries_from shift version pairs are =
 -- ---- pairs of entries
 
 pub entries_of_pairs : (shift : ℕ) (entries : List CacheEntry)
-    → entries_of shift (map (pair_of shift) entries) ≡ entries
+    → kept_entries shift (map (pair_of shift) entries) ≡ entries
 entries_of_pairs shift [] = refl
 entries_of_pairs shift (entry ∷ entries) =
     let here = entry_of_pair shift entry in
@@ -256,7 +256,7 @@ All-remove P xs k all = All-append P (take k xs) (drop (suc k) xs) (All-take P k
 
 pub queue_of : (masks : Option (List WordValue)) (shift newest : ℕ) (pairs : List Pair)
     (entries : List CacheEntry) → shift ≤ 2 ^ 32 → HaveVersions shift pairs
-    → entries_of shift pairs ≡ entries → AreUpTo newest entries → AreMasked masks entries
+    → kept_entries shift pairs ≡ entries → AreUpTo newest entries → AreMasked masks entries
     → IsQueue masks shift newest pairs
 queue_of masks shift newest pairs entries fits versions are up_to masked = record {
   fits = fits;
@@ -276,12 +276,12 @@ pub queue_removed : (masks : Option (List WordValue)) (shift newest place : ℕ)
     (pairs new : List Pair) → IsQueue masks shift newest pairs → new ≡ remove pairs place
     → IsQueue masks shift newest new
 queue_removed masks shift newest place pairs new is made =
-    queue_of masks shift newest new (remove (entries_of shift pairs) place) is.fits
+    queue_of masks shift newest new (remove (kept_entries shift pairs) place) is.fits
     (subst (HaveVersions shift) (sym made) (All-remove (HasVersion shift) pairs place is.versions))
-    (ap (entries_of shift) made ∙ entries_removed shift pairs place)
-    (All-remove (λ (entry : CacheEntry). entry.version ≤ newest) (entries_of shift pairs) place
+    (ap (kept_entries shift) made ∙ entries_removed shift pairs place)
+    (All-remove (λ (entry : CacheEntry). entry.version ≤ newest) (kept_entries shift pairs) place
     is.up_to)
-    (All-remove (λ (entry : CacheEntry). HasMaskOf masks entry.word) (entries_of shift pairs)
+    (All-remove (λ (entry : CacheEntry). HasMaskOf masks entry.word) (kept_entries shift pairs)
     place is.masked)
 
 pub queue_from : (masks : Option (List WordValue)) (shift newest version : ℕ)
@@ -291,10 +291,10 @@ pub queue_from : (masks : Option (List WordValue)) (shift newest version : ℕ)
 queue_from masks shift newest version pairs new is made =
     let kept = λ (entry : CacheEntry). leb version entry.version in
     let test = λ (pair : Pair). leb (version + shift) pair.0.number in
-    queue_of masks shift newest new (filter kept (entries_of shift pairs)) is.fits
+    queue_of masks shift newest new (filter kept (kept_entries shift pairs)) is.fits
     (subst (HaveVersions shift) (sym made) (All-filter test (HasVersion shift) pairs is.versions))
-    (ap (entries_of shift) made ∙ entries_from shift version pairs is.versions)
-    (All-filter kept (λ (entry : CacheEntry). entry.version ≤ newest) (entries_of shift pairs)
+    (ap (kept_entries shift) made ∙ entries_from shift version pairs is.versions)
+    (All-filter kept (λ (entry : CacheEntry). entry.version ≤ newest) (kept_entries shift pairs)
     is.up_to)
-    (All-filter kept (λ (entry : CacheEntry). HasMaskOf masks entry.word) (entries_of shift pairs)
+    (All-filter kept (λ (entry : CacheEntry). HasMaskOf masks entry.word) (kept_entries shift pairs)
     is.masked)

@@ -11,7 +11,7 @@ use Rattle.indexmap.proofs.MapLemmas.{Found-position}
 use Rattle.ternary.specs.Meets.{word_eq}
 use Rattle.ternary.specs.Word.{WordValue}
 use Rattle.switch_table.specs.Keys.{HaveOwnKeys, Pair, equal_keys, has_key}
-use Rattle.switch_table.specs.Live.{AreCounts, HaveRoom, count_set}
+use Rattle.switch_table.specs.Live.{AreCounts, CountPlaces, count_set}
 use Rattle.switch_table.specs.Slots.{AreSlots, SlotPair, flags_of, is_live, live_pair, live_pairs}
 use Rattle.switch_table.specs.declared.key.CacheKey.{CacheKey}
 use Rattle.switch_table.specs.declared.key.Learnt.{Learnt}
@@ -356,7 +356,7 @@ swept_slots live slots are = record {
 }
 
 pub room_of : (live : LiveCounts) (slots : List SlotPair) (places : ℕ) →
-    AreCounts live (flags_of slots) → places ≤ length slots → HaveRoom live places
+    AreCounts live (flags_of slots) → places ≤ length slots → CountPlaces live places
 room_of live slots places are within =
     omega (arith, are.blocks.room, length-map slots is_live, within)
 

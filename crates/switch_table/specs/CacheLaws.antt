@@ -20,7 +20,7 @@ pub record CacheLaws : Type 0 where
       IsCache cache → IsCache (after_carry version touched cache)
 
 -- the entry is one of the version before, of a word that meets no touched one, which went over
-pub record WentOver (version : ℕ) (touched : List WordValue) (cache : CacheValue)
+pub record WasCarried (version : ℕ) (touched : List WordValue) (cache : CacheValue)
     (entry : CacheEntry) : Type 0 where
   pub old : CacheEntry
   pub there : Contains cache.entries old
@@ -39,7 +39,7 @@ pub record CarryLaws : Type 0 where
   -- what is there was there, or went over
   pub only : (version : ℕ) (touched : List WordValue) (cache : CacheValue) →
       All (λ entry. ((version ≤ entry.version) × Contains cache.entries entry)
-      ⊎ WentOver version touched cache entry) (after_carry version touched cache).entries
+      ⊎ WasCarried version touched cache entry) (after_carry version touched cache).entries
   -- where all is touched, the entries of earlier versions go
   pub all : (version : ℕ) (cache : CacheValue) →
       after_carry version all_touched cache ≡ after_raise version cache

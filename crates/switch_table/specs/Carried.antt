@@ -25,8 +25,8 @@ under version entry = record entry { version = version }
 
 -- the entry is one of the version before, its word meets no touched word, and no entry of the
 -- version has its word
-abbrev pub goes_over : ℕ → List WordValue → List CacheEntry → CacheEntry → Bool
-goes_over version touched entries entry =
+abbrev pub is_carried : ℕ → List WordValue → List CacheEntry → CacheEntry → Bool
+is_carried version touched entries entry =
     (entry.version + 1 == version) && not (meets_any touched entry.word)
     && not (list_any (same_key (under version entry)) entries)
 
@@ -35,7 +35,7 @@ goes_over version touched entries entry =
 abbrev pub carried_entry : ℕ → List WordValue → List CacheEntry → CacheEntry → Option CacheEntry
 carried_entry version touched entries entry =
     if nat_le version entry.version then Some entry
-    else if goes_over version touched entries entry then Some (under version entry)
+    else if is_carried version touched entries entry then Some (under version entry)
     else None
 
 -- the cache goes over to the version, where these words were touched: what is left keeps its order

@@ -24,8 +24,8 @@ abbrev pub pair_of : ℕ → CacheEntry → Pair
 pair_of shift entry = (key_of shift entry, learnt_of entry)
 
 -- the entry of a pair, where so much was added to its version
-abbrev pub entry_of : ℕ → Pair → CacheEntry
-entry_of shift pair = record {
+abbrev pub kept_entry : ℕ → Pair → CacheEntry
+kept_entry shift pair = record {
   version = pair.0.number - shift;
   word = pair.0.word;
   rule = pair.1.rule;
@@ -33,8 +33,8 @@ entry_of shift pair = record {
   message = pair.1.message;
 }
 
-abbrev pub entries_of : ℕ → List Pair → List CacheEntry
-entries_of shift pairs = map (entry_of shift) pairs
+abbrev pub kept_entries : ℕ → List Pair → List CacheEntry
+kept_entries shift pairs = map (kept_entry shift) pairs
 
 unfoldable pub equal_keys : CacheKey → CacheKey → Bool
 equal_keys a b = (a.number == b.number) && word_eq a.word b.word
@@ -59,5 +59,5 @@ is_hit number header masks key =
     list_any (λ mask. equal_keys (key_under number header mask) key) masks
 
 -- the key is of this number, and its word meets no touched word
-abbrev pub is_over : ℕ → List WordValue → CacheKey → Bool
-is_over number touched key = (key.number == number) && not (meets_any touched key.word)
+abbrev pub is_carried_key : ℕ → List WordValue → CacheKey → Bool
+is_carried_key number touched key = (key.number == number) && not (meets_any touched key.word)

@@ -12,8 +12,8 @@ pub record AreBlocks (counts : List ℕ) (flags : List Bool) : Type 0 where
       slice_index_or counts k 0 ≡ count_set (take 64 (drop (64 * k) flags))
 
 -- there are counts for so many places
-abbrev pub HaveRoom : LiveCounts → ℕ → Type 0
-HaveRoom live places = places ≤ 64 * length live.blocks.items
+abbrev pub CountPlaces : LiveCounts → ℕ → Type 0
+CountPlaces live places = places ≤ 64 * length live.blocks.items
 
 -- the counts are those of these flags
 pub record AreCounts (live : LiveCounts) (flags : List Bool) : Type 0 where

@@ -1,7 +1,7 @@
 -- Cache entries as a queue holds them: as pairs, whose keys have a shift added to the versions.
 use Rattle.std.specs.Prelude.{ℕ, ◌+◌, ◌≤◌, ◌<◌, ◌^◌, Option, List, All}
 use Rattle.ternary.specs.Word.{WordValue}
-use Rattle.switch_table.specs.Keys.{Pair, entries_of}
+use Rattle.switch_table.specs.Keys.{Pair, kept_entries}
 use Rattle.switch_table.specs.Masks.{HasMaskOf}
 use Rattle.switch_table.specs.declared.cache.CacheEntry.{CacheEntry}
 
@@ -23,5 +23,5 @@ pub record IsQueue (masks : Option (List WordValue)) (shift newest : ℕ) (pairs
     : Type 0 where
   pub fits : shift ≤ 2 ^ 32
   pub versions : HaveVersions shift pairs
-  pub up_to : AreUpTo newest (entries_of shift pairs)
-  pub masked : AreMasked masks (entries_of shift pairs)
+  pub up_to : AreUpTo newest (kept_entries shift pairs)
+  pub masked : AreMasked masks (kept_entries shift pairs)

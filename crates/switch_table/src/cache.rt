@@ -2,7 +2,7 @@ ghost use Rattle.std.specs.Prelude.{◌≡◌, ◌≤◌, ◌<◌, ◌+◌, ◌^
 ghost use Rattle.switch_table.specs.Cache.{IsCache, after_accept, after_expire, after_raise, after_clear, first_entry};
 ghost use Rattle.switch_table.specs.CacheLaws.{CacheLaws, CarryLaws};
 ghost use Rattle.switch_table.specs.Carried.{after_carry};
-ghost use Rattle.switch_table.specs.Keys.{entry_of, key_of, learnt_of};
+ghost use Rattle.switch_table.specs.Keys.{kept_entry, key_of, learnt_of};
 
 use crate::items::CacheItems;
 use crate::key::{CacheKey, Learnt};
@@ -52,7 +52,7 @@ impl CacheEntry {
     /// The entry of this key in a queue that adds so much to versions.
     pub(crate) fn of(key: &CacheKey, learnt: &Learnt, shift: u64) -> CacheEntry
         requires { (shift ≤ key.now.number) × (key.now.number < shift + 2 ^ 32) }
-        ensures { result ≡ entry_of shift (key.now, learnt.now) }
+        ensures { result ≡ kept_entry shift (key.now, learnt.now) }
     {
         CacheEntry {
             version: (key.number - shift) as u32,

@@ -1,5 +1,5 @@
 ghost use Rattle.std.specs.Prelude.{◌≡◌};
-ghost use Rattle.switch_table.specs.Keys.{entries_of};
+ghost use Rattle.switch_table.specs.Keys.{kept_entries};
 ghost use Rattle.switch_table.specs.Queue.{HaveVersions};
 ghost use Rattle.switch_table.specs.Slots.{live_pairs};
 
@@ -60,13 +60,13 @@ pub struct CacheItems<'a> {
 
 impl<'a> Model for CacheItems<'a> {
     ghost use Rattle.std.specs.Prelude.{List};
-    ghost use Rattle.switch_table.specs.Keys.{entries_of};
+    ghost use Rattle.switch_table.specs.Keys.{kept_entries};
     ghost use Rattle.switch_table.specs.Queue.{HaveVersions};
     ghost use Rattle.switch_table.specs.declared.cache.CacheEntry.{CacheEntry};
 
     ghost Value = { List CacheEntry };
 
-    ghost view = { λ i. entries_of i.shift i.slots };
+    ghost view = { λ i. kept_entries i.shift i.slots };
 
     ghost invariant = { λ i. HaveVersions i.shift i.slots };
 }
@@ -75,7 +75,7 @@ impl<'a> CacheItems<'a> {
     /// The entries of these slots, whose keys add so much to the versions.
     pub(crate) fn new(slots: SlotItems<'a>, shift: u64) -> CacheItems<'a>
         requires { HaveVersions shift slots }
-        ensures { result ≡ entries_of shift slots.entry }
+        ensures { result ≡ kept_entries shift slots.entry }
     {
         CacheItems { slots, shift }
     }

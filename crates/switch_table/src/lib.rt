@@ -12,11 +12,11 @@
 #![tactic(auto)]
 
 mod cache;
+mod carried;
 mod items;
 mod key;
 mod live;
 mod masks;
-mod over;
 mod queue;
 mod search;
 mod slots;

@@ -1,5 +1,5 @@
 ghost use Rattle.std.specs.Prelude.{ℕ, ◌≡◌, ◌<◌, ◌≤◌, ◌+◌, ◌*◌, ◌^◌, ◌++◌, ◌∷◌, [], true, false, Bool, List, Some, OnOk, length, take, drop, set, replicate, slice_get, slice_index, sum};
-ghost use Rattle.switch_table.specs.Live.{AreBlocks, AreCounts, HaveRoom, count_set};
+ghost use Rattle.switch_table.specs.Live.{AreBlocks, AreCounts, CountPlaces, count_set};
 
 use std::alloc::{AllocError, Global};
 
@@ -39,14 +39,14 @@ impl LiveCounts {
     /// Want of memory alone; the counts are those of the same places then.
     pub fn make_room(&mut self, places: usize) -> Result<(), AllocError>
         ensures kept { (flags : List Bool) → AreCounts self.old flags → AreCounts self.new flags }
-        ensures room { OnOk result (HaveRoom self.new places) }
+        ensures room { OnOk result (CountPlaces self.new places) }
     {
         reach(&mut self.blocks, places.div_ceil(BLOCK))
     }
 
     /// A live place comes behind so many.
     pub fn add(&mut self, place: usize)
-        requires room { HaveRoom self.old (place + 1) }
+        requires room { CountPlaces self.old (place + 1) }
         requires fits { place < 2 ^ 63 }
         ensures { (flags : List Bool) → AreCounts self.old flags → length flags ≡ place →
             AreCounts self.new (flags ++ true ∷ []) }
@@ -58,7 +58,7 @@ impl LiveCounts {
 
     /// This place, which was live, is dead.
     pub fn take(&mut self, place: usize)
-        requires { HaveRoom self.old (place + 1) }
+        requires { CountPlaces self.old (place + 1) }
         ensures { (flags : List Bool) → AreCounts self.old flags →
             slice_get flags place ≡ Some true → AreCounts self.new (set flags place false) }
     {
@@ -69,7 +69,7 @@ impl LiveCounts {
 
     /// There are so many places, all of them live.
     pub fn fill(&mut self, places: usize)
-        requires { HaveRoom self.old places }
+        requires { CountPlaces self.old places }
         ensures { AreCounts self.new (replicate places true) }
     {
         fill(&mut self.blocks, places);

@@ -12,7 +12,7 @@ use ternary::Word;
 const LEAST_WAIT: usize = 1024;
 
 // So many masks are few at most.
-const MOST_FEW: usize = 256;
+const MAX_FEW: usize = 256;
 
 /// The masks of a queue's entries, where they are few beside these: a word of each. Where they
 /// were many, they are gathered anew once so many entries have come as there were.
@@ -114,7 +114,7 @@ impl Masks {
 
 // Whether a look for each of so many masks is less work than one at each of so many entries.
 fn are_few(masks: usize, entries: usize) -> bool {
-    masks <= MOST_FEW.min(entries / 64)
+    masks <= MAX_FEW.min(entries / 64)
 }
 
 // Notes the word's mask, if it isn't there.

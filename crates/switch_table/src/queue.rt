@@ -26,17 +26,17 @@ pub struct EntryQueue {
 }
 
 // The shift of a queue at first.
-const MOST_SHIFT: u64 = 1 << 32;
+const MAX_SHIFT: u64 = 1 << 32;
 
 impl Model for EntryQueue {
     ghost use Rattle.std.specs.Prelude.{List};
-    ghost use Rattle.switch_table.specs.Keys.{entries_of};
+    ghost use Rattle.switch_table.specs.Keys.{kept_entries};
     ghost use Rattle.switch_table.specs.declared.cache.CacheEntry.{CacheEntry};
     ghost use Rattle.switch_table.specs.Queue.{IsQueue};
 
     ghost Value = { List CacheEntry };
 
-    ghost view = { λ q. entries_of q.shift q.slots };
+    ghost view = { λ q. kept_entries q.shift q.slots };
 
     ghost invariant = { λ q. IsQueue q.masks q.shift q.newest q.slots };
 }
@@ -47,7 +47,7 @@ impl EntryQueue {
     {
         EntryQueue {
             slots: Slots::new(alloc),
-            shift: MOST_SHIFT,
+            shift: MAX_SHIFT,
             newest: 0,
             masks: Masks::new(alloc),
         }
@@ -122,7 +122,7 @@ impl EntryQueue {
         if self.shift > 0 && self.newest < version {
             self.shift -= 1;
             self.slots
-                .keep_over(u64::from(version) + self.shift, touched.words());
+                .keep_carried(u64::from(version) + self.shift, touched.words());
             self.masks.wait_for(self.slots.len());
             self.newest = version;
             return Ok(());

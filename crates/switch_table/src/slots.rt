@@ -1,14 +1,14 @@
 ghost use Rattle.std.specs.Prelude.{◌≡◌, ◌<◌, ◌≤◌, ◌++◌, ◌∷◌, ◌&&◌, [], false, List, None, Some, OnOk, OnErr, IfOk, IsFalse, IsTrue, drop, length, find, filter, map, option_map, set, remove, nat_le, slice_get};
 ghost use Rattle.indexmap.specs.IndexMap.{IsUnique, get};
 ghost use Rattle.std.specs.List.{position_or_len};
-ghost use Rattle.switch_table.specs.Keys.{HaveOwnKeys, equal_keys, has_key, is_hit, is_over, key_under};
+ghost use Rattle.switch_table.specs.Keys.{HaveOwnKeys, equal_keys, has_key, is_hit, is_carried_key, key_under};
 ghost use Rattle.switch_table.specs.Live.{AreCounts, IsNthSet, count_set};
 ghost use Rattle.switch_table.specs.Slots.{AreSlots, SlotPair, flags_of, is_live, killed, live_pairs};
 
+use crate::carried::{are_carried, is_over};
 use crate::items::SlotItems;
 use crate::key::{CacheKey, Learnt, Slot};
 use crate::live::{BLOCK, LiveCounts};
-use crate::over::{are_over, is_over};
 use indexmap::IndexMap;
 use indexmap::map::Slice;
 use std::alloc::{AllocError, Global};
@@ -30,7 +30,7 @@ pub struct Slots {
 }
 
 // So many more dead than live slots may there be.
-const MOST_DEAD: usize = 64;
+const MAX_DEAD: usize = 64;
 
 impl Model for Slots {
     ghost use Rattle.std.specs.Prelude.{List};
@@ -111,7 +111,7 @@ impl Slots {
         if place == 0 {
             self.first = at;
         }
-        if self.map.len() - self.live.all() > self.live.all() + MOST_DEAD {
+        if self.map.len() - self.live.all() > self.live.all() + MAX_DEAD {
             self.first = 0;
             sweep(&mut self.map, &mut self.live);
         }
@@ -130,11 +130,11 @@ impl Slots {
 
     /// Keeps those of this number whose words meet none of these. Where that is so of all, no slot
     /// is written.
-    pub fn keep_over(&mut self, number: u64, touched: &[Word])
-        ensures { self.new ≡ filter (λ pair. is_over number touched.now pair.0) self.old }
+    pub fn keep_carried(&mut self, number: u64, touched: &[Word])
+        ensures { self.new ≡ filter (λ pair. is_carried_key number touched.now pair.0) self.old }
     {
         let slots = from_first(&self.map, self.first);
-        if !are_over(slots.keys().as_slice(), number, touched) {
+        if !are_carried(slots.keys().as_slice(), number, touched) {
             self.map
                 .retain(|key, slot| slot.is_live && is_over(key, number, touched));
             self.live.fill(self.map.len());

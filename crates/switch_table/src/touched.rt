@@ -7,7 +7,7 @@ use std::marker::Model;
 use ternary::Word;
 
 /// The most words of a list.
-const MOST: usize = 16;
+const MAX_TOUCHED: usize = 16;
 
 /// What a change of a policy touches: a list of at most 16 words, so that each header which the
 /// change decides anew is in one of them. Contracts see the list.
@@ -41,7 +41,7 @@ impl Touched {
         ensures list { IfSome result (λ touched. touched ≡ words.items) }
         ensures none { IsNone result ↔ (16 < vec_len words) }
     {
-        if words.len() > MOST {
+        if words.len() > MAX_TOUCHED {
             return None;
         }
         Some(Touched {

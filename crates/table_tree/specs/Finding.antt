@@ -14,11 +14,11 @@ use Rattle.table_tree.specs.Ruling.{part_tree, seen_tree}
 use Rattle.table_tree.specs.LookupTrees.{LookupTree, Leaf, Sides}
 use Rattle.table_tree.specs.declared.rule_tree.RuleTree.{RuleTree}
 use Rattle.table_tree.specs.declared.node.Candidate.{Candidate}
-use Rattle.table_tree.specs.declared.tree.Tree.{Tree, At, Cut'}
+use Rattle.table_tree.specs.declared.tree.PartTree.{PartTree, At, Cut'}
 use Rattle.table_tree.specs.declared.trees.Trees.{Trees}
 
 -- the shape of a tree, which leads to places of the partition rules
-abbrev pub candidate_shape_of : Tree → LookupTree ℕ
+abbrev pub candidate_shape_of : PartTree → LookupTree ℕ
 candidate_shape_of (At place) = Leaf place
 candidate_shape_of (Cut' bit p low q high) = Sides bit (candidate_shape_of low)
     (candidate_shape_of high)
@@ -64,7 +64,7 @@ pub record AreTreesOf (rows : List PartRow) (parts : List Partition) (trees : Tr
 -- the tables of a finder, and its tree
 pub record FinderValue : Type 0 where
   pub tables : Tables
-  pub tree : Tree
+  pub tree : PartTree
 
 -- the tables are sound, the tree is theirs, and these are the trees of the authority partitions
 pub record IsFinder (finder : FinderValue) (rule_trees : List RuleTree) : Type 0 where

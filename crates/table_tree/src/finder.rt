@@ -6,7 +6,7 @@ ghost use Rattle.switch_table.specs.Lookup.{lookup_of, table_lookup};
 ghost use Rattle.switch_table.specs.Tables.{AreSoundTables};
 ghost use Rattle.table_tree.specs.Finding.{AreTreesOf, IsFinderTree, candidate_shape_of};
 
-use crate::tree::Tree;
+use crate::tree::PartTree;
 use crate::trees::Trees;
 use five_tuple::{Header, header_laws};
 use policy_rules::Partition;
@@ -90,7 +90,7 @@ impl Finder {
     }
 
     /// The tree over the partition rules.
-    pub fn tree(&self) -> &Tree
+    pub fn tree(&self) -> &PartTree
         ensures { result.now ≡ self.now.tree }
     {
         &self.trees.tree

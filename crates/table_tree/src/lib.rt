@@ -19,5 +19,5 @@ mod trees;
 pub use finder::Finder;
 pub use rule_node::RuleNode;
 pub use rule_tree::RuleTree;
-pub use tree::Tree;
+pub use tree::PartTree;
 pub use trees::Trees;

@@ -16,28 +16,28 @@ pub struct Candidate {
 
 /// A region of the header space, and the regions of partition rules that meet it.
 #[derive(Drop)]
-pub struct Node {
+pub struct PartNode {
     pub candidates: Vec<Candidate>,
     pub region: Word,
 }
 
-impl Node {
+impl PartNode {
     /// The whole header space, with the regions of all rows.
-    pub fn root(alloc: Global, rows: &[PartRow]) -> Result<Node, AllocError>
+    pub fn root(alloc: Global, rows: &[PartRow]) -> Result<PartNode, AllocError>
         requires { length rows.now < 2 ^ 32 }
         ensures candidates { IfOk result (λ node. node.candidates.items ≡ candidates_of rows.now) }
         ensures region { IfOk result (λ node. node.region ≡ any_word) }
         ensures words { IfOk result (λ node. AreRegions node.candidates.items) }
     {
         let candidates = numbered(alloc, rows)?;
-        Ok(Node {
+        Ok(PartNode {
             candidates,
             region: Word::any(),
         })
     }
 
     /// The side of a cut at this bit on which it is 1, or 0.
-    pub fn half(&self, alloc: Global, bit: u32, one: bool) -> Result<Node, AllocError>
+    pub fn half(&self, alloc: Global, bit: u32, one: bool) -> Result<PartNode, AllocError>
         requires { IsFreeBit self.now.region bit }
         ensures candidates { IfOk result (λ half.
             half.candidates.items ≡ candidates_of_side self.now.candidates.items self.now.region bit
@@ -46,7 +46,7 @@ impl Node {
     {
         let region = self.region.fix(bit, one);
         let candidates = meeting(alloc, &self.candidates, &region)?;
-        Ok(Node { candidates, region })
+        Ok(PartNode { candidates, region })
     }
 }
 

@@ -3,12 +3,12 @@ ghost use Rattle.table_tree.specs.Finding.{IsGrownShape, candidate_shape_of};
 ghost use Rattle.table_tree.specs.LookupTrees.{CutsHeaderBits, leaf_at};
 
 use crate::bits::cut_bit;
-use crate::node::Node;
+use crate::node::PartNode;
 use std::alloc::{AllocError, Global};
 
 /// A decision tree over the bits of a header number.
 #[derive(Debug, Drop)]
-pub enum Tree {
+pub enum PartTree {
     /// The place of the partition rule.
     At {
         place: u32,
@@ -16,20 +16,20 @@ pub enum Tree {
     /// The headers with a 0 at the bit are on the low side, those with a 1 on the high side.
     Cut {
         bit: u32,
-        low: Box<Tree>,
-        high: Box<Tree>,
+        low: Box<PartTree>,
+        high: Box<PartTree>,
     },
 }
 
-impl Tree {
+impl PartTree {
     /// The place to which the bits of the number lead.
     pub fn place(&self, number: u128) -> u32
         requires { CutsHeaderBits (candidate_shape_of self.now) }
         ensures { result ≡ leaf_at number (candidate_shape_of self.now) }
     {
         match self {
-            Tree::At { place } => *place,
-            Tree::Cut { bit, low, high } => {
+            PartTree::At { place } => *place,
+            PartTree::Cut { bit, low, high } => {
                 if (number >> *bit) & 1 == 1 {
                     high.place(number)
                 } else {
@@ -43,16 +43,16 @@ impl Tree {
 /// The tree of the regions of a node. A node that has several, or none, and can't be cut gets an
 /// end at place 0: there is none in the tree of sound tables.
 #[tactic(auto, using(crate::proofs::NodeLemmas::half_smaller, crate::proofs::FindLemmas::end_is))]
-pub fn grow(alloc: Global, node: Node) -> Result<Tree, AllocError>
+pub fn grow(alloc: Global, node: PartNode) -> Result<PartTree, AllocError>
     ensures { IfOk result (λ tree. IsGrownShape node.candidates.items node.region
         (candidate_shape_of tree)) }
 {
     if node.candidates.len() == 1 {
         let place = node.candidates[0].place;
-        return Ok(Tree::At { place });
+        return Ok(PartTree::At { place });
     }
     let Some(bit) = cut_bit(&node.candidates, &node.region) else {
-        return Ok(Tree::At { place: 0 });
+        return Ok(PartTree::At { place: 0 });
     };
     let low = node.half(alloc, bit, false)?;
     let high = node.half(alloc, bit, true)?;
@@ -60,14 +60,14 @@ pub fn grow(alloc: Global, node: Node) -> Result<Tree, AllocError>
     drop(node);
     let low = grow(alloc, low)?;
     let high = grow(alloc, high)?;
-    Ok(Tree::Cut {
+    Ok(PartTree::Cut {
         bit,
         low: boxed(alloc, low)?,
         high: boxed(alloc, high)?,
     })
 }
 
-fn boxed(alloc: Global, tree: Tree) -> Result<Box<Tree>, AllocError>
+fn boxed(alloc: Global, tree: PartTree) -> Result<Box<PartTree>, AllocError>
     ensures { IfOk result (λ boxed. boxed.value ≡ tree) }
 {
     let boxed = Box::new(alloc, tree)?;

@@ -2,9 +2,9 @@ ghost use Rattle.std.specs.Prelude.{◌≡◌, ◌<◌, ◌^◌, All, IfOk, leng
 ghost use Rattle.table_tree.specs.Finding.{AreTreesOf};
 ghost use Rattle.table_tree.specs.Ruling.{part_tree, seen_tree};
 
-use crate::node::Node;
+use crate::node::PartNode;
 use crate::rule_tree::RuleTree;
-use crate::tree::{self, Tree};
+use crate::tree::{self, PartTree};
 use policy_rules::Partition;
 use std::alloc::{AllocError, Global};
 use switch_table::PartRow;
@@ -13,7 +13,7 @@ use switch_table::PartRow;
 /// one over the rules of each authority partition.
 #[derive(Debug, Drop)]
 pub struct Trees {
-    pub tree: Tree,
+    pub tree: PartTree,
     pub rule_trees: Vec<RuleTree>,
 }
 
@@ -28,7 +28,7 @@ impl Trees {
         requires auth { All (λ part. length part.rules < 2 ^ 32) auth.now }
         ensures { IfOk result (AreTreesOf parts.now auth.now) }
     {
-        let root = Node::root(alloc, parts)?;
+        let root = PartNode::root(alloc, parts)?;
         let tree = tree::grow(alloc, root)?;
         let rule_trees = rule_trees(alloc, auth)?;
         Ok(Trees { tree, rule_trees })

@@ -1,7 +1,7 @@
 -- A packet on its way, as contracts see it.
 use Rattle.std.specs.Prelude.{ℕ, ◌<◌, List, length}
 use Rattle.failover.specs.RouteList.{IsRouteList}
-use Rattle.tunnel.specs.declared.way.Tunnel.TheInside.{Inside}
+use Rattle.tunnel.specs.declared.packet_tunnel.Tunnel.TheInside.{Inside}
 
 -- the packet, its leg and the targets of the leg, the route to one of them, the place on the route,
 -- the links found down

@@ -17,9 +17,9 @@
 //! ```
 #![tactic(auto)]
 
-mod way;
+mod packet_tunnel;
 
 pub use failover::{Database, DownSet, Route};
 pub use five_tuple::Header;
+pub use packet_tunnel::Tunnel;
 pub use policy_rules::{Leg, Targets};
-pub use way::Tunnel;

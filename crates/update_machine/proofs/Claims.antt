@@ -24,7 +24,7 @@ use Rattle.update_machine.specs.Versions.{hosted_in, plan_at}
 use Rattle.update_machine.specs.LinkMasks.{near, usable_links}
 use Rattle.update_machine.specs.Links.{can_use, is_usable}
 use Rattle.update_machine.specs.Setting.{IsPlanOf, Setting, policy_in}
-use Rattle.update_machine.specs.Ways.{changes_found, found_down}
+use Rattle.update_machine.specs.PacketRoutes.{changes_found, found_down}
 
 -- ---- links that switches can use
 

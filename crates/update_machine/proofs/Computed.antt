@@ -23,7 +23,7 @@ use Rattle.update_machine.specs.Touched.{touched_by}
 use Rattle.update_machine.specs.Versions.{version_count, stamp_of, holds_version, next_policy, plan_at}
 use Rattle.update_machine.specs.Causes.{present_step}
 use Rattle.update_machine.specs.Travels.{ingress_of, travels, next_travelling, leg_of}
-use Rattle.update_machine.specs.Ways.{route_in, route_place, next_switch, found_down}
+use Rattle.update_machine.specs.PacketRoutes.{route_in, route_place, next_switch, found_down}
 use Rattle.update_machine.specs.LinkMasks.{near}
 use Rattle.base.specs.Masks.{has, switches}
 use Rattle.base.specs.ComputedMasks.{mask_where, mask_of, least_in}

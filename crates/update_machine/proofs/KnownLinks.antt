@@ -24,7 +24,7 @@ use Rattle.update_machine.specs.Boots.{is_in_first_boot}
 use Rattle.update_machine.specs.Laws.{KnownLinkLaws}
 use Rattle.update_machine.specs.LinkMasks.{near, adverts_begun, adverts_heard, adverts_of_others, links_known}
 use Rattle.update_machine.specs.Moves.{end_items, leaving_item, leg_items, stuck_on, takes_route}
-use Rattle.update_machine.specs.Ways.{found_down, no_switch, owner}
+use Rattle.update_machine.specs.PacketRoutes.{found_down, no_switch, owner}
 use Rattle.update_machine.specs.Setting.{Setting}
 use Rattle.update_machine.specs.SwitchNumbers.{switches_of}
 

@@ -19,7 +19,7 @@ use Rattle.policy_rules.specs.declared.file.PolicyFile.{PolicyFile}
 use Rattle.policy_rules.specs.declared.file.PolicyFile.TheVariants.{Whole, Change}
 use Rattle.policy_rules.specs.declared.policy.Row.{Row}
 use Rattle.journal.specs.declared.item.Item.{Item}
-use Rattle.update_machine.specs.Pieces.{apply_code, marks_code, plan_code, policy_code, update_code}
+use Rattle.update_machine.specs.Pieces.{apply_code, marks_code, plan_code, rows_code, update_code}
 use Rattle.update_machine.specs.Setting.{IsSetting, NamesOwnPort, Setting, file_at, file_of, made_by, policy_by, policy_in, setting_of}
 use Rattle.update_machine.specs.Versions.{HasPlan, hosted_in, next_policy, plan_at, policy_at, version_count}
 use Rattle.update_machine.proofs.Policies.{first_is}
@@ -175,7 +175,7 @@ next_by setting journal file newest first is =
 abbrev made_code : Setting → List Item → Result (List Row) Inapplicable → Option ℕ
 made_code setting journal made = elim made [
   | Err why ↦ Some (apply_code why)
-  | Ok rows ↦ policy_code setting journal rows
+  | Ok rows ↦ rows_code setting journal rows
 ]
 
 abbrev plan_coded : List Item → Result (List Hosted) NoPlan → Option ℕ

@@ -27,7 +27,7 @@ use Rattle.update_machine.specs.Steps.{steps_in}
 use Rattle.update_machine.specs.Versions.{holds_version, stamp_of, tables_at, version_count}
 use Rattle.update_machine.specs.Causes.{present_step}
 use Rattle.update_machine.specs.Travels.{ingress_of, leg_of, next_travelling, travels}
-use Rattle.update_machine.specs.Ways.{found_down, next_switch, route_in, route_place}
+use Rattle.update_machine.specs.PacketRoutes.{found_down, next_switch, route_in, route_place}
 use Rattle.update_machine.specs.LinkMasks.{near}
 
 all_usable : (links : List LinkRow) → filter (is_usable []) links ≡ links

@@ -12,7 +12,7 @@ use Rattle.update_machine.specs.LinkMasks.{near, links_known}
 use Rattle.update_machine.specs.Packets.{Decision, decision_of, header_in, standing}
 use Rattle.update_machine.specs.Setting.{Setting}
 use Rattle.update_machine.specs.Versions.{plan_at}
-use Rattle.update_machine.specs.Ways.{found_down, next_switch, targets_of}
+use Rattle.update_machine.specs.PacketRoutes.{found_down, next_switch, targets_of}
 
 -- a packet finds the link from where it stands to the next switch of its route, and can't use it
 pub record FindsNextDown (setting : Setting) (before : List Item) (packet one two : ℕ) : Type 0 where

@@ -28,7 +28,7 @@ use Rattle.update_machine.specs.SwitchNumbers.{switches_of}
 use Rattle.update_machine.specs.Causes.{present_step}
 use Rattle.update_machine.specs.Versions.{holds_version, policy_at, stamp_of, tables_at, version_count, next_policy, plan_at}
 use Rattle.update_machine.specs.Travels.{ingress_of, leg_of, next_travelling, travels}
-use Rattle.update_machine.specs.Ways.{found_down, next_switch, route_in, route_place}
+use Rattle.update_machine.specs.PacketRoutes.{found_down, next_switch, route_in, route_place}
 use Rattle.update_machine.specs.LinkMasks.{near, adverts_begun, adverts_heard, links_known}
 use Rattle.update_machine.specs.Touched.{touched_by}
 

@@ -12,7 +12,7 @@ pub mod Steps
 pub mod Adverts
 pub mod Caches
 pub mod Packets
-pub mod Ways
+pub mod PacketRoutes
 pub mod Travels
 pub mod Moves
 pub mod Settling

@@ -34,7 +34,7 @@ use Rattle.update_machine.specs.Packets.{decision_of, header_in}
 use Rattle.update_machine.specs.Setting.{Setting}
 use Rattle.update_machine.specs.Versions.{holds_version, stamp_of, plan_at}
 use Rattle.update_machine.specs.Travels.{ingress_of, is_at, leg_of}
-use Rattle.update_machine.specs.Ways.{found_down, next_switch, owner, targets_of}
+use Rattle.update_machine.specs.PacketRoutes.{found_down, next_switch, owner, targets_of}
 
 -- ---- blocks
 

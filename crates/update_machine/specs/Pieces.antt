@@ -96,8 +96,8 @@ marks_code journal =
     else if version_count journal == most_versions then Some 17
     else None
 
-abbrev pub policy_code : Setting → List Item → List Row → Option ℕ
-policy_code setting journal rows = elim (setting.plan rows) [
+abbrev pub rows_code : Setting → List Item → List Row → Option ℕ
+rows_code setting journal rows = elim (setting.plan rows) [
   | Err why ↦ Some (plan_code why)
   | Ok plan ↦ marks_code journal
 ]
@@ -105,7 +105,7 @@ policy_code setting journal rows = elim (setting.plan rows) [
 abbrev pub update_code : Setting → List Item → ℕ → Option ℕ
 update_code setting journal file = elim (next_policy setting journal file) [
   | Err why ↦ Some (apply_code why)
-  | Ok rows ↦ policy_code setting journal rows
+  | Ok rows ↦ rows_code setting journal rows
 ]
 
 -- a policy that isn't refused is the newest version

@@ -11,7 +11,7 @@ use Rattle.ctrl_msg.specs.declared.message.Body.TheVariants.{Install, OpenAt, St
 use Rattle.policy_rules.specs.declared.policy.Action.{Action}
 use Rattle.policy_rules.specs.declared.policy.Action.TheVariants.{Drop, Out}
 use Rattle.wire.specs.Format.{Format, then_read, ◌⊗◌, optional}
-use Rattle.wire.specs.Fields.{n1, n4, n8, n16, switch, is_word, word, rule_name, action_by_port, port_in_action, action, rule, touched_count, touched, target_count, targets, region, partition, tables}
+use Rattle.wire.specs.Fields.{n1, n4, n8, n16, switch, is_word_pair, word, rule_name, action_by_port, port_in_action, action, rule, touched_count, touched, target_count, targets, region, partition, tables}
 use Rattle.wire.specs.Messages.{receiver_of, receiver, message_front, install_form, boot_and_version, stamp_form, cache_rule_form, advert, hello, acknowledgement, kind_number, spelled_fields, fields_fit, made_body, cache_rule_of, read_fields, body, suits_receiver, message}
 use Rattle.wire.proofs.Laws.{AreBytes, Takes, IsLawful, then_some, n8-bits, n32-bits, n64-bits, ◌⊠◌, as_type_lawful, such_that_lawful, optional_lawful, list_lawful}
 
@@ -46,7 +46,7 @@ switch_lawful = such_that_lawful (λ n. ltb n 64) n1_lawful
 
 word_lawful : IsLawful word
 unfolding word
-word_lawful = as_type_lawful _ _ (λ p fits. refl) (λ w fits. refl) (such_that_lawful is_word (n16_lawful ⊠ n16_lawful))
+word_lawful = as_type_lawful _ _ (λ p fits. refl) (λ w fits. refl) (such_that_lawful is_word_pair (n16_lawful ⊠ n16_lawful))
 
 maybe_lawful : IsLawful (optional n1 n4)
 unfolding n1

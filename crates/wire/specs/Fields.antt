@@ -38,14 +38,14 @@ unfoldable pub switch : Format ℕ
 switch = such_that (λ n. nat_lt n 64) n1
 
 -- no bit of the value is outside the mask, and the mask has 104 bits
-abbrev pub is_word : ℕ × ℕ → Bool
-is_word pair = (bit_and pair.0 pair.1 == pair.0) && nat_lt pair.1 (2 ^ 104)
+abbrev pub is_word_pair : ℕ × ℕ → Bool
+is_word_pair pair = (bit_and pair.0 pair.1 == pair.0) && nat_lt pair.1 (2 ^ 104)
 
 -- the value and the mask
 unfoldable pub word : Format WordValue
 word =
     as_type (λ pair. record { value = pair.0; mask = pair.1 }) (λ w. (w.value, w.mask))
-    (such_that is_word (n16 ⊗ n16))
+    (such_that is_word_pair (n16 ⊗ n16))
 
 -- a row's priority, or nothing for the default
 unfoldable pub rule_name : Format (Option ℕ)

@@ -12,7 +12,7 @@ use crate::fields::{
     read_switch, read_touched, read_word,
 };
 use crate::parts::{put_tables, read_tables};
-use crate::reader::Reader;
+use crate::reader::ByteReader;
 use crate::writer::{put_n1, put_n4, put_n8};
 use base::Shared;
 use ctrl_msg::{Body, Message, Place, SharedTables};
@@ -23,7 +23,7 @@ use switch_table::Touched;
 use ternary::Word;
 
 #[tactic(auto, unfolding(crate::specs::Messages::receiver))]
-pub(crate) fn read_receiver(reader: &mut Reader) -> Result<Place, WireError>
+pub(crate) fn read_receiver(reader: &mut ByteReader) -> Result<Place, WireError>
     ensures { Reads kinds.receiver reader.old result reader.new }
 {
     match reader.n1()? {
@@ -45,7 +45,7 @@ pub(crate) fn put_receiver(out: &mut Vec<u8>, to: Place) -> Result<(), AllocErro
 }
 
 #[tactic(auto, unfolding(crate::specs::Messages::install_form))]
-fn read_install(reader: &mut Reader) -> Result<(u32, SharedTables), WireError>
+fn read_install(reader: &mut ByteReader) -> Result<(u32, SharedTables), WireError>
     ensures { Reads kinds.install_form reader.old result reader.new }
 {
     let boot = reader.n4()?;
@@ -55,7 +55,7 @@ fn read_install(reader: &mut Reader) -> Result<(u32, SharedTables), WireError>
 }
 
 #[tactic(auto, unfolding(crate::specs::Messages::boot_and_version))]
-fn read_of_version(reader: &mut Reader) -> Result<(u32, u32), WireError>
+fn read_of_version(reader: &mut ByteReader) -> Result<(u32, u32), WireError>
     ensures { Reads kinds.boot_and_version reader.old result reader.new }
 {
     let boot = reader.n4()?;
@@ -64,7 +64,7 @@ fn read_of_version(reader: &mut Reader) -> Result<(u32, u32), WireError>
 }
 
 #[tactic(auto, unfolding(crate::specs::Messages::stamp_form))]
-fn read_stamp(reader: &mut Reader) -> Result<(u32, u32, Shared<Touched>), WireError>
+fn read_stamp(reader: &mut ByteReader) -> Result<(u32, u32, Shared<Touched>), WireError>
     ensures { let read = kinds.stamp_form.read reader.old in
         Gives (λ p. (p.0, (p.1, p.2))) read result reader.new }
 {
@@ -76,7 +76,7 @@ fn read_stamp(reader: &mut Reader) -> Result<(u32, u32, Shared<Touched>), WireEr
 }
 
 #[tactic(auto, unfolding(crate::specs::Messages::advert))]
-fn read_advert(reader: &mut Reader) -> Result<Advert, WireError>
+fn read_advert(reader: &mut ByteReader) -> Result<Advert, WireError>
     ensures { Reads kinds.advert reader.old result reader.new }
 {
     Ok(Advert {
@@ -88,7 +88,7 @@ fn read_advert(reader: &mut Reader) -> Result<Advert, WireError>
 }
 
 #[tactic(auto, unfolding(crate::specs::Messages::cache_rule_form))]
-fn read_cache_rule(reader: &mut Reader) -> Result<Body, WireError>
+fn read_cache_rule(reader: &mut ByteReader) -> Result<Body, WireError>
     ensures { let read = made_body cache_rule_of (kinds.cache_rule_form.read reader.old) in
         Gives (λ body. body) read result reader.new }
 {
@@ -101,7 +101,7 @@ fn read_cache_rule(reader: &mut Reader) -> Result<Body, WireError>
 }
 
 #[tactic(auto, unfolding(crate::specs::Messages::hello))]
-fn read_hello(reader: &mut Reader) -> Result<(u32, u32), WireError>
+fn read_hello(reader: &mut ByteReader) -> Result<(u32, u32), WireError>
     ensures { Reads kinds.hello reader.old result reader.new }
 {
     let switch = read_switch(reader)?;
@@ -110,7 +110,7 @@ fn read_hello(reader: &mut Reader) -> Result<(u32, u32), WireError>
 }
 
 #[tactic(auto, unfolding(crate::specs::Messages::acknowledgement))]
-fn read_acknowledged(reader: &mut Reader) -> Result<(u32, u32, u32), WireError>
+fn read_acknowledged(reader: &mut ByteReader) -> Result<(u32, u32, u32), WireError>
     ensures { let read = kinds.acknowledgement.read reader.old in
         Gives (λ p. (p.0, (p.1, p.2))) read result reader.new }
 {
@@ -119,7 +119,7 @@ fn read_acknowledged(reader: &mut Reader) -> Result<(u32, u32, u32), WireError>
     Ok((switch, boot, version))
 }
 
-fn read_fields(kind: u8, reader: &mut Reader) -> Result<Body, WireError>
+fn read_fields(kind: u8, reader: &mut ByteReader) -> Result<Body, WireError>
     ensures { Gives (λ body. body) (read_fields kind reader.old) result reader.new }
 {
     match kind {
@@ -149,7 +149,7 @@ fn read_fields(kind: u8, reader: &mut Reader) -> Result<Body, WireError>
 }
 
 #[tactic(auto, unfolding(crate::specs::Messages::body))]
-fn read_body(reader: &mut Reader) -> Result<Body, WireError>
+fn read_body(reader: &mut ByteReader) -> Result<Body, WireError>
     ensures { Reads kinds.body reader.old result reader.new }
 {
     let kind = reader.n1()?;
@@ -157,7 +157,7 @@ fn read_body(reader: &mut Reader) -> Result<Body, WireError>
 }
 
 #[tactic(auto, unfolding(crate::specs::Messages::message))]
-fn read_message(reader: &mut Reader) -> Result<Message, WireError>
+fn read_message(reader: &mut ByteReader) -> Result<Message, WireError>
     ensures { Reads kinds.message reader.old result reader.new }
 {
     let to = read_receiver(reader)?;
@@ -173,7 +173,7 @@ fn read_message(reader: &mut Reader) -> Result<Message, WireError>
     }
 }
 
-fn whole(reader: &mut Reader) -> Result<Message, WireError>
+fn whole(reader: &mut ByteReader) -> Result<Message, WireError>
     ensures { Gives (λ message. message) (whole_message reader.old) result reader.new }
 {
     let message = read_message(reader)?;
@@ -369,5 +369,5 @@ pub fn decode(alloc: Global, bytes: &[u8]) -> Result<Message, WireError>
     ensures malformed { IfErr result (IfRefused (λ _.
         (message : Message) → IsSpelling message bytes.now → ⊥)) }
 {
-    whole(&mut Reader::new(alloc, bytes))
+    whole(&mut ByteReader::new(alloc, bytes))
 }

@@ -4,7 +4,7 @@ ghost use Rattle.wire.specs.Reading.{AppendsForm, Reads};
 
 use crate::error::{Malformed, WireError};
 use crate::list::{put_items, read_items};
-use crate::reader::Reader;
+use crate::reader::ByteReader;
 use crate::writer::{put_n1, put_n4, put_n16};
 use policy_rules::{Action, Targets};
 use std::alloc::AllocError;
@@ -12,7 +12,7 @@ use switch_table::Touched;
 use ternary::Word;
 
 #[tactic(auto, unfolding(crate::specs::Fields::switch))]
-pub(crate) fn read_switch(reader: &mut Reader) -> Result<u32, WireError>
+pub(crate) fn read_switch(reader: &mut ByteReader) -> Result<u32, WireError>
     ensures { Reads form.switch reader.old result reader.new }
 {
     let number = reader.n1()?;
@@ -32,7 +32,7 @@ pub(crate) fn put_switch(out: &mut Vec<u8>, number: u32) -> Result<(), AllocErro
 }
 
 #[tactic(auto, unfolding(crate::specs::Fields::word))]
-pub(crate) fn read_word(reader: &mut Reader) -> Result<Word, WireError>
+pub(crate) fn read_word(reader: &mut ByteReader) -> Result<Word, WireError>
     ensures { Reads form.word reader.old result reader.new }
 {
     let value = reader.n16()?;
@@ -52,7 +52,7 @@ pub(crate) fn put_word(out: &mut Vec<u8>, word: &Word) -> Result<(), AllocError>
 }
 
 #[tactic(auto, unfolding(crate::specs::Fields::rule_name))]
-pub(crate) fn read_rule_name(reader: &mut Reader) -> Result<Option<u32>, WireError>
+pub(crate) fn read_rule_name(reader: &mut ByteReader) -> Result<Option<u32>, WireError>
     ensures { Reads form.rule_name reader.old result reader.new }
 {
     match reader.n1()? {
@@ -76,7 +76,7 @@ pub(crate) fn put_rule_name(out: &mut Vec<u8>, rule: Option<u32>) -> Result<(), 
 }
 
 #[tactic(auto, unfolding(crate::specs::Fields::action))]
-pub(crate) fn read_action(reader: &mut Reader) -> Result<Action, WireError>
+pub(crate) fn read_action(reader: &mut ByteReader) -> Result<Action, WireError>
     ensures { Reads form.action reader.old result reader.new }
 {
     match reader.n1()? {
@@ -100,7 +100,7 @@ pub(crate) fn put_action(out: &mut Vec<u8>, action: Action) -> Result<(), AllocE
 }
 
 // How many values follow: a byte from `least` to `most`.
-fn read_count(reader: &mut Reader, least: u8, most: u8) -> Result<usize, WireError>
+fn read_count(reader: &mut ByteReader, least: u8, most: u8) -> Result<usize, WireError>
     ensures read { Reads (form.count_within least most) reader.old result reader.new }
     ensures within { IfOk result (λ count. (least ≤ count) × (count ≤ most)) }
 {
@@ -113,7 +113,7 @@ fn read_count(reader: &mut Reader, least: u8, most: u8) -> Result<usize, WireErr
 }
 
 #[tactic(auto, unfolding(crate::specs::Fields::touched, crate::specs::Fields::touched_count))]
-pub(crate) fn read_touched(reader: &mut Reader) -> Result<Touched, WireError>
+pub(crate) fn read_touched(reader: &mut ByteReader) -> Result<Touched, WireError>
     ensures { Reads form.touched reader.old result reader.new }
 {
     let count = read_count(reader, 0, 16)?;
@@ -134,7 +134,7 @@ pub(crate) fn put_touched(out: &mut Vec<u8>, touched: &Touched) -> Result<(), Al
 }
 
 #[tactic(auto, unfolding(crate::specs::Fields::targets, crate::specs::Fields::target_count))]
-pub(crate) fn read_targets(reader: &mut Reader) -> Result<Targets, WireError>
+pub(crate) fn read_targets(reader: &mut ByteReader) -> Result<Targets, WireError>
     ensures { Reads form.targets reader.old result reader.new }
 {
     let count = read_count(reader, 1, 4)?;

@@ -7,7 +7,7 @@ ghost use Rattle.wire.specs.Reading.{Gives};
 
 use crate::codec::{put_receiver, read_receiver};
 use crate::error::{Malformed, WireError};
-use crate::reader::Reader;
+use crate::reader::ByteReader;
 use crate::writer::{put_n1, put_n4};
 use ctrl_msg::Place;
 use std::alloc::{AllocError, Global};
@@ -31,7 +31,7 @@ pub fn append_front(out: &mut Vec<u8>, to: Place, boot: u32) -> Result<(), Alloc
 }
 
 #[tactic(auto, unfolding(crate::specs::Messages::message_front))]
-fn read(reader: &mut Reader) -> Result<(Place, u32), WireError>
+fn read(reader: &mut ByteReader) -> Result<(Place, u32), WireError>
     ensures { Gives (λ front. front) (read_front reader.old) result reader.new }
 {
     let to = read_receiver(reader)?;
@@ -54,5 +54,5 @@ pub fn decode_front(alloc: Global, bytes: &[u8]) -> Result<(Place, u32), WireErr
     ensures malformed { IfErr result (IfRefused (λ _.
         (to : Place) (boot : ℕ) → IsFront to boot bytes.now → ⊥)) }
 {
-    read(&mut Reader::new(alloc, bytes))
+    read(&mut ByteReader::new(alloc, bytes))
 }

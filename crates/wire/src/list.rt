@@ -4,7 +4,7 @@ ghost use Rattle.wire.specs.Reading.{Reads, Gives, AppendsForm, AppendsItems};
 ghost use Rattle.wire.specs.Fields.{n4};
 
 use crate::error::WireError;
-use crate::reader::Reader;
+use crate::reader::ByteReader;
 use crate::writer::put_n4;
 use std::alloc::AllocError;
 
@@ -20,7 +20,7 @@ pub(crate) trait Part: Sized + Drop {
     ghost needs: { Self → Type 0 };
 
     /// Reads one from the front.
-    fn read(reader: &mut Reader) -> Result<Self, WireError>
+    fn read(reader: &mut ByteReader) -> Result<Self, WireError>
         ensures { Reads format reader.old result reader.new };
 
     /// Writes it at the end.
@@ -30,7 +30,7 @@ pub(crate) trait Part: Sized + Drop {
 }
 
 // The count isn't trusted: room is taken for no more parts than the bytes can have.
-pub(crate) fn read_items<T: Part>(reader: &mut Reader, count: u32) -> Result<Vec<T>, WireError>
+pub(crate) fn read_items<T: Part>(reader: &mut ByteReader, count: u32) -> Result<Vec<T>, WireError>
     ensures { Gives (λ v. v.items) (read_items T.format count reader.old) result reader.new }
 {
     let most = reader.len() / LEAST_OF_PART;
@@ -42,7 +42,7 @@ pub(crate) fn read_items<T: Part>(reader: &mut Reader, count: u32) -> Result<Vec
 }
 
 #[tactic(auto, unfolding(crate::specs::Format::list_of))]
-pub(crate) fn read_list<T: Part>(reader: &mut Reader) -> Result<Vec<T>, WireError>
+pub(crate) fn read_list<T: Part>(reader: &mut ByteReader) -> Result<Vec<T>, WireError>
     ensures { Gives (λ v. v.items) ((list_of n4 T.format).read reader.old) result reader.new }
 {
     let count = reader.n4()?;

@@ -11,7 +11,7 @@ use crate::fields::{
     read_word,
 };
 use crate::list::{Part, put_list, read_list};
-use crate::reader::Reader;
+use crate::reader::ByteReader;
 use crate::writer::put_n4;
 use policy_rules::{Partition, Rule, Rules};
 use std::alloc::AllocError;
@@ -23,7 +23,7 @@ impl Part for Word {
 
     ghost needs = { λ _. Unit {0} };
 
-    fn read(reader: &mut Reader) -> Result<Word, WireError> {
+    fn read(reader: &mut ByteReader) -> Result<Word, WireError> {
         read_word(reader)
     }
 
@@ -37,7 +37,7 @@ impl Part for Rule {
 
     ghost needs = { λ _. Unit {0} };
 
-    fn read(reader: &mut Reader) -> Result<Rule, WireError> {
+    fn read(reader: &mut ByteReader) -> Result<Rule, WireError> {
         Ok(Rule {
             word: read_word(reader)?,
             rank: reader.n4()?,
@@ -59,7 +59,7 @@ impl Part for PartRow {
 
     ghost needs = { AreSwitches };
 
-    fn read(reader: &mut Reader) -> Result<PartRow, WireError> {
+    fn read(reader: &mut ByteReader) -> Result<PartRow, WireError> {
         Ok(PartRow {
             region: read_word(reader)?,
             targets: read_targets(reader)?,
@@ -77,7 +77,7 @@ impl Part for Partition {
 
     ghost needs = { HasFewRules };
 
-    fn read(reader: &mut Reader) -> Result<Partition, WireError> {
+    fn read(reader: &mut ByteReader) -> Result<Partition, WireError> {
         Ok(Partition {
             number: reader.n4()?,
             region: read_word(reader)?,
@@ -92,7 +92,7 @@ impl Part for Partition {
     }
 }
 
-pub(crate) fn read_tables(reader: &mut Reader) -> Result<Tables, WireError>
+pub(crate) fn read_tables(reader: &mut ByteReader) -> Result<Tables, WireError>
     ensures { Reads form.tables reader.old result reader.new }
 {
     let version = reader.n4()?;

@@ -8,12 +8,12 @@ use std::marker::Model;
 
 /// The bytes that are still to be read. Contracts see them.
 #[derive(Drop)]
-pub(crate) struct Reader<'a> {
+pub(crate) struct ByteReader<'a> {
     alloc: Global,
     bytes: &'a [u8],
 }
 
-impl<'a> Model for Reader<'a> {
+impl<'a> Model for ByteReader<'a> {
     ghost use Rattle.std.specs.Prelude.{List, ℕ};
 
     ghost Value = { List ℕ };
@@ -21,11 +21,11 @@ impl<'a> Model for Reader<'a> {
     ghost view = { λ r. r.bytes.now };
 }
 
-impl<'a> Reader<'a> {
-    pub fn new(alloc: Global, bytes: &'a [u8]) -> Reader<'a>
+impl<'a> ByteReader<'a> {
+    pub fn new(alloc: Global, bytes: &'a [u8]) -> ByteReader<'a>
         ensures { result ≡ bytes.now }
     {
-        Reader { alloc, bytes }
+        ByteReader { alloc, bytes }
     }
 
     pub fn alloc(&self) -> Global {

@@ -10,7 +10,7 @@ use Rattle.policy_rules.proofs.CallerLemmas.{find_same}
 use Rattle.message_bag.specs.Deliveries as statuses
 use Rattle.message_bag.specs.Posts as bag
 use Rattle.message_bag.proofs.Numbered.{numbered_map}
-use Rattle.message_bag.specs.declared.deliveries.Status.{Status}
+use Rattle.message_bag.specs.declared.deliveries.MessageState.{MessageState}
 use Rattle.ctrl_msg.specs.declared.message.Message.{Message}
 use Rattle.journal.specs.declared.item.Item.{Item}
 use Rattle.update_machine.specs.Folds.{count_of}
@@ -49,7 +49,7 @@ least_waits : (journal : List Item) (posts : List bag.Post) → IsBagOf journal 
     → bag.next_waiting_post posts 1 ≡ next_waiting journal
 unfolding next_waiting next_message
 least_waits journal posts of =
-    let all : List Status = bag.statuses_of posts in
+    let all : List MessageState = bag.statuses_of posts in
     let many : length all + 1 - 1 ≡ count_of is_sending journal =
     omega (arith, of.many, length-map posts (λ (post : bag.Post). post.1)) in
     ap (λ count. find (statuses.is_waiting all) (range_with_len 1 count)) many
@@ -90,7 +90,7 @@ found_is_least test from (suc count) over =
     (found_is_least test (from + 1) count (λ i behind. over i (omega (arith, behind))))
 
 -- no post behind the last waits
-none_behind : (all : List Status) (i : ℕ) → length all < i
+none_behind : (all : List MessageState) (i : ℕ) → length all < i
     → statuses.is_waiting all i ≡ false
 none_behind all zero behind = refl
 none_behind all (suc place) behind =
@@ -100,7 +100,7 @@ none_behind all (suc place) behind =
 least_from : (journal : List Item) (posts : List bag.Post) → IsBagOf journal posts → (from : ℕ)
     → IsLeastFrom (is_waiting journal) from (bag.next_waiting_post posts from)
 least_from journal posts of from =
-    let all : List Status = bag.statuses_of posts in
+    let all : List MessageState = bag.statuses_of posts in
     subst (λ next. IsLeastFrom (is_waiting journal) from next)
     (sym (find_same (statuses.is_waiting all) (is_waiting journal) (waits_same journal posts of)
     (range_with_len from (length all + 1 - from))))

@@ -32,7 +32,7 @@ use steps::Step;
 use switch_core::Switch;
 use travelling::Travelling;
 use update_machine::FULL_AT;
-use world_log::{Log, near_masks};
+use world_log::{Log, link_masks};
 
 /// A network of switches with its controller, the packets on their way in it, and the journal of
 /// what happened.
@@ -76,7 +76,7 @@ impl World {
         let plan = compile(alloc, first_policy(&files), net)?;
         let first = plan.clone()?;
         let files = Files::new(alloc, net.clone()?, files, first)?;
-        let near = near_masks(net);
+        let near = link_masks(net);
         let controller = Controller::begin(alloc, net, plan)?;
         let switches = switches_of(alloc, net, &controller, &near)?;
         let journal = first_journal(alloc)?;

@@ -94,9 +94,9 @@ decided_flight decision _ = None
 -- ---- by the answer of a lookup
 
 -- one message or none, as a list
-abbrev pub messages_in : Option Message → List Message
-messages_in None = []
-messages_in (Some message) = message ∷ []
+abbrev pub message_list : Option Message → List Message
+message_list None = []
+message_list (Some message) = message ∷ []
 
 -- a cache rule goes to the switch where the packet came in
 abbrev pub cache_message : ℕ → Option Body → Option Message
@@ -111,7 +111,7 @@ answer_message at _ = None
 -- where the next message has this number
 abbrev pub answer_items : ℕ → Standing → Answer → List Item
 answer_items number at (answer.Decided decision cache onward) =
-    decided_items at decision (sent_from number (messages_in (cache_message at.ingress cache)))
+    decided_items at decision (sent_from number (message_list (cache_message at.ingress cache)))
     onward
 answer_items number at (answer.Seek tunnel) =
     takes_route at.packet tunnel.leg tunnel.route ∷ []
@@ -120,7 +120,7 @@ answer_items number at (answer.Stuck cause leg) =
 
 -- what it posts
 abbrev pub answer_posts : Standing → Answer → List Post
-answer_posts at what = map new_post (messages_in (answer_message at what))
+answer_posts at what = map new_post (message_list (answer_message at what))
 
 -- where the packet had this version and this rule
 abbrev pub answer_flight : ℕ → Option ℕ → Answer → Option Flight

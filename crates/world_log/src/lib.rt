@@ -10,7 +10,7 @@
 //! A link can be used where it is up and both of its ends serve. `usable` promises these links as
 //! masks, and `relink` that each switch that is up and whose usable links changed makes its next
 //! advert, and tells it over each link that it had, and all that it knows over each new one.
-//! `near_masks` and `set_ends` keep which links are up, and `adverts_again` is what a switch sends
+//! `link_masks` and `set_ends` keep which links are up, and `adverts_again` is what a switch sends
 //! once more.
 //!
 //! ```text
@@ -36,5 +36,5 @@ mod usable_links;
 pub use again::{adverts_again, hello};
 pub use log::Log;
 pub use switch_core::Site;
-pub use up_links::{near_masks, set_ends};
+pub use up_links::{link_masks, set_ends};
 pub use usable_links::{relink, usable};

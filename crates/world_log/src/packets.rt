@@ -6,14 +6,14 @@ ghost use Rattle.journal.specs.declared.item.Item.TheVariants.{Rerouted};
 ghost use Rattle.tunnel.specs.Moves.{next};
 ghost use Rattle.update_machine.specs.Exports.{sent_from};
 ghost use Rattle.world_log.specs.Packets.{Hops, MayGoOn, coming_in, entry};
-ghost use Rattle.world_log.specs.Writing.{LogAfter, arrived_items, arrived_posts, arrived_flight, cache_message, decided_flight, end_item, entered_items, entered_posts, entered_flight, messages_in, packet_standing};
+ghost use Rattle.world_log.specs.Writing.{LogAfter, arrived_items, arrived_posts, arrived_flight, cache_message, decided_flight, end_item, entered_items, entered_posts, entered_flight, message_list, packet_standing};
 
 use crate::log::{Log, leaves};
 use five_tuple::Header;
 use journal::{Item, Message, Place, SharedRoute};
 use policy_rules::{Action, Cause, Leg, Targets};
 use std::alloc::{AllocError, Global};
-use switch_core::{Arriving, Decision, HopEnd, Site, Switch, Verdict};
+use switch_core::{Arriving, Decision, Forwarding, HopEnd, Site, Switch};
 use ternary::Word;
 use travelling::{Standing, StoredFlight};
 use tunnel::Tunnel;
@@ -200,7 +200,7 @@ impl Log {
         &mut self,
         alloc: Global,
         at: Standing,
-        verdict: Verdict,
+        verdict: Forwarding,
         switch: &mut Switch,
         site: Site,
     ) -> Result<(), AllocError>
@@ -217,8 +217,8 @@ impl Log {
         ensures same { switch.new ≡ switch.old }
     {
         match verdict {
-            Verdict::Out(port) => self.end(at.packet, leaves(&at, port)),
-            Verdict::Decided { decision, word } => {
+            Forwarding::Out(port) => self.end(at.packet, leaves(&at, port)),
+            Forwarding::Decided { decision, word } => {
                 self.journal.push(Item::Decided {
                     packet: at.packet,
                     version: decision.version,
@@ -229,8 +229,8 @@ impl Log {
                 self.send_rule(alloc, at.ingress, &decision, word)?;
                 self.leave(alloc, at, decision, switch, site)
             }
-            Verdict::Seek { leg, targets } => {
-                let way = switch.shared_way(alloc, site.near, at.links(), leg, &targets)?;
+            Forwarding::Seek { leg, targets } => {
+                let way = switch.shared_route(alloc, site.near, at.links(), leg, &targets)?;
                 self.set_out(alloc, at, leg, targets, way)
             }
         }
@@ -249,9 +249,9 @@ impl Log {
         requires few { length self.old.bag < 2 ^ 32 - 1 }
         ensures written { OnOk result (self.new.journal ≡ self.old.journal
             ++ sent_from (length self.old.bag + 1)
-            (messages_in (cache_message ingress (cached_by decision.now word)))) }
+            (message_list (cache_message ingress (cached_by decision.now word)))) }
         ensures posted { OnOk result (self.new.bag ≡ self.old.bag
-            ++ map new_post (messages_in (cache_message ingress (cached_by decision.now word)))) }
+            ++ map new_post (message_list (cache_message ingress (cached_by decision.now word)))) }
         ensures unwritten { OnErr result (self.new.journal ≡ self.old.journal) }
         ensures travelling { self.new.travelling ≡ self.old.travelling }
     {
@@ -296,7 +296,7 @@ impl Log {
                     }
                     let leg = Leg::Exit { port };
                     let targets = Targets::new(&[owner]).unwrap();
-                    let way = switch.shared_way(alloc, site.near, at.links(), leg, &targets)?;
+                    let way = switch.shared_route(alloc, site.near, at.links(), leg, &targets)?;
                     self.set_out(alloc, at, leg, targets, way)
                 }
             },

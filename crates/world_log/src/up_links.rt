@@ -8,7 +8,7 @@ use base::with;
 use net_file::Net;
 
 /// The neighbours of each switch, as masks.
-pub fn near_masks(net: &Net) -> [u64; 64]
+pub fn link_masks(net: &Net) -> [u64; 64]
     requires { IsNet net.now }
     ensures { AreNear net.now result }
 {

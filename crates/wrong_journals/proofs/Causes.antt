@@ -11,7 +11,7 @@ use Rattle.update_machine.specs.Links.{claim_of, is_link_up, message_of, serves}
 use Rattle.update_machine.specs.Packets.{Decision, decision_of, header_in, standing}
 use Rattle.wrong_journals.specs.Office.{office}
 use Rattle.wrong_journals.specs.Right.{left_rightly, stuck_rightly}
-use Rattle.wrong_journals.specs.Wrong.{lost_by_nothing, other_port, stuck_beside_a_way}
+use Rattle.wrong_journals.specs.Wrong.{lost_by_nothing, other_port, stuck_beside_a_route}
 
 -- an item that needs no cause, and those behind it
 free : {causes : Type 0} → causes → ⊤ × causes
@@ -87,12 +87,12 @@ pub lost_by_nothing_has_no_cause : HaveCauses (HasCause office) [] lost_by_nothi
 lost_by_nothing_has_no_cause causes = not_lost causes.1.1.0
 
 -- the link from a leads to b
-pub stuck_beside_a_way_has_no_cause : HaveCauses (HasCause office) [] stuck_beside_a_way → ⊥
+pub stuck_beside_a_way_has_no_cause : HaveCauses (HasCause office) [] stuck_beside_a_route → ⊥
 unfolding serves is_link_up claim_of message_of
 stuck_beside_a_way_has_no_cause causes =
     let stuck = causes.1.1.1.0 in
     let no_way_to : ℕ → Type 0 = λ target. (path : List ℕ)
-    → ¬ Leads (is_open office (take 3 stuck_beside_a_way) 1 0) 0 path target in
+    → ¬ Leads (is_open office (take 3 stuck_beside_a_route) 1 0) 0 path target in
     All-head no_way_to 1 []
     (subst (λ (targets : List ℕ). All no_way_to targets) (sym stuck.own_leg.3) stuck.no_path)
     (1 ∷ []) (refl, refl)

@@ -6,7 +6,7 @@ use Rattle.policy_rules.specs.declared.policy.Action.{Action}
 use Rattle.policy_rules.specs.declared.policy.Action.TheVariants.{Drop, Out}
 use Rattle.policy_rules.specs.declared.policy.Hit.{Hit}
 use Rattle.policy_rules.specs.declared.policy.Row.{Row}
-use Rattle.wrong_journals.specs.Office.{allowed, denied, everywhere, first_policy, row_for, second_policy, server_room}
+use Rattle.wrong_journals.specs.Office.{allowed, denied, everywhere, office_policy, row_for, second_policy, server_room}
 
 abbrev pub by_100 : Action → Hit
 by_100 action = record { rule = Some 100; action = action }
@@ -16,7 +16,7 @@ by_200 = record { rule = Some 200; action = Drop }
 
 -- ---- what is a first match
 
-pub first_of_allowed : IsFirstMatch first_policy allowed (by_100 (Out 2))
+pub first_of_allowed : IsFirstMatch office_policy allowed (by_100 (Out 2))
 first_of_allowed = (
   row_for 100 everywhere (Out 2),
   record {
@@ -28,12 +28,12 @@ first_of_allowed = (
   refl,
 )
 
-pub first_of_denied : IsFirstMatch first_policy denied by_200
+pub first_of_denied : IsFirstMatch office_policy denied by_200
 first_of_denied = (
   row_for 200 server_room Drop,
   record {
     member = (0, omega arith, refl);
-    highest = All-from_recursion (λ (other : Row). other.priority ≤ 200) first_policy
+    highest = All-from_recursion (λ (other : Row). other.priority ≤ 200) office_policy
         (omega arith, (omega arith, tt));
   },
   refl,
@@ -55,7 +55,7 @@ second_of_allowed = (
 -- ---- what is none
 
 -- the row 100 isn't the highest that matches
-pub no_first_of_denied : IsFirstMatch first_policy denied (by_100 (Out 2)) → ⊥
+pub no_first_of_denied : IsFirstMatch office_policy denied (by_100 (Out 2)) → ⊥
 no_first_of_denied first =
     let above : 200 ≤ first.0.priority =
     All-head (λ (other : Row). other.priority ≤ first.0.priority)

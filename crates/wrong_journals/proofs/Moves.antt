@@ -6,7 +6,7 @@ use Rattle.policy_rules.specs.declared.policy.Action.TheVariants.{Out}
 use Rattle.policy_rules.specs.declared.policy.Hit.{Hit}
 use Rattle.policy_rules.specs.declared.policy.Row.{Row}
 use Rattle.update_machine.specs.Machine.{Decides, End, Ends, Enters, Machine, MayEnd, Packet, submitted_policy, with_packet}
-use Rattle.wrong_journals.specs.Office.{allowed, first_policy}
+use Rattle.wrong_journals.specs.Office.{allowed, office_policy}
 use Rattle.wrong_journals.proofs.FirstMatches.{by_100, first_of_allowed}
 
 -- a packet that came in under this mark
@@ -49,8 +49,8 @@ ends old packet end entered going may =
     record { packet = packet; entered = entered; not_ended = going; may = may; after = refl }
 
 pub lets_out : (old : Machine) → old.packets 1 ≡ Some (comer allowed 0)
-    → submitted_policy old 1 ≡ Some first_policy
+    → submitted_policy old 1 ≡ Some office_policy
     → Decides old 1 1 (by_100 (Out 2)) (with_packet old 1 let_out)
 lets_out old entered submitted =
-    decides old allowed 0 1 first_policy (by_100 (Out 2)) entered (omega arith) submitted
+    decides old allowed 0 1 office_policy (by_100 (Out 2)) entered (omega arith) submitted
     first_of_allowed

@@ -8,7 +8,7 @@ use Rattle.policy_rules.specs.declared.policy.Row.{Row}
 use Rattle.journal.specs.declared.item.Item.TheVariants as item
 use Rattle.steps.specs.declared.step.Step.TheVariants as step
 use Rattle.update_machine.specs.Machine.{Decides, Dropped, End, Ends, IsRun, LeftBy, Machine, MayEnd, Packet, submitted_policy}
-use Rattle.wrong_journals.specs.Office.{allowed, denied, first_policy, gets, in_at_a, in_behind_update, office, second_policy}
+use Rattle.wrong_journals.specs.Office.{allowed, denied, office_policy, gets, in_at_a, in_behind_update, office, second_policy}
 use Rattle.wrong_journals.specs.Right.{decided_rightly}
 use Rattle.wrong_journals.specs.Wrong.{another_row, decided_twice, dropped_undecided, half_and_half, other_port, retired_version, unknown_version}
 use Rattle.wrong_journals.proofs.FirstMatches.{by_100, no_first_of_denied, no_second_of_allowed}
@@ -57,7 +57,7 @@ may_end old number end new packet ends known =
 pub another_row_is_no_run : IsRun office another_row → ⊥
 another_row_is_no_run run =
     no_first_of_denied
-    (first_match _ 1 1 (by_100 (Out 2)) _ (comer denied 0) first_policy
+    (first_match _ 1 1 (by_100 (Out 2)) _ (comer denied 0) office_policy
     (move_at office (in_at_a denied) (gets 1 (Out 2)) [] run).1 refl refl)
 
 pub retired_version_is_no_run : IsRun office retired_version → ⊥

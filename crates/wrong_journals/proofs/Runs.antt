@@ -2,9 +2,9 @@
 use Rattle.std.proofs.Common.{◌≡◌, refl, arith}
 use Rattle.policy_rules.specs.declared.policy.Action.TheVariants.{Drop}
 use Rattle.update_machine.specs.Machine.{Dropped, IsRun, LeftBy, Lost, Machine, Stuck}
-use Rattle.wrong_journals.specs.Office.{allowed, denied, first_policy, office, second_policy}
+use Rattle.wrong_journals.specs.Office.{allowed, denied, office_policy, office, second_policy}
 use Rattle.wrong_journals.specs.Right.{decided_rightly, dropped_rightly, left_rightly, lost_rightly, stuck_rightly, updated_rightly}
-use Rattle.wrong_journals.specs.Wrong.{entered_unasked, lost_by_nothing, stuck_beside_a_way}
+use Rattle.wrong_journals.specs.Wrong.{entered_unasked, lost_by_nothing, stuck_beside_a_route}
 use Rattle.wrong_journals.proofs.FirstMatches.{by_100, by_200, first_of_denied, second_of_allowed}
 use Rattle.wrong_journals.proofs.Moves.{comer, decided, decides, ends, enters, let_out, lets_out}
 use Rattle.wrong_journals.proofs.Following.{is_run_by}
@@ -20,7 +20,7 @@ still behind = (refl, behind)
 pub dropped_rightly_is_run : IsRun office dropped_rightly
 dropped_rightly_is_run =
     is_run_by office dropped_rightly (still (by (enters _ denied refl)
-    (by (decides _ denied 0 1 first_policy by_200 refl (omega arith) refl first_of_denied)
+    (by (decides _ denied 0 1 office_policy by_200 refl (omega arith) refl first_of_denied)
     (by (ends _ (decided denied 0 by_200) Dropped refl refl refl) tt))))
 
 pub left_rightly_is_run : IsRun office left_rightly
@@ -58,9 +58,9 @@ lost_by_nothing_is_run =
     is_run_by office lost_by_nothing (still (by (enters _ allowed refl)
     (by (ends _ (comer allowed 0) Lost refl refl tt) tt)))
 
-pub stuck_beside_a_way_is_run : IsRun office stuck_beside_a_way
+pub stuck_beside_a_way_is_run : IsRun office stuck_beside_a_route
 stuck_beside_a_way_is_run =
-    is_run_by office stuck_beside_a_way (still (by (enters _ allowed refl)
+    is_run_by office stuck_beside_a_route (still (by (enters _ allowed refl)
     (by (lets_out _ refl refl) (by (ends _ let_out Stuck refl refl tt) tt))))
 
 pub entered_unasked_is_run : IsRun office entered_unasked

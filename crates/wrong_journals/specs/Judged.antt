@@ -21,8 +21,8 @@ abbrev pub event_in : Item → List Event
 event_in (item.Row row step) = One step ∷ []
 event_in _ = []
 
-abbrev pub events_in : List Item → List Event
-events_in journal = all_given event_in journal
+abbrev pub events_of_rows : List Item → List Event
+events_of_rows journal = all_given event_in journal
 
 -- the fact holds, or it fails
 abbrev pub Holds : Bool → Type 0 → Type 0
@@ -31,25 +31,25 @@ Holds false fact = ¬ fact
 
 -- whether the journal is a run of the machine, its ends have their causes, and its rows and entries
 -- are those of the schedule, all of which was played
-pub record IsJudged (is_run has_causes is_entered : Bool) (journal : List Item) : Type 0 where
+pub record IsTried (is_run has_causes is_entered : Bool) (journal : List Item) : Type 0 where
   pub run : Holds is_run (IsRun office journal)
   pub causes : Holds has_causes (HaveCauses (HasCause office) [] journal)
-  pub entered : Holds is_entered (AreEntered (rows_played None (events_in journal)) journal)
+  pub entered : Holds is_entered (AreEntered (rows_played None (events_of_rows journal)) journal)
 
 -- all three hold
 abbrev pub IsRight : List Item → Type 0
-IsRight journal = IsJudged true true true journal
+IsRight journal = IsTried true true true journal
 
 -- one fails, and the other two hold
 abbrev pub IsNoRun : List Item → Type 0
-IsNoRun journal = IsJudged false true true journal
+IsNoRun journal = IsTried false true true journal
 
 abbrev pub LacksCause : List Item → Type 0
-LacksCause journal = IsJudged true false true journal
+LacksCause journal = IsTried true false true journal
 
 abbrev pub LacksRow : List Item → Type 0
-LacksRow journal = IsJudged true true false journal
+LacksRow journal = IsTried true true false journal
 
 -- two fail, and its rows and entries are the schedule's
 abbrev pub IsNoRunNorCaused : List Item → Type 0
-IsNoRunNorCaused journal = IsJudged false false true journal
+IsNoRunNorCaused journal = IsTried false false true journal

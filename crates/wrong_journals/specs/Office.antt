@@ -48,7 +48,7 @@ abbrev pub server_room : AddressBlock
 server_room = record { address = 167837696; len = 16 }
 
 -- `200,any,10.1.0.0/16,any,any,any,drop` and `100,any,any,any,any,any,out:2`
-abbrev pub first_policy : List Row
+abbrev pub office_policy : List Row
 first_policy = row_for 200 server_room Drop ∷ row_for 100 everywhere (Out 2) ∷ []
 
 -- `100,any,any,any,any,any,drop`
@@ -56,7 +56,7 @@ abbrev pub second_policy : List Row
 second_policy = row_for 100 everywhere Drop ∷ []
 
 abbrev pub office : Setting
-office = setting_of two_switches (Whole first_policy ∷ Whole second_policy ∷ [])
+office = setting_of two_switches (Whole office_policy ∷ Whole second_policy ∷ [])
 
 -- from 1.2.3.4 to this address, by TCP from port 5000 to port 80
 abbrev pub header_to : ℕ → Header

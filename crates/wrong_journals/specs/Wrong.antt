@@ -50,8 +50,8 @@ abbrev pub lost_by_nothing : List Item
 lost_by_nothing = in_at_a allowed ++ item.Lost 1 ∷ []
 
 -- a packet that is to leave by port 2 of b is stuck at a, which knows the link to b
-abbrev pub stuck_beside_a_way : List Item
-stuck_beside_a_way =
+abbrev pub stuck_beside_a_route : List Item
+stuck_beside_a_route =
     in_at_a allowed ++ gets 1 (Out 2) ∷ item.Stuck 1 0 NoRoute (Exit 2) no_links ∷ []
 
 -- ---- entries

@@ -3,7 +3,7 @@ ghost use Rattle.std.specs.Prelude.{[], ◌∷◌, ◌++◌, codes};
 ghost use Rattle.wrong_journals.specs.Judged.{IsNoRun, IsNoRunNorCaused, IsRight, LacksCause, LacksRow, PrintsAs};
 ghost use Rattle.wrong_journals.specs.Office.{printed_behind_update, printed_in_at_a};
 ghost use Rattle.wrong_journals.specs.Right.{decided_rightly, dropped_rightly, left_rightly, lost_rightly, stuck_rightly, updated_rightly};
-ghost use Rattle.wrong_journals.specs.Wrong.{another_row, decided_twice, dropped_undecided, entered_unasked, half_and_half, lost_by_nothing, other_port, retired_version, stuck_beside_a_way, unknown_version};
+ghost use Rattle.wrong_journals.specs.Wrong.{another_row, decided_twice, dropped_undecided, entered_unasked, half_and_half, lost_by_nothing, other_port, retired_version, stuck_beside_a_route, unknown_version};
 
 /// Each wrong journal prints as these lines.
 pub fn wrong_journals_print()
@@ -29,7 +29,7 @@ pub fn wrong_journals_print()
         (printed_in_at_a ++ codes "  dropped 1" ∷ []) }
     ensures lost_by_nothing { PrintsAs lost_by_nothing
         (printed_in_at_a ++ codes "  lost 1" ∷ []) }
-    ensures stuck_beside_a_way { PrintsAs stuck_beside_a_way
+    ensures stuck_beside_a_route { PrintsAs stuck_beside_a_route
         (printed_in_at_a ++ codes "  decided 1 v1 rule 100 out:2 authority a part 0"
         ∷ codes "  stuck 1 a no-route" ∷ []) }
     ensures entered_unasked { PrintsAs entered_unasked (codes "  entered 1 a" ∷ []) }
@@ -46,7 +46,7 @@ pub fn wrong_journals_are_refused()
     ensures no_runs { IsNoRun another_row × IsNoRun retired_version × IsNoRun unknown_version
         × IsNoRun decided_twice × IsNoRun half_and_half × IsNoRun dropped_undecided }
     ensures no_run_nor_caused { IsNoRunNorCaused other_port }
-    ensures no_causes { LacksCause lost_by_nothing × LacksCause stuck_beside_a_way }
+    ensures no_causes { LacksCause lost_by_nothing × LacksCause stuck_beside_a_route }
     ensures no_row { LacksRow entered_unasked }
 {}
 

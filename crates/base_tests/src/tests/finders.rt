@@ -9,7 +9,7 @@ use std::alloc::Global;
 use std::rc::Rc;
 use std::test::Fail;
 use switch_table::{Cache, Found, PartRow, PartRows, Partitions, Tables, lookup};
-use table_tree::{Finder, Tree};
+use table_tree::{Finder, PartTree};
 use ternary::{Word, any_laws, fix_laws};
 
 // Tables of three regions, of a switch that is no authority.
@@ -53,12 +53,12 @@ fn shared(alloc: Global) -> Result<Rc<Tables>, Fail>
 }
 
 // The bit of the tree's first cut, and of the first one on its low side.
-fn first_cuts(tree: &Tree) -> Option<(u32, u32)> {
+fn first_cuts(tree: &PartTree) -> Option<(u32, u32)> {
     match tree {
-        Tree::At { .. } => None,
-        Tree::Cut { bit, low, .. } => match low.as_ref() {
-            Tree::At { .. } => None,
-            Tree::Cut { bit: next, .. } => Some((*bit, *next)),
+        PartTree::At { .. } => None,
+        PartTree::Cut { bit, low, .. } => match low.as_ref() {
+            PartTree::At { .. } => None,
+            PartTree::Cut { bit: next, .. } => Some((*bit, *next)),
         },
     }
 }

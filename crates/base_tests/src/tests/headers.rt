@@ -129,38 +129,38 @@ fn reads_protocols(rt: HostRuntime) {
 
 // What a text is read as.
 #[derive(Clone, Copy)]
-enum Kind {
+enum FieldKind {
     Prefix,
     Range,
     Protocol,
 }
 
 // What is read from the text as this kind, printed.
-fn printed(alloc: Global, kind: Kind, text: &[u8]) -> Option<Vec<u8>> {
+fn printed(alloc: Global, kind: FieldKind, text: &[u8]) -> Option<Vec<u8>> {
     match kind {
-        Kind::Prefix => write_prefix(alloc, &read_prefix(text)?).ok(),
-        Kind::Range => write_range(alloc, &read_range(text)?).ok(),
-        Kind::Protocol => write_proto(alloc, &read_proto(text)?).ok(),
+        FieldKind::Prefix => write_prefix(alloc, &read_prefix(text)?).ok(),
+        FieldKind::Range => write_range(alloc, &read_range(text)?).ok(),
+        FieldKind::Protocol => write_proto(alloc, &read_proto(text)?).ok(),
     }
 }
 
-fn is_printed(alloc: Global, kind: Kind, text: &str, want: &str) -> bool {
+fn is_printed(alloc: Global, kind: FieldKind, text: &str, want: &str) -> bool {
     match printed(alloc, kind, text.as_bytes()) {
         Some(bytes) => bytes.as_slice() == want.as_bytes(),
         None => false,
     }
 }
 
-const PRINTED: [(Kind, &str, &str); 9] = [
-    (Kind::Prefix, "0.0.0.0/0", "any"),
-    (Kind::Prefix, "10.1.2.3/8", "10.0.0.0/8"),
-    (Kind::Range, "0-65535", "any"),
-    (Kind::Range, "80-80", "80"),
-    (Kind::Range, "0-65534", "0-65534"),
-    (Kind::Protocol, "any", "any"),
-    (Kind::Protocol, "6", "tcp"),
-    (Kind::Protocol, "17", "udp"),
-    (Kind::Protocol, "1", "icmp"),
+const PRINTED: [(FieldKind, &str, &str); 9] = [
+    (FieldKind::Prefix, "0.0.0.0/0", "any"),
+    (FieldKind::Prefix, "10.1.2.3/8", "10.0.0.0/8"),
+    (FieldKind::Range, "0-65535", "any"),
+    (FieldKind::Range, "80-80", "80"),
+    (FieldKind::Range, "0-65534", "0-65534"),
+    (FieldKind::Protocol, "any", "any"),
+    (FieldKind::Protocol, "6", "tcp"),
+    (FieldKind::Protocol, "17", "udp"),
+    (FieldKind::Protocol, "1", "icmp"),
 ];
 
 #[test]

@@ -23,7 +23,7 @@ fn two_switches(alloc: Global) -> Result<Net, Fail>
 
 // An item of a journal in short: the number of a message, and what it says.
 #[derive(Clone, Copy)]
-enum Line {
+enum ShortItem {
     /// The switch 0 is to install version 2, with so many partitions without rules.
     Install(u32, u32),
     /// The switch 0 is to stamp with this version, whose change touches all words or none.
@@ -85,20 +85,30 @@ fn sent(alloc: Global, number: u32, to: Place, body: Body) -> Result<Item, Fail>
     Ok(Item::Sent { number, message })
 }
 
-fn item(alloc: Global, line: &Line) -> Result<Item, Fail> {
+fn item(alloc: Global, line: &ShortItem) -> Result<Item, Fail> {
     let to = Place::Switch(0);
     match *line {
-        Line::Install(number, partitions) => sent(alloc, number, to, install(alloc, partitions)?),
-        Line::Stamp(number, version, all) => sent(alloc, number, to, stamp(alloc, version, all)?),
-        Line::Advert(number, seq) => sent(alloc, number, to, advert(seq)),
-        Line::Hello(number) => {
+        ShortItem::Install(number, partitions) => sent(
+            alloc,
+            number,
+            to,
+            install(alloc, partitions)?,
+        ),
+        ShortItem::Stamp(number, version, all) => sent(
+            alloc,
+            number,
+            to,
+            stamp(alloc, version, all)?,
+        ),
+        ShortItem::Advert(number, seq) => sent(alloc, number, to, advert(seq)),
+        ShortItem::Hello(number) => {
             let hello = Body::Hello { switch: 0, boot: 1 };
             sent(alloc, number, Place::Controller, hello)
         }
-        Line::Forgotten(number) => Ok(Item::Forgotten { number }),
-        Line::Delivered(number) => Ok(Item::Delivered { number }),
-        Line::Down => Ok(Item::Down { switch: 1 }),
-        Line::Over => Ok(Item::OverNow { switch: 1 }),
+        ShortItem::Forgotten(number) => Ok(Item::Forgotten { number }),
+        ShortItem::Delivered(number) => Ok(Item::Delivered { number }),
+        ShortItem::Down => Ok(Item::Down { switch: 1 }),
+        ShortItem::Over => Ok(Item::OverNow { switch: 1 }),
     }
 }
 
@@ -107,7 +117,7 @@ fn is_quiet_after(
     alloc: Global,
     net: &Net,
     journal: &mut Journal,
-    lines: &[Line],
+    lines: &[ShortItem],
 ) -> Result<bool, Fail>
     requires { IsNet net.now }
 {
@@ -118,7 +128,12 @@ fn is_quiet_after(
 }
 
 // Whether the network waits behind the first items, and is quiet behind the others.
-fn waits_until(alloc: Global, net: &Net, first: &[Line], others: &[Line]) -> Result<bool, Fail>
+fn waits_until(
+    alloc: Global,
+    net: &Net,
+    first: &[ShortItem],
+    others: &[ShortItem],
+) -> Result<bool, Fail>
     requires { IsNet net.now }
 {
     let mut journal = Journal::new(alloc);
@@ -132,42 +147,53 @@ fn crashes_are_confirmed(rt: HostRuntime) -> Result<(), Fail> {
     let alloc = rt.alloc();
     let net = two_switches(alloc)?;
     assert!(rt; is_quiet_after(alloc, &net, &mut Journal::new(alloc), &[])?);
-    assert!(rt; waits_until(alloc, &net, &[Line::Down], &[Line::Over])?);
+    assert!(rt; waits_until(alloc, &net, &[ShortItem::Down], &[ShortItem::Over])?);
     Ok(())
 }
 
 // Journals of one switch that waits, and what it waits for.
-const WAITING: [(&[Line], &[Line]); 5] = [
+const WAITING: [(&[ShortItem], &[ShortItem]); 5] = [
     // an update is answered though its first message was forgotten: it was sent again
     (
-        &[Line::Install(1, 1), Line::Forgotten(1), Line::Install(2, 1)],
-        &[Line::Delivered(2)],
+        &[
+            ShortItem::Install(1, 1),
+            ShortItem::Forgotten(1),
+            ShortItem::Install(2, 1),
+        ],
+        &[ShortItem::Delivered(2)],
     ),
     (
         &[
-            Line::Install(1, 1),
-            Line::Delivered(1),
-            Line::Stamp(2, 2, true),
+            ShortItem::Install(1, 1),
+            ShortItem::Delivered(1),
+            ShortItem::Stamp(2, 2, true),
         ],
-        &[Line::Delivered(2)],
+        &[ShortItem::Delivered(2)],
     ),
     // other tables of the same version don't replace those before them
     (
-        &[Line::Install(1, 1), Line::Install(2, 2), Line::Delivered(2)],
-        &[Line::Delivered(1)],
+        &[
+            ShortItem::Install(1, 1),
+            ShortItem::Install(2, 2),
+            ShortItem::Delivered(2),
+        ],
+        &[ShortItem::Delivered(1)],
     ),
     // a stamp of the same version for other words doesn't replace the one before it, but a stamp
     // of a greater version does
     (
         &[
-            Line::Stamp(1, 2, false),
-            Line::Stamp(2, 2, true),
-            Line::Delivered(2),
+            ShortItem::Stamp(1, 2, false),
+            ShortItem::Stamp(2, 2, true),
+            ShortItem::Delivered(2),
         ],
-        &[Line::Stamp(3, 3, true), Line::Delivered(3)],
+        &[ShortItem::Stamp(3, 3, true), ShortItem::Delivered(3)],
     ),
     // a delivery that stands before the sending delivers nothing
-    (&[Line::Delivered(1), Line::Hello(1)], &[Line::Delivered(1)]),
+    (
+        &[ShortItem::Delivered(1), ShortItem::Hello(1)],
+        &[ShortItem::Delivered(1)],
+    ),
 ];
 
 #[test]
@@ -196,10 +222,10 @@ fn later_adverts_replace(rt: HostRuntime) -> Result<(), Fail> {
     let net = two_switches(alloc)?;
     for (first, second, delivered, is_quiet) in &REPLACED {
         let lines = [
-            Line::Advert(1, *first),
-            Line::Advert(2, *second),
-            Line::Forgotten(if *delivered == 1 { 2 } else { 1 }),
-            Line::Delivered(*delivered),
+            ShortItem::Advert(1, *first),
+            ShortItem::Advert(2, *second),
+            ShortItem::Forgotten(if *delivered == 1 { 2 } else { 1 }),
+            ShortItem::Delivered(*delivered),
         ];
         let told = is_quiet_after(alloc, &net, &mut Journal::new(alloc), &lines)?;
         assert!(rt; told == *is_quiet);

@@ -24,7 +24,7 @@ const MATCHED: &str = "row 1: packet s0 10.1.1.1 9.9.9.9 5000 80 tcp\n\
 /// policy; the call of a number in `failing_read`, `failing_write` or `failing_line` fails, counted
 /// from 1, and none fails at 0.
 #[derive(Clone, Copy)]
-struct Case<'a> {
+struct Trial<'a> {
     args: &'a [&'a str],
     schedule: &'a str,
     policy: &'a str,
@@ -35,7 +35,7 @@ struct Case<'a> {
     failing_line: u64,
 }
 
-const PLAIN: Case<'static> = Case {
+const PLAIN: Trial<'static> = Trial {
     args: &["replay", "s.csv", "p.csv"],
     schedule: ONE_PACKET,
     policy: TWO_ROWS,
@@ -46,7 +46,7 @@ const PLAIN: Case<'static> = Case {
     failing_line: 0,
 };
 
-fn files(alloc: Global, case: &Case<'_>) -> Result<Vec<(String, Vec<u8>)>, AllocError> {
+fn files(alloc: Global, case: &Trial<'_>) -> Result<Vec<(String, Vec<u8>)>, AllocError> {
     let mut policy = Vec::from_slice(alloc, case.policy.as_bytes())?;
     policy.resize(case.policy.len().saturating_add(case.padding), b'a')?;
     let schedule = Vec::from_slice(alloc, case.schedule.as_bytes())?;
@@ -56,7 +56,7 @@ fn files(alloc: Global, case: &Case<'_>) -> Result<Vec<(String, Vec<u8>)>, Alloc
     Ok(files)
 }
 
-fn played(alloc: Global, case: &Case<'_>) -> Result<Ran, AllocError> {
+fn played(alloc: Global, case: &Trial<'_>) -> Result<Ran, AllocError> {
     let files = files(alloc, case)?;
     let shelf = MemShelf::new(alloc, files, calls(alloc, case.failing_read)?);
     let out = MemSink::new(alloc, case.most_written, calls(alloc, case.failing_write)?);
@@ -82,7 +82,7 @@ const REPLAYED: [(&str, &str, &str); 5] = [
 #[test]
 fn replays_on_one_switch(rt: HostRuntime) {
     for (schedule, policy, out) in &REPLAYED {
-        let case = Case {
+        let case = Trial {
             schedule,
             policy,
             ..PLAIN
@@ -118,7 +118,7 @@ const REFUSED: [(&str, &str, u64, &str); 8] = [
 #[test]
 fn refuses_with_a_cause(rt: HostRuntime) {
     for (schedule, policy, failing_read, line) in &REFUSED {
-        let case = Case {
+        let case = Trial {
             schedule,
             policy,
             failing_read: *failing_read,
@@ -141,7 +141,7 @@ const FAULTS: [(u64, u64, u64, u64, u8, &str, &str); 4] = [
 #[test]
 fn answers_each_fault(rt: HostRuntime) {
     for (failing_read, failing_write, failing_line, most_written, status, out, line) in &FAULTS {
-        let case = Case {
+        let case = Trial {
             failing_read: *failing_read,
             failing_write: *failing_write,
             failing_line: *failing_line,
@@ -166,7 +166,7 @@ const ARGS: [(&[&str], u8, &str); 2] = [
 #[test]
 fn answers_wrong_arguments(rt: HostRuntime) {
     for (args, status, line) in &ARGS {
-        let case = Case { args, ..PLAIN };
+        let case = Trial { args, ..PLAIN };
         let ran = played(rt.alloc(), &case);
         assert!(rt; ends(ran, *status, "", line), "{status} {line}");
     }
@@ -175,7 +175,7 @@ fn answers_wrong_arguments(rt: HostRuntime) {
 // A policy too long by a byte.
 #[test]
 fn refuses_a_policy_too_long(rt: HostRuntime) {
-    let case = Case {
+    let case = Trial {
         policy: NO_ROW,
         padding: 16_777_217 - NO_ROW.len(),
         ..PLAIN

@@ -39,5 +39,5 @@ returns c =
     c.in_ok-list_added.ensures in
     let all : ListsMore [] listed (flat_map words_of_row removed ++ flat_map words_of_row added) =
     lists_then [] some listed _ _ first last in
-    c.told.ensures ∙ told_alike listed _ (all [] (inl refl))
+    c.touched_by_words.ensures ∙ told_alike listed _ (all [] (inl refl))
     ∙ ap few_touched (sym (flat_map-append words_of_row removed added))

@@ -4,7 +4,7 @@ use Rattle.std.proofs.Common.{◌∙◌, ◌++◌, ap, arith}
 use Rattle.std.proofs.lemmas.List.{take_all}
 use Rattle.std.specs.List.{flat_map}
 use Rattle.flow_export.specs.Lines.{flow_lines}
-use Rattle.meters.specs.Meters.{records_of}
+use Rattle.meters.specs.Meters.{flow_records_of}
 use Rattle.difane_cli.proofs.FlowTexts.{lines_of_all}
 use Rattle.difane_cli.proofs.flow_lines.flow_text.Goals as goal
 
@@ -12,7 +12,7 @@ pub returns : goal.returns
 returns g c =
     let meters = c.args.meters.now in
     let i = c.loop-meter.meter-index in
-    let told = λ (meter : g.row.M.Denot). flow_lines (records_of (g.M.Meter.seen meter)) in
+    let told = λ (meter : g.row.M.Denot). flow_lines (flow_records_of (g.M.Meter.seen meter)) in
     ap (λ (text : Vec ℕ Global). text.items) c.into_bytes.ensures.value ∙ c.loop-meter.invariant
     ∙ ap (λ rest. flow_lines c.args.gone.now ++ rest)
     (ap (flat_map told) (take_all i meters (omega (arith, c.loop-meter-test.false)))

@@ -3,9 +3,9 @@ use Rattle.std.specs.String.{string_bytes}
 use Rattle.std.specs.List.{flat_map}
 use Rattle.std.proofs.Common.{◌≡◌, take}
 use Rattle.flow_export.specs.Lines.{flow_lines}
-use Rattle.meters.specs.Meters.{records_of}
+use Rattle.meters.specs.Meters.{flow_records_of}
 use Rattle.difane_cli.proofs.flow_lines.flow_text.Given as goal
 
 abbrev pub invariant-loop-meter : goal.invariant-loop-meter
 invariant-loop-meter g l = string_bytes l.text ≡ flow_lines l.fn.gone
-    ++ flat_map (λ meter. flow_lines (records_of (g.M.Meter.seen meter))) (take l.meter-index l.meters)
+    ++ flat_map (λ meter. flow_lines (flow_records_of (g.M.Meter.seen meter))) (take l.meter-index l.meters)

@@ -3,7 +3,7 @@ use Rattle.std.proofs.Common.{◌≡◌, ◌∙◌, List, length, ap, arith}
 use Rattle.partition.specs.Plan.{Hosted}
 use Rattle.rebalance.specs.Loads.{weights_of}
 use Rattle.rebalance.specs.Spread.{IsProposal}
-use Rattle.difane_cli.specs.Proposals.{sizes_in, targets_of}
+use Rattle.difane_cli.specs.Proposals.{sizes_in, targets_by_partition}
 use Rattle.difane_cli.proofs.Proposals.{AreMeasured, as_many_asked, as_many_sizes, as_many_targets, few_rooms, found_for, proposal_number}
 use Rattle.difane_cli.proofs.proposing.find_proposal.Goals as goal
 use Rattle.difane_cli.proofs.proposing.find_proposal.Goals.{In_ok-new, In_ok-old}
@@ -17,7 +17,7 @@ measured c = record {
       ∙ ap (λ (hosts : List Hosted). weights_of c.args.journal.now (length hosts))
       c.hosted-hosted.ensures.hosted;
   rooms_are = c.in_ok-rooms.ensures;
-  old_is = c.in_ok-old.ensures ∙ ap targets_of c.hosted-hosted.ensures.hosted;
+  old_is = c.in_ok-old.ensures ∙ ap targets_by_partition c.hosted-hosted.ensures.hosted;
 }
 
 -- the placement that is proposed

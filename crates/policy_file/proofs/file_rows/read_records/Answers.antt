@@ -2,7 +2,7 @@ use Rattle.std.proofs.Common.{◌≡◌, ◌∙◌, ap, sym, subst, ◌+◌, ◌
 use Rattle.std.specs.List.{All}
 use Rattle.std.proofs.lemmas.List.Elements.{All-push}
 use Rattle.csv.specs.Records.{fields_of}
-use Rattle.policy_file.specs.Reading.{State}
+use Rattle.policy_file.specs.Reading.{StateEach}
 use Rattle.policy_file.proofs.Rows.{ended, next_of, refused_row, state_push, too_many}
 use Rattle.policy_file.proofs.file_rows.read_records.Goals as goal
 
@@ -49,13 +49,13 @@ loop-records-preserved g c =
     let len : length c.push.new.self.items ≡ length rows + 1 =
     omega (arith, ap length items, length-append rows (row ∷ [])) in
     let is : g.R.FileRow.format.read fields ≡ Ok row = sym c.in-Ok.ensures.row in
-    let pushed : State format (take (length rows + 1) records) (rows ++ row ∷ []) =
-    subst (λ xs. State format xs (rows ++ row ∷ [])) (sym next.more)
+    let pushed : StateEach format (take (length rows + 1) records) (rows ++ row ∷ []) =
+    subst (λ xs. StateEach format xs (rows ++ row ∷ [])) (sym next.more)
     (state_push format (take (length rows) records) rows fields row known.stated is) in
-    let stated : State format (take (length rows + 1) records) c.push.new.self.items =
-    subst (State format (take (length rows + 1) records)) (sym items) pushed in
+    let stated : StateEach format (take (length rows + 1) records) c.push.new.self.items =
+    subst (StateEach format (take (length rows + 1) records)) (sym items) pushed in
     record {
-      stated = subst (λ k. State format (take k records) c.push.new.self.items) (sym len) stated;
+      stated = subst (λ k. StateEach format (take k records) c.push.new.self.items) (sym len) stated;
       left = sym next.rest ∙ ap (λ k. drop k records) (sym len);
       within = omega (arith, len, next.within);
       few = omega (arith, len, room);

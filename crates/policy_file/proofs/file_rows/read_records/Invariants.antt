@@ -1,12 +1,12 @@
 use Rattle.std.proofs.Common.{◌≡◌, ◌≤◌, ◌-◌, length, take, drop}
 use Rattle.std.specs.Prelude.{All}
-use Rattle.policy_file.specs.Reading.{State}
+use Rattle.policy_file.specs.Reading.{StateEach}
 use Rattle.policy_file.proofs.file_rows.read_records.Given as goal
 
 -- the rows so far are what the first records state, and the others are left
 abbrev pub invariant-loop-records : goal.invariant-loop-records
 invariant-loop-records g l = record {
-  stated : State g.R.FileRow.format (take (length l.rows.items) l.initial.records) l.rows.items;
+  stated : StateEach g.R.FileRow.format (take (length l.rows.items) l.initial.records) l.rows.items;
   left : l.records ≡ drop (length l.rows.items) l.initial.records;
   within : length l.rows.items ≤ length l.initial.records;
   few : length l.rows.items ≤ 2000;

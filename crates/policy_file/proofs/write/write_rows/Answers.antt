@@ -7,7 +7,7 @@ use Rattle.policy_file.proofs.write.write_rows.Goals as goal
 
 pub loop-row-preserved : goal.loop-row-preserved
 loop-row-preserved g c =
-    let fields = g.R.Line.fields in
+    let fields = g.R.CsvRecord.fields in
     let rows = c.args.rows.now in
     let i = c.loop-row.row-index in
     let row = c.row-item.result in
@@ -20,5 +20,5 @@ loop-row-preserved g c =
 
 pub returns : goal.returns
 returns g c = c.loop-row.invariant
-    ∙ ap (λ rows. string_bytes c.args.text.now ++ rows_text g.R.Line.fields rows)
+    ∙ ap (λ rows. string_bytes c.args.text.now ++ rows_text g.R.CsvRecord.fields rows)
     (take_all c.loop-row.row-index c.args.rows.now (omega arith))

@@ -5,4 +5,4 @@ use Rattle.policy_file.proofs.write.write_rows.Given as goal
 
 abbrev pub invariant-loop-row : goal.invariant-loop-row
 invariant-loop-row g l = string_bytes l.text
-    ≡ string_bytes l.fn.text ++ rows_text g.R.Line.fields (take l.row-index l.rows)
+    ≡ string_bytes l.fn.text ++ rows_text g.R.CsvRecord.fields (take l.row-index l.rows)

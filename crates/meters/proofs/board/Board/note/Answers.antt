@@ -1,7 +1,7 @@
 use Rattle.std.proofs.Common.{◌≡◌, ◌<◌, ◌∙◌, get_or-set_same, length, sym, ap, ◌∷◌, [], ◌++◌, append-nil, drop, map, rules}
 use Rattle.std.specs.List.{flat_map}
-use Rattle.meters.specs.Gone.{told_by}
-use Rattle.meters.specs.Meters.{meters_after, records_of}
+use Rattle.meters.specs.Gone.{leaving_records}
+use Rattle.meters.specs.Meters.{meters_after, flow_records_of}
 use Rattle.meters.proofs.Keeping.{after_stay, after_leave, after_all}
 use Rattle.meters.proofs.Telling.{board_on, told_all, told_leave, told_stay}
 use Rattle.meters.proofs.board.Board.note.Goals as goal
@@ -21,14 +21,14 @@ loop-at-preserved-in-Stay g c = record {
 
 -- the records of the meter that leaves
 its_records : (g : Over) (c : goal.After-drop-meter-in-Leave g)
-    → told_by (c.args.port, c.args.leaving.now) (g.M.Meter.seen c.index_mut.result.now)
+    → leaving_records (c.args.port, c.args.leaving.now) (g.M.Meter.seen c.index_mut.result.now)
     ≡ c.in_ok-records-in-Leave.field-0
 its_records g c =
     let within : c.loop-at.at < length c.loop-at.self-inside.meters.items = search rules in
     let it : c.remove-meter.result ≡ c.offer.new.meter =
     c.remove-meter.ensures.value ∙ get_or-set_same c.loop-at.self-inside.meters.items c.loop-at.at
     c.offer.new.meter c.remove-meter.result within in
-    c.offer.ensures.told c.in-Leave.is ∙ ap (λ m. records_of (g.M.Meter.seen m)) (sym it)
+    c.offer.ensures.told c.in-Leave.is ∙ ap (λ m. flow_records_of (g.M.Meter.seen m)) (sym it)
     ∙ sym c.in_ok-records-in-Leave.ensures
 
 pub loop-at-preserved : goal.loop-at-preserved
@@ -43,7 +43,7 @@ loop-at-preserved g c = record {
       c.loop-at.self-inside.meters.items c.remove-meter.new.self.items c.loop-at.at
       c.index_mut.result.now c.offer.new.meter (search rules) (sym c.index_mut.ensures.value)
       (its_records g c) c.remove-meter.ensures.items
-      ∙ ap (λ gone. gone ++ flat_map (told_by (c.args.port, c.args.leaving.now))
+      ∙ ap (λ gone. gone ++ flat_map (leaving_records (c.args.port, c.args.leaving.now))
       (map g.M.Meter.seen (drop c.loop-at.at c.remove-meter.new.self.items)))
       (sym c.in_ok-append-in-Leave.ensures);
 }
@@ -60,7 +60,7 @@ noted g c =
 
 -- and those that left have told
 told : (g : Over) (c : goal.After-loop-at g) → c.loop-at.self-inside.gone
-    ≡ c.args.self.now.gone ++ flat_map (told_by (c.args.port, c.args.leaving.now))
+    ≡ c.args.self.now.gone ++ flat_map (leaving_records (c.args.port, c.args.leaving.now))
     (map g.M.Meter.seen c.args.self.now.meters)
 told g c =
     sym (c.loop-at.invariant.told ∙ told_all g.M.Meter.seen (c.args.port, c.args.leaving.now)

@@ -1,6 +1,6 @@
 use Rattle.std.proofs.Common.{◌≡◌, ◌∷◌, [], map, ◌++◌, take, drop, ◌-◌, length}
 use Rattle.std.specs.List.{flat_map}
-use Rattle.meters.specs.Gone.{told_by}
+use Rattle.meters.specs.Gone.{leaving_records}
 use Rattle.meters.specs.Meters.{meters_after}
 use Rattle.meters.proofs.board.Board.note.Given as goal
 
@@ -11,8 +11,8 @@ invariant-loop-at g l = record {
       ++ meters_after ((l.port, l.leaving) ∷ [])
       (map g.M.Meter.seen (drop l.at l.self-inside.meters.items));
   told : l.fn.self.gone
-      ++ flat_map (told_by (l.port, l.leaving)) (map g.M.Meter.seen l.fn.self.meters)
-      ≡ l.self-inside.gone ++ flat_map (told_by (l.port, l.leaving))
+      ++ flat_map (leaving_records (l.port, l.leaving)) (map g.M.Meter.seen l.fn.self.meters)
+      ≡ l.self-inside.gone ++ flat_map (leaving_records (l.port, l.leaving))
       (map g.M.Meter.seen (drop l.at l.self-inside.meters.items));
 }
 

@@ -1,45 +1,45 @@
 use Rattle.std.proofs.Common.{◌≡◌, ◌∙◌, ◌+◌, ◌-◌, All, ap, arith, filter, filter_map, subst, sym}
 use Rattle.switch_table.specs.Carried.{carried_entry}
-use Rattle.switch_table.specs.Keys.{Pair, entries_of, is_over}
+use Rattle.switch_table.specs.Keys.{Pair, kept_entries, is_carried_key}
 use Rattle.switch_table.specs.Queue.{AreMasked, AreUpTo, HaveVersions, IsQueue}
 use Rattle.switch_table.proofs.OverLemmas.{IsBelow, below_newest, carried_pairs, masked_carried, pairs_over, up_to_carried, versions_over}
 use Rattle.switch_table.proofs.QueueLemmas.{entries_of_pairs, queue_of, versions_of_pairs}
 use Rattle.switch_table.proofs.queue.EntryQueue.carry.Goals as goal
-use Rattle.switch_table.proofs.queue.EntryQueue.carry.Goals.{After-keep_over}
+use Rattle.switch_table.proofs.queue.EntryQueue.carry.Goals.{After-keep_carried}
 
-kept : (c : After-keep_over) → c.keep_over.new.self
+kept : (c : After-keep_carried) → c.keep_carried.new.self
     ≡ pairs_over c.self.inside.shift c.args.version c.args.touched.now c.self.inside.slots
 kept c =
     let lower = c.self.inside.shift - 1 in
-    c.keep_over.ensures
-    ∙ (λ i. filter (λ (pair : Pair). is_over (c.from.ensures i + lower) (c.words.ensures.words i)
+    c.keep_carried.ensures
+    ∙ (λ i. filter (λ (pair : Pair). is_carried_key (c.from.ensures i + lower) (c.words.ensures.words i)
     pair.0) c.self.inside.slots)
 
-gone_over : (c : After-keep_over)
-    → entries_of (c.self.inside.shift - 1) c.keep_over.new.self
+gone_over : (c : After-keep_carried)
+    → kept_entries (c.self.inside.shift - 1) c.keep_carried.new.self
     ≡ filter_map (carried_entry c.args.version c.args.touched.now c.args.self.now) c.args.self.now
 gone_over c =
     let shift = c.self.inside.shift in
     let version = c.args.version in
     let touched = c.args.touched.now in
-    let entries = entries_of shift c.self.inside.slots in
+    let entries = kept_entries shift c.self.inside.slots in
     let below : All (IsBelow version) entries =
     below_newest version c.self.inside.newest entries (omega (arith, c.if-self-version.true))
     c.self.invariant.up_to in
-    ap (entries_of (shift - 1)) (kept c)
+    ap (kept_entries (shift - 1)) (kept c)
     ∙ carried_pairs shift version touched entries c.self.inside.slots
     (omega (arith, c.if-self-gt0.true)) c.self.invariant.versions below below
     ∙ (λ i. filter_map (carried_entry version touched (c.self.view_is i)) (c.self.view_is i))
 
 pub invariant_of-self : goal.invariant_of-self
 invariant_of-self c =
-    let here = (goal.at.invariant_of-self c).After-keep_over in
+    let here = (goal.at.invariant_of-self c).After-keep_carried in
     let shift = c.self.inside.shift in
     let version = c.args.version in
     let touched = c.args.touched.now in
-    subst (λ masks. IsQueue masks (shift - 1) version c.keep_over.new.self)
+    subst (λ masks. IsQueue masks (shift - 1) version c.keep_carried.new.self)
     (sym c.wait_for.ensures)
-    (queue_of c.self.inside.masks (shift - 1) version c.keep_over.new.self _
+    (queue_of c.self.inside.masks (shift - 1) version c.keep_carried.new.self _
     (omega (arith, c.self.invariant.fits))
     (subst (HaveVersions (shift - 1)) (sym (kept here))
     (versions_over shift version touched c.self.inside.slots (omega (arith, c.if-self-gt0.true))
@@ -52,7 +52,7 @@ invariant_of-self c =
 
 pub returns-then-self-version-clause-ok : goal.returns-then-self-version-clause-ok
 returns-then-self-version-clause-ok c =
-    gone_over (goal.at.returns-then-self-version-clause-ok c).After-keep_over
+    gone_over (goal.at.returns-then-self-version-clause-ok c).After-keep_carried
 
 pub invariant_of-self-2 : goal.invariant_of-self-2
 invariant_of-self-2 c =
@@ -69,7 +69,7 @@ invariant_of-self-2 c =
     c.self.invariant.fits
     (subst (HaveVersions shift) (sym c.in_ok-self-inside.ensures)
     (versions_of_pairs shift newest after c.max-self-inside.type_inv up_to))
-    (ap (entries_of shift) c.in_ok-self-inside.ensures ∙ entries_of_pairs shift after) up_to
+    (ap (kept_entries shift) c.in_ok-self-inside.ensures ∙ entries_of_pairs shift after) up_to
     (masked_carried c.self.inside.masks version touched c.args.self.now
     (subst (AreMasked c.self.inside.masks) c.self.view_is c.self.invariant.masked))
 
@@ -77,5 +77,5 @@ pub returns-clause-ok : goal.returns-clause-ok
 returns-clause-ok c =
     let after = filter_map (carried_entry c.args.version c.args.touched.now c.args.self.now)
     c.args.self.now in
-    ap (entries_of c.self.inside.shift) c.in_ok-self-inside.ensures
+    ap (kept_entries c.self.inside.shift) c.in_ok-self-inside.ensures
     ∙ entries_of_pairs c.self.inside.shift after

@@ -4,7 +4,7 @@ use Rattle.std.proofs.lemmas.Iterator.Consumers.{YieldsList-from_first}
 use Rattle.std.proofs.lemmas.Iterator.Search.{find_from_yields_List}
 use Rattle.ternary.specs.Word.{holds}
 use Rattle.switch_table.specs.Cache.{first_entry}
-use Rattle.switch_table.specs.Keys.{Pair, entries_of, entry_of, is_hit}
+use Rattle.switch_table.specs.Keys.{Pair, kept_entries, kept_entry, is_hit}
 use Rattle.switch_table.specs.Queue.{AreMasked}
 use Rattle.switch_table.specs.declared.cache.CacheEntry.{CacheEntry}
 use Rattle.switch_table.proofs.FirstLemmas.{first_by_hits, found_is}
@@ -16,17 +16,17 @@ use Rattle.switch_table.proofs.queue.EntryQueue.first_entry.Goals.{After-first_h
 entry_is : (c : After-first_hit) (pair : Option Pair)
     → pair ≡ find (λ (p : Pair). is_hit (c.from.result + c.self.inside.shift) c.args.number
     c.in-Some.masks.now p.0) c.self.inside.slots
-    → option_map (entry_of c.self.inside.shift) pair
+    → option_map (kept_entry c.self.inside.shift) pair
     ≡ first_entry c.args.version c.args.number c.args.self.now
 entry_is c pair is =
     let shift = c.self.inside.shift in
     let masks = c.in-Some.masks.now in
     let pairs = c.self.inside.slots in
-    ap (option_map (entry_of shift)) (is ∙ ap
+    ap (option_map (kept_entry shift)) (is ∙ ap
     (λ version. find (λ (p : Pair). is_hit (version + shift) c.args.number masks p.0) pairs)
     c.from.ensures)
     ∙ first_by_hits shift c.args.version c.args.number masks pairs c.self.invariant.versions
-    (subst (λ known. AreMasked known (entries_of shift pairs)) c.in-Some.ensures
+    (subst (λ known. AreMasked known (kept_entries shift pairs)) c.in-Some.ensures
     c.self.invariant.masked)
     ∙ ap (first_entry c.args.version c.args.number) c.self.view_is
 

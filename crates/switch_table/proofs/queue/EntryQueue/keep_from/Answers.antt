@@ -1,5 +1,5 @@
 use Rattle.std.proofs.Common.{◌≡◌, ◌∙◌, ◌+◌, ap, filter, leb, subst, sym}
-use Rattle.switch_table.specs.Keys.{Pair, entries_of}
+use Rattle.switch_table.specs.Keys.{Pair, kept_entries}
 use Rattle.switch_table.specs.Queue.{IsQueue}
 use Rattle.switch_table.specs.declared.cache.CacheEntry.{CacheEntry}
 use Rattle.switch_table.proofs.QueueLemmas.{entries_from, queue_from}
@@ -23,6 +23,6 @@ invariant_of-self c =
 
 pub returns : goal.returns
 returns c =
-    ap (entries_of c.self.inside.shift) (kept (goal.at.returns c).After-keep_from)
+    ap (kept_entries c.self.inside.shift) (kept (goal.at.returns c).After-keep_from)
     ∙ entries_from c.self.inside.shift c.args.version c.self.inside.slots c.self.invariant.versions
     ∙ ap (filter (λ (entry : CacheEntry). leb c.args.version entry.version)) c.self.view_is

@@ -1,6 +1,6 @@
 use Rattle.std.proofs.Common.{◌≡◌, ◌∙◌, Option, Some, None, ap, option_map, remove, rules, slice_get, sym}
 use Rattle.std.proofs.lemmas.Option.{slice_get-map}
-use Rattle.switch_table.specs.Keys.{Pair, entries_of, entry_of}
+use Rattle.switch_table.specs.Keys.{Pair, kept_entries, kept_entry}
 use Rattle.switch_table.proofs.QueueLemmas.{HasVersion, entries_removed, got_is, queue_removed}
 use Rattle.switch_table.proofs.queue.EntryQueue.remove.Goals as goal
 use Rattle.switch_table.proofs.queue.EntryQueue.remove.Goals.{After-remove}
@@ -8,16 +8,16 @@ use Rattle.switch_table.proofs.queue.EntryQueue.remove.Goals.{After-remove}
 -- the entry at the place, by the pair there
 entry_is : (c : After-remove) (pair : Option Pair)
     → pair ≡ slice_get c.self.inside.slots c.args.place
-    → option_map (entry_of c.self.inside.shift) pair ≡ slice_get c.args.self.now c.args.place
+    → option_map (kept_entry c.self.inside.shift) pair ≡ slice_get c.args.self.now c.args.place
 entry_is c pair is =
-    ap (option_map (entry_of c.self.inside.shift)) is
-    ∙ sym (slice_get-map (entry_of c.self.inside.shift) c.self.inside.slots c.args.place)
+    ap (option_map (kept_entry c.self.inside.shift)) is
+    ∙ sym (slice_get-map (kept_entry c.self.inside.shift) c.self.inside.slots c.args.place)
     ∙ ap (λ entries. slice_get entries c.args.place) c.self.view_is
 
 rest_is : (c : After-remove)
-    → entries_of c.self.inside.shift c.remove.new.self ≡ remove c.args.self.now c.args.place
+    → kept_entries c.self.inside.shift c.remove.new.self ≡ remove c.args.self.now c.args.place
 rest_is c =
-    ap (entries_of c.self.inside.shift) c.remove.ensures.rest
+    ap (kept_entries c.self.inside.shift) c.remove.ensures.rest
     ∙ entries_removed c.self.inside.shift c.self.inside.slots c.args.place
     ∙ ap (λ entries. remove entries c.args.place) c.self.view_is
 

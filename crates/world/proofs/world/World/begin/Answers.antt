@@ -40,7 +40,7 @@ invariant_of-result c =
     let files = c.in_ok-files.files in
     let switches = c.in_ok-switches.switches.items in
     let controller = c.in_ok-controller.controller in
-    let near = c.near_masks-near.result in
+    let near = c.link_masks-near.result in
     let at = (goal.at.invariant_of-result c).In_ok-plan in
     let of_net : files.net ≡ net =
     ap (λ (f : FilesValue). f.net) c.in_ok-files.ensures ∙ c.in_ok-clone.ensures.cases in
@@ -60,6 +60,6 @@ invariant_of-result c =
           (first_whole given plan.policy (first_is at)) c.requires.sound c.requires.ports
           (planned at)
           (c.in_ok-switches.ensures plan c.in_ok-controller.ensures.first)
-          c.in_ok-controller.ensures.first c.near_masks-near.ensures);
+          c.in_ok-controller.ensures.first c.link_masks-near.ensures);
       newest = λ able. ap newest_policy c.in_ok-controller.ensures.first ∙ ap Some (sym of_plan);
     }

@@ -9,7 +9,7 @@ use Rattle.message_bag.specs.Posts.{new_post}
 use Rattle.switch_core.specs.Verdicts.{cached_by}
 use Rattle.ternary.specs.Word.{WordValue}
 use Rattle.update_machine.specs.Messages.{sent_from}
-use Rattle.world_log.specs.Writing.{cache_message, messages_in}
+use Rattle.world_log.specs.Writing.{cache_message, message_list}
 use Rattle.world_log.proofs.Going.{rule_spelled}
 use Rattle.world_log.proofs.log.Log.send_rule.Goals as goal
 
@@ -28,7 +28,7 @@ unfolding sent_from
 returns-in-Some-clause-written c =
     let P : Option WordValue → Type 0 = λ word. OnOk c.send.result (c.send.new.self.journal
     ≡ c.args.self.now.journal ++ sent_from (length c.args.self.now.bag + 1)
-    (messages_in (cache_message c.args.ingress (cached_by c.args.decision.now word)))) in
+    (message_list (cache_message c.args.ingress (cached_by c.args.decision.now word)))) in
     let Q : Body → Type 0 = λ body. OnOk c.send.result (c.send.new.self.journal
     ≡ c.args.self.now.journal ++ item.Sent (length c.args.self.now.bag + 1) (record {
       to = receiver.Switch c.args.ingress;
@@ -40,7 +40,7 @@ pub returns-in-Some-clause-posted : goal.returns-in-Some-clause-posted
 returns-in-Some-clause-posted c =
     let P : Option WordValue → Type 0 = λ word. OnOk c.send.result (c.send.new.self.bag
     ≡ c.args.self.now.bag
-    ++ map new_post (messages_in (cache_message c.args.ingress
+    ++ map new_post (message_list (cache_message c.args.ingress
     (cached_by c.args.decision.now word)))) in
     let Q : Body → Type 0 = λ body. OnOk c.send.result (c.send.new.self.bag
     ≡ c.args.self.now.bag ++ new_post (record {
@@ -54,12 +54,12 @@ unfolding sent_from
 returns-in-None-clause-written c =
     let P : Option WordValue → Type 0 = λ word. c.args.self.now.journal
     ≡ c.args.self.now.journal ++ sent_from (length c.args.self.now.bag + 1)
-    (messages_in (cache_message c.args.ingress (cached_by c.args.decision.now word))) in
+    (message_list (cache_message c.args.ingress (cached_by c.args.decision.now word))) in
     subst P (sym c.in-None.is) (sym (append-nil c.args.self.now.journal))
 
 pub returns-in-None-clause-posted : goal.returns-in-None-clause-posted
 returns-in-None-clause-posted c =
     let P : Option WordValue → Type 0 = λ word. c.args.self.now.bag ≡ c.args.self.now.bag
-    ++ map new_post (messages_in (cache_message c.args.ingress
+    ++ map new_post (message_list (cache_message c.args.ingress
     (cached_by c.args.decision.now word))) in
     subst P (sym c.in-None.is) (sym (append-nil c.args.self.now.bag))

@@ -9,11 +9,11 @@ use Rattle.message_bag.specs.Posts.{Post, new_post}
 use Rattle.policy_rules.specs.declared.packet.Cause.{Cause}
 use Rattle.switch_core.specs.Ends.{set_out, site_of}
 use Rattle.switch_core.specs.Verdicts.{answer_of, cached_by}
-use Rattle.switch_core.specs.declared.verdicts.Verdict.{Verdict}
+use Rattle.switch_core.specs.declared.verdicts.Forwarding.{Forwarding}
 use Rattle.travelling.specs.Travelling.{standing_kept}
 use Rattle.tunnel.specs.Tunnel.{TunnelValue}
 use Rattle.update_machine.specs.Messages.{sent_from}
-use Rattle.world_log.specs.Writing.{LogAfter, arrived_flight, arrived_items, arrived_posts, cache_message, messages_in, packet_standing, set_item, set_flight}
+use Rattle.world_log.specs.Writing.{LogAfter, arrived_flight, arrived_items, arrived_posts, cache_message, message_list, packet_standing, set_item, set_flight}
 use Rattle.world_log.proofs.Going.{sought, way_is}
 use Rattle.world_log.proofs.Logs.{log_ends, log_failed, log_unwritten}
 use Rattle.world_log.proofs.Writing.{both_written, part_first}
@@ -22,7 +22,7 @@ use Rattle.world_log.proofs.log.Log.settle.Goals as goal
 pub returns-in-Out-clause-log : goal.returns-in-Out-clause-log
 returns-in-Out-clause-log c =
     let at = standing_kept c.args.at in
-    let P : Verdict → Type 0 = λ verdict.
+    let P : Forwarding → Type 0 = λ verdict.
     let what = answer_of c.args.switch.now (site_of c.args.site) (packet_standing at) verdict in
     LogAfter c.end.result
     (arrived_items (length c.args.self.now.bag + 1) at c.args.at.version c.args.at.rule what)
@@ -39,7 +39,7 @@ returns-in_err-push-in-Decided-clause-log c =
 pub returns-in_err-send_rule-in-Decided-clause-log : goal.returns-in_err-send_rule-in-Decided-clause-log
 returns-in_err-send_rule-in-Decided-clause-log c =
     let at = standing_kept c.args.at in
-    let P : Verdict → Type 0 = λ verdict.
+    let P : Forwarding → Type 0 = λ verdict.
     let what = answer_of c.args.switch.now (site_of c.args.site) (packet_standing at) verdict in
     LogAfter c.from_residual-in_err-send_rule-in-Decided.result
     (arrived_items (length c.args.self.now.bag + 1) at c.args.at.version c.args.at.rule what)
@@ -58,9 +58,9 @@ returns-in_ok-send_rule-in-Decided-clause-log c =
     let message = cache_message at.ingress (cached_by decision c.in-Decided.word) in
     let decided : Item = item.Decided at.packet decision.version decision.rule decision.action
     decision.how in
-    let sends : List Item = sent_from (length c.args.self.now.bag + 1) (messages_in message) in
-    let posts : List Post = map new_post (messages_in message) in
-    let P : Verdict → Type 0 = λ verdict.
+    let sends : List Item = sent_from (length c.args.self.now.bag + 1) (message_list message) in
+    let posts : List Post = map new_post (message_list message) in
+    let P : Forwarding → Type 0 = λ verdict.
     let what = answer_of c.args.switch.now (site_of c.args.site) (packet_standing at) verdict in
     LogAfter c.leave.result
     (arrived_items (length c.args.self.now.bag + 1) at c.args.at.version c.args.at.rule what)
@@ -84,7 +84,7 @@ returns-in_ok-way-in-Seek-clause-log c =
     let site = site_of c.args.site in
     let s = c.args.switch.now in
     let leg = c.in-Seek.leg in
-    let P : Verdict → Type 0 = λ verdict.
+    let P : Forwarding → Type 0 = λ verdict.
     let what = answer_of s site (packet_standing at) verdict in
     LogAfter c.set_out.result
     (arrived_items (length c.args.self.now.bag + 1) at c.args.at.version c.args.at.rule what)

@@ -1,6 +1,6 @@
 use Rattle.std.proofs.Common.{◌≡◌, ◌<◌, ℕ, length, get_or}
 use Rattle.net_file.specs.Owners.{links_of}
-use Rattle.world_log.proofs.up_links.near_masks.Given as goal
+use Rattle.world_log.proofs.up_links.link_masks.Given as goal
 
 abbrev pub invariant-loop-switch : goal.invariant-loop-switch
 invariant-loop-switch l = (length l.near ≡ 64)

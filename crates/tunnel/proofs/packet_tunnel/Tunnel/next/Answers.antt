@@ -1,5 +1,5 @@
 use Rattle.tunnel.proofs.Onward.{next_is_some, next_is_other}
-use Rattle.tunnel.proofs.way.Tunnel.next.Goals as goal
+use Rattle.tunnel.proofs.packet_tunnel.Tunnel.next.Goals as goal
 
 pub returns-clause-more : goal.returns-clause-more
 returns-clause-more c = rw (← c.self.view_is) (next_is_some _ _ _ c.switch_after.ensures)

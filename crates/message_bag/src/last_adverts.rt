@@ -10,14 +10,14 @@ const SWITCHES: u32 = 64;
 
 /// Of each receiver and each switch the last advert of the switch that the receiver was told.
 #[derive(Drop)]
-pub struct Told {
+pub struct LastAdverts {
     adverts: Vec<Option<Shared<Message>>>,
 }
 
-impl Told {
+impl LastAdverts {
     /// Nothing was told; it takes no memory yet.
-    pub fn new(alloc: Global) -> Told {
-        Told {
+    pub fn new(alloc: Global) -> LastAdverts {
+        LastAdverts {
             adverts: Vec::new(alloc),
         }
     }

@@ -1,7 +1,7 @@
 ghost use Rattle.std.specs.List.{list_all};
 ghost use Rattle.std.specs.Prelude.{◌≡◌, ◌==◌, ◌&&◌, ◌||◌, not, IfSome};
 ghost use Rattle.switch_table.specs.Carried.{meets_any};
-ghost use Rattle.switch_table.specs.Keys.{is_over};
+ghost use Rattle.switch_table.specs.Keys.{is_carried_key};
 ghost use Rattle.ternary.specs.Meets.{meets};
 ghost use Rattle.ternary.specs.Word.{WordValue};
 
@@ -10,8 +10,8 @@ use crate::touched::{meets, meets_any};
 use ternary::Word;
 
 /// Whether all keys are of this number, and their words meet none of these.
-pub fn are_over(keys: &[CacheKey], number: u64, touched: &[Word]) -> bool
-    ensures { result ≡ list_all (is_over number touched.now) keys.now }
+pub fn are_carried(keys: &[CacheKey], number: u64, touched: &[Word]) -> bool
+    ensures { result ≡ list_all (is_carried_key number touched.now) keys.now }
 {
     match one_or_two(touched) {
         Some((one, other)) => are_apart(keys, number, one, other),
@@ -21,7 +21,7 @@ pub fn are_over(keys: &[CacheKey], number: u64, touched: &[Word]) -> bool
 
 /// Whether the key is of this number, and its word meets none of these.
 pub fn is_over(key: &CacheKey, number: u64, touched: &[Word]) -> bool
-    ensures { result ≡ is_over number touched.now key.now }
+    ensures { result ≡ is_carried_key number touched.now key.now }
 {
     key.number == number && !meets_any(touched, &key.word)
 }

@@ -4,15 +4,15 @@ use Rattle.std.specs.Prelude.{unwrap_or}
 use Rattle.failover.specs.Links.{no_links}
 use Rattle.failover.specs.Routes.{route_of}
 use Rattle.switch_core.proofs.FirstTargets.{to_any}
-use Rattle.switch_core.proofs.ways.Ways.to_first.Goals as goal
+use Rattle.switch_core.proofs.kept_routes.SharedRoutes.to_first.Goals as goal
 
-pub returns-in-Some-kept_way-clause-route : goal.returns-in-Some-kept_way-clause-route
-returns-in-Some-kept_way-clause-route c =
-    let route = c.in-Some-kept_way.route.now in
+pub returns-in-Some-kept_route-clause-route : goal.returns-in-Some-kept_route-clause-route
+returns-in-Some-kept_route-clause-route c =
+    let route = c.in-Some-kept_route.route.now in
     ap Some c.in_ok-clone.ensures.cases
     ∙ sym (subst (λ (targets : List ℕ). route_of c.args.self.now c.args.from targets c.args.near
     no_links ≡ Some route) c.items.ensures.list
     (to_any c.args.self.now c.args.from c.args.near c.items.result.now no_links route _
-    (rw c.items.ensures.list c.items.ensures.some) c.in-Some-kept_way.ensures))
+    (rw c.items.ensures.list c.items.ensures.some) c.in-Some-kept_route.ensures))
     ∙ ap (λ links. route_of c.args.self.now c.args.from c.args.targets.now c.args.near
     (unwrap_or links no_links)) (ap option_copied (sym c.in_default.is))

@@ -1,7 +1,7 @@
 ghost use Rattle.std.specs.Prelude.{◌≡◌, ◌∷◌, [], All, IfOk, IfSome, Some, unwrap_or};
 ghost use Rattle.std.specs.Option.{option_copied};
 ghost use Rattle.failover.specs.Exports.{after_hearing, is_news, no_adverts, no_links, route_of};
-ghost use Rattle.switch_core.specs.Ways.{IsWayBy};
+ghost use Rattle.switch_core.specs.KeptRoutes.{IsRouteBy};
 
 use base::Shared;
 use failover::{Advert, Database, DownSet, Route};
@@ -10,11 +10,11 @@ use std::alloc::{AllocError, Global};
 use std::marker::Model;
 
 /// The most routes that are kept at once.
-const MOST: usize = 64;
+const MAX_KEPT: usize = 64;
 
 /// A route of `from` to one target, where no link was found down.
 #[derive(Drop)]
-pub struct KeptWay {
+pub struct KeptRoute {
     from: u32,
     target: u32,
     /// A bit for each switch to which `from` has a usable link.
@@ -25,29 +25,29 @@ pub struct KeptWay {
 /// The adverts that a switch holds, and routes that it found by them, so that packets share these.
 /// Contracts see the adverts.
 #[derive(Drop)]
-pub struct Ways {
+pub struct SharedRoutes {
     database: Database,
-    kept: Vec<KeptWay>,
+    kept: Vec<KeptRoute>,
 }
 
-impl Model for Ways {
+impl Model for SharedRoutes {
     ghost use Rattle.std.specs.Prelude.{List, Option, All};
     ghost use Rattle.failover.specs.declared.advert.Advert.{Advert};
-    ghost use Rattle.switch_core.specs.Ways.{IsWayBy};
+    ghost use Rattle.switch_core.specs.KeptRoutes.{IsRouteBy};
 
     ghost Value = { List (Option Advert) };
 
     ghost view = { λ w. w.database };
 
-    ghost invariant = { λ w. All (IsWayBy w.database) w.kept.items };
+    ghost invariant = { λ w. All (IsRouteBy w.database) w.kept.items };
 }
 
-impl Ways {
+impl SharedRoutes {
     /// These adverts. It takes no memory yet.
-    pub fn new(alloc: Global, database: Database) -> Ways
+    pub fn new(alloc: Global, database: Database) -> SharedRoutes
         ensures { result ≡ database }
     {
-        Ways {
+        SharedRoutes {
             database,
             kept: Vec::new(alloc),
         }
@@ -95,16 +95,16 @@ impl Ways {
         ensures same { self.new ≡ self.old }
     {
         if let Some(links) = down {
-            return self.own_way(alloc, from, targets, near, links);
+            return self.own_route(alloc, from, targets, near, links);
         }
-        if let Some(route) = self.kept_way(from, targets.items()[0], near) {
+        if let Some(route) = self.kept_route(from, targets.items()[0], near) {
             return Ok(Some(route.clone()?));
         }
-        self.find_way(alloc, from, targets, near)
+        self.find_route(alloc, from, targets, near)
     }
 
     // The route that is kept, if one is.
-    fn kept_way(&self, from: u32, target: u32, near: u64) -> Option<&Shared<Route>>
+    fn kept_route(&self, from: u32, target: u32, near: u64) -> Option<&Shared<Route>>
         ensures { IfSome result (λ route.
             route_of self.now from (target ∷ []) near no_links ≡ Some route.now) }
     {
@@ -119,7 +119,7 @@ impl Ways {
     // A route that wasn't kept, and is from now on where it leads to the first target of all.
     #[cold]
     #[inline(never)]
-    fn find_way(
+    fn find_route(
         &mut self,
         alloc: Global,
         from: u32,
@@ -133,13 +133,13 @@ impl Ways {
         let target = targets.items()[0];
         let alone = Targets::new(&[target]).unwrap();
         let down = DownSet::empty();
-        let Some(route) = self.own_way(alloc, from, &alone, near, &down)? else {
-            return self.own_way(alloc, from, targets, near, &down);
+        let Some(route) = self.own_route(alloc, from, &alone, near, &down)? else {
+            return self.own_route(alloc, from, targets, near, &down);
         };
-        if self.kept.len() >= MOST {
+        if self.kept.len() >= MAX_KEPT {
             self.kept.clear();
         }
-        self.kept.push(KeptWay {
+        self.kept.push(KeptRoute {
             from,
             target,
             near,
@@ -151,7 +151,7 @@ impl Ways {
     // A route past these links, which no other packet shares yet.
     #[cold]
     #[inline(never)]
-    fn own_way(
+    fn own_route(
         &self,
         alloc: Global,
         from: u32,

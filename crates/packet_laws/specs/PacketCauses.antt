@@ -30,7 +30,7 @@ use Rattle.update_machine.specs.Setting.{Setting}
 use Rattle.update_machine.specs.Causes.{IsLinkStep, present_step}
 use Rattle.update_machine.specs.Versions.{holds_version, stamp_of}
 use Rattle.update_machine.specs.Travels.{ingress_of, is_at, leg_of, travels}
-use Rattle.update_machine.specs.Ways.{found_down, next_switch, owner}
+use Rattle.update_machine.specs.PacketRoutes.{found_down, next_switch, owner}
 use Rattle.update_machine.specs.Links.{serves}
 use Rattle.packet_laws.specs.Stages.{Blocked, CameIn, Judged, OnWay, stage_of}
 
@@ -294,29 +294,29 @@ SendsRightRule setting before message _ = ⊤
 
 -- each item of packets and of cache rules, and each that changes a switch or a link or submits a
 -- version, has its cause in the journal before it
-abbrev pub WayCause : Setting → List Item → Item → Type 0
-WayCause setting before (item.Entered packet switch header) =
+abbrev pub PacketCause : Setting → List Item → Item → Type 0
+PacketCause setting before (item.Entered packet switch header) =
     IsOfRow before packet switch header × IsTrue (serves before switch)
-WayCause setting before (item.Closed packet switch) =
+PacketCause setting before (item.Closed packet switch) =
     ((header : Header) × IsOfRow before packet switch header) × IsFalse (serves before switch)
-WayCause setting before (item.Seeking packet version partition route) =
+PacketCause setting before (item.Seeking packet version partition route) =
     TakesRoute setting before packet (Seek version partition) route
-WayCause setting before (item.Exiting packet route) = TakesExit setting before packet route
-WayCause setting before (item.Rerouted packet route) = TakesDetour setting before packet route
-WayCause setting before (item.Hopped packet switch) = MovesOver setting before packet switch
-WayCause setting before (item.FoundDown packet one two) = MeetsDown setting before packet one two
-WayCause setting before (item.Decided packet version rule action how) =
+PacketCause setting before (item.Exiting packet route) = TakesExit setting before packet route
+PacketCause setting before (item.Rerouted packet route) = TakesDetour setting before packet route
+PacketCause setting before (item.Hopped packet switch) = MovesOver setting before packet switch
+PacketCause setting before (item.FoundDown packet one two) = MeetsDown setting before packet one two
+PacketCause setting before (item.Decided packet version rule action how) =
     IsDecided setting before packet version rule action how
-WayCause setting before (item.Left packet port leaving) =
+PacketCause setting before (item.Left packet port leaving) =
     LeavesHere setting before packet port leaving
-WayCause setting before (item.Dropped packet) = IsDroppedHere before packet
-WayCause setting before (item.Lost packet) = IsLostHere before packet
-WayCause setting before (item.Stuck packet switch cause leg down) =
+PacketCause setting before (item.Dropped packet) = IsDroppedHere before packet
+PacketCause setting before (item.Lost packet) = IsLostHere before packet
+PacketCause setting before (item.Stuck packet switch cause leg down) =
     FindsNoRoute setting before packet switch cause leg down
-WayCause setting before (item.Sent number message) =
+PacketCause setting before (item.Sent number message) =
     SendsRightRule setting before message message.body
-WayCause setting before (item.Down switch) = present_step before ≡ Some (Crash switch)
-WayCause setting before (item.Booted switch boot) = present_step before ≡ Some (Restart switch)
-WayCause setting before (item.LinkIs one two up) = IsLinkStep (present_step before) one two up
-WayCause setting before (item.Submitted file version) = present_step before ≡ Some (Update file)
-WayCause setting before _ = ⊤
+PacketCause setting before (item.Down switch) = present_step before ≡ Some (Crash switch)
+PacketCause setting before (item.Booted switch boot) = present_step before ≡ Some (Restart switch)
+PacketCause setting before (item.LinkIs one two up) = IsLinkStep (present_step before) one two up
+PacketCause setting before (item.Submitted file version) = present_step before ≡ Some (Update file)
+PacketCause setting before _ = ⊤

@@ -3,8 +3,8 @@ use Rattle.std.specs.Prelude.{◌≡◌, Option, Some, List, [], ◌∷◌}
 use Rattle.failover.specs.declared.advert.Advert.{Advert}
 use Rattle.failover.specs.Links.{no_links}
 use Rattle.failover.specs.Routes.{route_of}
-use Rattle.switch_core.specs.declared.ways.KeptWay.{KeptWay}
+use Rattle.switch_core.specs.declared.kept_routes.KeptRoute.{KeptRoute}
 
 -- the way is the route by these adverts, where no link was found down
-abbrev pub IsWayBy : List (Option Advert) → KeptWay → Type 0
-IsWayBy adverts way = route_of adverts way.from (way.target ∷ []) way.near no_links ≡ Some way.route
+abbrev pub IsRouteBy : List (Option Advert) → KeptRoute → Type 0
+IsRouteBy adverts way = route_of adverts way.from (way.target ∷ []) way.near no_links ≡ Some way.route
